@@ -1,0 +1,147 @@
+-- Elements of lists, and how many pass a test.
+use Rattle.std.proofs.Common.{◌≡◌, ◌≤◌, ◌<◌, ◌+◌, refl, ap, sym, ◌∙◌, Bool, true, false, ◌||◌, cond, ◌⊎◌, inl, inr, List, [], ◌∷◌, length, map, reverse, Option, Some, None, arith}
+use Rattle.std.specs.List.{list_any, find, filter}
+use Rattle.sm_names.proofs.SamenessLaws.{either_way, or_none_left, or_none_right}
+use Rattle.sm_names.specs.Words.{first_some, times, when}
+use mathlib.Core.List.{reverse_aux}
+
+-- x is an element of the list
+abbrev pub In : {A : Type 0} → A → List A → Type 0
+In x [] = ⊥
+In x (y ∷ ys) = (x ≡ y) ⊎ In x ys
+
+pub In-filter : {A : Type 0} (test : A → Bool) (xs : List A) (x : A) → In x (filter test xs) → In x xs × (test x ≡ true)
+In-filter test [] x h = absurd h
+In-filter test (y ∷ ys) x h =
+    elim (either_way (test y)) [
+      | inl e ↦ elim (at_true (rw e at h)) [
+        | inl is ↦ (inl is, ap test is ∙ e)
+        | inr on ↦ let r = In-filter test ys x on in (inr r.0, r.1)
+      ]
+      | inr e ↦ let on : In x (filter test ys) = rw e at h in let r = In-filter test ys x on in (inr r.0, r.1)
+    ]
+  where
+    at_true : (x ≡ y) ⊎ In x (filter test ys) → (x ≡ y) ⊎ In x (filter test ys)
+    at_true h = h
+
+pub In-map : {A B : Type 0} (f : A → B) (xs : List A) (y : B) → In y (map f xs) → (x : A) × In x xs × (y ≡ f x)
+In-map f [] y h = absurd h
+In-map f (x ∷ xs) y (inl is) = (x, inl refl, is)
+In-map f (x ∷ xs) y (inr on) = let r = In-map f xs y on in (r.0, inr r.1, r.2)
+
+-- two maps agree where they agree at each element
+pub map-In : {A B : Type 0} (f g : A → B) (xs : List A) → ((x : A) → In x xs → f x ≡ g x) → map f xs ≡ map g xs
+map-In f g [] same = refl
+map-In f g (x ∷ xs) same = λ i. same x (inl refl) i ∷ map-In f g xs (λ y on. same y (inr on)) i
+
+In-reverse_aux : {A : Type 0} (xs ys : List A) (x : A) → In x (reverse_aux xs ys) → In x xs ⊎ In x ys
+In-reverse_aux [] ys x h = inr h
+In-reverse_aux (y ∷ xs) ys x h = elim (In-reverse_aux xs (y ∷ ys) x h) [
+  | inl on ↦ inl (inr on)
+  | inr there ↦ elim there [ inl is ↦ inl (inl is) | inr on ↦ inr on ]
+]
+
+pub In-reverse : {A : Type 0} (xs : List A) (x : A) → In x (reverse xs) → In x xs
+In-reverse xs x h = elim (In-reverse_aux xs [] x h) [ inl on ↦ on | inr none ↦ absurd none ]
+
+pub In-find : {A : Type 0} (test : A → Bool) (xs : List A) (x : A) → find test xs ≡ Some x → In x xs × (test x ≡ true)
+In-find test [] x h = cc
+In-find test (y ∷ ys) x h =
+    elim (either_way (test y)) [
+      | inl e ↦ let is : y ≡ x = some_is (rw e at h) in (inl (sym is), ap test (sym is) ∙ e)
+      | inr e ↦ let r = In-find test ys x (rw e at h) in (inr r.0, r.1)
+    ]
+  where
+    some_is : Some y ≡ Some x → y ≡ x
+    some_is h = cc
+
+-- where no element that is asked for passes, none of them does
+pub none-In : {A : Type 0} (asked test : A → Bool) (xs : List A) (x : A) → list_any test (filter asked xs) ≡ false → In x xs → asked x ≡ true → test x ≡ false
+none-In asked test [] x none on is = absurd on
+none-In asked test (y ∷ ys) x none (inl here) is =
+    let e : asked y ≡ true = ap asked (sym here) ∙ is in
+    let both : (test y || list_any test (filter asked ys)) ≡ false = rw e at none in
+    ap test here ∙ or_none_left _ _ both
+none-In asked test (y ∷ ys) x none (inr on) is =
+    elim (either_way (asked y)) [
+      | inl e ↦
+          let both : (test y || list_any test (filter asked ys)) ≡ false = rw e at none in
+          none-In asked test ys x (or_none_right _ _ both) on is
+      | inr e ↦ none-In asked test ys x (rw e at none) on is
+    ]
+
+pub In-filter-back : {A : Type 0} (test : A → Bool) (xs : List A) (x : A) → In x xs → test x ≡ true → In x (filter test xs)
+In-filter-back test [] x on is = absurd on
+In-filter-back test (y ∷ ys) x (inl here) is = let e : test y ≡ true = ap test (sym here) ∙ is in rw e (inl here)
+In-filter-back test (y ∷ ys) x (inr on) is =
+    elim (either_way (test y)) [
+      | inl e ↦ rw e (inr (In-filter-back test ys x on is))
+      | inr e ↦ rw e (In-filter-back test ys x on is)
+    ]
+
+pub In-map-back : {A B : Type 0} (f : A → B) (xs : List A) (x : A) → In x xs → In (f x) (map f xs)
+In-map-back f [] x on = absurd on
+In-map-back f (y ∷ ys) x (inl here) = inl (ap f here)
+In-map-back f (y ∷ ys) x (inr on) = inr (In-map-back f ys x on)
+
+In-reverse_aux-back : {A : Type 0} (xs ys : List A) (x : A) → In x xs ⊎ In x ys → In x (reverse_aux xs ys)
+In-reverse_aux-back [] ys x (inl on) = absurd on
+In-reverse_aux-back [] ys x (inr on) = on
+In-reverse_aux-back (y ∷ xs) ys x (inl on) = elim on [
+  | inl here ↦ In-reverse_aux-back xs (y ∷ ys) x (inr (inl here))
+  | inr there ↦ In-reverse_aux-back xs (y ∷ ys) x (inl there)
+]
+In-reverse_aux-back (y ∷ xs) ys x (inr on) = In-reverse_aux-back xs (y ∷ ys) x (inr (inr on))
+
+pub In-reverse-back : {A : Type 0} (xs : List A) (x : A) → In x xs → In x (reverse xs)
+In-reverse-back xs x on = In-reverse_aux-back xs [] x (inl on)
+
+pub In-list_any : {A : Type 0} (test : A → Bool) (xs : List A) → list_any test xs ≡ true → (x : A) × In x xs × (test x ≡ true)
+In-list_any test [] h = cc
+In-list_any test (y ∷ ys) h =
+    elim (either_way (test y)) [
+      | inl e ↦ (y, inl refl, e)
+      | inr e ↦ let r = In-list_any test ys (rw e at h) in (r.0, inr r.1, r.2)
+    ]
+
+pub In-first_some : {A : Type 0} (os : List (Option A)) (x : A) → first_some os ≡ Some x → In (Some x) os
+In-first_some [] x h = cc
+In-first_some (None ∷ os) x h = inr (In-first_some os x h)
+In-first_some (Some y ∷ os) x h = inl (sym h)
+
+pub when-Some : {A : Type 0} (b : Bool) (x y : A) → when b x ≡ Some y → (b ≡ true) × (x ≡ y)
+when-Some true x y h = (refl, cc)
+when-Some false x y h = cc
+
+-- ---- how many
+
+pub times-le-length : {A : Type 0} (test : A → Bool) (xs : List A) → times test xs ≤ length xs
+times-le-length test [] = omega arith
+times-le-length test (x ∷ xs) =
+    let rest : times test xs ≤ length xs = times-le-length test xs in
+    elim (test x) as (λ (b : Bool). cond b (times test xs + 1) (times test xs) ≤ length (x ∷ xs)) [ true ↦ omega arith | false ↦ omega arith ]
+
+-- fewer pass a test that asks more
+pub times-le : {A : Type 0} (p q : A → Bool) (xs : List A) → ((x : A) → In x xs → p x ≡ true → q x ≡ true) → times p xs ≤ times q xs
+times-le p q [] h = omega arith
+times-le p q (x ∷ xs) h =
+    let rest : times p xs ≤ times q xs = times-le p q xs (λ y on. h y (inr on)) in
+    elim (either_way (p x)) [
+      | inl e ↦ let f : q x ≡ true = h x (inl refl) e in rw (e, f) (omega arith)
+      | inr e ↦ rw e (elim (q x) as (λ (b : Bool). times p xs ≤ cond b (times q xs + 1) (times q xs)) [ true ↦ omega arith | false ↦ omega arith ])
+    ]
+
+-- and fewer by at least one that does not pass any more
+pub times-lt : {A : Type 0} (p q : A → Bool) (xs : List A) (y : A) → ((x : A) → In x xs → p x ≡ true → q x ≡ true) → In y xs → p y ≡ false → q y ≡ true → times p xs < times q xs
+times-lt p q [] y h on fails passes = absurd on
+times-lt p q (x ∷ xs) y h (inl is) fails passes =
+    let rest : times p xs ≤ times q xs = times-le p q xs (λ z on. h z (inr on)) in
+    let e : p x ≡ false = ap p (sym is) ∙ fails in
+    let f : q x ≡ true = ap q (sym is) ∙ passes in
+    rw (e, f) (omega arith)
+times-lt p q (x ∷ xs) y h (inr on) fails passes =
+    let rest : times p xs < times q xs = times-lt p q xs y (λ z there. h z (inr there)) on fails passes in
+    elim (either_way (p x)) [
+      | inl e ↦ let f : q x ≡ true = h x (inl refl) e in rw (e, f) (omega arith)
+      | inr e ↦ rw e (elim (q x) as (λ (b : Bool). times p xs < cond b (times q xs + 1) (times q xs)) [ true ↦ omega arith | false ↦ omega arith ])
+    ]

@@ -1,0 +1,252 @@
+-- The forced steps come to an end, and none applies then.
+use Rattle.std.proofs.Common.{◌&&◌, ℕ, zero, suc, ◌≡◌, ◌≤◌, ◌<◌, ◌+◌, ◌*◌, refl, ap, sym, ◌∙◌, subst, Bool, true, false, cond, not, ◌||◌, ◌==◌, ◌⊎◌, inl, inr, List, [], ◌∷◌, length, Option, Some, None, arith, is_none}
+use Rattle.std.specs.List.{list_any, find, filter}
+use Rattle.std.specs.Option.{option_map, option_and_then}
+use Rattle.sm_names.specs.declared.keys.NodeKey.{NodeKey}
+use Rattle.sm_names.specs.declared.outcomes.Failure.{Failure}
+use Rattle.sm_names.specs.Births.{Birth, births, head, ancestors, was_born, AreSound}
+use Rattle.sm_names.specs.Forced.{Standing, is_deserted, ending, abandoned, initial_allocation, logical_allocation, outcome, is_next_head}
+use Rattle.sm_names.specs.Losses.{gone, allocated, is_allocation, takes}
+use Rattle.sm_names.specs.Marks.{Mark, Timeline, Called, Loss, Allocated, Ended, is_event}
+use Rattle.sm_names.specs.Members.{root_left, Member, member, members, births_in, is_root}
+use Rattle.sm_names.specs.Sameness.{same_key}
+use Rattle.sm_names.specs.Timelines.{next_forced, standing, settled_within, settled, Settles, Rests, Forces}
+use Rattle.sm_names.proofs.ListLaws.{In, In-filter, In-map, In-reverse, In-find, In-first_some, when-Some, times-le-length, times-le, times-lt}
+use Rattle.sm_names.proofs.ReachLaws.{top_on}
+use Rattle.sm_names.proofs.SamenessLaws.{either_way, same_key-true, same_key-refl, or_left, or_right, and_left, and_right, both_ways, none_or_some}
+use Rattle.sm_names.specs.Words.{times}
+
+-- ---- a birth and what is found of it
+
+-- a birth of the list is a birth
+pub In-was_born : (bs : List Birth) (b : Birth) → In b bs → was_born bs b.node ≡ true
+In-was_born [] b on = absurd on
+In-was_born (c ∷ older) b (inl is) = or_left (same_key c.node b.node) _ (rw is (same_key-refl c.node))
+In-was_born (c ∷ older) b (inr on) = or_right (same_key c.node b.node) _ (In-was_born older b on)
+
+-- the birth found under a node's key is that of the node
+pub find_birth : (bs : List Birth) (b : Birth) → AreSound bs → In b bs → find (λ x. same_key x.node b.node) bs ≡ Some b
+find_birth [] b sound on = absurd on
+find_birth (c ∷ older) b sound (inl is) = rw (ap (λ (x : Birth). same_key c.node x.node) is ∙ same_key-refl c.node) (ap Some (sym is))
+find_birth (c ∷ older) b sound (inr on) =
+    elim (either_way (same_key c.node b.node)) [
+      | inl e ↦ both_ways (was_born older b.node) (In-was_born older b on) (ap (was_born older) (sym (same_key-true c.node b.node e)) ∙ sound.0)
+      | inr e ↦ rw e (find_birth older b sound.2 on)
+    ]
+
+-- a root or attached node heads its unit
+pub head_itself : (bs : List Birth) (b : Birth) → AreSound bs → In b bs → (b.attached ≡ true) ⊎ (b.parent ≡ None) → head bs b.node ≡ b.node
+head_itself [] b sound on h = absurd on
+head_itself (c ∷ older) b sound (inl is) h =
+    rw (ap (λ (x : Birth). same_key c.node x.node) is ∙ same_key-refl c.node)
+    (elim h [
+      | inl e ↦ rw (ap (λ (x : Birth). x.attached) (sym is) ∙ e) refl
+      | inr e ↦ rw (ap (λ (x : Birth). x.parent) (sym is) ∙ e) (elim c.attached as (λ (a : Bool). cond a b.node b.node ≡ b.node) [ true ↦ refl | false ↦ refl ])
+    ])
+head_itself (c ∷ older) b sound (inr on) h =
+    elim (either_way (same_key c.node b.node)) [
+      | inl e ↦ both_ways (was_born older b.node) (In-was_born older b on) (ap (was_born older) (sym (same_key-true c.node b.node e)) ∙ sound.0)
+      | inr e ↦ rw e (head_itself older b sound.2 on h)
+    ]
+
+-- ---- what is left to happen
+
+-- how many nodes are not gone, and how many are in units that are not allocated
+abbrev pub left_over : Timeline → ℕ
+left_over marks = times (λ b. not (gone marks b.node)) (births marks) + times (λ b. not (allocated marks b.node)) (births marks)
+
+-- a mark of which a birth tells that it changes something: the birth's node goes, or its unit is allocated
+pub record Changes (marks : Timeline) (mark : Mark) : Type 0 where
+  pub no_event : is_event mark ≡ false
+  pub birth : Birth
+  pub there : In birth (births marks)
+  pub new : ((gone marks birth.node ≡ false) × (gone (mark ∷ marks) birth.node ≡ true)) ⊎ ((allocated marks birth.node ≡ false) × (allocated (mark ∷ marks) birth.node ≡ true))
+
+pub same_births : (marks : Timeline) (mark : Mark) → is_event mark ≡ false → births (mark ∷ marks) ≡ births marks
+same_births marks (Called client reply call) h = cc
+same_births marks (Loss node cause) h = refl
+same_births marks (Allocated node) h = refl
+same_births marks (Ended top) h = refl
+
+pub not_back : (b : Bool) → not b ≡ true → b ≡ false
+not_back true h = cc
+not_back false h = refl
+
+not_or : (a b : Bool) → not (a || b) ≡ true → not b ≡ true
+not_or true b h = cc
+not_or false b h = h
+
+-- one more mark that is no birth: what it allocates, and what was allocated
+allocated_next : (marks : Timeline) (mark : Mark) (node : NodeKey) → is_event mark ≡ false →
+    allocated (mark ∷ marks) node ≡ (is_allocation (head (births marks) node) mark || allocated marks node)
+allocated_next marks mark node h = ap (λ (bs : List Birth). list_any (is_allocation (head bs node)) (mark ∷ marks)) (same_births marks mark h)
+
+-- what is left gets less with each mark that changes something
+lowers : (marks : Timeline) (mark : Mark) → Changes marks mark → left_over (mark ∷ marks) < left_over marks
+lowers marks mark c =
+    let bs : List Birth = births marks in
+    let g : Birth → Bool = λ b. not (gone marks b.node) in
+    let g' : Birth → Bool = λ b. not (gone (mark ∷ marks) b.node) in
+    let a : Birth → Bool = λ b. not (allocated marks b.node) in
+    let a' : Birth → Bool = λ b. not (allocated (mark ∷ marks) b.node) in
+    let gone_less : (b : Birth) → In b bs → g' b ≡ true → g b ≡ true = λ b _ h. not_or (takes marks mark b.node) (gone marks b.node) h in
+    let allocated_less : (b : Birth) → In b bs → a' b ≡ true → a b ≡ true =
+    λ b _ h. not_or (is_allocation (head bs b.node) mark) (allocated marks b.node) (ap not (sym (allocated_next marks mark b.node c.no_event)) ∙ h) in
+    let same : births (mark ∷ marks) ≡ bs = same_births marks mark c.no_event in
+    let sum : times g' bs + times a' bs < times g bs + times a bs =
+    elim c.new [
+      | inl now ↦
+          let less : times g' bs < times g bs = times-lt g' g bs c.birth gone_less c.there (ap not now.1) (ap not now.0) in
+          let rest : times a' bs ≤ times a bs = times-le a' a bs allocated_less in omega arith
+      | inr now ↦
+          let less : times a' bs < times a bs = times-lt a' a bs c.birth allocated_less c.there (ap not now.1) (ap not now.0) in
+          let rest : times g' bs ≤ times g bs = times-le g' g bs gone_less in omega arith
+    ] in
+    subst (λ (cs : List Birth). times g' cs + times a' cs < times g bs + times a bs) (sym same) sum
+
+-- ---- each forced mark changes something
+
+-- a node of the collection, as it stands, is that of a birth
+pub member_birth : (marks : Timeline) (collection : ℕ) (m : Member) → In m (members marks collection) → (b : Birth) × In b (births marks) × (m ≡ member marks b) × (b.collection == collection ≡ true)
+member_birth marks collection m on =
+    let r = In-map (member marks) (births_in marks collection) m on in
+    let f = In-filter (λ (b : Birth). b.collection == collection) (births marks) r.0 (In-reverse (filter (λ (b : Birth). b.collection == collection) (births marks)) r.0 r.1) in
+    (r.0, f.0, r.2, f.1)
+
+-- a node that heads its unit, and is neither gone nor allocated: its loss or its allocation changes something
+outcome_changes : (marks : Timeline) (b : Birth) (f : Option Failure) → AreSound (births marks) → In b (births marks) → (b.attached ≡ true) ⊎ (b.parent ≡ None) →
+    gone marks b.node ≡ false → allocated marks b.node ≡ false → Changes marks (outcome b.node f)
+outcome_changes marks b None sound on heads free waits = record {
+  no_event = refl;
+  birth = b;
+  there = on;
+  new = inr (waits, or_left (same_key b.node (head (births marks) b.node)) _ (rw (head_itself (births marks) b sound on heads) (same_key-refl b.node)));
+}
+outcome_changes marks b (Some failure) sound on heads free waits = record {
+  no_event = refl;
+  birth = b;
+  there = on;
+  new = inl (free, or_left _ _ (top_on _ b.node (ancestors (births marks) b.node)));
+}
+
+none_if : (o : Option NodeKey) → is_none o ≡ true → o ≡ None
+none_if None h = refl
+none_if (Some x) h = cc
+
+pub and_then-Some : {A B : Type 0} (f : A → Option B) (o : Option A) (y : B) → option_and_then f o ≡ Some y → (x : A) × (o ≡ Some x) × (f x ≡ Some y)
+and_then-Some f None y h = cc
+and_then-Some f (Some x) y h = (x, refl, h)
+
+pub map-Some : {A B : Type 0} (f : A → B) (o : Option A) (y : B) → option_map f o ≡ Some y → (x : A) × (o ≡ Some x) × (f x ≡ y)
+map-Some f None y h = cc
+map-Some f (Some x) y h = (x, refl, cc)
+
+module _ (pool collection : ℕ) (marks : Timeline) (sound : AreSound (births marks)) (mark : Mark) where
+  abbrev now : Standing
+  now = standing pool marks collection
+
+  ending_changes : ending now ≡ Some mark → Changes marks mark
+  ending_changes h =
+      let t = map-Some _ (find (is_deserted now.members) now.members) mark h in
+      let f = In-find (is_deserted now.members) now.members t.0 t.1 in
+      let r = member_birth marks collection t.0 f.0 in
+      let b : Birth = r.0 in
+      let test : is_deserted now.members (member marks b) ≡ true = subst (λ (m : Member). is_deserted now.members m ≡ true) r.2 f.1 in
+      let free : gone marks b.node ≡ false = not_back _ (and_left _ _ (and_right _ _ test)) in
+      let takes_it : takes marks (Ended b.node) b.node ≡ true = or_left _ _ (same_key-refl b.node) in
+      subst (Changes marks) t.2 (rw r.2 (record { no_event = refl; birth = b; there = r.1; new = inl (free, or_left _ _ takes_it) }))
+
+  abandoned_changes : abandoned now ≡ Some mark → Changes marks mark
+  abandoned_changes h =
+      let t = and_then-Some _ (root_left now.members) mark h in
+      let f = In-find (λ m. is_root m && not m.gone) now.members t.0 t.1 in
+      let r = member_birth marks collection t.0 f.0 in
+      let b : Birth = r.0 in
+      let w = when-Some _ _ mark t.2 in
+      let left : (is_none b.parent && not (gone marks b.node)) ≡ true = subst (λ (m : Member). (is_root m && not m.gone) ≡ true) r.2 f.1 in
+      let free : gone marks b.node ≡ false = not_back _ (and_right (is_none b.parent) (not (gone marks b.node)) left) in
+      subst (Changes marks) w.1 (rw r.2 (record { no_event = refl; birth = b; there = r.1; new = inl (free, or_left _ _ (top_on _ b.node (ancestors (births marks) b.node))) }))
+
+  initial_changes : initial_allocation pool now ≡ Some mark → Changes marks mark
+  initial_changes h =
+      let t = and_then-Some _ (root_left now.members) mark h in
+      let f = In-find (λ m. is_root m && not m.gone) now.members t.0 t.1 in
+      let r = member_birth marks collection t.0 f.0 in
+      let b : Birth = r.0 in
+      let w = when-Some _ _ mark t.2 in
+      let left : (is_none b.parent && not (gone marks b.node)) ≡ true = subst (λ (m : Member). (is_root m && not m.gone) ≡ true) r.2 f.1 in
+      let free : gone marks b.node ≡ false = not_back _ (and_right (is_none b.parent) (not (gone marks b.node)) left) in
+      let waits : allocated marks b.node ≡ false = not_back _ (subst (λ (m : Member). not m.allocated ≡ true) r.2 (and_left _ _ w.0)) in
+      let root : b.parent ≡ None = none_if _ (and_left (is_none b.parent) (not (gone marks b.node)) left) in
+      subst (Changes marks) w.1 (rw r.2 (outcome_changes marks b _ sound r.1 (inr root) free waits))
+
+  logical_changes : logical_allocation now ≡ Some mark → Changes marks mark
+  logical_changes h =
+      let t = and_then-Some _ now.buffers mark h in
+      let u = map-Some _ (find (is_next_head now.members) now.members) mark t.2 in
+      let f = In-find (is_next_head now.members) now.members u.0 u.1 in
+      let r = member_birth marks collection u.0 f.0 in
+      let b : Birth = r.0 in
+      let test : is_next_head now.members (member marks b) ≡ true = subst (λ (m : Member). is_next_head now.members m ≡ true) r.2 f.1 in
+      let free : gone marks b.node ≡ false = not_back _ (and_left _ _ (and_right _ _ test)) in
+      let waits : allocated marks b.node ≡ false = not_back _ (and_left _ _ (and_right _ _ (and_right _ _ test))) in
+      subst (Changes marks) u.2 (rw r.2 (outcome_changes marks b _ sound r.1 (inl (and_left _ _ test)) free waits))
+
+  -- each forced mark changes something
+  pub forced_changes : next_forced pool collection marks ≡ Some mark → Changes marks mark
+  forced_changes h =
+      elim (In-first_some (ending now ∷ abandoned now ∷ initial_allocation pool now ∷ logical_allocation now ∷ []) mark h) [
+        | inl e ↦ ending_changes (sym e)
+        | inr more ↦ elim more [
+          | inl e ↦ abandoned_changes (sym e)
+          | inr more ↦ elim more [
+            | inl e ↦ initial_changes (sym e)
+            | inr more ↦ elim more [ inl e ↦ logical_changes (sym e) | inr none ↦ absurd none ]
+          ]
+        ]
+      ]
+
+-- ---- so they come to an end
+
+-- where so many steps are enough, none applies after them
+pub settled_within_rests : (pool collection most : ℕ) (marks : Timeline) → AreSound (births marks) → left_over marks ≤ most →
+    (next_forced pool collection (settled_within pool collection most marks) ≡ None) × Settles pool collection marks (settled_within pool collection most marks)
+settled_within_rests pool collection zero marks sound few =
+    elim (none_or_some (next_forced pool collection marks)) [
+      | inl e ↦ (e, Rests marks e)
+      | inr some ↦ let less = lowers marks some.0 (forced_changes pool collection marks sound some.0 some.1) in absurd (omega arith)
+    ]
+settled_within_rests pool collection (suc most) marks sound few =
+    elim (none_or_some (next_forced pool collection marks)) [
+      | inl e ↦ rw e (e, Rests marks e)
+      | inr some ↦
+          let changes : Changes marks some.0 = forced_changes pool collection marks sound some.0 some.1 in
+          let less : left_over (some.0 ∷ marks) < left_over marks = lowers marks some.0 changes in
+          let sound' : AreSound (births (some.0 ∷ marks)) = subst AreSound (sym (same_births marks some.0 changes.no_event)) sound in
+          let rest = settled_within_rests pool collection most (some.0 ∷ marks) sound' (omega arith) in
+          rw some.1 (rest.0, Forces marks _ some.0 some.1 rest.1)
+    ]
+
+-- after the marks that are forced none is forced, and they are those that are forced one after another
+pub settled_rests : (pool collection : ℕ) (marks : Timeline) → AreSound (births marks) →
+    (next_forced pool collection (settled pool collection marks) ≡ None) × Settles pool collection marks (settled pool collection marks)
+settled_rests pool collection marks sound =
+    let few : left_over marks ≤ 2 * length (births marks) =
+    omega (arith, times-le-length (λ (b : Birth). not (gone marks b.node)) (births marks), times-le-length (λ (b : Birth). not (allocated marks b.node)) (births marks)) in
+    settled_within_rests pool collection (2 * length (births marks)) marks sound few
+
+at_rest : (pool collection : ℕ) (marks after : Timeline) → next_forced pool collection marks ≡ None → Settles pool collection marks after → marks ≡ after
+at_rest pool collection _ _ none (Rests marks e) = refl
+at_rest pool collection _ _ none (Forces marks after mark some r) = let x : None ≡ Some mark = sym none ∙ some in cc
+
+when_forced : (pool collection : ℕ) (marks after : Timeline) (mark : Mark) → next_forced pool collection marks ≡ Some mark → Settles pool collection marks after → Settles pool collection (mark ∷ marks) after
+when_forced pool collection _ _ mark some (Rests marks e) = let x : None ≡ Some mark = sym e ∙ some in cc
+when_forced pool collection _ _ mark some (Forces marks after other e r) =
+    let x : Some other ≡ Some mark = sym e ∙ some in
+    let is : other ≡ mark = cc in
+    subst (λ (m : Mark). Settles pool collection (m ∷ marks) after) is r
+
+-- there is one way to settle
+pub Settles-one : (pool collection : ℕ) (marks one other : Timeline) → Settles pool collection marks one → Settles pool collection marks other → one ≡ other
+Settles-one pool collection _ _ other (Rests marks none) s = at_rest pool collection marks other none s
+Settles-one pool collection _ _ other (Forces marks after mark some r) s = Settles-one pool collection (mark ∷ marks) after other r (when_forced pool collection marks other mark some s)

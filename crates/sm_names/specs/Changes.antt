@@ -1,0 +1,55 @@
+-- What one more mark does to the nodes of a collection, as they stand.
+use Rattle.std.specs.Prelude.{Bool, true, false, ◌||◌, ◌&&◌, not, if◌then◌else◌, List, Some}
+use Rattle.std.specs.List.{list_any, filter}
+use Rattle.sm_names.specs.Forced.{Standing}
+use Rattle.sm_names.specs.declared.keys.NodeKey.{NodeKey}
+use Rattle.sm_names.specs.declared.messages.Call.{Call}
+use Rattle.sm_names.specs.declared.messages.Reply.{Reply}
+use Rattle.sm_names.specs.Losses.{top}
+use Rattle.sm_names.specs.Members.{Member, is_under}
+use Rattle.sm_names.specs.Sameness.{same_key}
+
+-- the node's failure does not go to its parent
+abbrev pub blocks : Member → Bool
+blocks m = m.attached || (m.dispensable && m.allocated)
+
+-- the highest node that the node's failure goes to: it takes that one and all below it
+abbrev pub highest : List Member → Member → NodeKey
+highest ms m = top (λ key. list_any (λ n. same_key n.key key && blocks n) ms) m.key m.above
+
+-- a loss that takes these nodes
+abbrev pub after_loss : (NodeKey → Bool) → Member → Member
+after_loss taken m = record m { gone = taken m.key || m.gone }
+
+-- the allocation of the unit with this head
+abbrev pub after_allocation : NodeKey → Member → Member
+after_allocation head m = record m { allocated = same_key head m.head || m.allocated }
+
+-- the end of this node and of all below it
+abbrev pub after_end : NodeKey → Member → Member
+after_end top m = record m { gone = is_under top m || m.gone }
+
+-- without the nodes that are gone, as where they were forgotten
+abbrev pub without_gone : Standing → Standing
+without_gone s = record s { members = filter (λ m. not m.gone) s.members }
+
+-- a call that changes nothing, where it is answered so; a misuse makes a loss, which is a mark of its own. Any other call
+-- and reply may change something
+abbrev pub is_quiet : Call → Reply → Bool
+is_quiet call (Reply.Refused refusal) = true
+is_quiet call (Reply.Misused misuse) = true
+is_quiet call (Reply.Allocated count size) = true
+is_quiet call Reply.Pending = true
+is_quiet call Reply.Empty = true
+is_quiet (Call.Sync key) Reply.Done = true
+is_quiet (Call.Release key) (Reply.PeerClosed cause origin) = false
+is_quiet call (Reply.PeerClosed cause origin) = true
+is_quiet _ _ = false
+
+-- a call on the node that took effect: no other call changes what the forced steps read of a node
+abbrev pub after_call : Call → Member → Member
+after_call (Call.SetDispensable key) m = record m { dispensable = same_key key m.key || m.dispensable }
+after_call (Call.SetWeak key) m = record m { weak = same_key key m.key || m.weak }
+after_call (Call.SetConstraints key demand) m = record m { constraints = if same_key key m.key then Some demand else m.constraints }
+after_call (Call.Release key) m = record m { released = same_key key m.key || m.released }
+after_call _ m = m

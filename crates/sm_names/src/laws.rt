@@ -1,0 +1,237 @@
+//! What the definitions of the service imply. The functions do nothing: their contracts are laws.
+ghost use Rattle.std.specs.Prelude.{◌≡◌, ◌≤◌, ◌∷◌, ◌++◌, ◌↔◌, ◌<◌, ℕ, List, [], length, map, drop, Some, None, is_some, true, false, ◌+◌, ◌==◌};
+ghost use Rattle.sm_names.specs.Words.{times};
+ghost use Rattle.sm_names.specs.declared.messages.Parcel.{Parcel};
+ghost use Rattle.sm_names.specs.declared.keys.BufferName.{BufferName};
+ghost use Rattle.sm_names.specs.declared.keys.NodeKey.{NodeKey};
+ghost use Rattle.sm_names.specs.declared.keys.Strength.{Strength};
+ghost use Rattle.sm_names.specs.declared.messages.Call.{Call};
+ghost use Rattle.sm_names.specs.declared.messages.Reply.{Reply};
+ghost use Rattle.sm_names.specs.declared.outcomes.Cause.{Cause};
+ghost use Rattle.sm_names.specs.declared.outcomes.Failure.{Failure};
+ghost use Rattle.sm_names.specs.declared.outcomes.Refusal.{Refusal};
+ghost use Rattle.sm_names.specs.Answers.{IsAnswer, Readings};
+ghost use Rattle.sm_names.specs.Births.{Birth, births, birth_of, collection_in, AreSound, AreTogether};
+ghost use Rattle.sm_names.specs.Bounds.{Bound};
+ghost use Rattle.sm_names.specs.Changes.{after_loss, after_allocation, after_end, highest, is_quiet, without_gone};
+ghost use Rattle.sm_names.specs.Ends.{spent, parcels, given_at, collects};
+ghost use Rattle.sm_names.specs.Forced.{forced};
+ghost use Rattle.sm_names.specs.Handles.{opens, drops, lifts, lands};
+ghost use Rattle.sm_names.specs.Legality.{IsLegal, AreAnswers, Shows};
+ghost use Rattle.sm_names.specs.Losses.{Reach, reaches, parent_of, blocked, gone, fault};
+ghost use Rattle.sm_names.specs.Marks.{Entry, Mark, Timeline, Called, Loss, Allocated, Ended, events};
+ghost use Rattle.sm_names.specs.Members.{member, members};
+ghost use Rattle.sm_names.specs.Reading.{readings};
+ghost use Rattle.sm_names.specs.Runs.{full, key, buffer, at, asked, allocated_check, child_lost, dispensable_lost, attached_asks, attached_released, attached_stays, handle_given, handle_collected, weakly_held};
+ghost use Rattle.sm_names.specs.Sameness.{same_key};
+ghost use Rattle.sm_names.specs.Timelines.{HeldPages, Settles, settled, next_forced, standing, held, still_out, timeline, after};
+ghost use Rattle.sm_names.specs.Trackers.{unfired};
+ghost use Rattle.sm_names.specs.Views.{Views, live_nodes, held_by_page, free_pages};
+
+/// What a loss takes is the least set that has its node, the parent of each member whose link is
+/// not blocked, and every child of each member.
+pub fn reach_is_least()
+    ensures { (marks : Timeline) → AreSound (births marks) → (origin node : NodeKey) →
+        (reaches marks origin node ≡ true) ↔ Reach (parent_of marks) (blocked marks) origin node }
+{}
+
+/// A refused call changes nothing but the number of events, and what trackers that have not fired
+/// may see at its end.
+pub fn refused_calls_change_nothing()
+    ensures read { (marks : Timeline) (client : ℕ) (refusal : Refusal) (call : Call) →
+        readings (Called client (Reply.Refused refusal) call ∷ marks)
+        ≡ record (readings marks) { events = events marks + 1; unfired = unfired (Called client (Reply.Refused refusal) call ∷ marks) } }
+    ensures forced { (pool collection : ℕ) (marks : Timeline) (client : ℕ) (refusal : Refusal) (call : Call) →
+        next_forced pool collection (Called client (Reply.Refused refusal) call ∷ marks) ≡ next_forced pool collection marks }
+    ensures live { (marks : Timeline) (client : ℕ) (refusal : Refusal) (call : Call) →
+        live_nodes (Called client (Reply.Refused refusal) call ∷ marks) ≡ live_nodes marks }
+    ensures held { (pool : ℕ) (marks : Timeline) (client : ℕ) (refusal : Refusal) (call : Call) →
+        held_by_page pool (Called client (Reply.Refused refusal) call ∷ marks) ≡ held_by_page pool marks }
+{}
+
+/// Nor do calls that only ask, or that are answered by why the node is gone, unless they spend its end.
+pub fn quiet_calls_change_nothing()
+    ensures read { (marks : Timeline) (client : ℕ) (reply : Reply) (call : Call) → is_quiet call reply ≡ true →
+        readings (Called client reply call ∷ marks)
+        ≡ record (readings marks) { events = events marks + 1; unfired = unfired (Called client reply call ∷ marks) } }
+    ensures forced { (pool collection : ℕ) (marks : Timeline) (client : ℕ) (reply : Reply) (call : Call) → is_quiet call reply ≡ true →
+        next_forced pool collection (Called client reply call ∷ marks) ≡ next_forced pool collection marks }
+{}
+
+/// A loss takes its reach, an allocation is of one unit, an end takes a node and all below it, and a birth
+/// adds one node, and none of them changes anything else of the nodes of a collection.
+pub fn marks_change_nodes()
+    ensures loss { (marks : Timeline) (collection : ℕ) (origin : NodeKey) (cause : Cause) →
+        members (Loss origin cause ∷ marks) collection ≡ map (after_loss (reaches marks origin)) (members marks collection) }
+    ensures allocation { (marks : Timeline) (collection : ℕ) (head : NodeKey) →
+        members (Allocated head ∷ marks) collection ≡ map (after_allocation head) (members marks collection) }
+    ensures end { (marks : Timeline) (collection : ℕ) (top : NodeKey) →
+        members (Ended top ∷ marks) collection ≡ map (after_end top) (members marks collection) }
+    ensures birth { (marks : Timeline) (client collection : ℕ) (parent new : NodeKey) (b : Birth) → same_key new b.node ≡ false →
+        member (Called client (Reply.Token new collection) (Call.Duplicate parent) ∷ marks) b ≡ member marks b }
+{}
+
+/// As the nodes of a collection stand, they tell what a loss at one of them takes.
+pub fn losses_are_read_off()
+    ensures { (marks : Timeline) (b : Birth) (cause : Cause) → AreSound (births marks) → AreTogether (births marks) → birth_of marks b.node ≡ Some b →
+        members (Loss b.node cause ∷ marks) b.collection
+        ≡ map (after_end (highest (members marks b.collection) (member marks b))) (members marks b.collection) }
+{}
+
+/// A loss and an end take nodes and give pages back, and the forced steps read nothing else of them.
+pub fn losses_and_ends_give_back()
+    ensures loss { (pool collection : ℕ) (marks : Timeline) (origin : NodeKey) (cause : Cause) →
+        standing pool (Loss origin cause ∷ marks) collection
+        ≡ record (standing pool marks collection) {
+          members = map (after_loss (reaches marks origin)) (members marks collection);
+          held = map (λ (h : HeldPages). h.pages) (still_out (Loss origin cause ∷ marks) (held pool marks));
+        } }
+    ensures end { (pool collection : ℕ) (marks : Timeline) (top : NodeKey) →
+        standing pool (Ended top ∷ marks) collection
+        ≡ record (standing pool marks collection) {
+          members = map (after_end top) (members marks collection);
+          held = map (λ (h : HeldPages). h.pages) (still_out (Ended top ∷ marks) (held pool marks));
+        } }
+{}
+
+/// An allocation of an attached unit is one of nodes alone: it places no buffer and gives none back.
+pub fn attached_allocations_place_nothing()
+    ensures { (pool collection : ℕ) (marks : Timeline) (head parent : NodeKey) → parent_of marks head ≡ Some parent →
+        standing pool (Allocated head ∷ marks) collection
+        ≡ record (standing pool marks collection) { members = map (after_allocation head) (members marks collection) } }
+{}
+
+/// A handle that is given or collected is open as before: the forced steps read nothing of it, and no buffer goes home.
+pub fn parcels_keep_buffers()
+    ensures given { (pool collection : ℕ) (marks : Timeline) (client to : ℕ) (buffer : BufferName) (strength : Strength) →
+        standing pool (Called client Reply.Done (Call.GiveHandle buffer strength to) ∷ marks) collection ≡ standing pool marks collection }
+    ensures collected { (pool collection : ℕ) (marks : Timeline) (client : ℕ) (buffer : BufferName) (strength : Strength) →
+        standing pool (Called client (Reply.CollectedHandle buffer strength) Call.Collect ∷ marks) collection ≡ standing pool marks collection }
+    ensures held_as_given { (pool : ℕ) (marks : Timeline) (client to : ℕ) (buffer : BufferName) (strength : Strength) →
+        held pool (Called client Reply.Done (Call.GiveHandle buffer strength to) ∷ marks) ≡ held pool marks }
+    ensures held_as_collected { (pool : ℕ) (marks : Timeline) (client : ℕ) (buffer : BufferName) (strength : Strength) →
+        held pool (Called client (Reply.CollectedHandle buffer strength) Call.Collect ∷ marks) ≡ held pool marks }
+{}
+
+/// The forced steps read nothing of nodes that are gone, where each node is gone whose parent is: they may be forgotten.
+pub fn gone_nodes_may_be_forgotten()
+    ensures { (pool collection : ℕ) (marks : Timeline) → AreSound (births marks) →
+        ((child parent : NodeKey) → parent_of marks child ≡ Some parent → gone marks parent ≡ true → gone marks child ≡ true) →
+        forced pool (without_gone (standing pool marks collection)) ≡ next_forced pool collection marks }
+{}
+
+/// Whoever reads and shows a legal history, and answers by the table, goes on legally.
+pub fn answers_extend()
+    ensures { (pool : ℕ) (limits : Bound) (history : List Entry) (read : Readings) (seen : Views) (entry : Entry) →
+        IsLegal pool limits history → Shows pool history read seen → length history < limits.events →
+        IsAnswer limits read entry.0 entry.1 entry.2 → IsLegal pool limits (history ++ entry ∷ []) }
+{}
+
+/// In a legal history no node is born twice, and each child after its parent.
+pub fn births_are_sound()
+    ensures { (pool : ℕ) (limits : Bound) (history : List Entry) → IsLegal pool limits history → AreSound (births (timeline pool history)) }
+{}
+
+/// In a legal history a child is in its parent's collection, and gone if its parent is.
+pub fn lines_hold_together()
+    ensures collection { (pool : ℕ) (limits : Bound) (history : List Entry) → IsLegal pool limits history → (child parent : NodeKey) →
+        parent_of (timeline pool history) child ≡ Some parent →
+        collection_in (births (timeline pool history)) child ≡ collection_in (births (timeline pool history)) parent }
+    ensures gone { (pool : ℕ) (limits : Bound) (history : List Entry) → IsLegal pool limits history → (child parent : NodeKey) →
+        parent_of (timeline pool history) child ≡ Some parent → gone (timeline pool history) parent ≡ true → gone (timeline pool history) child ≡ true }
+{}
+
+/// In a legal history a node that is gone while its end is not spent has failed: no call meets a node that left as its subtree ended.
+pub fn gone_ends_have_failed()
+    ensures { (pool : ℕ) (limits : Bound) (history : List Entry) → IsLegal pool limits history → (node : NodeKey) →
+        gone (timeline pool history) node ≡ true → spent (timeline pool history) node ≡ false → is_some (fault (timeline pool history) node) ≡ true }
+{}
+
+/// In a legal history what is given to a client waits last, and its Collect takes the first.
+pub fn parcels_wait_in_order()
+    ensures given { (pool : ℕ) (limits : Bound) (history : List Entry) → IsLegal pool limits history → (mark : Mark) (client : ℕ) (parcel : Parcel) →
+        collects client mark ≡ false → given_at client mark ≡ Some parcel →
+        parcels (mark ∷ timeline pool history) client ≡ parcels (timeline pool history) client ++ parcel ∷ [] }
+    ensures collected { (marks : Timeline) (mark : Mark) (client : ℕ) →
+        collects client mark ≡ true → given_at client mark ≡ None → parcels (mark ∷ marks) client ≡ drop 1 (parcels marks client) }
+{}
+
+/// In a legal history no client drops or gives more handles than it took, doubled and collected.
+pub fn handles_are_paid_for()
+    ensures { (pool : ℕ) (limits : Bound) (history : List Entry) → IsLegal pool limits history → (client : ℕ) (buffer : BufferName) (strength : Strength) →
+        times (drops (λ c. c == client) buffer strength) (timeline pool history) + times (lifts (λ c. c == client) buffer strength) (timeline pool history)
+        ≤ times (opens (λ c. c == client) buffer strength) (timeline pool history) + times (lands (λ c. c == client) buffer strength) (timeline pool history) }
+{}
+
+/// The forced steps come to an end, at the marks after which none applies.
+pub fn forced_steps_end()
+    ensures rest { (pool collection : ℕ) (marks : Timeline) → AreSound (births marks) →
+        next_forced pool collection (settled pool collection marks) ≡ None }
+    ensures end { (pool collection : ℕ) (marks : Timeline) → AreSound (births marks) →
+        Settles pool collection marks (settled pool collection marks) }
+    ensures only { (pool collection : ℕ) (marks one other : Timeline) →
+        Settles pool collection marks one → Settles pool collection marks other → one ≡ other }
+{}
+
+/// A legal history goes on by one answer at a time.
+pub fn histories_grow()
+    ensures marks { (pool : ℕ) (history : List Entry) (entry : Entry) →
+        timeline pool (history ++ entry ∷ []) ≡ after pool (timeline pool history) entry }
+    ensures answers { (pool : ℕ) (limits : Bound) (history : List Entry) (entry : Entry) →
+        AreAnswers pool limits [] (history ++ entry ∷ [])
+        ↔ (AreAnswers pool limits [] history × IsAnswer limits (readings (timeline pool history)) entry.0 entry.1 entry.2) }
+{}
+
+/// A client asks for two buffers and gets two, at the first pages, and no other answer is legal.
+pub fn buffers_are_allocated()
+    ensures legal { IsLegal 16 full (asked ++ allocated_check ∷ []) }
+    ensures held { held_by_page 16 (timeline 16 asked) ≡ at (buffer 2 0) 0 2 ∷ at (buffer 2 1) 2 2 ∷ [] }
+    ensures free { free_pages 16 (timeline 16 asked) ≡ 12 }
+    ensures not_three { IsLegal 16 full (asked ++ (1, Call.Check (key 0), Reply.Allocated 3 8192) ∷ []) → ⊥ }
+    ensures not_pending { IsLegal 16 full (asked ++ (1, Call.Check (key 0), Reply.Pending) ∷ []) → ⊥ }
+{}
+
+/// The loss of a child takes the parent and the other child.
+pub fn losses_spread()
+    ensures legal { IsLegal 16 full (child_lost ++ (1, Call.Sync (key 2), Reply.PeerClosed Cause.Lost (key 1)) ∷ []) }
+    ensures none_live { live_nodes (timeline 16 child_lost) ≡ [] }
+    ensures not_done { IsLegal 16 full (child_lost ++ (1, Call.Sync (key 2), Reply.Done) ∷ []) → ⊥ }
+{}
+
+/// The loss of a dispensable child, once its unit is allocated, takes nothing else.
+pub fn dispensable_losses_stop()
+    ensures legal { IsLegal 16 full (dispensable_lost ++ (1, Call.Check (key 0), Reply.Allocated 2 4096) ∷ []) }
+    ensures root_live { live_nodes (timeline 16 dispensable_lost) ≡ key 0 ∷ [] }
+    ensures not_closed { IsLegal 16 full (dispensable_lost ++ (1, Call.Check (key 0), Reply.PeerClosed Cause.Lost (key 1)) ∷ []) → ⊥ }
+{}
+
+/// An attached subtree that asks for more than there is fails alone.
+pub fn attached_failures_stop()
+    ensures legal { IsLegal 16 full (attached_asks ++ (1, Call.Check (key 1), Reply.PeerClosed (Cause.Failed Failure.TooFew) (key 1)) ∷ (1, Call.Check (key 0), Reply.Allocated 2 4096) ∷ []) }
+    ensures not_done { IsLegal 16 full (attached_asks ++ (1, Call.Check (key 1), Reply.Allocated 2 4096) ∷ []) → ⊥ }
+{}
+
+/// An attached node that is released gives its counts back, once no node at or below it is live.
+pub fn attached_subtrees_end()
+    ensures legal { IsLegal 16 full (attached_released ++ (1, Call.Check (key 2), Reply.Allocated 2 4096) ∷ []) }
+    ensures not_closed { IsLegal 16 full (attached_released ++ (1, Call.Check (key 2), Reply.PeerClosed (Cause.Failed Failure.TooFew) (key 2)) ∷ []) → ⊥ }
+    ensures not_before { IsLegal 16 full (attached_stays ++ (1, Call.Check (key 2), Reply.PeerClosed (Cause.Failed Failure.TooFew) (key 2)) ∷ []) }
+    ensures not_allocated { IsLegal 16 full (attached_stays ++ (1, Call.Check (key 2), Reply.Allocated 2 4096) ∷ []) → ⊥ }
+{}
+
+/// A handle that was given is open and nobody's until it is collected.
+pub fn handles_travel()
+    ensures held { held_by_page 16 (timeline 16 handle_given) ≡ at (buffer 3 0) 0 1 ∷ [] }
+    ensures givers_no_more { IsLegal 16 full (handle_given ++ (1, Call.DropHandle (buffer 3 0) Strength.Strong, Reply.Refused Refusal.NoSuchHandle) ∷ []) }
+    ensures not_dropped { IsLegal 16 full (handle_given ++ (1, Call.DropHandle (buffer 3 0) Strength.Strong, Reply.Done) ∷ []) → ⊥ }
+    ensures not_yet { IsLegal 16 full (handle_given ++ (2, Call.DropHandle (buffer 3 0) Strength.Strong, Reply.Done) ∷ []) → ⊥ }
+    ensures collected { IsLegal 16 full (handle_given ++ handle_collected ∷ (2, Call.DropHandle (buffer 3 0) Strength.Strong, Reply.Done) ∷ []) }
+    ensures home { held_by_page 16 (timeline 16 (handle_given ++ handle_collected ∷ (2, Call.DropHandle (buffer 3 0) Strength.Strong, Reply.Done) ∷ [])) ≡ [] }
+{}
+
+/// A weak node and its handle do not keep a collection, but the handle keeps the pages.
+pub fn weak_handles_keep_pages()
+    ensures legal { IsLegal 16 full (weakly_held ++ (1, Call.Check (key 1), Reply.PeerClosed Cause.NoStrong (key 0)) ∷ []) }
+    ensures held { held_by_page 16 (timeline 16 weakly_held) ≡ at (buffer 2 0) 0 1 ∷ [] }
+    ensures not_allocated { IsLegal 16 full (weakly_held ++ (1, Call.Check (key 1), Reply.Allocated 1 4096) ∷ []) → ⊥ }
+{}

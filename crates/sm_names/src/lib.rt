@@ -1,0 +1,18 @@
+//! The names, numbers, calls and replies of the service, as plain data that takes no memory, and
+//! in `specs/` the definitions of the abstract machine that the service is.
+#![tactic(auto)]
+
+pub mod bounds;
+pub mod demands;
+pub mod keys;
+pub mod laws;
+pub mod messages;
+pub mod outcomes;
+pub mod tracking;
+
+pub use bounds::Limits;
+pub use demands::Constraints;
+pub use keys::{BufferName, ClientId, CollectionId, Interval, Kind, NodeKey, Strength, TrackerId};
+pub use messages::{Call, Parcel, Reply};
+pub use outcomes::{Buffers, Cause, Failure, Fault, Misuse, NoMemory, Refusal, StepFault};
+pub use tracking::{Condition, Fired};

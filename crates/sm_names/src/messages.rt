@@ -1,0 +1,123 @@
+//! What clients ask, what they are told, and what they give to each other.
+use crate::demands::Constraints;
+use crate::keys::{BufferName, ClientId, CollectionId, Kind, NodeKey, Strength, TrackerId};
+use crate::outcomes::{Cause, Misuse, Refusal};
+
+/// What a client asks.
+#[derive(Clone, Copy, Debug, PartialEq, Eq)]
+pub enum Call {
+    /// Makes a client. It is made as client 0.
+    Join,
+    /// Shuts the caller: it is given nothing more, and asks for no more ends or trackers.
+    Shut,
+    /// Makes a collection and its root token (`fuchsia.sysmem2.Allocator.AllocateSharedCollection`).
+    OpenRoot,
+    /// Makes a child token of a token (`fuchsia.sysmem2.BufferCollectionToken.Duplicate`).
+    Duplicate(NodeKey),
+    /// Makes an attached child token of a collection (`fuchsia.sysmem2.BufferCollection.AttachToken`).
+    AttachToken(NodeKey),
+    /// Answers once the earlier calls were received (`fuchsia.sysmem2.Node.Sync`).
+    Sync(NodeKey),
+    /// Gives the end to another client.
+    Give(NodeKey, ClientId),
+    /// Takes the first parcel that waits for the caller.
+    Collect,
+    /// Turns a token into a collection (`fuchsia.sysmem2.Allocator.BindSharedCollection`).
+    Bind(NodeKey),
+    /// Once the node's unit is allocated, its failure goes no further up
+    /// (`fuchsia.sysmem2.BufferCollectionToken.SetDispensable`).
+    SetDispensable(NodeKey),
+    /// The node, and children made from now on, keep no buffer alive
+    /// (`fuchsia.sysmem2.Node.SetWeak`).
+    SetWeak(NodeKey),
+    /// The node knows how to treat weak handles; with `true` also children made from now on
+    /// (`fuchsia.sysmem2.Node.SetWeakOk`).
+    SetWeakOk(NodeKey, bool),
+    /// Says what the node asks of the buffers (`fuchsia.sysmem2.BufferCollection.SetConstraints`).
+    SetConstraints(NodeKey, Constraints),
+    /// Asks whether the node's unit is allocated
+    /// (`fuchsia.sysmem2.BufferCollection.CheckAllBuffersAllocated`).
+    Check(NodeKey),
+    /// Opens a handle on each buffer that is not doomed
+    /// (`fuchsia.sysmem2.BufferCollection.WaitForAllBuffersAllocated`, without the wait).
+    Take(NodeKey),
+    /// Leaves without a failure, and spends the end (`fuchsia.sysmem2.Node.Release`).
+    Release(NodeKey),
+    /// Closes the end: without a Release before it, the node fails.
+    Close(NodeKey),
+    /// Opens one more handle like one that the caller has.
+    DupHandle(BufferName, Strength),
+    /// Drops a handle.
+    DropHandle(BufferName, Strength),
+    /// Gives a handle to another client.
+    GiveHandle(BufferName, Strength, ClientId),
+    /// Makes a tracker that fires once the node is gone
+    /// (`fuchsia.sysmem2.Node.AttachNodeTracking`).
+    TrackNode(NodeKey),
+    /// Makes a tracker that fires once at most so many buffers are left
+    /// (`fuchsia.sysmem2.BufferCollection.AttachLifetimeTracking`).
+    TrackLifetime(NodeKey, u32),
+    /// Makes a tracker that fires once the buffer is doomed (the field `close_weak_asap` of
+    /// `fuchsia.sysmem2.VmoBuffer`).
+    TrackWeak(BufferName),
+}
+
+/// What a client is told.
+#[derive(Clone, Copy, Debug, PartialEq, Eq)]
+pub enum Reply {
+    /// The call took effect, and there is nothing to tell.
+    Done,
+    /// The new client.
+    Joined(ClientId),
+    /// The client is shut, and so many parcels wait for it.
+    Shut(u64),
+    /// A new token.
+    Token {
+        key: NodeKey,
+        collection: CollectionId,
+    },
+    /// An end came out of a parcel.
+    Collected {
+        key: NodeKey,
+        kind: Kind,
+        collection: CollectionId,
+    },
+    /// A handle came out of a parcel.
+    CollectedHandle {
+        buffer: BufferName,
+        strength: Strength,
+    },
+    /// No parcel waits.
+    Empty,
+    /// The node's unit is not allocated yet.
+    Pending,
+    /// The collection has so many buffers of so many bytes each.
+    Allocated {
+        count: u32,
+        size: u32,
+    },
+    /// One handle on each buffer of the set, in which bit i stands for buffer i.
+    Taken {
+        collection: CollectionId,
+        strength: Strength,
+        set: u64,
+    },
+    /// A new tracker.
+    Tracker(TrackerId),
+    /// The call was refused.
+    Refused(Refusal),
+    /// The call was a misuse, and failed its node.
+    Misused(Misuse),
+    /// The node is gone: why, and the node whose failure took it.
+    PeerClosed {
+        cause: Cause,
+        origin: NodeKey,
+    },
+}
+
+/// What one client gives to another: an end, or a handle.
+#[derive(Clone, Copy, Debug, PartialEq, Eq)]
+pub enum Parcel {
+    End(NodeKey),
+    Handle(BufferName, Strength),
+}
