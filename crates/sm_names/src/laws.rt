@@ -22,7 +22,6 @@ ghost use Rattle.sm_names.specs.Losses.{Reach, reaches, parent_of, blocked, gone
 ghost use Rattle.sm_names.specs.Marks.{Entry, Mark, Timeline, Called, Loss, Allocated, Ended, events};
 ghost use Rattle.sm_names.specs.Members.{member, members};
 ghost use Rattle.sm_names.specs.Reading.{readings};
-ghost use Rattle.sm_names.specs.Runs.{full, key, buffer, at, asked, allocated_check, child_lost, dispensable_lost, attached_asks, attached_released, attached_stays, handle_given, handle_collected, weakly_held};
 ghost use Rattle.sm_names.specs.Sameness.{same_key};
 ghost use Rattle.sm_names.specs.Timelines.{HeldPages, Settles, settled, next_forced, standing, held, still_out, timeline, after};
 ghost use Rattle.sm_names.specs.Trackers.{unfired};
@@ -180,58 +179,4 @@ pub fn histories_grow()
     ensures answers { (pool : ℕ) (limits : Bound) (history : List Entry) (entry : Entry) →
         AreAnswers pool limits [] (history ++ entry ∷ [])
         ↔ (AreAnswers pool limits [] history × IsAnswer limits (readings (timeline pool history)) entry.0 entry.1 entry.2) }
-{}
-
-/// A client asks for two buffers and gets two, at the first pages, and no other answer is legal.
-pub fn buffers_are_allocated()
-    ensures legal { IsLegal 16 full (asked ++ allocated_check ∷ []) }
-    ensures held { held_by_page 16 (timeline 16 asked) ≡ at (buffer 2 0) 0 2 ∷ at (buffer 2 1) 2 2 ∷ [] }
-    ensures free { free_pages 16 (timeline 16 asked) ≡ 12 }
-    ensures not_three { IsLegal 16 full (asked ++ (1, Call.Check (key 0), Reply.Allocated 3 8192) ∷ []) → ⊥ }
-    ensures not_pending { IsLegal 16 full (asked ++ (1, Call.Check (key 0), Reply.Pending) ∷ []) → ⊥ }
-{}
-
-/// The loss of a child takes the parent and the other child.
-pub fn losses_spread()
-    ensures legal { IsLegal 16 full (child_lost ++ (1, Call.Sync (key 2), Reply.PeerClosed Cause.Lost (key 1)) ∷ []) }
-    ensures none_live { live_nodes (timeline 16 child_lost) ≡ [] }
-    ensures not_done { IsLegal 16 full (child_lost ++ (1, Call.Sync (key 2), Reply.Done) ∷ []) → ⊥ }
-{}
-
-/// The loss of a dispensable child, once its unit is allocated, takes nothing else.
-pub fn dispensable_losses_stop()
-    ensures legal { IsLegal 16 full (dispensable_lost ++ (1, Call.Check (key 0), Reply.Allocated 2 4096) ∷ []) }
-    ensures root_live { live_nodes (timeline 16 dispensable_lost) ≡ key 0 ∷ [] }
-    ensures not_closed { IsLegal 16 full (dispensable_lost ++ (1, Call.Check (key 0), Reply.PeerClosed Cause.Lost (key 1)) ∷ []) → ⊥ }
-{}
-
-/// An attached subtree that asks for more than there is fails alone.
-pub fn attached_failures_stop()
-    ensures legal { IsLegal 16 full (attached_asks ++ (1, Call.Check (key 1), Reply.PeerClosed (Cause.Failed Failure.TooFew) (key 1)) ∷ (1, Call.Check (key 0), Reply.Allocated 2 4096) ∷ []) }
-    ensures not_done { IsLegal 16 full (attached_asks ++ (1, Call.Check (key 1), Reply.Allocated 2 4096) ∷ []) → ⊥ }
-{}
-
-/// An attached node that is released gives its counts back, once no node at or below it is live.
-pub fn attached_subtrees_end()
-    ensures legal { IsLegal 16 full (attached_released ++ (1, Call.Check (key 2), Reply.Allocated 2 4096) ∷ []) }
-    ensures not_closed { IsLegal 16 full (attached_released ++ (1, Call.Check (key 2), Reply.PeerClosed (Cause.Failed Failure.TooFew) (key 2)) ∷ []) → ⊥ }
-    ensures not_before { IsLegal 16 full (attached_stays ++ (1, Call.Check (key 2), Reply.PeerClosed (Cause.Failed Failure.TooFew) (key 2)) ∷ []) }
-    ensures not_allocated { IsLegal 16 full (attached_stays ++ (1, Call.Check (key 2), Reply.Allocated 2 4096) ∷ []) → ⊥ }
-{}
-
-/// A handle that was given is open and nobody's until it is collected.
-pub fn handles_travel()
-    ensures held { held_by_page 16 (timeline 16 handle_given) ≡ at (buffer 3 0) 0 1 ∷ [] }
-    ensures givers_no_more { IsLegal 16 full (handle_given ++ (1, Call.DropHandle (buffer 3 0) Strength.Strong, Reply.Refused Refusal.NoSuchHandle) ∷ []) }
-    ensures not_dropped { IsLegal 16 full (handle_given ++ (1, Call.DropHandle (buffer 3 0) Strength.Strong, Reply.Done) ∷ []) → ⊥ }
-    ensures not_yet { IsLegal 16 full (handle_given ++ (2, Call.DropHandle (buffer 3 0) Strength.Strong, Reply.Done) ∷ []) → ⊥ }
-    ensures collected { IsLegal 16 full (handle_given ++ handle_collected ∷ (2, Call.DropHandle (buffer 3 0) Strength.Strong, Reply.Done) ∷ []) }
-    ensures home { held_by_page 16 (timeline 16 (handle_given ++ handle_collected ∷ (2, Call.DropHandle (buffer 3 0) Strength.Strong, Reply.Done) ∷ [])) ≡ [] }
-{}
-
-/// A weak node and its handle do not keep a collection, but the handle keeps the pages.
-pub fn weak_handles_keep_pages()
-    ensures legal { IsLegal 16 full (weakly_held ++ (1, Call.Check (key 1), Reply.PeerClosed Cause.NoStrong (key 0)) ∷ []) }
-    ensures held { held_by_page 16 (timeline 16 weakly_held) ≡ at (buffer 2 0) 0 1 ∷ [] }
-    ensures not_allocated { IsLegal 16 full (weakly_held ++ (1, Call.Check (key 1), Reply.Allocated 1 4096) ∷ []) → ⊥ }
 {}

@@ -8,6 +8,7 @@ pub mod keys;
 pub mod laws;
 pub mod messages;
 pub mod outcomes;
+pub mod runs;
 pub mod tracking;
 
 pub use bounds::Limits;
