@@ -9,6 +9,8 @@ pub mod laws;
 pub mod messages;
 pub mod outcomes;
 pub mod runs;
+#[cfg(test)]
+mod tests;
 pub mod tracking;
 
 pub use bounds::Limits;
