@@ -124,17 +124,23 @@ set_of buffers = sum_by (λ (b : BufferName). 2 ^ b.index) buffers
 abbrev pub unknown_client : Readings → ℕ → Call → Option Reply
 unknown_client r client Call.Join = refused_if (not (client == 0)) Refusal.NoSuchClient
 unknown_client r client call =
-    refused_if (not (r.has_joined client) || option_map_or (λ to. not (r.has_joined to)) (receiver_of call) false) Refusal.NoSuchClient
+    refused_if (not (r.has_joined client) || option_map_or (λ to. not (r.has_joined to)) (receiver_of call) false)
+    Refusal.NoSuchClient
 
 -- nothing is given to a shut client, and it acquires nothing
 abbrev pub shut_client : Readings → ℕ → Call → Option Reply
 shut_client r client call =
-    refused_if ((acquires call && r.is_shut client) || option_map_or r.is_shut (receiver_of call) false) Refusal.ClientShut
+    refused_if ((acquires call && r.is_shut client) || option_map_or r.is_shut (receiver_of call) false)
+    Refusal.ClientShut
 
--- the end is spent or never was, or another client holds it and it is in no parcel
+-- another client holds the end, and it is in no parcel
+abbrev pub is_anothers : ℕ → OpenEnd → Bool
+is_anothers client e = not (e.holder == client) && not e.in_transit
+
+-- the end is spent or never was, or it is another's
 abbrev pub no_end : Readings → ℕ → Call → Option Reply
 no_end r client call = option_and_then
-    (λ key. refused_if (option_map_or (λ e. not (e.holder == client) && not e.in_transit) (r.end_of key) true) Refusal.NoSuchEnd)
+    (λ key. refused_if (option_map_or (is_anothers client) (r.end_of key) true) Refusal.NoSuchEnd)
     (key_of call)
 
 -- the end that the call names
@@ -175,27 +181,35 @@ misuse_of e _ = None
 abbrev pub misuse : Readings → Call → Option Reply
 misuse r call = option_and_then (λ e. misuse_of e call) (end_named r call)
 
+-- refused, where so many handles are none
+abbrev pub has_none : ℕ → Option Reply
+has_none count = refused_if (count == 0) Refusal.NoSuchHandle
+
 -- the caller has no such handle open: no other call is made on a handle
 abbrev pub no_handle : Readings → ℕ → Call → Option Reply
-no_handle r client (Call.DupHandle buffer strength) = refused_if (r.open_of client buffer strength == 0) Refusal.NoSuchHandle
-no_handle r client (Call.DropHandle buffer strength) = refused_if (r.open_of client buffer strength == 0) Refusal.NoSuchHandle
-no_handle r client (Call.GiveHandle buffer strength to) = refused_if (r.open_of client buffer strength == 0) Refusal.NoSuchHandle
-no_handle r client (Call.TrackWeak buffer) = refused_if (r.open_of client buffer Strength.Weak == 0) Refusal.NoSuchHandle
+no_handle r client (Call.DupHandle buffer strength) = has_none (r.open_of client buffer strength)
+no_handle r client (Call.DropHandle buffer strength) = has_none (r.open_of client buffer strength)
+no_handle r client (Call.GiveHandle buffer strength to) = has_none (r.open_of client buffer strength)
+no_handle r client (Call.TrackWeak buffer) = has_none (r.open_of client buffer Strength.Weak)
 no_handle r client _ = None
+
+-- as many handles of the buffer and strength are open as may be
+abbrev pub is_at_limit : Bound → Readings → Strength → BufferName → Bool
+is_at_limit limits r strength buffer = nat_le limits.handles (r.open_total buffer strength)
 
 -- the handles that the call would open are too many: no other call opens any
 abbrev pub too_many_handles : Bound → Readings → Call → Bool
-too_many_handles limits r (Call.DupHandle buffer strength) = nat_le limits.handles (r.open_total buffer strength)
-too_many_handles limits r (Call.Take key) = option_map_or
-    (λ e. list_any (λ b. nat_le limits.handles (r.open_total b (strength_of e.weak))) e.to_open)
-    (r.end_of key) false
+too_many_handles limits r (Call.DupHandle buffer strength) = is_at_limit limits r strength buffer
+too_many_handles limits r (Call.Take key) =
+    option_map_or (λ e. list_any (is_at_limit limits r (strength_of e.weak)) e.to_open) (r.end_of key) false
 too_many_handles limits r _ = false
 
 -- the limits, in the order of their numbers
 abbrev pub limits_met : Bound → Readings → Call → List (Option Reply)
 limits_met limits r call =
     refused_if (makes_node call && nat_le limits.nodes r.kept_nodes) Refusal.TooManyNodes
-    ∷ refused_if (makes_collection call && nat_le limits.collections r.kept_collections) Refusal.TooManyCollections
+    ∷ refused_if (makes_collection call && nat_le limits.collections r.kept_collections)
+    Refusal.TooManyCollections
     ∷ refused_if (makes_tracker call && nat_le limits.trackers r.unfired) Refusal.TrackersFull
     ∷ refused_if (too_many_handles limits r call) Refusal.TooManyHandles
     ∷ []
@@ -204,14 +218,15 @@ limits_met limits r call =
 abbrev pub collected : Readings → List Parcel → Reply
 collected r [] = Reply.Empty
 collected r (Parcel.Handle buffer strength ∷ more) = Reply.CollectedHandle buffer strength
-collected r (Parcel.End key ∷ more) = option_map_or (λ e. Reply.Collected key e.kind e.collection) (r.end_of key) Reply.Empty
+collected r (Parcel.End key ∷ more) =
+    option_map_or (λ e. Reply.Collected key e.kind e.collection) (r.end_of key) Reply.Empty
 
 -- what is answered of the end that the call names
 abbrev pub of_end : Readings → NodeKey → (OpenEnd → Reply) → Reply
 of_end r key answer = option_map_or answer (r.end_of key) (Reply.Refused Refusal.NoSuchEnd)
 
--- the answer of a call that takes effect; a new node gets this key. The calls that are left tell nothing: they set, give,
--- bind, release, double or drop
+-- the answer of a call that takes effect; a new node gets this key. The calls that are left tell nothing:
+-- they set, give, bind, release, double or drop
 abbrev pub effect : Readings → ℕ → NodeKey → Call → Reply
 effect r client new Call.Join = Reply.Joined (r.events + 1)
 effect r client new Call.Shut = Reply.Shut (length (r.waiting client))
@@ -222,7 +237,8 @@ effect r client new Call.Collect = collected r (r.waiting client)
 effect r client new (Call.Check key) =
     of_end r key (λ e. option_map_or (λ (b : Buffers). Reply.Allocated b.count b.size) e.buffers Reply.Pending)
 effect r client new (Call.Take key) =
-    of_end r key (λ e. option_map_or (λ b. Reply.Taken e.collection (strength_of e.weak) (set_of e.to_open)) e.buffers Reply.Pending)
+    of_end r key (λ e.
+    option_map_or (λ b. Reply.Taken e.collection (strength_of e.weak) (set_of e.to_open)) e.buffers Reply.Pending)
 effect r client new (Call.TrackNode key) = Reply.Tracker (r.events + 1)
 effect r client new (Call.TrackLifetime key most) = Reply.Tracker (r.events + 1)
 effect r client new (Call.TrackWeak buffer) = Reply.Tracker (r.events + 1)
@@ -244,14 +260,19 @@ answers_first limits r client call =
 
 -- the answer: the first of those that there is, else that of the effect
 abbrev pub answer : Bound → Readings → ℕ → NodeKey → Call → Reply
-answer limits r client new call = unwrap_or (first_some (answers_first limits r client call)) (effect r client new call)
+answer limits r client new call =
+    unwrap_or (first_some (answers_first limits r client call)) (effect r client new call)
 
 -- the key of the node that the reply tells of, if it tells of a new one, as only Token does
 abbrev pub new_key : Reply → Option NodeKey
 new_key (Reply.Token key collection) = Some key
 new_key _ = None
 
+-- the key of the reply, and any key where it tells of no new node
+abbrev pub key_told : Reply → NodeKey
+key_told reply = option_map_or (λ key. key) (new_key reply) (record { slot = 0; generation = 0 })
+
 -- the reply is the answer, where a new node may have any key that was given to none before
 pub record IsAnswer (limits : Bound) (r : Readings) (client : ℕ) (call : Call) (reply : Reply) : Type 0 where
-  pub told : reply ≡ answer limits r client (option_map_or (λ key. key) (new_key reply) (record { slot = 0; generation = 0 })) call
+  pub told : reply ≡ answer limits r client (key_told reply) call
   pub is_new : option_map_or r.was_given (new_key reply) false ≡ false

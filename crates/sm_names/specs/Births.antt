@@ -1,5 +1,6 @@
 -- Which nodes were born, and how they hang together.
--- `birth_at` restates `fuchsia.sysmem2.Allocator.AllocateSharedCollection`, `fuchsia.sysmem2.BufferCollectionToken.Duplicate` and `fuchsia.sysmem2.BufferCollection.AttachToken`.
+-- `birth_at` restates `fuchsia.sysmem2.Allocator.AllocateSharedCollection`,
+-- `fuchsia.sysmem2.BufferCollectionToken.Duplicate` and `fuchsia.sysmem2.BufferCollection.AttachToken`.
 use Rattle.std.specs.Prelude.{ℕ, ◌+◌, Bool, true, false, if◌then◌else◌, List, [], ◌∷◌, Some, None, Option, ◌≡◌, ⊤, IfSome}
 use Rattle.std.specs.List.{cons_option, find, list_any}
 use Rattle.std.specs.Option.{option_map_or, option_map}
@@ -18,14 +19,35 @@ pub record Birth : Type 0 where
   pub event : ℕ
   pub client : ℕ
 
--- the birth at a mark of this event, if it is one: only these three calls make a node, where they are answered Token
+-- the birth at a mark of this event, if it is one: only these three calls make a node, answered Token
 abbrev pub birth_at : ℕ → Mark → Option Birth
 birth_at event (Called client (Reply.Token key collection) Call.OpenRoot) =
-    Some (record { node = key; parent = None; attached = false; collection = collection; event = event; client = client })
+    Some (record {
+      node = key;
+      parent = None;
+      attached = false;
+      collection = collection;
+      event = event;
+      client = client;
+    })
 birth_at event (Called client (Reply.Token key collection) (Call.Duplicate parent)) =
-    Some (record { node = key; parent = Some parent; attached = false; collection = collection; event = event; client = client })
+    Some (record {
+      node = key;
+      parent = Some parent;
+      attached = false;
+      collection = collection;
+      event = event;
+      client = client;
+    })
 birth_at event (Called client (Reply.Token key collection) (Call.AttachToken parent)) =
-    Some (record { node = key; parent = Some parent; attached = true; collection = collection; event = event; client = client })
+    Some (record {
+      node = key;
+      parent = Some parent;
+      attached = true;
+      collection = collection;
+      event = event;
+      client = client;
+    })
 birth_at event _ = None
 
 -- all births, the newest first
@@ -68,9 +90,11 @@ collection_in bs node = option_map (λ (b : Birth). b.collection) (find (λ b. s
 -- each child is in its parent's collection
 abbrev pub AreTogether : List Birth → Type 0
 AreTogether [] = ⊤
-AreTogether (b ∷ older) = IfSome b.parent (λ parent. collection_in older parent ≡ Some b.collection) × AreTogether older
+AreTogether (b ∷ older) =
+    IfSome b.parent (λ parent. collection_in older parent ≡ Some b.collection) × AreTogether older
 
 -- no node is born twice, and each after its parent
 abbrev pub AreSound : List Birth → Type 0
 AreSound [] = ⊤
-AreSound (b ∷ older) = (was_born older b.node ≡ false) × IfSome b.parent (λ parent. was_born older parent ≡ true) × AreSound older
+AreSound (b ∷ older) =
+    (was_born older b.node ≡ false) × IfSome b.parent (λ parent. was_born older parent ≡ true) × AreSound older

@@ -33,8 +33,8 @@ after_end top m = record m { gone = is_under top m || m.gone }
 abbrev pub without_gone : Standing → Standing
 without_gone s = record s { members = filter (λ m. not m.gone) s.members }
 
--- a call that changes nothing, where it is answered so; a misuse makes a loss, which is a mark of its own. Any other call
--- and reply may change something
+-- a call that changes nothing, where it is answered so; a misuse makes a loss, which is a mark of its own.
+-- Any other call and reply may change something
 abbrev pub is_quiet : Call → Reply → Bool
 is_quiet call (Reply.Refused refusal) = true
 is_quiet call (Reply.Misused misuse) = true
@@ -50,6 +50,7 @@ is_quiet _ _ = false
 abbrev pub after_call : Call → Member → Member
 after_call (Call.SetDispensable key) m = record m { dispensable = same_key key m.key || m.dispensable }
 after_call (Call.SetWeak key) m = record m { weak = same_key key m.key || m.weak }
-after_call (Call.SetConstraints key demand) m = record m { constraints = if same_key key m.key then Some demand else m.constraints }
+after_call (Call.SetConstraints key demand) m =
+    record m { constraints = if same_key key m.key then Some demand else m.constraints }
 after_call (Call.Release key) m = record m { released = same_key key m.key || m.released }
 after_call _ m = m

@@ -1,5 +1,6 @@
 -- Ends, who holds them, and what waits for a client.
--- `kind` restates `fuchsia.sysmem2.Allocator.BindSharedCollection`, `spent` restates `fuchsia.sysmem2.Node.Release`.
+-- `kind` restates `fuchsia.sysmem2.Allocator.BindSharedCollection`, `spent` restates
+-- `fuchsia.sysmem2.Node.Release`. Clients, parcels and shutting are this profile's own.
 use Rattle.std.specs.Prelude.{ℕ, Bool, false, ◌==◌, if◌then◌else◌, List, [], ◌∷◌, drop, reverse, Option, Some, None}
 use Rattle.std.specs.List.{list_any, filter_map}
 use Rattle.std.specs.Option.{option_map_or}
@@ -57,8 +58,10 @@ kind marks node = if list_any (binds node) marks then Kind.Collection else Kind.
 
 -- the parcel that the mark gives to the client: only these two calls give, and only where they took effect
 abbrev pub given_at : ℕ → Mark → Option Parcel
-given_at client (Called giver Reply.Done (Call.Give key to)) = if to == client then Some (Parcel.End key) else None
-given_at client (Called giver Reply.Done (Call.GiveHandle buffer strength to)) = if to == client then Some (Parcel.Handle buffer strength) else None
+given_at client (Called giver Reply.Done (Call.Give key to)) =
+    if to == client then Some (Parcel.End key) else None
+given_at client (Called giver Reply.Done (Call.GiveHandle buffer strength to)) =
+    if to == client then Some (Parcel.Handle buffer strength) else None
 given_at client _ = None
 
 -- the mark is a Collect of the client that got it a parcel: one that was answered Empty did not
@@ -82,7 +85,8 @@ in_transit marks node = list_any (λ client. list_any (is_end_of node) (parcels 
 
 -- who collected the node's end at the mark: only a Collect takes an end out of a parcel
 abbrev pub collector_at : NodeKey → Mark → Option ℕ
-collector_at node (Called caller (Reply.Collected key kind collection) Call.Collect) = if same_key key node then Some caller else None
+collector_at node (Called caller (Reply.Collected key kind collection) Call.Collect) =
+    if same_key key node then Some caller else None
 collector_at node _ = None
 
 -- the last who did
@@ -92,4 +96,5 @@ collector (mark ∷ before) node = option_map_or Some (collector_at node mark) (
 
 -- the last who collected the end, else who was given it at birth
 abbrev pub holder : Timeline → NodeKey → ℕ
-holder marks node = option_map_or (λ c. c) (collector marks node) (option_map_or (λ (b : Birth). b.client) (birth_of marks node) 0)
+holder marks node =
+    option_map_or (λ c. c) (collector marks node) (option_map_or (λ (b : Birth). b.client) (birth_of marks node) 0)

@@ -1,5 +1,6 @@
 -- What a collection does of itself, once an event has changed it.
--- `abandoned` restates `fuchsia.sysmem2.Node.SetWeak`, `logical_allocation` restates `fuchsia.sysmem2.BufferCollection.AttachToken`.
+-- `abandoned` restates `fuchsia.sysmem2.Node.SetWeak`, `logical_allocation` restates
+-- `fuchsia.sysmem2.BufferCollection.AttachToken`.
 use Rattle.std.specs.Prelude.{ℕ, ◌+◌, Bool, false, ◌||◌, ◌&&◌, ◌==◌, nat_lt, not, List, [], ◌∷◌, Option, Some, None, is_none}
 use Rattle.std.specs.List.{list_any, find, sum_by}
 use Rattle.std.specs.Option.{option_map_or, option_map, option_and_then}
@@ -37,7 +38,8 @@ ending s = option_map (λ top. Ended top.key) (find (is_deserted s.members) s.me
 -- the buffers are there, and neither a strong node nor a strong handle keeps them
 abbrev pub abandoned : Standing → Option Mark
 abandoned s = option_and_then
-    (λ root. when (root.allocated && (not (some_strong_live s.members) && not s.strong_open)) (Loss root.key Cause.NoStrong))
+    (λ root.
+    when (root.allocated && (not (some_strong_live s.members) && not s.strong_open)) (Loss root.key Cause.NoStrong))
     (root_left s.members)
 
 -- why the root unit can't be allocated
@@ -64,7 +66,8 @@ initial_allocation pool s = option_and_then
 -- why an attached unit can't be allocated against the buffers that there are
 abbrev pub logical_failure : List Demand → ℕ → Buffers → Option Failure
 logical_failure ds reserved buffers = first_some (
-    when (nat_lt buffers.count (reserved + sum_by (λ (d : Demand). d.camping) ds) || list_any (λ (d : Demand). nat_lt buffers.count d.at_least) ds) Failure.TooFew
+    when (nat_lt buffers.count (reserved + sum_by (λ (d : Demand). d.camping) ds)
+    || list_any (λ (d : Demand). nat_lt buffers.count d.at_least) ds) Failure.TooFew
     ∷ when (list_any (λ (d : Demand). nat_lt buffers.size d.size) ds) Failure.TooSmall
     ∷ [])
 
@@ -75,13 +78,15 @@ is_allocated ms key = list_any (λ m. m.allocated && same_key m.key key) ms
 -- an attached unit that is ready, not allocated, with a head that is not gone, below an allocated unit
 abbrev pub is_next_head : List Member → Member → Bool
 is_next_head ms m =
-    m.attached && (not m.gone && (not m.allocated && (option_map_or (is_allocated ms) m.parent false && is_ready m.key ms)))
+    m.attached
+    && (not m.gone && (not m.allocated && (option_map_or (is_allocated ms) m.parent false && is_ready m.key ms)))
 
 -- of such units the one whose head was born first
 abbrev pub logical_allocation : Standing → Option Mark
 logical_allocation s = option_and_then
     (λ buffers. option_map
-    (λ head. outcome head.key (logical_failure (demands (unit head.key s.members)) (reserved s.members) buffers))
+    (λ head.
+    outcome head.key (logical_failure (demands (unit head.key s.members)) (reserved s.members) buffers))
     (find (is_next_head s.members) s.members))
     s.buffers
 

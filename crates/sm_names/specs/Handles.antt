@@ -1,5 +1,6 @@
 -- Handles on buffers, and the buffers that handles and nodes keep.
--- `opens` restates `fuchsia.sysmem2.BufferCollection.WaitForAllBuffersAllocated`, `doomed` and `home` restate `fuchsia.sysmem2.Node.SetWeak`.
+-- `opens` restates `fuchsia.sysmem2.BufferCollection.WaitForAllBuffersAllocated`, `doomed` and `home` restate
+-- `fuchsia.sysmem2.Node.SetWeak`. Handles in parcels are this profile's own.
 use Rattle.std.specs.Prelude.{ℕ, ◌+◌, ◌-◌, Bool, true, false, ◌&&◌, ◌==◌, not, if◌then◌else◌, map, List, [], ◌∷◌, Option, Some, None, is_some, is_none}
 use Rattle.std.specs.Int.{bit_at}
 use Rattle.std.specs.List.{count_by, range_with_len}
@@ -15,10 +16,12 @@ use Rattle.sm_names.specs.Members.{members, asked, some_strong_live}
 use Rattle.sm_names.specs.Sameness.{same_buffer, same_strength}
 use Rattle.sm_names.specs.Words.{times}
 
--- the mark opens a handle of this buffer and strength for such a client: only a Take and a DupHandle that took effect do
+-- the mark opens a handle of this buffer and strength for such a client: only a Take that was answered Taken and
+-- a DupHandle that took effect do
 abbrev pub opens : (ℕ → Bool) → BufferName → Strength → Mark → Bool
 opens who buffer strength (Called client (Reply.Taken collection taken set) (Call.Take key)) =
-    who client && (collection == buffer.collection && (same_strength taken strength && bit_at set buffer.index == 1))
+    who client
+    && (collection == buffer.collection && (same_strength taken strength && bit_at set buffer.index == 1))
 opens who buffer strength (Called client Reply.Done (Call.DupHandle name dup)) =
     who client && (same_buffer name buffer && same_strength dup strength)
 opens who buffer strength _ = false
@@ -50,13 +53,16 @@ open_of marks client buffer strength =
 
 -- how many handles are in parcels
 abbrev pub moving : Timeline → BufferName → Strength → ℕ
-moving marks buffer strength = times (lifts (λ c. true) buffer strength) marks - times (lands (λ c. true) buffer strength) marks
+moving marks buffer strength =
+    times (lifts (λ c. true) buffer strength) marks - times (lands (λ c. true) buffer strength) marks
 
 -- how many handles are open, those in parcels among them
 abbrev pub open_total : Timeline → BufferName → Strength → ℕ
-open_total marks buffer strength = times (opens (λ c. true) buffer strength) marks - times (drops (λ c. true) buffer strength) marks
+open_total marks buffer strength =
+    times (opens (λ c. true) buffer strength) marks - times (drops (λ c. true) buffer strength) marks
 
--- the mark, coming after these, gives the root unit of the collection its buffers: only an allocation of a root does
+-- the mark, coming after these, gives the root unit of the collection its buffers: only the allocation of a root
+-- does
 abbrev pub is_initial : Timeline → ℕ → Mark → Bool
 is_initial before collection (Allocated head) =
     option_map_or (λ (b : Birth). is_none b.parent && b.collection == collection) (birth_of before head) false
@@ -94,7 +100,8 @@ names collection count = map (λ i. record { collection = collection; index = i 
 
 -- the buffers of the collection
 abbrev pub buffer_names : Timeline → ℕ → List BufferName
-buffer_names marks collection = option_map_or (λ (b : Buffers). names collection b.count) (buffers_of marks collection) []
+buffer_names marks collection =
+    option_map_or (λ (b : Buffers). names collection b.count) (buffers_of marks collection) []
 
 -- how many of the collection's buffers are not home
 abbrev pub left : Timeline → ℕ → ℕ

@@ -1,5 +1,7 @@
 -- What a loss takes, and which nodes are gone.
--- `blocked` restates `fuchsia.sysmem2.BufferCollectionToken.SetDispensable` and `fuchsia.sysmem2.BufferCollection.AttachToken`, `released` restates `fuchsia.sysmem2.Node.Release`.
+-- `blocked` restates `fuchsia.sysmem2.BufferCollectionToken.SetDispensable` and
+-- `fuchsia.sysmem2.BufferCollection.AttachToken`, `released` restates `fuchsia.sysmem2.Node.Release`. That a failure takes
+-- all below it, and passes through released nodes, is this profile's own.
 use Rattle.std.specs.Prelude.{Bool, false, ◌||◌, ◌&&◌, not, if◌then◌else◌, List, [], ◌∷◌, ◌≡◌, Option, Some, None, is_some}
 use Rattle.std.specs.List.{list_any}
 use Rattle.std.specs.Option.{option_map_or}
@@ -10,13 +12,16 @@ use Rattle.sm_names.specs.declared.outcomes.Fault.{Fault}
 use Rattle.sm_names.specs.Births.{Birth, births, birth_of, head, ancestors, is_at_or_below}
 use Rattle.sm_names.specs.Marks.{Mark, Timeline, Called, Loss, Allocated, Ended}
 use Rattle.sm_names.specs.Sameness.{same_key}
+use Rattle.sm_names.specs.Words.{when}
 
--- The least set that has the origin, the parent of each member whose link to it is not blocked, and every child of each member.
--- A child is a node whose parent it is.
+-- the least set that has the origin, the parent of each member whose link to it is not blocked, and every child of
+-- each member; a child is a node whose parent it is
 pub data Reach (parent : NodeKey → Option NodeKey) (blocks : NodeKey → Bool) (origin : NodeKey) : NodeKey → Type 0 where
   Origin : Reach parent blocks origin origin
-  Up : (child above : NodeKey) → Reach parent blocks origin child → blocks child ≡ false → parent child ≡ Some above → Reach parent blocks origin above
-  Down : (above child : NodeKey) → Reach parent blocks origin above → parent child ≡ Some above → Reach parent blocks origin child
+  Up : (child above : NodeKey) → Reach parent blocks origin child → blocks child ≡ false → parent child ≡ Some above →
+      Reach parent blocks origin above
+  Down : (above child : NodeKey) → Reach parent blocks origin above → parent child ≡ Some above →
+      Reach parent blocks origin child
 
 -- the mark makes the node dispensable: only a SetDispensable that took effect does
 abbrev pub is_dispensable : NodeKey → Mark → Bool
@@ -51,7 +56,8 @@ top blocks node (parent ∷ above) =
 
 -- the node is in the reach of the origin: the failure goes up to a node that is the node or above it
 abbrev pub reaches : Timeline → NodeKey → NodeKey → Bool
-reaches marks origin node = is_at_or_below (births marks) (top (blocked marks) origin (ancestors (births marks) origin)) node
+reaches marks origin node =
+    is_at_or_below (births marks) (top (blocked marks) origin (ancestors (births marks) origin)) node
 
 -- the mark, coming after these, takes the node: neither a call nor an allocation takes any
 abbrev pub takes : Timeline → Mark → NodeKey → Bool
@@ -67,7 +73,7 @@ gone (mark ∷ before) node = takes before mark node || gone before node
 -- the fault that the mark, coming after these, is to a node that was not gone before: only a loss is one
 abbrev pub fault_at : Timeline → Mark → NodeKey → Option Fault
 fault_at before (Loss origin cause) node =
-    if reaches before origin node && not (gone before node) then Some (record { cause = cause; origin = origin }) else None
+    when (reaches before origin node && not (gone before node)) (record { cause = cause; origin = origin })
 fault_at before _ node = None
 
 -- the fault by which the node failed, if it did

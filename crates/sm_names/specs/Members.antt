@@ -13,6 +13,7 @@ use Rattle.sm_names.specs.Losses.{gone, released, allocated, is_dispensable}
 use Rattle.sm_names.specs.Marks.{Mark, Timeline, Called}
 use Rattle.sm_names.specs.Sameness.{same_key}
 use Rattle.sm_names.specs.Weakness.{weak}
+use Rattle.sm_names.specs.Words.{when}
 
 -- what the forced steps read of a node
 pub record Member : Type 0 where
@@ -32,7 +33,7 @@ pub record Member : Type 0 where
 
 -- the constraints that the mark sets on the node: only a SetConstraints that took effect sets any
 abbrev pub constraints_at : NodeKey → Mark → Option Demand
-constraints_at node (Called client Reply.Done (Call.SetConstraints key demand)) = if same_key key node then Some demand else None
+constraints_at node (Called client Reply.Done (Call.SetConstraints key demand)) = when (same_key key node) demand
 constraints_at node _ = None
 
 -- the constraints that were set on the node

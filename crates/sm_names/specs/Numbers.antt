@@ -1,4 +1,4 @@
--- The numbers and the names of refusals and misuses. Refusals are numbered in the order in which they are looked at.
+-- The numbers and the names of refusals and misuses. Both are this profile's own.
 use Rattle.std.specs.Prelude.{ℕ, List, codes}
 use Rattle.sm_names.specs.declared.outcomes.Misuse.{Misuse}
 use Rattle.sm_names.specs.declared.outcomes.Refusal.{Refusal}

@@ -42,7 +42,8 @@ open_end marks b = record {
   took = list_any (is_taking b.node) marks;
   node_trackers = times (is_tracking b.node) marks;
   buffers = if allocated marks b.node then buffers_of marks b.collection else None;
-  to_open = if allocated marks b.node then filter (λ name. not (doomed marks name)) (buffer_names marks b.collection) else [];
+  to_open =
+      if allocated marks b.node then filter (λ name. not (doomed marks name)) (buffer_names marks b.collection) else [];
 }
 
 -- what answers read of a timeline

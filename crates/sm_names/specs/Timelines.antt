@@ -39,7 +39,8 @@ layout pool collection buffers held =
 -- what the mark, coming after these, lays out: only the allocation of a root lays out buffers
 abbrev pub layout_at : ℕ → Timeline → List Interval → Mark → List HeldPages
 layout_at pool before held (Allocated head) = option_map_or
-    (λ (b : Birth). if is_none b.parent then layout pool b.collection (asked (members before b.collection)) held else [])
+    (λ (b : Birth).
+    if is_none b.parent then layout pool b.collection (asked (members before b.collection)) held else [])
     (birth_of before head) []
 layout_at pool before held _ = []
 
@@ -73,13 +74,15 @@ next_forced pool collection marks = forced pool (standing pool marks collection)
 -- the marks and then those that the collection forces, one after another, until it forces none
 pub data Settles (pool collection : ℕ) : Timeline → Timeline → Type 0 where
   Rests : (marks : Timeline) → next_forced pool collection marks ≡ None → Settles pool collection marks marks
-  Forces : (marks after : Timeline) (mark : Mark) → next_forced pool collection marks ≡ Some mark → Settles pool collection (mark ∷ marks) after → Settles pool collection marks after
+  Forces : (marks after : Timeline) (mark : Mark) → next_forced pool collection marks ≡ Some mark →
+      Settles pool collection (mark ∷ marks) after → Settles pool collection marks after
 
 -- the same, at most so many
 abbrev pub settled_within : ℕ → ℕ → ℕ → Timeline → Timeline
 settled_within pool collection zero marks = marks
 settled_within pool collection (suc most) marks =
-    option_map_or (λ mark. settled_within pool collection most (mark ∷ marks)) (next_forced pool collection marks) marks
+    option_map_or (λ mark. settled_within pool collection most (mark ∷ marks))
+    (next_forced pool collection marks) marks
 
 -- the same: each node is lost, and heads a unit that is allocated, at most once
 abbrev pub settled : ℕ → ℕ → Timeline → Timeline
@@ -132,7 +135,8 @@ collection_of marks call reply = first_some (
     ∷ opened_by call reply
     ∷ [])
 
--- the loss that the call makes itself: a node that is not gone is closed, or misused. No other call and reply make one
+-- the loss that the call makes itself: a node that is not gone is closed, or misused; no other call and reply make
+-- one
 abbrev pub own_loss : Timeline → Call → Reply → Option Mark
 own_loss before (Call.Close key) Reply.Done = when (not (gone before key)) (Loss key Cause.Lost)
 own_loss before call (Reply.Misused misuse) = option_map (λ key. Loss key (Cause.Misused misuse)) (key_of call)

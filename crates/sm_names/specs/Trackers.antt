@@ -1,6 +1,6 @@
 -- Trackers, and when they fire.
--- `holds` restates `fuchsia.sysmem2.Node.AttachNodeTracking`, `fuchsia.sysmem2.BufferCollection.AttachLifetimeTracking` and the field
--- `close_weak_asap` of `fuchsia.sysmem2.VmoBuffer`.
+-- `holds` restates `fuchsia.sysmem2.Node.AttachNodeTracking`, `fuchsia.sysmem2.BufferCollection.AttachLifetimeTracking`
+-- and the field `close_weak_asap` of `fuchsia.sysmem2.VmoBuffer`.
 use Rattle.std.specs.Prelude.{ℕ, Bool, false, ◌&&◌, ◌==◌, nat_le, if◌then◌else◌, List, [], ◌∷◌, map, reverse, Option, Some, None, is_none}
 use Rattle.std.specs.List.{list_any, filter, flat_map, count_by, cons_option}
 use Rattle.std.specs.Option.{option_map_or, option_map}
@@ -23,11 +23,12 @@ pub record World : Type 0 where
   pub left : ℕ → ℕ
   pub doomed : BufferName → Bool
 
--- what is waited for holds in this world. A lifetime is over once the unit was allocated and few enough buffers of the
--- collection are left, or once the node went before its unit was allocated
+-- what is waited for holds in this world: a lifetime is over once the unit was allocated and few enough buffers of
+-- the collection are left, or once the node went before its unit was allocated
 abbrev pub holds : World → Condition → Bool
 holds w (Condition.Node key) = w.gone key
-holds w (Condition.Lifetime key collection most) = if w.allocated key then nat_le (w.left collection) most else w.gone key
+holds w (Condition.Lifetime key collection most) =
+    if w.allocated key then nat_le (w.left collection) most else w.gone key
 holds w (Condition.Weak buffer) = w.doomed buffer
 
 -- the world after these marks
@@ -45,10 +46,12 @@ collection_of_node marks node = option_map_or (λ (b : Birth). b.collection) (bi
 
 -- the tracker that the mark, coming after these, attaches: only these three calls make one
 abbrev pub tracked_at : Timeline → Mark → Option Tracked
-tracked_at before (Called client (Reply.Tracker id) (Call.TrackNode key)) = Some (record { id = id; condition = Condition.Node key })
+tracked_at before (Called client (Reply.Tracker id) (Call.TrackNode key)) =
+    Some (record { id = id; condition = Condition.Node key })
 tracked_at before (Called client (Reply.Tracker id) (Call.TrackLifetime key most)) =
     Some (record { id = id; condition = Condition.Lifetime key (collection_of_node before key) most })
-tracked_at before (Called client (Reply.Tracker id) (Call.TrackWeak buffer)) = Some (record { id = id; condition = Condition.Weak buffer })
+tracked_at before (Called client (Reply.Tracker id) (Call.TrackWeak buffer)) =
+    Some (record { id = id; condition = Condition.Weak buffer })
 tracked_at before _ = None
 
 -- all trackers, the newest first
@@ -59,7 +62,8 @@ tracked (mark ∷ before) = cons_option (tracked_at before mark) (tracked before
 -- the places in the timeline before its last event at which an event was over, the last one first
 abbrev pub earlier_moments : Timeline → List Timeline
 earlier_moments [] = []
-earlier_moments (mark ∷ before) = if is_event mark then before ∷ earlier_moments before else earlier_moments before
+earlier_moments (mark ∷ before) =
+    if is_event mark then before ∷ earlier_moments before else earlier_moments before
 
 -- all such places
 abbrev pub moments : Timeline → List Timeline
@@ -67,7 +71,8 @@ moments marks = marks ∷ earlier_moments marks
 
 -- the tracker was attached by then, and what it waits for holds
 abbrev pub fires_at : Tracked → Timeline → Bool
-fires_at t moment = list_any (λ (u : Tracked). u.id == t.id) (tracked moment) && holds (world moment) t.condition
+fires_at t moment =
+    list_any (λ (u : Tracked). u.id == t.id) (tracked moment) && holds (world moment) t.condition
 
 -- the event at which the tracker fired: the first, its own included, after which what it waits for holds
 abbrev pub fired_at : Timeline → Tracked → Option ℕ

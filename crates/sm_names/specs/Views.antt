@@ -12,7 +12,8 @@ use Rattle.sm_names.specs.Words.{sorted_by}
 
 -- the live nodes, by birth
 abbrev pub live_nodes : Timeline → List NodeKey
-live_nodes marks = map (λ (b : Birth). b.node) (filter (λ (b : Birth). live marks b.node) (reverse (births marks)))
+live_nodes marks =
+    map (λ (b : Birth). b.node) (filter (λ (b : Birth). live marks b.node) (reverse (births marks)))
 
 -- the held buffers, by page
 abbrev pub held_by_page : ℕ → Timeline → List HeldPages
@@ -31,4 +32,9 @@ pub record Views : Type 0 where
 
 -- what is seen after these marks
 abbrev pub views : ℕ → Timeline → Views
-views pool marks = record { live = live_nodes marks; held = held_by_page pool marks; fired = fired marks; free = free_pages pool marks }
+views pool marks = record {
+  live = live_nodes marks;
+  held = held_by_page pool marks;
+  fired = fired marks;
+  free = free_pages pool marks;
+}

@@ -12,7 +12,8 @@ use Rattle.sm_names.specs.Sameness.{same_key}
 
 -- the parent of the node, if the mark is the node's birth
 abbrev pub born_to : NodeKey → Mark → Option NodeKey
-born_to node mark = option_and_then (λ (b : Birth). if same_key b.node node then b.parent else None) (birth_at 0 mark)
+born_to node mark =
+    option_and_then (λ (b : Birth). if same_key b.node node then b.parent else None) (birth_at 0 mark)
 
 -- the mark is a SetWeak of the node that took effect, as no other mark is
 abbrev pub sets_weak : NodeKey → Mark → Bool
@@ -39,9 +40,11 @@ weak (mark ∷ before) node =
 abbrev pub covered : Timeline → NodeKey → Bool
 covered [] node = false
 covered (mark ∷ before) node =
-    option_map_or (λ parent. list_any (covers_children parent) before || covered before parent) (born_to node mark) false
+    option_map_or (λ parent. list_any (covers_children parent) before || covered before parent)
+    (born_to node mark) false
     || covered before node
 
 -- SetWeak or SetWeakOk took effect on the node, or the node is covered
 abbrev pub weak_ok : Timeline → NodeKey → Bool
-weak_ok marks node = list_any (sets_weak node) marks || (list_any (sets_weak_ok node) marks || covered marks node)
+weak_ok marks node =
+    list_any (sets_weak node) marks || (list_any (sets_weak_ok node) marks || covered marks node)
