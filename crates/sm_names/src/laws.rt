@@ -8,7 +8,6 @@ ghost use Rattle.sm_names.specs.declared.keys.Strength.{Strength};
 ghost use Rattle.sm_names.specs.declared.messages.Call.{Call};
 ghost use Rattle.sm_names.specs.declared.messages.Reply.{Reply};
 ghost use Rattle.sm_names.specs.declared.outcomes.Cause.{Cause};
-ghost use Rattle.sm_names.specs.declared.outcomes.Failure.{Failure};
 ghost use Rattle.sm_names.specs.declared.outcomes.Refusal.{Refusal};
 ghost use Rattle.sm_names.specs.Answers.{IsAnswer, Readings};
 ghost use Rattle.sm_names.specs.Births.{Birth, births, birth_of, collection_in, AreSound, AreTogether};
@@ -25,7 +24,7 @@ ghost use Rattle.sm_names.specs.Reading.{readings};
 ghost use Rattle.sm_names.specs.Sameness.{same_key};
 ghost use Rattle.sm_names.specs.Timelines.{HeldPages, Settles, settled, next_forced, standing, held, still_out, timeline, after};
 ghost use Rattle.sm_names.specs.Trackers.{unfired};
-ghost use Rattle.sm_names.specs.Views.{Views, live_nodes, held_by_page, free_pages};
+ghost use Rattle.sm_names.specs.Views.{Views, live_nodes, held_by_page};
 
 /// What a loss takes is the least set that has its node, the parent of each member whose link is
 /// not blocked, and every child of each member.

@@ -1,5 +1,5 @@
 //! How calls, nodes and allocations come out.
-ghost use Rattle.std.specs.Prelude.{◌≡◌, ◌≤◌};
+ghost use Rattle.std.specs.Prelude.{◌≡◌};
 ghost use Rattle.sm_names.specs.Numbers.{misuse_name, misuse_number, refusal_name, refusal_number};
 
 use crate::keys::NodeKey;

@@ -148,3 +148,37 @@ gift_of_a_spent_end =
     ∷ (2, Call.Shut, Reply.Shut 0)
     ∷ (1, Call.Give (key 0) 2, Reply.Refused Refusal.ClientShut)
     ∷ []
+
+-- client 0, client 1 and client 9 call before anybody joined
+abbrev pub strangers : List Entry
+strangers =
+    (0, Call.OpenRoot, Reply.Refused Refusal.NoSuchClient)
+    ∷ (1, Call.Join, Reply.Refused Refusal.NoSuchClient)
+    ∷ (9, Call.OpenRoot, Reply.Refused Refusal.NoSuchClient)
+    ∷ (0, Call.Collect, Reply.Refused Refusal.NoSuchClient)
+    ∷ []
+
+-- client 1 gives its root to nobody, and to client 9, who did not join
+abbrev pub given_to_nobody : List Entry
+given_to_nobody =
+    (0, Call.Join, Reply.Joined 1)
+    ∷ (1, Call.OpenRoot, Reply.Token (key 0) 2)
+    ∷ (1, Call.Give (key 0) 0, Reply.Refused Refusal.NoSuchClient)
+    ∷ (1, Call.Give (key 5) 9, Reply.Refused Refusal.NoSuchClient)
+    ∷ (1, Call.Sync (key 0), Reply.Done)
+    ∷ []
+
+-- client 1 uses a key that no node has, then one of an earlier generation; client 2 uses the key of client 1; and both
+-- use handles that they do not have
+abbrev pub forged_keys : List Entry
+forged_keys =
+    (0, Call.Join, Reply.Joined 1)
+    ∷ (0, Call.Join, Reply.Joined 2)
+    ∷ (1, Call.OpenRoot, Reply.Token (record { slot = 0; generation = 1 }) 3)
+    ∷ (1, Call.Close (record { slot = 4294967295; generation = 4294967295 }), Reply.Refused Refusal.NoSuchEnd)
+    ∷ (1, Call.Close (record { slot = 0; generation = 0 }), Reply.Refused Refusal.NoSuchEnd)
+    ∷ (2, Call.Close (record { slot = 0; generation = 1 }), Reply.Refused Refusal.NoSuchEnd)
+    ∷ (1, Call.DupHandle (buffer 0 63) Strength.Strong, Reply.Refused Refusal.NoSuchHandle)
+    ∷ (1, Call.DropHandle (buffer 3 0) Strength.Weak, Reply.Refused Refusal.NoSuchHandle)
+    ∷ (2, Call.TrackWeak (buffer 3 0), Reply.Refused Refusal.NoSuchHandle)
+    ∷ []

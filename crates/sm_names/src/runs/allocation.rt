@@ -4,7 +4,7 @@ ghost use Rattle.sm_names.specs.declared.messages.Reply.{Reply};
 ghost use Rattle.sm_names.specs.declared.outcomes.Cause.{Cause};
 ghost use Rattle.sm_names.specs.declared.outcomes.Failure.{Failure};
 ghost use Rattle.sm_names.specs.Legality.{IsLegal};
-ghost use Rattle.sm_names.specs.Runs.{answered_instead, asks, at, buffer, full, key};
+ghost use Rattle.sm_names.specs.Runs.{answered_instead, at, buffer, full, key};
 ghost use Rattle.sm_names.specs.Timelines.{timeline};
 ghost use Rattle.sm_names.specs.Trackers.{fired};
 ghost use Rattle.sm_names.specs.Views.{free_pages, held_by_page, live_nodes};

@@ -5,9 +5,11 @@ ghost use Rattle.sm_names.specs.declared.messages.Call.{Call};
 ghost use Rattle.sm_names.specs.declared.messages.Reply.{Reply};
 ghost use Rattle.sm_names.specs.declared.outcomes.Refusal.{Refusal};
 ghost use Rattle.sm_names.specs.Legality.{IsLegal};
-ghost use Rattle.sm_names.specs.Marks.{events};
-ghost use Rattle.sm_names.specs.Runs.{answered_instead, at, full, key};
-ghost use Rattle.sm_names.specs.Runs.Answered.{wrong_kind, second_constraints, late_weak, late_weak_ok, weak_takes_early, misuse_before_limits, nodes_full, collections_full, trackers_full, handles_full, history_full, gift_of_a_spent_end};
+ghost use Rattle.sm_names.specs.Timelines.{timeline};
+ghost use Rattle.sm_names.specs.Views.{live_nodes};
+ghost use Rattle.sm_names.specs.Runs.{answered_instead, full, key};
+ghost use Rattle.sm_names.specs.Runs.Answered.{wrong_kind, second_constraints, late_weak, late_weak_ok, weak_takes_early, misuse_before_limits, nodes_full, collections_full, trackers_full, handles_full, history_full, gift_of_a_spent_end, strangers, given_to_nobody, forged_keys};
+ghost use Rattle.sm_names.specs.Runs.Failures.{end_spent};
 
 /// A call for an end of the other kind is refused and changes nothing.
 pub fn kinds_are_told_apart()
@@ -69,4 +71,30 @@ pub fn the_receiver_is_looked_at_before_the_end()
     ensures legal { IsLegal 16 full gift_of_a_spent_end }
     ensures not_refused { IsLegal 16 full
         (answered_instead (Reply.Refused Refusal.NoSuchEnd) gift_of_a_spent_end) → ⊥ }
+{}
+
+/// Clients are made by client 0 alone, and who was not made is refused, whatever it calls and
+/// whatever is given to it.
+pub fn strangers_are_refused()
+    ensures legal { IsLegal 16 full strangers }
+    ensures not_token { IsLegal 16 full ((0, Call.OpenRoot, Reply.Token (key 0) 1) ∷ []) → ⊥ }
+    ensures not_joined { IsLegal 16 full ((1, Call.Join, Reply.Joined 1) ∷ []) → ⊥ }
+    ensures to_nobody { IsLegal 16 full given_to_nobody }
+    ensures not_done { IsLegal 16 full (answered_instead Reply.Done (take 3 given_to_nobody)) → ⊥ }
+    ensures not_refused { IsLegal 16 full (answered_instead (Reply.Refused Refusal.NoSuchEnd) (take 4 given_to_nobody)) → ⊥ }
+{}
+
+/// Keys that no node has, keys of an earlier generation, keys of others, and handles that the caller
+/// does not have are refused, and change nothing.
+pub fn forged_keys_are_refused()
+    ensures legal { IsLegal 16 full forged_keys }
+    ensures live { live_nodes (timeline 16 forged_keys) ≡ record { slot = 0; generation = 1 } ∷ [] }
+    ensures not_done { IsLegal 16 full (answered_instead Reply.Done (take 5 forged_keys)) → ⊥ }
+    ensures not_done_by_another { IsLegal 16 full (answered_instead Reply.Done (take 6 forged_keys)) → ⊥ }
+    ensures not_dropped { IsLegal 16 full (answered_instead Reply.Done (take 8 forged_keys)) → ⊥ }
+{}
+
+/// A key is given to one node only: a new node never gets a key that an earlier one had.
+pub fn keys_are_given_once()
+    ensures not_again { IsLegal 16 full (answered_instead (Reply.Token (key 0) 4) (take 4 end_spent)) → ⊥ }
 {}

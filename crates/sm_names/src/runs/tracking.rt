@@ -3,7 +3,7 @@ ghost use Rattle.std.specs.Prelude.{◌≡◌, None, Some, [], take, ◌∷◌};
 ghost use Rattle.sm_names.specs.declared.messages.Reply.{Reply};
 ghost use Rattle.sm_names.specs.declared.tracking.Condition.{Condition};
 ghost use Rattle.sm_names.specs.Legality.{IsLegal};
-ghost use Rattle.sm_names.specs.Runs.{answered_instead, at, fires, full, key, tracking};
+ghost use Rattle.sm_names.specs.Runs.{answered_instead, fires, full, key, tracking};
 ghost use Rattle.sm_names.specs.Timelines.{timeline};
 ghost use Rattle.sm_names.specs.Trackers.{fired, fired_at};
 ghost use Rattle.sm_names.specs.Runs.Tracking.{attached_tracker, few_left, few_left_of_none, tracker_of_an_ended, tracker_of_an_unallocated_unit, node_trackers_full};
