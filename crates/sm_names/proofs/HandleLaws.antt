@@ -8,7 +8,6 @@ use Rattle.sm_names.specs.declared.messages.Call.{Call}
 use Rattle.sm_names.specs.declared.messages.Reply.{Reply}
 use Rattle.sm_names.specs.declared.outcomes.Refusal.{Refusal}
 use Rattle.sm_names.specs.Answers.{IsAnswer, refused_if}
-use Rattle.sm_names.specs.Births.{births, AreSound}
 use Rattle.sm_names.specs.Bounds.{Bound}
 use Rattle.sm_names.specs.Handles.{opens, drops, lifts, lands, open_of}
 use Rattle.sm_names.specs.Legality.{AreAnswers}
@@ -18,8 +17,7 @@ use Rattle.sm_names.specs.Sameness.{same_buffer, same_strength}
 use Rattle.sm_names.specs.Timelines.{after}
 use Rattle.std.proofs.lemmas.Bool.{eqb-true}
 use Rattle.sm_names.proofs.AnswerLaws.{took_effect_all}
-use Rattle.sm_names.proofs.LegalLaws.{sound_called, sound_after}
-use Rattle.sm_names.proofs.ParcelLaws.{kept-after}
+use Rattle.sm_names.proofs.KeptLaws.{kept-after}
 use Rattle.sm_names.proofs.SamenessLaws.{either_way, and_left, and_right}
 use Rattle.sm_names.specs.Words.{times}
 
@@ -105,11 +103,11 @@ paid-mark marks (Loss origin cause) h paid = paid
 paid-mark marks (Allocated head) h paid = paid
 paid-mark marks (Ended head) h paid = paid
 
-pub paid_history : (pool : ℕ) (limits : Bound) (marks : Timeline) (history : List Entry) → AreAnswers pool limits marks history → AreSound (births marks) → IsPaid marks → IsPaid (fold (after pool) marks history)
-paid_history pool limits marks [] answers sound paid = paid
-paid_history pool limits marks (entry ∷ entries) answers sound paid =
-    paid_history pool limits (after pool marks entry) entries answers.1 (sound_after pool limits marks entry answers.0 sound)
-    (kept-after IsPaid paid-mark pool marks entry (sound_called limits marks entry answers.0 sound) (λ client buffer strength. paid-called client buffer strength limits marks entry answers.0 (paid client buffer strength)))
+pub paid_history : (pool : ℕ) (limits : Bound) (marks : Timeline) (history : List Entry) → AreAnswers pool limits marks history → IsPaid marks → IsPaid (fold (after pool) marks history)
+paid_history pool limits marks [] answers paid = paid
+paid_history pool limits marks (entry ∷ entries) answers paid =
+    paid_history pool limits (after pool marks entry) entries answers.1
+    (kept-after IsPaid paid-mark pool marks entry (λ client buffer strength. paid-called client buffer strength limits marks entry answers.0 (paid client buffer strength)))
 
 pub paid_nothing : IsPaid []
 paid_nothing client buffer strength = omega arith

@@ -99,7 +99,8 @@ is_birth event client (Reply.Token key collection) (Call.AttachToken parent) b h
     subst (IsBirth (Call.AttachToken parent) (Reply.Token key collection)) is (record { told = refl; effective = refl; no_close = refl; below = refl })
 is_birth event client _ _ b h = cc
 
-is_some-find : {A : Type 0} (test : A → Bool) (xs : List A) → is_some (find test xs) ≡ list_any test xs
+-- something is found exactly if something passes
+pub is_some-find : {A : Type 0} (test : A → Bool) (xs : List A) → is_some (find test xs) ≡ list_any test xs
 is_some-find test [] = refl
 is_some-find test (x ∷ xs) = elim (test x) as (λ (b : Bool). is_some (cond b (Some x) (find test xs)) ≡ (b || list_any test xs)) [ true ↦ refl | false ↦ is_some-find test xs ]
 

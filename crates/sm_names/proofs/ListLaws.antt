@@ -1,5 +1,6 @@
 -- Elements of lists, and how many pass a test.
-use Rattle.std.proofs.Common.{◌≡◌, ◌≤◌, ◌<◌, ◌+◌, refl, ap, sym, ◌∙◌, Bool, true, false, ◌||◌, cond, ◌⊎◌, inl, inr, List, [], ◌∷◌, length, map, reverse, Option, Some, None, arith}
+use Rattle.std.proofs.Common.{ℕ, ◌≡◌, ◌≤◌, ◌<◌, ◌+◌, refl, ap, sym, ◌∙◌, Bool, true, false, ◌&&◌, ◌||◌, cond, ◌⊎◌, inl, inr, List, [], ◌∷◌, ◌++◌, length, map, reverse, Option, Some, None, arith}
+use Rattle.std.proofs.lemmas.List.{reverse-append}
 use Rattle.std.specs.List.{list_any, find, filter}
 use Rattle.sm_names.proofs.SamenessLaws.{either_way, or_none_left, or_none_right}
 use Rattle.sm_names.specs.Words.{first_some, times, when}
@@ -144,4 +145,31 @@ times-lt p q (x ∷ xs) y h (inr on) fails passes =
     elim (either_way (p x)) [
       | inl e ↦ let f : q x ≡ true = h x (inl refl) e in rw (e, f) (omega arith)
       | inr e ↦ rw e (elim (q x) as (λ (b : Bool). times p xs < cond b (times q xs + 1) (times q xs)) [ true ↦ omega arith | false ↦ omega arith ])
+    ]
+
+pub times-none : {A : Type 0} (xs : List A) → times (λ x. false) xs ≡ 0
+times-none [] = refl
+times-none (x ∷ xs) = times-none xs
+
+times-append : {A : Type 0} (test : A → Bool) (xs ys : List A) → times test (xs ++ ys) ≡ times test xs + times test ys
+times-append test [] ys = omega arith
+times-append test (x ∷ xs) ys =
+    let rest : times test (xs ++ ys) ≡ times test xs + times test ys = times-append test xs ys in
+    elim (test x) as (λ (b : Bool). cond b (times test (xs ++ ys) + 1) (times test (xs ++ ys)) ≡ cond b (times test xs + 1) (times test xs) + times test ys) [ true ↦ omega arith | false ↦ rest ]
+
+-- as many pass in the other order
+pub times-reverse : {A : Type 0} (test : A → Bool) (xs : List A) → times test (reverse xs) ≡ times test xs
+times-reverse test [] = refl
+times-reverse test (x ∷ xs) =
+    let rest : times test (reverse xs) ≡ times test xs = times-reverse test xs in
+    ap (times test) (reverse-append (x ∷ []) xs) ∙ (times-append test (reverse xs) (x ∷ [])
+    ∙ elim (test x) as (λ (b : Bool). times test (reverse xs) + cond b 1 0 ≡ cond b (times test xs + 1) (times test xs)) [ true ↦ omega arith | false ↦ omega arith ])
+
+-- of those that were asked for, as many pass as pass both tests
+pub times-map_filter : {A B : Type 0} (test : B → Bool) (asked : A → Bool) (f : A → B) (xs : List A) → times test (map f (filter asked xs)) ≡ times (λ x. asked x && test (f x)) xs
+times-map_filter test asked f [] = refl
+times-map_filter test asked f (x ∷ xs) =
+    elim (either_way (asked x)) [
+      | inl e ↦ rw e (ap (λ (n : ℕ). cond (test (f x)) (n + 1) n) (times-map_filter test asked f xs))
+      | inr e ↦ rw e (times-map_filter test asked f xs)
     ]

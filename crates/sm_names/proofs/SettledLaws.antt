@@ -1,14 +1,15 @@
--- The forced steps come to an end, and none applies then.
-use Rattle.std.proofs.Common.{◌&&◌, ℕ, zero, suc, ◌≡◌, ◌≤◌, ◌<◌, ◌+◌, ◌*◌, refl, ap, sym, ◌∙◌, subst, Bool, true, false, cond, not, ◌||◌, ◌==◌, ◌⊎◌, inl, inr, List, [], ◌∷◌, length, Option, Some, None, arith, is_none}
+-- Why a step is forced. The forced steps come to an end, and none applies then.
+use Rattle.std.proofs.Common.{◌&&◌, ℕ, zero, suc, ◌≡◌, ◌≤◌, ◌<◌, ◌+◌, ◌*◌, refl, ap, sym, ◌∙◌, subst, Bool, true, false, cond, not, ◌||◌, ◌==◌, ◌⊎◌, inl, inr, List, [], ◌∷◌, length, Option, Some, None, arith, is_some, is_none}
 use Rattle.std.specs.List.{list_any, find, filter}
-use Rattle.std.specs.Option.{option_map, option_and_then}
+use Rattle.std.specs.Option.{option_map, option_map_or, option_and_then}
 use Rattle.sm_names.specs.declared.keys.NodeKey.{NodeKey}
+use Rattle.sm_names.specs.declared.outcomes.Cause.{Cause}
 use Rattle.sm_names.specs.declared.outcomes.Failure.{Failure}
 use Rattle.sm_names.specs.Births.{Birth, births, head, ancestors, was_born, AreSound}
-use Rattle.sm_names.specs.Forced.{Standing, is_deserted, ending, abandoned, initial_allocation, logical_allocation, outcome, is_next_head}
+use Rattle.sm_names.specs.Forced.{Standing, is_deserted, ending, abandoned, initial_allocation, initial_failure, logical_allocation, logical_failure, outcome, is_next_head, is_allocated}
 use Rattle.sm_names.specs.Losses.{gone, allocated, is_allocation, takes}
 use Rattle.sm_names.specs.Marks.{Mark, Timeline, Called, Loss, Allocated, Ended, is_event}
-use Rattle.sm_names.specs.Members.{root_left, Member, member, members, births_in, is_root}
+use Rattle.sm_names.specs.Members.{Member, member, members, births_in, is_root, root_left, some_live, subtree, unit, is_ready, demands, asked, reserved}
 use Rattle.sm_names.specs.Sameness.{same_key}
 use Rattle.sm_names.specs.Timelines.{next_forced, standing, settled_within, settled, Settles, Rests, Forces}
 use Rattle.sm_names.proofs.ListLaws.{In, In-filter, In-map, In-reverse, In-find, In-first_some, when-Some, times-le-length, times-le, times-lt}
@@ -104,7 +105,7 @@ lowers marks mark c =
     ] in
     subst (λ (cs : List Birth). times g' cs + times a' cs < times g bs + times a bs) (sym same) sum
 
--- ---- each forced mark changes something
+-- ---- what is forced, and why
 
 -- a node of the collection, as it stands, is that of a birth
 pub member_birth : (marks : Timeline) (collection : ℕ) (m : Member) → In m (members marks collection) → (b : Birth) × In b (births marks) × (m ≡ member marks b) × (b.collection == collection ≡ true)
@@ -112,22 +113,6 @@ member_birth marks collection m on =
     let r = In-map (member marks) (births_in marks collection) m on in
     let f = In-filter (λ (b : Birth). b.collection == collection) (births marks) r.0 (In-reverse (filter (λ (b : Birth). b.collection == collection) (births marks)) r.0 r.1) in
     (r.0, f.0, r.2, f.1)
-
--- a node that heads its unit, and is neither gone nor allocated: its loss or its allocation changes something
-outcome_changes : (marks : Timeline) (b : Birth) (f : Option Failure) → AreSound (births marks) → In b (births marks) → (b.attached ≡ true) ⊎ (b.parent ≡ None) →
-    gone marks b.node ≡ false → allocated marks b.node ≡ false → Changes marks (outcome b.node f)
-outcome_changes marks b None sound on heads free waits = record {
-  no_event = refl;
-  birth = b;
-  there = on;
-  new = inr (waits, or_left (same_key b.node (head (births marks) b.node)) _ (rw (head_itself (births marks) b sound on heads) (same_key-refl b.node)));
-}
-outcome_changes marks b (Some failure) sound on heads free waits = record {
-  no_event = refl;
-  birth = b;
-  there = on;
-  new = inl (free, or_left _ _ (top_on _ b.node (ancestors (births marks) b.node)));
-}
 
 none_if : (o : Option NodeKey) → is_none o ≡ true → o ≡ None
 none_if None h = refl
@@ -141,70 +126,165 @@ pub map-Some : {A B : Type 0} (f : A → B) (o : Option A) (y : B) → option_ma
 map-Some f None y h = cc
 map-Some f (Some x) y h = (x, refl, cc)
 
-module _ (pool collection : ℕ) (marks : Timeline) (sound : AreSound (births marks)) (mark : Mark) where
+has_parent : (ms : List Member) (o : Option NodeKey) → option_map_or (is_allocated ms) o false ≡ true → is_some o ≡ true
+has_parent ms None h = cc
+has_parent ms (Some p) h = refl
+
+-- a mark that the collection forces, and what it tells
+pub data Why (pool collection : ℕ) (marks : Timeline) : Mark → Type 0 where
+  -- no node at or below it is live
+  No_live : (b : Birth) → In b (births marks) → b.collection == collection ≡ true → gone marks b.node ≡ false →
+      some_live (subtree b.node (members marks collection)) ≡ false → Why pool collection marks (Ended b.node)
+  -- it is lost
+  Fails : (b : Birth) (cause : Cause) → In b (births marks) → b.collection == collection ≡ true → gone marks b.node ≡ false →
+      Why pool collection marks (Loss b.node cause)
+  -- it is the root, its unit is not allocated, and there is room for its buffers
+  Initial : (b : Birth) → In b (births marks) → b.collection == collection ≡ true → b.parent ≡ None →
+      gone marks b.node ≡ false → allocated marks b.node ≡ false →
+      root_left (members marks collection) ≡ Some (member marks b) →
+      initial_failure pool (standing pool marks collection) (asked (members marks collection)) ≡ None →
+      Why pool collection marks (Allocated b.node)
+  -- it is attached, and its unit is not allocated
+  Logical : (b : Birth) → In b (births marks) → b.collection == collection ≡ true → is_some b.parent ≡ true →
+      gone marks b.node ≡ false → allocated marks b.node ≡ false → b.attached ≡ true →
+      Why pool collection marks (Allocated b.node)
+
+-- what the test of the next head tells of it
+next_head_parts : (ms : List Member) (m : Member) → is_next_head ms m ≡ true →
+    (m.attached ≡ true) × (m.gone ≡ false) × (m.allocated ≡ false) × (is_some m.parent ≡ true)
+next_head_parts ms m h =
+    let parent : Bool = option_map_or (is_allocated ms) m.parent false in
+    let ready : Bool = is_ready m.key ms in
+    let a : (not m.gone && (not m.allocated && (parent && ready))) ≡ true = and_right m.attached (not m.gone && (not m.allocated && (parent && ready))) h in
+    let b : (not m.allocated && (parent && ready)) ≡ true = and_right (not m.gone) (not m.allocated && (parent && ready)) a in
+    let c : (parent && ready) ≡ true = and_right (not m.allocated) (parent && ready) b in (
+      and_left m.attached (not m.gone && (not m.allocated && (parent && ready))) h,
+      not_back m.gone (and_left (not m.gone) (not m.allocated && (parent && ready)) a),
+      not_back m.allocated (and_left (not m.allocated) (parent && ready) b),
+      has_parent ms m.parent (and_left parent ready c),
+    )
+
+module _ (pool collection : ℕ) (marks : Timeline) (mark : Mark) where
   abbrev now : Standing
   now = standing pool marks collection
 
-  ending_changes : ending now ≡ Some mark → Changes marks mark
-  ending_changes h =
-      let t = map-Some _ (find (is_deserted now.members) now.members) mark h in
-      let f = In-find (is_deserted now.members) now.members t.0 t.1 in
+  ending_why : ending now ≡ Some mark → Why pool collection marks mark
+  ending_why h =
+      let ms : List Member = members marks collection in
+      let t = map-Some (λ (top : Member). Ended top.key) (find (is_deserted ms) ms) mark h in
+      let f = In-find (is_deserted ms) ms t.0 t.1 in
       let r = member_birth marks collection t.0 f.0 in
       let b : Birth = r.0 in
-      let test : is_deserted now.members (member marks b) ≡ true = subst (λ (m : Member). is_deserted now.members m ≡ true) r.2 f.1 in
-      let free : gone marks b.node ≡ false = not_back _ (and_left _ _ (and_right _ _ test)) in
-      let takes_it : takes marks (Ended b.node) b.node ≡ true = or_left _ _ (same_key-refl b.node) in
-      subst (Changes marks) t.2 (rw r.2 (record { no_event = refl; birth = b; there = r.1; new = inl (free, or_left _ _ takes_it) }))
+      let test : is_deserted ms (member marks b) ≡ true = subst (λ (m : Member). is_deserted ms m ≡ true) r.2 f.1 in
+      let free : (not (gone marks b.node) && not (some_live (subtree b.node ms))) ≡ true =
+      and_right (is_none b.parent || b.attached) (not (gone marks b.node) && not (some_live (subtree b.node ms))) test in
+      let here : gone marks b.node ≡ false = not_back (gone marks b.node) (and_left (not (gone marks b.node)) (not (some_live (subtree b.node ms))) free) in
+      let none : some_live (subtree b.node ms) ≡ false = not_back (some_live (subtree b.node ms)) (and_right (not (gone marks b.node)) (not (some_live (subtree b.node ms))) free) in
+      subst (Why pool collection marks) t.2 (rw r.2 (No_live b r.1 r.3 here none))
 
-  abandoned_changes : abandoned now ≡ Some mark → Changes marks mark
-  abandoned_changes h =
+  -- the root that is left
+  root_is : (m : Member) → root_left (members marks collection) ≡ Some m →
+      (b : Birth) × In b (births marks) × (m ≡ member marks b) × (b.collection == collection ≡ true) × (b.parent ≡ None) × (gone marks b.node ≡ false)
+  root_is m e =
+      let f = In-find (λ m. is_root m && not m.gone) (members marks collection) m e in
+      let r = member_birth marks collection m f.0 in
+      let b : Birth = r.0 in
+      let left : (is_none b.parent && not (gone marks b.node)) ≡ true = subst (λ (m : Member). (is_root m && not m.gone) ≡ true) r.2 f.1 in
+      (b, r.1, r.2, r.3, none_if b.parent (and_left (is_none b.parent) (not (gone marks b.node)) left), not_back (gone marks b.node) (and_right (is_none b.parent) (not (gone marks b.node)) left))
+
+  abandoned_why : abandoned now ≡ Some mark → Why pool collection marks mark
+  abandoned_why h =
       let t = and_then-Some _ (root_left now.members) mark h in
-      let f = In-find (λ m. is_root m && not m.gone) now.members t.0 t.1 in
-      let r = member_birth marks collection t.0 f.0 in
+      let r = root_is t.0 t.1 in
+      let w = when-Some _ _ mark t.2 in
+      subst (Why pool collection marks) w.1 (rw r.2 (Fails r.0 Cause.NoStrong r.1 r.3 r.5))
+
+  initial_outcome : (b : Birth) (o : Option Failure) → In b (births marks) → b.collection == collection ≡ true → b.parent ≡ None → gone marks b.node ≡ false → allocated marks b.node ≡ false →
+      root_left (members marks collection) ≡ Some (member marks b) → initial_failure pool now (asked now.members) ≡ o → Why pool collection marks (outcome b.node o)
+  initial_outcome b None on ours root free waits found fits = Initial b on ours root free waits found fits
+  initial_outcome b (Some failure) on ours root free waits found fits = Fails b (Cause.Failed failure) on ours free
+
+  initial_why : initial_allocation pool now ≡ Some mark → Why pool collection marks mark
+  initial_why h =
+      let t = and_then-Some _ (root_left now.members) mark h in
+      let r = root_is t.0 t.1 in
       let b : Birth = r.0 in
       let w = when-Some _ _ mark t.2 in
-      let left : (is_none b.parent && not (gone marks b.node)) ≡ true = subst (λ (m : Member). (is_root m && not m.gone) ≡ true) r.2 f.1 in
-      let free : gone marks b.node ≡ false = not_back _ (and_right (is_none b.parent) (not (gone marks b.node)) left) in
-      subst (Changes marks) w.1 (rw r.2 (record { no_event = refl; birth = b; there = r.1; new = inl (free, or_left _ _ (top_on _ b.node (ancestors (births marks) b.node))) }))
-
-  initial_changes : initial_allocation pool now ≡ Some mark → Changes marks mark
-  initial_changes h =
-      let t = and_then-Some _ (root_left now.members) mark h in
-      let f = In-find (λ m. is_root m && not m.gone) now.members t.0 t.1 in
-      let r = member_birth marks collection t.0 f.0 in
-      let b : Birth = r.0 in
-      let w = when-Some _ _ mark t.2 in
-      let left : (is_none b.parent && not (gone marks b.node)) ≡ true = subst (λ (m : Member). (is_root m && not m.gone) ≡ true) r.2 f.1 in
-      let free : gone marks b.node ≡ false = not_back _ (and_right (is_none b.parent) (not (gone marks b.node)) left) in
       let waits : allocated marks b.node ≡ false = not_back _ (subst (λ (m : Member). not m.allocated ≡ true) r.2 (and_left _ _ w.0)) in
-      let root : b.parent ≡ None = none_if _ (and_left (is_none b.parent) (not (gone marks b.node)) left) in
-      subst (Changes marks) w.1 (rw r.2 (outcome_changes marks b _ sound r.1 (inr root) free waits))
+      let found : root_left (members marks collection) ≡ Some (member marks b) = t.1 ∙ ap Some r.2 in
+      subst (Why pool collection marks) w.1 (rw r.2 (initial_outcome b (initial_failure pool now (asked now.members)) r.1 r.3 r.4 r.5 waits found refl))
 
-  logical_changes : logical_allocation now ≡ Some mark → Changes marks mark
-  logical_changes h =
+  logical_outcome : (b : Birth) (o : Option Failure) → In b (births marks) → b.collection == collection ≡ true → is_some b.parent ≡ true → gone marks b.node ≡ false → allocated marks b.node ≡ false →
+      b.attached ≡ true → Why pool collection marks (outcome b.node o)
+  logical_outcome b None on ours child free waits attached = Logical b on ours child free waits attached
+  logical_outcome b (Some failure) on ours child free waits attached = Fails b (Cause.Failed failure) on ours free
+
+  logical_why : logical_allocation now ≡ Some mark → Why pool collection marks mark
+  logical_why h =
+      let ms : List Member = members marks collection in
       let t = and_then-Some _ now.buffers mark h in
-      let u = map-Some _ (find (is_next_head now.members) now.members) mark t.2 in
-      let f = In-find (is_next_head now.members) now.members u.0 u.1 in
+      let failure : Member → Option Failure = λ head. logical_failure (demands (unit head.key ms)) (reserved ms) t.0 in
+      let u = map-Some (λ (head : Member). outcome head.key (failure head)) (find (is_next_head ms) ms) mark t.2 in
+      let f = In-find (is_next_head ms) ms u.0 u.1 in
       let r = member_birth marks collection u.0 f.0 in
       let b : Birth = r.0 in
-      let test : is_next_head now.members (member marks b) ≡ true = subst (λ (m : Member). is_next_head now.members m ≡ true) r.2 f.1 in
-      let free : gone marks b.node ≡ false = not_back _ (and_left _ _ (and_right _ _ test)) in
-      let waits : allocated marks b.node ≡ false = not_back _ (and_left _ _ (and_right _ _ (and_right _ _ test))) in
-      subst (Changes marks) u.2 (rw r.2 (outcome_changes marks b _ sound r.1 (inl (and_left _ _ test)) free waits))
+      let parts = next_head_parts ms (member marks b) (subst (λ (m : Member). is_next_head ms m ≡ true) r.2 f.1) in
+      subst (Why pool collection marks) u.2 (rw r.2 (logical_outcome b (failure (member marks b)) r.1 r.3 parts.3 parts.1 parts.2 parts.0))
 
-  -- each forced mark changes something
-  pub forced_changes : next_forced pool collection marks ≡ Some mark → Changes marks mark
-  forced_changes h =
+  -- why a mark is forced
+  pub forced_why : next_forced pool collection marks ≡ Some mark → Why pool collection marks mark
+  forced_why h =
       elim (In-first_some (ending now ∷ abandoned now ∷ initial_allocation pool now ∷ logical_allocation now ∷ []) mark h) [
-        | inl e ↦ ending_changes (sym e)
+        | inl e ↦ ending_why (sym e)
         | inr more ↦ elim more [
-          | inl e ↦ abandoned_changes (sym e)
+          | inl e ↦ abandoned_why (sym e)
           | inr more ↦ elim more [
-            | inl e ↦ initial_changes (sym e)
-            | inr more ↦ elim more [ inl e ↦ logical_changes (sym e) | inr none ↦ absurd none ]
+            | inl e ↦ initial_why (sym e)
+            | inr more ↦ elim more [ inl e ↦ logical_why (sym e) | inr none ↦ absurd none ]
           ]
         ]
       ]
+
+-- ---- each forced mark changes something
+
+-- an allocation of a unit that was not allocated
+allocation_changes : (marks : Timeline) (b : Birth) → AreSound (births marks) → In b (births marks) → (b.attached ≡ true) ⊎ (b.parent ≡ None) → allocated marks b.node ≡ false → Changes marks (Allocated b.node)
+allocation_changes marks b sound on heads waits = record {
+  no_event = refl;
+  birth = b;
+  there = on;
+  new = inr (waits, or_left (same_key b.node (head (births marks) b.node)) _ (rw (head_itself (births marks) b sound on heads) (same_key-refl b.node)));
+}
+
+why_changes : (pool collection : ℕ) (marks : Timeline) (mark : Mark) → AreSound (births marks) → Why pool collection marks mark → Changes marks mark
+why_changes pool collection marks _ sound (No_live b on ours free none) = record {
+  no_event = refl;
+  birth = b;
+  there = on;
+  new = inl (free, or_left _ (gone marks b.node) (or_left (same_key b.node b.node) _ (same_key-refl b.node)));
+}
+why_changes pool collection marks _ sound (Fails b cause on ours free) = record {
+  no_event = refl;
+  birth = b;
+  there = on;
+  new = inl (free, or_left _ (gone marks b.node) (top_on _ b.node (ancestors (births marks) b.node)));
+}
+why_changes pool collection marks _ sound (Initial b on ours root free waits found fits) = allocation_changes marks b sound on (inr root) waits
+why_changes pool collection marks _ sound (Logical b on ours child free waits attached) = allocation_changes marks b sound on (inl attached) waits
+
+-- each forced mark changes something
+pub forced_changes : (pool collection : ℕ) (marks : Timeline) → AreSound (births marks) → (mark : Mark) → next_forced pool collection marks ≡ Some mark → Changes marks mark
+forced_changes pool collection marks sound mark h = why_changes pool collection marks mark sound (forced_why pool collection marks mark h)
+
+-- and is no event
+why_no_event : (pool collection : ℕ) (marks : Timeline) (mark : Mark) → Why pool collection marks mark → is_event mark ≡ false
+why_no_event pool collection marks _ (No_live b on ours free none) = refl
+why_no_event pool collection marks _ (Fails b cause on ours free) = refl
+why_no_event pool collection marks _ (Initial b on ours root free waits found fits) = refl
+why_no_event pool collection marks _ (Logical b on ours child free waits attached) = refl
+
+pub forced_no_event : (pool collection : ℕ) (marks : Timeline) (mark : Mark) → next_forced pool collection marks ≡ Some mark → is_event mark ≡ false
+forced_no_event pool collection marks mark h = why_no_event pool collection marks mark (forced_why pool collection marks mark h)
 
 -- ---- so they come to an end
 

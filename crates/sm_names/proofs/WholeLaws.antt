@@ -1,34 +1,32 @@
 -- What holds after every legal history: a node is in its parent's collection and gone if its parent is, and one that is gone
 -- while its end is not spent has failed.
 use Rattle.std.proofs.Common.{ℕ, zero, suc, ◌≡◌, ◌+◌, ◌*◌, refl, ap, sym, ◌∙◌, subst, Bool, true, false, cond, not, ◌&&◌, ◌||◌, ◌==◌, inl, inr, List, [], ◌∷◌, length, Option, Some, None, is_some}
-use Rattle.std.specs.List.{list_any, find, filter, fold, cons_option}
+use Rattle.std.specs.List.{list_any, find, fold, cons_option}
 use Rattle.std.specs.Option.{option_map_or, option_map, IfSome}
 use Rattle.sm_names.specs.declared.keys.NodeKey.{NodeKey}
 use Rattle.sm_names.specs.declared.messages.Call.{Call}
 use Rattle.sm_names.specs.declared.messages.Reply.{Reply}
 use Rattle.sm_names.specs.declared.outcomes.Cause.{Cause}
-use Rattle.sm_names.specs.declared.outcomes.Failure.{Failure}
 use Rattle.sm_names.specs.declared.outcomes.Misuse.{Misuse}
 use Rattle.sm_names.specs.declared.outcomes.Refusal.{Refusal}
 use Rattle.sm_names.specs.Answers.{OpenEnd, IsAnswer, new_key, effect}
 use Rattle.sm_names.specs.Births.{Birth, births, birth_at, was_born, ancestors, is_at_or_below, collection_in, AreSound, AreTogether}
 use Rattle.sm_names.specs.Bounds.{Bound}
 use Rattle.sm_names.specs.Ends.{spent, spends}
-use Rattle.sm_names.specs.Forced.{Standing, is_deserted, ending, abandoned, initial_allocation, logical_allocation, outcome, is_next_head}
 use Rattle.sm_names.specs.Legality.{AreAnswers}
 use Rattle.sm_names.specs.Losses.{gone, fault, released, is_release, reaches, parent_of, top}
 use Rattle.sm_names.specs.Marks.{Entry, Mark, Timeline, Called, Loss, Allocated, Ended, events, is_event}
-use Rattle.sm_names.specs.Members.{root_left, Member, member, members, births_in, is_root, is_live, is_under}
+use Rattle.sm_names.specs.Members.{member, members, births_in, is_live, is_under}
 use Rattle.sm_names.specs.Reading.{readings, open_end}
 use Rattle.sm_names.specs.Sameness.{same_key}
-use Rattle.sm_names.specs.Timelines.{after, settled, settled_within, next_forced, own_loss, key_of, collection_of, standing}
+use Rattle.sm_names.specs.Timelines.{after, settled, settled_within, next_forced, own_loss, key_of, collection_of}
 use Rattle.std.proofs.lemmas.Bool.{eqb-true, eq-eqb}
 use Rattle.sm_names.proofs.AnswerLaws.{took_effect_all}
 use Rattle.sm_names.proofs.LegalLaws.{IsBirth, is_birth, end_is_there, own_loss_no_event, sound_called}
-use Rattle.sm_names.proofs.ListLaws.{In, In-filter-back, In-map-back, In-reverse-back, In-find, In-first_some, none-In, when-Some}
+use Rattle.sm_names.proofs.ListLaws.{In, In-filter-back, In-map-back, In-reverse-back, In-find, none-In}
 use Rattle.sm_names.proofs.ReachLaws.{IsChain, parent_in, parent_born, other_key, ancestors_on, ancestors_chain}
-use Rattle.sm_names.proofs.SamenessLaws.{either_way, same_key-true, or_left, or_right, or_first, or_none_right, and_right, both_ways, none_or_some}
-use Rattle.sm_names.proofs.SettledLaws.{Changes, forced_changes, find_birth, member_birth, not_back, and_then-Some, map-Some}
+use Rattle.sm_names.proofs.SamenessLaws.{either_way, same_key-true, or_left, or_right, or_first, or_none_right, both_ways, none_or_some}
+use Rattle.sm_names.proofs.SettledLaws.{Changes, forced_changes, Why, No_live, Fails, Initial, Logical, forced_why, find_birth, map-Some}
 use Rattle.sm_names.specs.Words.{when}
 use Rattle.sm_names.specs.declared.outcomes.Fault.{Fault}
 
@@ -158,62 +156,20 @@ stands marks collection w head on ours node h =
     let is : head.collection ≡ collection = eqb-true head.collection collection ours in
     stands_in marks collection node (line_collection (births marks) w.sound w.together head.node node h ∙ (here ∙ ap Some is))
 
-no_end_of : {A : Type 0} (head : NodeKey) (f : Option Failure) (top : NodeKey) → outcome head f ≡ Ended top → A
-no_end_of head None top h = absurd (cc)
-no_end_of head (Some failure) top h = absurd (cc)
-
--- a node that is forced to end: it takes only nodes whose ends are spent
-forced_ends : (pool collection : ℕ) (marks : Timeline) → IsWhole marks → (head : NodeKey) → next_forced pool collection marks ≡ Some (Ended head) →
-    (node : NodeKey) → is_at_or_below (births marks) head node ≡ true → gone marks node ≡ false → spent marks node ≡ true
-forced_ends pool collection marks w head h node below free =
-    elim (In-first_some (ending now ∷ abandoned now ∷ initial_allocation pool now ∷ logical_allocation now ∷ []) (Ended head) h) [
-      | inl e ↦ from_ending (sym e)
-      | inr more ↦ elim more [
-        | inl e ↦
-            let t = and_then-Some _ (root_left now.members) (Ended head) (sym e) in
-            let is : Loss t.0.key Cause.NoStrong ≡ Ended head = (when-Some _ _ (Ended head) t.2).1 in cc
-        | inr more ↦ elim more [
-          | inl e ↦
-              let t = and_then-Some _ (root_left now.members) (Ended head) (sym e) in
-              no_end_of _ _ head (when-Some _ _ (Ended head) t.2).1
-          | inr more ↦ elim more [
-            | inl e ↦
-                let t = and_then-Some _ now.buffers (Ended head) (sym e) in
-                let u = map-Some _ (find (is_next_head now.members) now.members) (Ended head) t.2 in
-                no_end_of _ _ head u.2
-            | inr none ↦ absurd none
-          ]
-        ]
-      ]
-    ]
-  where
-    now : Standing
-    now = standing pool marks collection
-
-    from_ending : ending (standing pool marks collection) ≡ Some (Ended head) → spent marks node ≡ true
-    from_ending e =
-        let ms : List Member = members marks collection in
-        let t = map-Some _ (find (is_deserted ms) ms) (Ended head) e in
-        let f = In-find (is_deserted ms) ms t.0 t.1 in
-        let is : t.0.key ≡ head = cc in
-        let m : Member = t.0 in
-        let none_live : not (list_any is_live (filter (is_under m.key) ms)) ≡ true =
-        and_right (not m.gone) (not (list_any is_live (filter (is_under m.key) ms))) (and_right (is_root m || m.attached) (not m.gone && not (list_any is_live (filter (is_under m.key) ms))) f.1) in
-        let quiet : list_any is_live (filter (is_under m.key) ms) ≡ false = not_back (list_any is_live (filter (is_under m.key) ms)) none_live in
-        let r = member_birth marks collection t.0 f.0 in
-        let root : r.0.node ≡ head = ap (λ (m : Member). m.key) (sym r.2) ∙ is in
-        let s = stands marks collection w r.0 r.1 r.3 node (subst (λ (k : NodeKey). is_at_or_below (births marks) k node ≡ true) (sym root) below) in
-        let under : is_under t.0.key (member marks s.0) ≡ true =
-        subst (λ (k : NodeKey). is_at_or_below (births marks) k s.0.node ≡ true) (sym is) (subst (λ (k : NodeKey). is_at_or_below (births marks) head k ≡ true) (sym s.2) below) in
-        let dead : is_live (member marks s.0) ≡ false = none-In (is_under t.0.key) is_live ms (member marks s.0) quiet s.1 under in
-        let free' : gone marks s.0.node ≡ false = ap (gone marks) s.2 ∙ free in
-        released_spent marks node (ap (released marks) (sym s.2) ∙ not_live (gone marks s.0.node) (released marks s.0.node) dead free')
+-- a forced mark takes no node whose end is there: an end takes nodes none of which is live
+why_leaves : (pool collection : ℕ) (marks : Timeline) → IsWhole marks → (mark : Mark) → Why pool collection marks mark → Leaves marks mark
+why_leaves pool collection marks w _ (No_live b on ours here none) = λ node below free.
+    (let s = stands marks collection w b on ours node below in
+    let under : is_under b.node (member marks s.0) ≡ true = subst (λ (k : NodeKey). is_at_or_below (births marks) b.node k ≡ true) (sym s.2) below in
+    let dead : is_live (member marks s.0) ≡ false = none-In (is_under b.node) is_live (members marks collection) (member marks s.0) none s.1 under in
+    let free' : gone marks s.0.node ≡ false = ap (gone marks) s.2 ∙ free in
+    released_spent marks node (ap (released marks) (sym s.2) ∙ not_live (gone marks s.0.node) (released marks s.0.node) dead free'))
+why_leaves pool collection marks w _ (Fails b cause on ours here) = tt
+why_leaves pool collection marks w _ (Initial b on ours root here waits found fits) = tt
+why_leaves pool collection marks w _ (Logical b on ours child here waits attached) = tt
 
 pub forced_leaves : (pool collection : ℕ) (marks : Timeline) → IsWhole marks → (mark : Mark) → next_forced pool collection marks ≡ Some mark → Leaves marks mark
-forced_leaves pool collection marks w (Called client reply call) h = tt
-forced_leaves pool collection marks w (Loss origin cause) h = tt
-forced_leaves pool collection marks w (Allocated head) h = tt
-forced_leaves pool collection marks w (Ended head) h = forced_ends pool collection marks w head h
+forced_leaves pool collection marks w mark h = why_leaves pool collection marks w mark (forced_why pool collection marks mark h)
 
 -- the marks that a collection forces
 whole-settled : (pool collection most : ℕ) (marks : Timeline) → IsWhole marks → IsWhole (settled_within pool collection most marks)

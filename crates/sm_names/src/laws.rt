@@ -1,4 +1,6 @@
 //! What the definitions of the service imply. The functions do nothing: their contracts are laws.
+pub mod lives;
+
 ghost use Rattle.std.specs.Prelude.{◌≡◌, ◌≤◌, ◌∷◌, ◌++◌, ◌↔◌, ◌<◌, ℕ, List, [], length, map, drop, Some, None, is_some, true, false, ◌+◌, ◌==◌};
 ghost use Rattle.sm_names.specs.Words.{times};
 ghost use Rattle.sm_names.specs.declared.messages.Parcel.{Parcel};

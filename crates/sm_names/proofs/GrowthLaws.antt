@@ -1,0 +1,215 @@
+-- How a timeline grows, one mark after another.
+use Rattle.std.proofs.Common.{ℕ, zero, suc, ◌≡◌, ◌+◌, ◌*◌, refl, ap, sym, ◌∙◌, subst, Bool, true, false, cond, not, ◌&&◌, ◌==◌, inl, inr, List, [], ◌∷◌, ◌++◌, length, Option, Some, None}
+use Rattle.std.specs.List.{fold, cons_option}
+use Rattle.std.specs.Option.{option_map_or, option_map, option_and_then, unwrap_or}
+use Rattle.sm_names.specs.declared.keys.NodeKey.{NodeKey}
+use Rattle.sm_names.specs.declared.messages.Call.{Call}
+use Rattle.sm_names.specs.declared.messages.Reply.{Reply}
+use Rattle.sm_names.specs.declared.outcomes.Cause.{Cause}
+use Rattle.sm_names.specs.declared.outcomes.Fault.{Fault}
+use Rattle.sm_names.specs.declared.outcomes.Refusal.{Refusal}
+use Rattle.sm_names.specs.Answers.{OpenEnd, Readings, IsAnswer, answer, effect, new_key, closing, no_end, refused_if, unknown_client, shut_client, end_in_transit, peer_closed, wrong_kind, misuse, no_handle, limits_met}
+use Rattle.sm_names.specs.Births.{Birth, births, birth_at, birth_of, was_born}
+use Rattle.sm_names.specs.Bounds.{Bound}
+use Rattle.sm_names.specs.Ends.{spent}
+use Rattle.sm_names.specs.Legality.{AreAnswers, IsLegal}
+use Rattle.sm_names.specs.Losses.{fault}
+use Rattle.sm_names.specs.Marks.{Entry, Mark, Timeline, Called, Loss, Allocated, Ended, events}
+use Rattle.sm_names.specs.Reading.{readings, open_end}
+use Rattle.sm_names.specs.Sameness.{same_key}
+use Rattle.sm_names.specs.Timelines.{after, timeline, settled, settled_within, next_forced, own_loss, key_of, collection_of}
+use Rattle.sm_names.specs.Words.{first_some}
+use Rattle.sm_names.proofs.ListLaws.{In, In-find, when-Some}
+use Rattle.sm_names.proofs.SamenessLaws.{same_key-true, or_right, both_ways, none_or_some}
+use Rattle.sm_names.proofs.SettledLaws.{In-was_born, Why, No_live, Fails, Initial, Logical, forced_why, map-Some}
+
+-- The timeline grows from `start` by marks that may come: answers to what came before, losses of nodes that were
+-- born, and what is forced.
+pub data Grows (pool : ℕ) (limits : Bound) (start : Timeline) : Timeline → Type 0 where
+  Stays : Grows pool limits start start
+  Answers : (before : Timeline) (client : ℕ) (reply : Reply) (call : Call) → Grows pool limits start before → IsAnswer limits (readings before) client call reply → Grows pool limits start (Called client reply call ∷ before)
+  Loses : (before : Timeline) (origin : NodeKey) (cause : Cause) → Grows pool limits start before → was_born (births before) origin ≡ true → Grows pool limits start (Loss origin cause ∷ before)
+  Allocates : (before : Timeline) (collection : ℕ) (head : NodeKey) → Grows pool limits start before → next_forced pool collection before ≡ Some (Allocated head) → Grows pool limits start (Allocated head ∷ before)
+  Ends : (before : Timeline) (collection : ℕ) (top : NodeKey) → Grows pool limits start before → next_forced pool collection before ≡ Some (Ended top) → Grows pool limits start (Ended top ∷ before)
+
+-- growth goes on
+pub grows_on : (pool : ℕ) (limits : Bound) (a b c : Timeline) → Grows pool limits a b → Grows pool limits b c → Grows pool limits a c
+grows_on pool limits a b _ g Stays = g
+grows_on pool limits a b _ g (Answers before client reply call h is) = Answers before client reply call (grows_on pool limits a b before g h) is
+grows_on pool limits a b _ g (Loses before origin cause h born) = Loses before origin cause (grows_on pool limits a b before g h) born
+grows_on pool limits a b _ g (Allocates before collection head h e) = Allocates before collection head (grows_on pool limits a b before g h) e
+grows_on pool limits a b _ g (Ends before collection top h e) = Ends before collection top (grows_on pool limits a b before g h) e
+
+-- ---- the end that a call names
+
+-- the node's end is there
+pub record HasEnd (marks : Timeline) (key : NodeKey) : Type 0 where
+  pub birth : Birth
+  pub is : birth_of marks key ≡ Some birth
+  pub unspent : spent marks key ≡ false
+
+-- a call that is not refused for its end names one that is there
+pub has_end : (marks : Timeline) (client : ℕ) (call : Call) (key : NodeKey) → no_end (readings marks) client call ≡ None → key_of call ≡ Some key → HasEnd marks key
+has_end marks client call key h is =
+    from (spent marks key) (birth_of marks key) refl refl (rw is at h)
+  where
+    from : (s : Bool) (o : Option Birth) → spent marks key ≡ s → birth_of marks key ≡ o →
+        refused_if (option_map_or (λ (e : OpenEnd). not (e.holder == client) && not e.in_transit) (cond s None (option_map (open_end marks) o)) true) Refusal.NoSuchEnd ≡ None → HasEnd marks key
+    from true o e f h = cc
+    from false None e f h = cc
+    from false (Some b) e f h = record { birth = b; is = f; unspent = e }
+
+-- the birth that is found is that of the node
+pub birth_is : (marks : Timeline) (key : NodeKey) (b : Birth) → birth_of marks key ≡ Some b → In b (births marks) × (b.node ≡ key)
+birth_is marks key b h =
+    let f = In-find (λ (x : Birth). same_key x.node key) (births marks) b h in
+    (f.0, same_key-true b.node key f.1)
+
+pub birth_was_born : (marks : Timeline) (key : NodeKey) (b : Birth) → birth_of marks key ≡ Some b → was_born (births marks) key ≡ true
+birth_was_born marks key b h =
+    let f = birth_is marks key b h in
+    ap (was_born (births marks)) (sym f.1) ∙ In-was_born (births marks) b f.0
+
+-- and a node of which PeerClosed is not answered has no fault
+pub has_no_fault : (marks : Timeline) (call : Call) (key : NodeKey) → HasEnd marks key → key_of call ≡ Some key → peer_closed (readings marks) call ≡ None → fault marks key ≡ None
+has_no_fault marks call key e is h =
+    let h' : option_map (λ (f : Fault). Reply.PeerClosed f.cause f.origin) (fault marks e.birth.node) ≡ None = rw (is, e.unspent, e.is) at h in
+    let none : fault marks e.birth.node ≡ None = none_of (fault marks e.birth.node) h' in
+    subst (λ (k : NodeKey). fault marks k ≡ None) (birth_is marks key e.birth e.is).1 none
+  where
+    none_of : (o : Option Fault) → option_map (λ (f : Fault). Reply.PeerClosed f.cause f.origin) o ≡ None → o ≡ None
+    none_of None h = refl
+    none_of (Some f) h = cc
+
+-- ---- answers that do not refuse
+
+abbrev pub is_refusal : Reply → Bool
+is_refusal (Reply.Refused refusal) = true
+is_refusal _ = false
+
+-- if there is an answer here, it is a refusal
+abbrev pub Rejects : Option Reply → Type 0
+Rejects o = (reply : Reply) → o ≡ Some reply → is_refusal reply ≡ true
+
+pub rejects_if : (b : Bool) (refusal : Refusal) → Rejects (refused_if b refusal)
+rejects_if true refusal reply h = let is : Reply.Refused refusal ≡ reply = cc in rw (← is) refl
+rejects_if false refusal reply h = cc
+
+pub rejects_then : {A : Type 0} (f : A → Option Reply) → ((x : A) → Rejects (f x)) → (o : Option A) → Rejects (option_and_then f o)
+rejects_then f each None reply h = cc
+rejects_then f each (Some x) reply h = each x reply h
+
+pub unknown_rejects : (r : Readings) (client : ℕ) (call : Call) → Rejects (unknown_client r client call)
+unknown_rejects r client Call.Join = rejects_if _ _
+unknown_rejects r client _ = rejects_if _ _
+
+pub strip : (o : Option Reply) (rest : List (Option Reply)) (e reply : Reply) → Rejects o → is_refusal reply ≡ false → reply ≡ unwrap_or (first_some (o ∷ rest)) e →
+    (o ≡ None) × (reply ≡ unwrap_or (first_some rest) e)
+strip None rest e reply rejects stands is = (refl, is)
+strip (Some x) rest e reply rejects stands is = both_ways (is_refusal reply) (ap is_refusal is ∙ rejects x refl) stands
+
+-- a call that is not refused names an end that is there, if it names one
+pub not_refused_end : (limits : Bound) (marks : Timeline) (client : ℕ) (call : Call) (reply : Reply) (key : NodeKey) → IsAnswer limits (readings marks) client call reply →
+    is_refusal reply ≡ false → key_of call ≡ Some key → HasEnd marks key
+not_refused_end limits marks client call reply key answer stands is =
+    let r : Readings = readings marks in
+    let e : Reply = effect r client (option_map_or (λ key. key) (new_key reply) (record { slot = 0; generation = 0 })) call in
+    let last : List (Option Reply) = end_in_transit r call ∷ closing call ∷ peer_closed r call ∷ wrong_kind r call ∷ misuse r call ∷ no_handle r client call ∷ limits_met limits r call in
+    let a = strip (unknown_client r client call) (shut_client r client call ∷ no_end r client call ∷ last) e reply (unknown_rejects r client call) stands answer.told in
+    let b = strip (shut_client r client call) (no_end r client call ∷ last) e reply (rejects_if _ _) stands a.1 in
+    let c = strip (no_end r client call) last e reply (rejects_then _ (λ key. rejects_if _ _) (key_of call)) stands b.1 in
+    has_end marks client call key c.0 is
+
+-- ---- a legal history's timeline grows
+
+module _ (pool : ℕ) (limits : Bound) (start : Timeline) where
+  -- a forced mark lets it grow
+  pub grows_forced : (collection : ℕ) (marks : Timeline) (mark : Mark) → Grows pool limits start marks → next_forced pool collection marks ≡ Some mark → Grows pool limits start (mark ∷ marks)
+  grows_forced collection marks mark g e = by_why mark (forced_why pool collection marks mark e) e
+    where
+      by_why : (mark : Mark) → Why pool collection marks mark → next_forced pool collection marks ≡ Some mark → Grows pool limits start (mark ∷ marks)
+      by_why _ (No_live b on ours free none) e = Ends marks collection b.node g e
+      by_why _ (Fails b cause on ours free) e = Loses marks b.node cause g (In-was_born (births marks) b on)
+      by_why _ (Initial b on ours root free waits found fits) e = Allocates marks collection b.node g e
+      by_why _ (Logical b on ours child free waits attached) e = Allocates marks collection b.node g e
+
+  grows_settled : (collection most : ℕ) (marks : Timeline) → Grows pool limits start marks → Grows pool limits start (settled_within pool collection most marks)
+  grows_settled collection zero marks g = g
+  grows_settled collection (suc most) marks g =
+      elim (none_or_some (next_forced pool collection marks)) [
+        | inl e ↦ rw e g
+        | inr some ↦ rw some.1 (grows_settled collection most (some.0 ∷ marks) (grows_forced collection marks some.0 g some.1))
+      ]
+
+  -- a call's own loss is of a node that was born
+  pub own_loss_origin : (before : Timeline) (call : Call) (reply : Reply) (mark : Mark) → own_loss before call reply ≡ Some mark →
+      (origin : NodeKey) × (cause : Cause) × (mark ≡ Loss origin cause) × (key_of call ≡ Some origin) × (is_refusal reply ≡ false)
+  own_loss_origin before (Call.Close key) Reply.Done mark e = let w = when-Some _ (Loss key Cause.Lost) mark e in (key, Cause.Lost, sym w.1, refl, refl)
+  own_loss_origin before call (Reply.Misused misuse) mark e =
+      let t = map-Some (λ key. Loss key (Cause.Misused misuse)) (key_of call) mark e in (t.0, Cause.Misused misuse, sym t.2, t.1, refl)
+  own_loss_origin before _ _ mark e = cc
+
+  -- a birth stays
+  still_born : (before : Timeline) (mark : Mark) (key : NodeKey) → was_born (births before) key ≡ true → was_born (births (mark ∷ before)) key ≡ true
+  still_born before mark key h = from (birth_at (events before + 1) mark)
+    where
+      from : (o : Option Birth) → was_born (cons_option o (births before)) key ≡ true
+      from None = h
+      from (Some b) = or_right (same_key b.node key) _ h
+
+  grows_after : (marks : Timeline) (entry : Entry) → Grows pool limits start marks → IsAnswer limits (readings marks) entry.0 entry.1 entry.2 → Grows pool limits start (after pool marks entry)
+  grows_after marks entry g answer =
+      settles (collection_of called entry.1 entry.2)
+    where
+      called : Timeline
+      called = Called entry.0 entry.2 entry.1 ∷ marks
+
+      answered : Grows pool limits start (Called entry.0 entry.2 entry.1 ∷ marks)
+      answered = Answers marks entry.0 entry.2 entry.1 g answer
+
+      with_loss : (o : Option Mark) → own_loss marks entry.1 entry.2 ≡ o → Grows pool limits start (cons_option o (Called entry.0 entry.2 entry.1 ∷ marks))
+      with_loss None e = answered
+      with_loss (Some mark) e =
+          let t = own_loss_origin marks entry.1 entry.2 mark e in
+          let there : HasEnd marks t.0 = not_refused_end limits marks entry.0 entry.1 entry.2 t.0 answer t.4 t.3 in
+          let born : was_born (births (Called entry.0 entry.2 entry.1 ∷ marks)) t.0 ≡ true = still_born marks (Called entry.0 entry.2 entry.1) t.0 (birth_was_born marks t.0 there.birth there.is) in
+          rw t.2 (Loses (Called entry.0 entry.2 entry.1 ∷ marks) t.0 t.1 answered born)
+
+      lost : Grows pool limits start (cons_option (own_loss marks entry.1 entry.2) (Called entry.0 entry.2 entry.1 ∷ marks))
+      lost = with_loss (own_loss marks entry.1 entry.2) refl
+
+      settles : (o : Option ℕ) → Grows pool limits start (option_map_or (λ collection. settled pool collection (cons_option (own_loss marks entry.1 entry.2) (Called entry.0 entry.2 entry.1 ∷ marks))) o (cons_option (own_loss marks entry.1 entry.2) (Called entry.0 entry.2 entry.1 ∷ marks)))
+      settles None = lost
+      settles (Some collection) = grows_settled collection (2 * length (births (cons_option (own_loss marks entry.1 entry.2) (Called entry.0 entry.2 entry.1 ∷ marks)))) (cons_option (own_loss marks entry.1 entry.2) (Called entry.0 entry.2 entry.1 ∷ marks)) lost
+
+  -- so does the timeline of a history
+  pub grows_history : (marks : Timeline) (history : List Entry) → Grows pool limits start marks → AreAnswers pool limits marks history → Grows pool limits start (fold (after pool) marks history)
+  grows_history marks [] g answers = g
+  grows_history marks (entry ∷ entries) g answers = grows_history (after pool marks entry) entries (grows_after marks entry g answers.0) answers.1
+
+pub legal_grows : (pool : ℕ) (limits : Bound) (history : List Entry) → IsLegal pool limits history → Grows pool limits [] (timeline pool history)
+legal_grows pool limits history legal = grows_history pool limits [] [] history Stays legal.answers
+
+-- ---- a history that goes on
+
+AreAnswers-append : (pool : ℕ) (limits : Bound) (marks : Timeline) (history more : List Entry) → AreAnswers pool limits marks (history ++ more) →
+    AreAnswers pool limits marks history × AreAnswers pool limits (fold (after pool) marks history) more
+AreAnswers-append pool limits marks [] more h = (tt, h)
+AreAnswers-append pool limits marks (e ∷ es) more h = let r = AreAnswers-append pool limits (after pool marks e) es more h.1 in ((h.0, r.0), r.1)
+
+fold-append : {A B : Type 0} (f : B → A → B) (b : B) (xs ys : List A) → fold f b (xs ++ ys) ≡ fold f (fold f b xs) ys
+fold-append f b [] ys = refl
+fold-append f b (x ∷ xs) ys = fold-append f (f b x) xs ys
+
+-- the timeline grows, to that of the history and on to that of the longer one
+pub record GrowsOn (pool : ℕ) (limits : Bound) (history more : List Entry) : Type 0 where
+  pub first : Grows pool limits [] (timeline pool history)
+  pub then : Grows pool limits (timeline pool history) (timeline pool (history ++ more))
+
+pub legal_grows_on : (pool : ℕ) (limits : Bound) (history more : List Entry) → IsLegal pool limits (history ++ more) → GrowsOn pool limits history more
+legal_grows_on pool limits history more legal =
+    let r = AreAnswers-append pool limits [] history more legal.answers in
+    record {
+      first = grows_history pool limits [] [] history Stays r.0;
+      then = subst (λ (marks : Timeline). Grows pool limits (timeline pool history) marks) (sym (fold-append (after pool) [] history more)) (grows_history pool limits (timeline pool history) (timeline pool history) more Stays r.1);
+    }
