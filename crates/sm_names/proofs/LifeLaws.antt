@@ -5,7 +5,7 @@ use Rattle.sm_names.specs.declared.keys.NodeKey.{NodeKey}
 use Rattle.sm_names.specs.declared.messages.Call.{Call}
 use Rattle.sm_names.specs.declared.messages.Reply.{Reply}
 use Rattle.sm_names.specs.Answers.{IsAnswer, OpenEnd, of_end}
-use Rattle.sm_names.specs.Births.{Birth, births, birth_at, birth_of, was_born, ancestors, is_at_or_below, collection_in, AreSound}
+use Rattle.sm_names.specs.Births.{Birth, births, birth_at, birth_of, was_born, ancestors, head, is_at_or_below, collection_in, AreSound}
 use Rattle.sm_names.specs.Bounds.{Bound}
 use Rattle.sm_names.specs.Ends.{spent}
 use Rattle.sm_names.specs.Losses.{Reach, Origin, Up, Down, fault, gone, reaches, blocked}
@@ -19,17 +19,12 @@ use Rattle.sm_names.proofs.AnswerLaws.{TookEffect, took_effect_all}
 use Rattle.sm_names.proofs.GrowthLaws.{Grows, Stays, Answers, Loses, Allocates, Ends, has_end, birth_is, has_no_fault}
 use Rattle.sm_names.proofs.LegalLaws.{is_some-find}
 use Rattle.sm_names.proofs.ListLaws.{In, In-filter-back, In-find, In-map-back, In-reverse-back}
-use Rattle.sm_names.proofs.ReachLaws.{IsChain, parent_in, parent_born, reached_sound, ancestors_chain}
+use Rattle.sm_names.proofs.ReachLaws.{IsChain, parent_in, parent_born, other_key, reached_sound, ancestors_chain}
 use Rattle.sm_names.proofs.SamenessLaws.{either_way, same_key-true, same_key-refl, or_right, none_or_some}
 use Rattle.sm_names.proofs.SettledLaws.{In-was_born, Why, No_live, forced_why, find_birth, map-Some}
 use Rattle.sm_names.proofs.WholeLaws.{IsWhole, whole-called, whole-mark, whole_nothing, forced_leaves, parent_collection}
 
 -- ---- lists
-
-pub list_any_on : {A : Type 0} (test : A → Bool) (xs : List A) (x : A) → In x xs → test x ≡ true → list_any test xs ≡ true
-list_any_on test [] x on h = absurd on
-list_any_on test (y ∷ ys) x (inl is) h = rw (ap test (sym is) ∙ h) refl
-list_any_on test (y ∷ ys) x (inr on) h = or_right (test y) _ (list_any_on test ys x on h)
 
 -- what was added to the list is the new element or an old one
 pub In_new : {A : Type 0} (o : Option A) (xs : List A) (x : A) → In x (cons_option o xs) → (o ≡ Some x) ⊎ In x xs
@@ -44,6 +39,11 @@ In_old (Some y) xs x h = inr h
 born_old : (o : Option Birth) (bs : List Birth) (key : NodeKey) → was_born bs key ≡ true → was_born (cons_option o bs) key ≡ true
 born_old None bs key h = h
 born_old (Some b) bs key h = or_right (same_key b.node key) _ h
+
+-- a birth changes the head of no older node
+pub head_old : (o : Option Birth) (bs : List Birth) (node : NodeKey) → was_born bs node ≡ true → ((b : Birth) → o ≡ Some b → was_born bs b.node ≡ false) → head (cons_option o bs) node ≡ head bs node
+head_old None bs node born fresh = refl
+head_old (Some b) bs node born fresh = let other : same_key b.node node ≡ false = other_key bs node b.node born (fresh b refl) in rw other refl
 
 -- a node of the collection is among those that stand in it
 pub members_on : (marks : Timeline) (collection : ℕ) (b : Birth) → In b (births marks) → b.collection == collection ≡ true → In (member marks b) (members marks collection)

@@ -135,7 +135,8 @@ release_spends : (node : NodeKey) (mark : Mark) → is_release node mark ≡ tru
 release_spends node (Called client Reply.Done (Call.Release key)) h = h
 release_spends node _ h = cc
 
-released_spent : (marks : Timeline) (node : NodeKey) → released marks node ≡ true → spent marks node ≡ true
+-- a node that was released had its end spent
+pub released_spent : (marks : Timeline) (node : NodeKey) → released marks node ≡ true → spent marks node ≡ true
 released_spent [] node h = cc
 released_spent (mark ∷ before) node h =
     elim (either_way (is_release node mark)) [
@@ -143,7 +144,7 @@ released_spent (mark ∷ before) node h =
       | inr e ↦ or_right (spends node mark) _ (released_spent before node (rw e at h))
     ]
 
-not_live : (g r : Bool) → (not g && not r) ≡ false → g ≡ false → r ≡ true
+pub not_live : (g r : Bool) → (not g && not r) ≡ false → g ≡ false → r ≡ true
 not_live true r h k = cc
 not_live false true h k = refl
 not_live false false h k = cc
