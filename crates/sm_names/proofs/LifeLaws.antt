@@ -45,6 +45,11 @@ pub head_old : (o : Option Birth) (bs : List Birth) (node : NodeKey) → was_bor
 head_old None bs node born fresh = refl
 head_old (Some b) bs node born fresh = let other : same_key b.node node ≡ false = other_key bs node b.node born (fresh b refl) in rw other refl
 
+-- nor its ancestors
+pub ancestors_old : (o : Option Birth) (bs : List Birth) (node : NodeKey) → was_born bs node ≡ true → ((b : Birth) → o ≡ Some b → was_born bs b.node ≡ false) → ancestors (cons_option o bs) node ≡ ancestors bs node
+ancestors_old None bs node born fresh = refl
+ancestors_old (Some b) bs node born fresh = let other : same_key b.node node ≡ false = other_key bs node b.node born (fresh b refl) in rw other refl
+
 -- a node of the collection is among those that stand in it
 pub members_on : (marks : Timeline) (collection : ℕ) (b : Birth) → In b (births marks) → b.collection == collection ≡ true → In (member marks b) (members marks collection)
 members_on marks collection b on ours =

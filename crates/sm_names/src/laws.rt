@@ -1,4 +1,5 @@
 //! What the definitions of the service imply. The functions do nothing: their contracts are laws.
+pub mod collections;
 pub mod lives;
 
 ghost use Rattle.std.specs.Prelude.{◌≡◌, ◌≤◌, ◌∷◌, ◌++◌, ◌↔◌, ◌<◌, ℕ, List, [], length, map, drop, Some, None, is_some, true, false, ◌+◌, ◌==◌};

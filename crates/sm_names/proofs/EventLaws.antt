@@ -1,0 +1,300 @@
+-- An event of one collection leaves the others as they stood.
+use Rattle.std.proofs.Common.{ℕ, zero, suc, ◌≡◌, ◌+◌, ◌*◌, ◌-◌, refl, ap, sym, ◌∙◌, subst, Bool, true, false, cond, not, ◌&&◌, ◌||◌, ◌==◌, ◌⊎◌, inl, inr, List, [], ◌∷◌, map, reverse, length, Option, Some, None, is_some}
+use Rattle.std.proofs.lemmas.Bool.{eqb-true}
+use Rattle.std.specs.List.{list_any, filter, cons_option}
+use Rattle.std.specs.Option.{option_map_or, option_map, option_and_then}
+use Rattle.sm_names.specs.declared.keys.BufferName.{BufferName}
+use Rattle.sm_names.specs.declared.keys.NodeKey.{NodeKey}
+use Rattle.sm_names.specs.declared.keys.Strength.{Strength}
+use Rattle.sm_names.specs.declared.messages.Call.{Call}
+use Rattle.sm_names.specs.declared.messages.Reply.{Reply}
+use Rattle.sm_names.specs.declared.outcomes.Buffers.{Buffers}
+use Rattle.sm_names.specs.declared.outcomes.Cause.{Cause}
+use Rattle.sm_names.specs.Answers.{IsAnswer, strength_of, set_of, OpenEnd}
+use Rattle.sm_names.specs.Births.{Birth, births, birth_at, birth_of, was_born, head, collection_in, ancestors}
+use Rattle.sm_names.specs.Bounds.{Bound}
+use Rattle.sm_names.specs.Demands.{Demand}
+use Rattle.sm_names.specs.Ends.{spent}
+use Rattle.sm_names.specs.Handles.{opens, drops, open_total, buffers_of, doomed, home}
+use Rattle.sm_names.specs.Losses.{fault, is_allocation, is_release, is_dispensable, released, allocated}
+use Rattle.sm_names.specs.Marks.{Mark, Timeline, Called, Loss, Allocated, events}
+use Rattle.sm_names.specs.Members.{member, members, births_in, constraints_at, constraints, some_strong_live}
+use Rattle.sm_names.specs.Reading.{readings, open_end}
+use Rattle.sm_names.specs.Sameness.{same_key}
+use Rattle.sm_names.specs.Timelines.{after, settled, settled_within, next_forced, own_loss, key_of, buffer_of, opened_by, collection_of}
+use Rattle.sm_names.specs.Weakness.{weak, sets_weak, born_to}
+use Rattle.sm_names.specs.Words.{first_some, times}
+use Rattle.sm_names.proofs.AnswerLaws.{took_effect_all}
+use Rattle.sm_names.proofs.GrowthLaws.{Grows, Answers, Loses, own_loss_origin, not_refused_end, HasEnd, birth_is, birth_was_born, grows_forced}
+use Rattle.sm_names.proofs.IsolationLaws.{members_loss, members_end, members_allocation, buffers_allocation, birth_of_collection, of_ours}
+use Rattle.sm_names.proofs.LifeLaws.{IsOrdered, ordered, whole, Comes, comes, In_old, ancestors_old, head_old, named, Named}
+use Rattle.sm_names.proofs.ListLaws.{In, map-In}
+use Rattle.sm_names.proofs.ReachLaws.{other_key}
+use Rattle.sm_names.proofs.SamenessLaws.{either_way, same_key-true, both_ways, false_if, none_or_some, or_false, or_none_left, or_none_right}
+use Rattle.sm_names.proofs.SettledLaws.{In-was_born, find_birth, Why, No_live, Fails, Initial, Logical, forced_why}
+use Rattle.sm_names.proofs.WholeLaws.{IsWhole}
+
+abbrev anyone : ℕ → Bool
+anyone client = true
+
+-- the collection stands in the later marks as it stood in the earlier
+pub record SameIn (earlier later : Timeline) (collection : ℕ) : Type 0 where
+  pub nodes : members later collection ≡ members earlier collection
+  pub given : buffers_of later collection ≡ buffers_of earlier collection
+  pub handles : (buffer : BufferName) → buffer.collection ≡ collection → (strength : Strength) → open_total later buffer strength ≡ open_total earlier buffer strength
+
+-- from one to the next, and so on
+same_on : (a b c : Timeline) (collection : ℕ) → SameIn a b collection → SameIn b c collection → SameIn a c collection
+same_on a b c collection p q = record {
+  nodes = q.nodes ∙ p.nodes;
+  given = q.given ∙ p.given;
+  handles = λ buffer is strength. q.handles buffer is strength ∙ p.handles buffer is strength;
+}
+
+same_here : (a : Timeline) (collection : ℕ) → SameIn a a collection
+same_here a collection = record { nodes = refl; given = refl; handles = λ buffer is strength. refl }
+
+-- then which of its buffers are doomed, and which home, is as before
+pub same_doomed : (a b : Timeline) (buffer : BufferName) → SameIn a b buffer.collection → doomed b buffer ≡ doomed a buffer
+same_doomed a b buffer s =
+    λ i. is_some (s.given i) && (s.handles buffer refl Strength.Strong i == 0 && not (some_strong_live (s.nodes i)))
+
+pub same_home : (a b : Timeline) (buffer : BufferName) → SameIn a b buffer.collection → home b buffer ≡ home a buffer
+same_home a b buffer s = λ i. same_doomed a b buffer s i && s.handles buffer refl Strength.Weak i == 0
+
+-- ---- of which collection a call is
+
+-- that of the node that it names
+key_in : (before : Timeline) (client : ℕ) (reply : Reply) (call : Call) (key : NodeKey) (b : Birth) → IsOrdered (Called client reply call ∷ before) → birth_of before key ≡ Some b → key_of call ≡ Some key →
+    (birth_of (Called client reply call ∷ before) key ≡ Some b) × (collection_of (Called client reply call ∷ before) call reply ≡ Some b.collection)
+key_in before client reply call key b ord e is =
+    let called : Timeline = Called client reply call ∷ before in
+    let f = birth_is before key b e in
+    let there : In b (births called) = In_old (birth_at (events before + 1) (Called client reply call)) (births before) b f.0 in
+    let now : birth_of called key ≡ Some b = subst (λ (k : NodeKey). birth_of called k ≡ Some b) f.1 (find_birth (births called) b ord.sound there) in
+    let k : option_and_then (birth_of called) (key_of call) ≡ Some b = ap (option_and_then (birth_of called)) is ∙ now in
+    (now, ap (λ (o : Option Birth). first_some (option_map (λ (b : Birth). b.collection) o ∷ option_map (λ (b : BufferName). b.collection) (buffer_of call) ∷ opened_by call reply ∷ [])) k)
+
+-- that of the root that it makes
+root_in : (before : Timeline) (client event : ℕ) (reply : Reply) (call : Call) (b : Birth) → birth_at event (Called client reply call) ≡ Some b → b.parent ≡ None →
+    collection_of (Called client reply call ∷ before) call reply ≡ Some b.collection
+root_in before client event (Reply.Token key collection) Call.OpenRoot b h root =
+    let same : Some (record { node = key; parent = None; attached = false; collection = collection; event = event; client = client }) ≡ Some b = h in
+    let is : record { node = key; parent = None; attached = false; collection = collection; event = event; client = client } ≡ b = cc in
+    ap (λ (c : Birth). Some c.collection) is
+root_in before client event (Reply.Token key collection) (Call.Duplicate parent) b h root =
+    let same : Some (record { node = key; parent = Some parent; attached = false; collection = collection; event = event; client = client }) ≡ Some b = h in
+    let is : record { node = key; parent = Some parent; attached = false; collection = collection; event = event; client = client } ≡ b = cc in
+    let x : Some parent ≡ None = ap (λ (c : Birth). c.parent) is ∙ root in
+    cc
+root_in before client event (Reply.Token key collection) (Call.AttachToken parent) b h root =
+    let same : Some (record { node = key; parent = Some parent; attached = true; collection = collection; event = event; client = client }) ≡ Some b = h in
+    let is : record { node = key; parent = Some parent; attached = true; collection = collection; event = event; client = client } ≡ b = cc in
+    let x : Some parent ≡ None = ap (λ (c : Birth). c.parent) is ∙ root in
+    cc
+root_in before client event reply call b h root = cc
+
+-- that of the node through which handles are taken
+taken_in : (limits : Bound) (before : Timeline) (client collection : ℕ) (taken : Strength) (set : ℕ) (key : NodeKey) → IsAnswer limits (readings before) client (Call.Take key) (Reply.Taken collection taken set) →
+    (b : Birth) × (birth_of before key ≡ Some b) × (collection ≡ b.collection)
+taken_in limits before client collection taken set key answer =
+    let t = took_effect_all limits (readings before) client (record { slot = 0; generation = 0 }) (Call.Take key) (Reply.Taken collection taken set) refl refl answer.told in
+    let n : Named before key = named limits before client (record { slot = 0; generation = 0 }) (Call.Take key) (Reply.Taken collection taken set) key t refl in
+    let e : OpenEnd = open_end before n.birth in
+    let told : Reply.Taken collection taken set ≡ option_map_or (λ b. Reply.Taken e.collection (strength_of e.weak) (set_of e.to_open)) e.buffers Reply.Pending = rw (n.unspent, n.found) at t.answered in
+    (n.birth, n.found, from e e.buffers told)
+  where
+    from : (e : OpenEnd) (o : Option Buffers) → Reply.Taken collection taken set ≡ option_map_or (λ b. Reply.Taken e.collection (strength_of e.weak) (set_of e.to_open)) o Reply.Pending → collection ≡ e.collection
+    from e None h = cc
+    from e (Some b) h = cc
+
+-- ---- which nodes a call touches
+
+-- the mark changes what the forced steps read of the node, and is no birth, loss, allocation or end
+abbrev touches : NodeKey → Mark → Bool
+touches node mark = is_release node mark || (is_dispensable node mark || (sets_weak node mark || is_some (constraints_at node mark)))
+
+-- then it names the node
+only : (key node : NodeKey) → (same_key key node || false) ≡ true → ◌≡◌ {A = Option NodeKey} (Some key) (Some node)
+only key node h = ap Some (same_key-true key node (sym (or_false (same_key key node)) ∙ h))
+
+touched : (node : NodeKey) (client : ℕ) (reply : Reply) (call : Call) → touches node (Called client reply call) ≡ true → key_of call ≡ Some node
+touched node client Reply.Done (Call.Release key) h = only key node h
+touched node client Reply.Done (Call.SetDispensable key) h = only key node h
+touched node client Reply.Done (Call.SetWeak key) h = only key node h
+touched node client Reply.Done (Call.SetConstraints key demand) h =
+    elim (either_way (same_key key node)) [
+      | inl e ↦ ap Some (same_key-true key node e)
+      | inr e ↦ let x : false ≡ true = rw e at h in cc
+    ]
+touched node client reply call h = cc
+
+is_none_if : (o : Option Demand) → is_some o ≡ false → o ≡ None
+is_none_if None h = refl
+is_none_if (Some x) h = cc
+
+filter_old : (test : Birth → Bool) (o : Option Birth) (xs : List Birth) → ((b : Birth) → o ≡ Some b → test b ≡ false) → filter test (cons_option o xs) ≡ filter test xs
+filter_old test None xs h = refl
+filter_old test (Some b) xs h = let e : test b ≡ false = h b refl in rw e refl
+
+-- ---- the call
+
+module _ (pool : ℕ) (limits : Bound) (before : Timeline) (client theirs : ℕ) (reply : Reply) (call : Call) (g : Grows pool limits [] before) (answer : IsAnswer limits (readings before) client call reply)
+    (away : collection_of (Called client reply call ∷ before) call reply ≡ Some theirs → ⊥) where
+  abbrev mark : Mark
+  mark = Called client reply call
+
+  abbrev called : Timeline
+  called = Called client reply call ∷ before
+
+  abbrev new : Option Birth
+  new = birth_at (events before + 1) (Called client reply call)
+
+  grown : Grows pool limits [] (Called client reply call ∷ before)
+  grown = Answers before client reply call g answer
+
+  old : IsOrdered before
+  old = ordered pool limits before g
+
+  ord : IsOrdered (Called client reply call ∷ before)
+  ord = ordered pool limits (Called client reply call ∷ before) grown
+
+  -- the collection of the call is not theirs
+  not_theirs : (c : ℕ) → collection_of (Called client reply call ∷ before) call reply ≡ Some c → (c == theirs) ≡ false
+  not_theirs c of = false_if (c == theirs) (λ e. away (of ∙ ap Some (eqb-true c theirs e)))
+
+  untouched : (b : Birth) → In b (births before) → b.collection == theirs ≡ true → touches b.node mark ≡ false
+  untouched b on h = false_if (touches b.node mark)
+      (λ t. both_ways (b.collection == theirs) h (not_theirs b.collection (key_in before client reply call b.node b ord (find_birth (births before) b old.sound on) (touched b.node client reply call t)).1))
+
+  -- no node of before is born
+  not_born_now : (b : Birth) → In b (births before) → (o : Option Birth) → birth_at 0 mark ≡ o → option_and_then (λ (c : Birth). cond (same_key c.node b.node) c.parent None) o ≡ None
+  not_born_now b on None e = refl
+  not_born_now b on (Some c) e =
+      let n : same_key c.node b.node ≡ false = other_key (births before) b.node c.node (In-was_born (births before) b on) (comes limits before client 0 reply call c answer e).fresh in
+      rw n refl
+
+  -- so a node of theirs stands as it stood
+  member_same : (b : Birth) → In b (births before) → b.collection == theirs ≡ true → member called b ≡ member before b
+  member_same b on h =
+      let n : NodeKey = b.node in
+      let constrained : Bool = is_some (constraints_at n mark) in
+      let t0 : (is_release n mark || (is_dispensable n mark || (sets_weak n mark || constrained))) ≡ false = untouched b on h in
+      let t1 : (is_dispensable n mark || (sets_weak n mark || constrained)) ≡ false = or_none_right (is_release n mark) (is_dispensable n mark || (sets_weak n mark || constrained)) t0 in
+      let t2 : (sets_weak n mark || constrained) ≡ false = or_none_right (is_dispensable n mark) (sets_weak n mark || constrained) t1 in
+      let heads : head (births called) n ≡ head (births before) n =
+      head_old new (births before) n (In-was_born (births before) b on) (λ c e. (comes limits before client (events before + 1) reply call c answer e).fresh) in
+      let allocates : allocated called n ≡ allocated before n = ap (λ (k : NodeKey). list_any (is_allocation k) before) heads in
+      let releases : released called n ≡ released before n = ap (λ (r : Bool). r || released before n) (or_none_left (is_release n mark) (is_dispensable n mark || (sets_weak n mark || constrained)) t0) in
+      let dispenses : list_any (is_dispensable n) called ≡ list_any (is_dispensable n) before = ap (λ (r : Bool). r || list_any (is_dispensable n) before) (or_none_left (is_dispensable n mark) (sets_weak n mark || constrained) t1) in
+      let born : born_to n mark ≡ None = not_born_now b on (birth_at 0 mark) refl in
+      let sets : sets_weak n mark ≡ false = or_none_left (sets_weak n mark) constrained t2 in
+      let weakens : weak called n ≡ weak before n =
+      (λ i. sets i || (option_map_or (weak before) (born i) false || weak before n)) in
+      let constrains : constraints called n ≡ constraints before n = ap (λ (o : Option Demand). option_map_or Some o (constraints before n)) (is_none_if (constraints_at n mark) (or_none_right (sets_weak n mark) constrained t2)) in
+      let lines : ancestors (births called) n ≡ ancestors (births before) n = ancestors_old new (births before) n (In-was_born (births before) b on) (λ c e. (comes limits before client (events before + 1) reply call c answer e).fresh) in
+      λ i. record (member before b) { above = lines i; head = heads i; allocated = allocates i; released = releases i; dispensable = dispenses i; weak = weakens i; constraints = constrains i }
+
+  -- a node that is born is not theirs
+  new_ours : (b : Birth) → new ≡ Some b → b.collection == theirs ≡ false
+  new_ours b e =
+      let k : Comes before client reply call b = comes limits before client (events before + 1) reply call b answer e in
+      not_theirs b.collection (from b e k k.from)
+    where
+      from : (b : Birth) → birth_at (events before + 1) (Called client reply call) ≡ Some b → Comes before client reply call b →
+          ((b.parent ≡ None) × (b.collection ≡ events before + 1)) ⊎ ((p : Birth) × In p (births before) × (b.parent ≡ Some p.node) × (b.collection ≡ p.collection) × (spent before p.node ≡ false) × (fault before p.node ≡ None)) →
+          collection_of (Called client reply call ∷ before) call reply ≡ Some b.collection
+      from b e k (inl r) = root_in before client (events before + 1) reply call b e r.0
+      from b e k (inr r) = (key_in before client reply call r.0.node r.0 ord (find_birth (births before) r.0 old.sound r.1) (k.below ∙ r.2)).1 ∙ ap Some (sym r.3)
+
+  births_same : births_in called theirs ≡ births_in before theirs
+  births_same = ap reverse (filter_old (λ (b : Birth). b.collection == theirs) new (births before) new_ours)
+
+  -- no handle on theirs is opened
+  opens_none : (buffer : BufferName) → buffer.collection ≡ theirs → (strength : Strength) → opens anyone buffer strength mark ≡ false
+  opens_none buffer is strength = from reply call answer (λ c of. ap (λ (x : ℕ). c == x) is ∙ not_theirs c of) (λ key b found names. (key_in before client reply call key b ord found names).1)
+    where
+      from : (reply : Reply) (call : Call) → IsAnswer limits (readings before) client call reply →
+          ((c : ℕ) → collection_of (Called client reply call ∷ before) call reply ≡ Some c → (c == buffer.collection) ≡ false) →
+          ((key : NodeKey) (b : Birth) → birth_of before key ≡ Some b → key_of call ≡ Some key → collection_of (Called client reply call ∷ before) call reply ≡ Some b.collection) →
+          opens anyone buffer strength (Called client reply call) ≡ false
+      from (Reply.Taken collection taken set) (Call.Take key) answer other of_key =
+          let t = taken_in limits before client collection taken set key answer in
+          let e : (collection == buffer.collection) ≡ false = other collection (of_key key t.0 t.1 refl ∙ ap Some (sym t.2)) in
+          rw e refl
+      from Reply.Done (Call.DupHandle name dup) answer other of_key = let e : (name.collection == buffer.collection) ≡ false = other name.collection refl in rw e refl
+      from reply call answer other of_key = refl
+
+  -- and none is dropped
+  drops_none : (buffer : BufferName) → buffer.collection ≡ theirs → (strength : Strength) → drops anyone buffer strength mark ≡ false
+  drops_none buffer is strength = from reply call (λ c of. ap (λ (x : ℕ). c == x) is ∙ not_theirs c of)
+    where
+      from : (reply : Reply) (call : Call) → ((c : ℕ) → collection_of (Called client reply call ∷ before) call reply ≡ Some c → (c == buffer.collection) ≡ false) →
+          drops anyone buffer strength (Called client reply call) ≡ false
+      from Reply.Done (Call.DropHandle name dropped) other = let e : (name.collection == buffer.collection) ≡ false = other name.collection refl in rw e refl
+      from reply call other = refl
+
+  same_called : SameIn before (Called client reply call ∷ before) theirs
+  same_called = record {
+    nodes = ap (map (member called)) births_same
+        ∙ map-In (member called) (member before) (births_in before theirs) (λ b on. let t = birth_of_collection before theirs b on in member_same b t.0 t.1);
+    given = refl;
+    handles = λ buffer is strength.
+        (let o : opens anyone buffer strength mark ≡ false = opens_none buffer is strength in
+        let d : drops anyone buffer strength mark ≡ false = drops_none buffer is strength in
+        λ i. cond (o i) (times (opens anyone buffer strength) before + 1) (times (opens anyone buffer strength) before) - cond (d i) (times (drops anyone buffer strength) before + 1) (times (drops anyone buffer strength) before));
+  }
+
+  -- ---- what follows it
+
+  -- a loss of one of ours
+  same_loss : (m : Timeline) (ours : ℕ) → IsWhole m → (ours == theirs) ≡ false → (origin : NodeKey) (cause : Cause) → collection_in (births m) origin ≡ Some ours → SameIn m (Loss origin cause ∷ m) theirs
+  same_loss m ours w other origin cause here = record { nodes = members_loss m ours theirs w other origin cause here; given = refl; handles = λ buffer is strength. refl }
+
+  same_allocation : (m : Timeline) (ours : ℕ) → IsWhole m → (ours == theirs) ≡ false → (key : NodeKey) → collection_in (births m) key ≡ Some ours → SameIn m (Allocated key ∷ m) theirs
+  same_allocation m ours w other key here =
+      record { nodes = members_allocation m ours theirs w other key here; given = buffers_allocation m ours theirs w other key here; handles = λ buffer is strength. refl }
+
+  same_forced : (m : Timeline) (ours : ℕ) (next : Mark) → IsWhole m → (ours == theirs) ≡ false → Why pool ours m next → SameIn m (next ∷ m) theirs
+  same_forced m ours _ w other (No_live b on h free none) =
+      record { nodes = members_end m ours theirs w other b.node (of_ours m ours w b on h); given = refl; handles = λ buffer is strength. refl }
+  same_forced m ours _ w other (Fails b cause on h free) = same_loss m ours w other b.node cause (of_ours m ours w b on h)
+  same_forced m ours _ w other (Initial b on h root free waits found fits) = same_allocation m ours w other b.node (of_ours m ours w b on h)
+  same_forced m ours _ w other (Logical b on h child free waits attached) = same_allocation m ours w other b.node (of_ours m ours w b on h)
+
+  same_settled : (ours most : ℕ) (m : Timeline) → (ours == theirs) ≡ false → Grows pool limits [] m → SameIn m (settled_within pool ours most m) theirs
+  same_settled ours zero m other g = same_here m theirs
+  same_settled ours (suc most) m other g =
+      elim (none_or_some (next_forced pool ours m)) [
+        | inl e ↦ rw e (same_here m theirs)
+        | inr some ↦
+            let step : SameIn m (some.0 ∷ m) theirs = same_forced m ours some.0 (whole pool limits m g) other (forced_why pool ours m some.0 some.1) in
+            let rest : SameIn (some.0 ∷ m) (settled_within pool ours most (some.0 ∷ m)) theirs = same_settled ours most (some.0 ∷ m) other (grows_forced pool limits [] ours m some.0 g some.1) in
+            rw some.1 (same_on m (some.0 ∷ m) (settled_within pool ours most (some.0 ∷ m)) theirs step rest)
+      ]
+
+  same_lost : (o : Option Mark) → own_loss before call reply ≡ o → Grows pool limits [] (cons_option o (Called client reply call ∷ before)) × SameIn before (cons_option o (Called client reply call ∷ before)) theirs
+  same_lost None e = (grown, same_called)
+  same_lost (Some next) e =
+      let t = own_loss_origin pool limits [] before call reply next e in
+      let there : HasEnd before t.0 = not_refused_end limits before client call reply t.0 answer t.4 t.3 in
+      let b : Birth = there.birth in
+      let r = key_in before client reply call t.0 b ord there.is t.3 in
+      let here : collection_in (births called) t.0 ≡ Some b.collection = ap (option_map (λ (b : Birth). b.collection)) r.0 in
+      let born : was_born (births called) t.0 ≡ true = birth_was_born called t.0 b r.0 in
+      let lost : SameIn called (Loss t.0 t.1 ∷ called) theirs = same_loss called b.collection (whole pool limits called grown) (not_theirs b.collection r.1) t.0 t.1 here in
+      rw t.2 (Loses called t.0 t.1 grown born, same_on before called (Loss t.0 t.1 ∷ called) theirs same_called lost)
+
+  -- an event leaves each collection but its own as it stood
+  pub same_after : SameIn before (after pool before (client, call, reply)) theirs
+  same_after = from (collection_of called call reply) not_theirs
+    where
+      lost : Timeline
+      lost = cons_option (own_loss before call reply) (Called client reply call ∷ before)
+
+      from : (o : Option ℕ) → ((c : ℕ) → o ≡ Some c → (c == theirs) ≡ false) →
+          SameIn before (option_map_or (λ collection. settled pool collection (cons_option (own_loss before call reply) (Called client reply call ∷ before))) o (cons_option (own_loss before call reply) (Called client reply call ∷ before))) theirs
+      from None other = (same_lost (own_loss before call reply) refl).1
+      from (Some ours) other =
+          let l = same_lost (own_loss before call reply) refl in
+          same_on before lost (settled pool ours lost) theirs l.1 (same_settled ours (2 * length (births lost)) lost (other ours refl) l.0)

@@ -1,0 +1,62 @@
+//! What happens in one collection stays in it.
+ghost use Rattle.std.specs.Prelude.{◌≡◌, ◌∷◌, ◌++◌, ◌==◌, ℕ, [], List, Some, true, false};
+ghost use Rattle.sm_names.specs.declared.keys.BufferName.{BufferName};
+ghost use Rattle.sm_names.specs.declared.keys.NodeKey.{NodeKey};
+ghost use Rattle.sm_names.specs.declared.keys.Strength.{Strength};
+ghost use Rattle.sm_names.specs.declared.messages.Call.{Call};
+ghost use Rattle.sm_names.specs.declared.messages.Reply.{Reply};
+ghost use Rattle.sm_names.specs.declared.outcomes.Cause.{Cause};
+ghost use Rattle.sm_names.specs.Births.{births, collection_in};
+ghost use Rattle.sm_names.specs.Bounds.{Bound};
+ghost use Rattle.sm_names.specs.Handles.{buffers_of, open_total, doomed, home};
+ghost use Rattle.sm_names.specs.Legality.{IsLegal};
+ghost use Rattle.sm_names.specs.Losses.{reaches};
+ghost use Rattle.sm_names.specs.Marks.{Entry, Called, Loss, Allocated, Ended};
+ghost use Rattle.sm_names.specs.Members.{members};
+ghost use Rattle.sm_names.specs.Timelines.{timeline, collection_of};
+
+/// A loss takes nodes of its own collection alone, and no loss, allocation or end of one collection changes
+/// how the nodes of another stand.
+pub fn collections_are_apart()
+    ensures reach { (pool : ℕ) (limits : Bound) (history : List Entry) → IsLegal pool limits history →
+        (origin node : NodeKey) → reaches (timeline pool history) origin node ≡ true →
+        collection_in (births (timeline pool history)) node ≡ collection_in (births (timeline pool history)) origin }
+    ensures loss { (pool : ℕ) (limits : Bound) (history : List Entry) → IsLegal pool limits history →
+        (ours theirs : ℕ) → (ours == theirs) ≡ false → (origin : NodeKey) (cause : Cause) →
+        collection_in (births (timeline pool history)) origin ≡ Some ours →
+        members (Loss origin cause ∷ timeline pool history) theirs ≡ members (timeline pool history) theirs }
+    ensures allocation { (pool : ℕ) (limits : Bound) (history : List Entry) → IsLegal pool limits history →
+        (ours theirs : ℕ) → (ours == theirs) ≡ false → (head : NodeKey) →
+        collection_in (births (timeline pool history)) head ≡ Some ours →
+        members (Allocated head ∷ timeline pool history) theirs ≡ members (timeline pool history) theirs }
+    ensures end { (pool : ℕ) (limits : Bound) (history : List Entry) → IsLegal pool limits history →
+        (ours theirs : ℕ) → (ours == theirs) ≡ false → (top : NodeKey) →
+        collection_in (births (timeline pool history)) top ≡ Some ours →
+        members (Ended top ∷ timeline pool history) theirs ≡ members (timeline pool history) theirs }
+{}
+
+/// An event leaves each collection but its own as it stood: its nodes, what it was given, the handles on its
+/// buffers, and which of them are doomed or home. An event that names no collection leaves all of them so.
+pub fn events_stay_in_their_collection()
+    ensures nodes { (pool : ℕ) (limits : Bound) (history : List Entry) (client : ℕ) (call : Call) (reply : Reply) →
+        IsLegal pool limits (history ++ (client, call, reply) ∷ []) →
+        (theirs : ℕ) → (collection_of (Called client reply call ∷ timeline pool history) call reply ≡ Some theirs → ⊥) →
+        members (timeline pool (history ++ (client, call, reply) ∷ [])) theirs ≡ members (timeline pool history) theirs }
+    ensures given { (pool : ℕ) (limits : Bound) (history : List Entry) (client : ℕ) (call : Call) (reply : Reply) →
+        IsLegal pool limits (history ++ (client, call, reply) ∷ []) →
+        (theirs : ℕ) → (collection_of (Called client reply call ∷ timeline pool history) call reply ≡ Some theirs → ⊥) →
+        buffers_of (timeline pool (history ++ (client, call, reply) ∷ [])) theirs ≡ buffers_of (timeline pool history) theirs }
+    ensures handles { (pool : ℕ) (limits : Bound) (history : List Entry) (client : ℕ) (call : Call) (reply : Reply) →
+        IsLegal pool limits (history ++ (client, call, reply) ∷ []) → (buffer : BufferName) (strength : Strength) →
+        (collection_of (Called client reply call ∷ timeline pool history) call reply ≡ Some buffer.collection → ⊥) →
+        open_total (timeline pool (history ++ (client, call, reply) ∷ [])) buffer strength
+        ≡ open_total (timeline pool history) buffer strength }
+    ensures doomed { (pool : ℕ) (limits : Bound) (history : List Entry) (client : ℕ) (call : Call) (reply : Reply) →
+        IsLegal pool limits (history ++ (client, call, reply) ∷ []) → (buffer : BufferName) →
+        (collection_of (Called client reply call ∷ timeline pool history) call reply ≡ Some buffer.collection → ⊥) →
+        doomed (timeline pool (history ++ (client, call, reply) ∷ [])) buffer ≡ doomed (timeline pool history) buffer }
+    ensures home { (pool : ℕ) (limits : Bound) (history : List Entry) (client : ℕ) (call : Call) (reply : Reply) →
+        IsLegal pool limits (history ++ (client, call, reply) ∷ []) → (buffer : BufferName) →
+        (collection_of (Called client reply call ∷ timeline pool history) call reply ≡ Some buffer.collection → ⊥) →
+        home (timeline pool (history ++ (client, call, reply) ∷ [])) buffer ≡ home (timeline pool history) buffer }
+{}
