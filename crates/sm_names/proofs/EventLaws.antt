@@ -11,7 +11,7 @@ use Rattle.sm_names.specs.declared.messages.Reply.{Reply}
 use Rattle.sm_names.specs.declared.outcomes.Buffers.{Buffers}
 use Rattle.sm_names.specs.declared.outcomes.Cause.{Cause}
 use Rattle.sm_names.specs.Answers.{IsAnswer, strength_of, set_of, OpenEnd}
-use Rattle.sm_names.specs.Births.{Birth, births, birth_at, birth_of, was_born, head, collection_in, ancestors}
+use Rattle.sm_names.specs.Births.{Birth, births, birth_at, birth_of, head, collection_in, ancestors}
 use Rattle.sm_names.specs.Bounds.{Bound}
 use Rattle.sm_names.specs.Demands.{Demand}
 use Rattle.sm_names.specs.Ends.{spent}
@@ -25,7 +25,7 @@ use Rattle.sm_names.specs.Timelines.{after, settled, settled_within, next_forced
 use Rattle.sm_names.specs.Weakness.{weak, sets_weak, born_to}
 use Rattle.sm_names.specs.Words.{first_some, times}
 use Rattle.sm_names.proofs.AnswerLaws.{took_effect_all}
-use Rattle.sm_names.proofs.GrowthLaws.{Grows, Answers, Loses, own_loss_origin, not_refused_end, HasEnd, birth_is, birth_was_born, grows_forced}
+use Rattle.sm_names.proofs.GrowthLaws.{Grows, Answers, own_loss_origin, not_refused_end, HasEnd, birth_is, grows_forced, grows_lost}
 use Rattle.sm_names.proofs.IsolationLaws.{members_loss, members_end, members_allocation, buffers_allocation, birth_of_collection, of_ours}
 use Rattle.sm_names.proofs.LifeLaws.{IsOrdered, ordered, whole, Comes, comes, In_old, ancestors_old, head_old, named, Named}
 use Rattle.sm_names.proofs.ListLaws.{In, map-In}
@@ -273,17 +273,16 @@ module _ (pool : ℕ) (limits : Bound) (before : Timeline) (client theirs : ℕ)
             rw some.1 (same_on m (some.0 ∷ m) (settled_within pool ours most (some.0 ∷ m)) theirs step rest)
       ]
 
-  same_lost : (o : Option Mark) → own_loss before call reply ≡ o → Grows pool limits [] (cons_option o (Called client reply call ∷ before)) × SameIn before (cons_option o (Called client reply call ∷ before)) theirs
-  same_lost None e = (grown, same_called)
+  same_lost : (o : Option Mark) → own_loss before call reply ≡ o → SameIn before (cons_option o (Called client reply call ∷ before)) theirs
+  same_lost None e = same_called
   same_lost (Some next) e =
       let t = own_loss_origin pool limits [] before call reply next e in
       let there : HasEnd before t.0 = not_refused_end limits before client call reply t.0 answer t.4 t.3 in
       let b : Birth = there.birth in
       let r = key_in before client reply call t.0 b ord there.is t.3 in
       let here : collection_in (births called) t.0 ≡ Some b.collection = ap (option_map (λ (b : Birth). b.collection)) r.0 in
-      let born : was_born (births called) t.0 ≡ true = birth_was_born called t.0 b r.0 in
       let lost : SameIn called (Loss t.0 t.1 ∷ called) theirs = same_loss called b.collection (whole pool limits called grown) (not_theirs b.collection r.1) t.0 t.1 here in
-      rw t.2 (Loses called t.0 t.1 grown born, same_on before called (Loss t.0 t.1 ∷ called) theirs same_called lost)
+      rw t.2 (same_on before called (Loss t.0 t.1 ∷ called) theirs same_called lost)
 
   -- an event leaves each collection but its own as it stood
   pub same_after : SameIn before (after pool before (client, call, reply)) theirs
@@ -294,7 +293,7 @@ module _ (pool : ℕ) (limits : Bound) (before : Timeline) (client theirs : ℕ)
 
       from : (o : Option ℕ) → ((c : ℕ) → o ≡ Some c → (c == theirs) ≡ false) →
           SameIn before (option_map_or (λ collection. settled pool collection (cons_option (own_loss before call reply) (Called client reply call ∷ before))) o (cons_option (own_loss before call reply) (Called client reply call ∷ before))) theirs
-      from None other = (same_lost (own_loss before call reply) refl).1
+      from None other = same_lost (own_loss before call reply) refl
       from (Some ours) other =
-          let l = same_lost (own_loss before call reply) refl in
-          same_on before lost (settled pool ours lost) theirs l.1 (same_settled ours (2 * length (births lost)) lost (other ours refl) l.0)
+          let rest : SameIn lost (settled pool ours lost) theirs = same_settled ours (2 * length (births lost)) lost (other ours refl) (grows_lost pool limits [] before (client, call, reply) g answer) in
+          same_on before lost (settled pool ours lost) theirs (same_lost (own_loss before call reply) refl) rest

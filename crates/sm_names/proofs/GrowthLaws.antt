@@ -157,13 +157,11 @@ module _ (pool : ℕ) (limits : Bound) (start : Timeline) where
       from None = h
       from (Some b) = or_right (same_key b.node key) _ h
 
-  grows_after : (marks : Timeline) (entry : Entry) → Grows pool limits start marks → IsAnswer limits (readings marks) entry.0 entry.1 entry.2 → Grows pool limits start (after pool marks entry)
-  grows_after marks entry g answer =
-      settles (collection_of called entry.1 entry.2)
+  -- so does an answer, with the loss that its call makes itself
+  pub grows_lost : (marks : Timeline) (entry : Entry) → Grows pool limits start marks → IsAnswer limits (readings marks) entry.0 entry.1 entry.2 →
+      Grows pool limits start (cons_option (own_loss marks entry.1 entry.2) (Called entry.0 entry.2 entry.1 ∷ marks))
+  grows_lost marks entry g answer = with_loss (own_loss marks entry.1 entry.2) refl
     where
-      called : Timeline
-      called = Called entry.0 entry.2 entry.1 ∷ marks
-
       answered : Grows pool limits start (Called entry.0 entry.2 entry.1 ∷ marks)
       answered = Answers marks entry.0 entry.2 entry.1 g answer
 
@@ -175,12 +173,16 @@ module _ (pool : ℕ) (limits : Bound) (start : Timeline) where
           let born : was_born (births (Called entry.0 entry.2 entry.1 ∷ marks)) t.0 ≡ true = still_born marks (Called entry.0 entry.2 entry.1) t.0 (birth_was_born marks t.0 there.birth there.is) in
           rw t.2 (Loses (Called entry.0 entry.2 entry.1 ∷ marks) t.0 t.1 answered born)
 
-      lost : Grows pool limits start (cons_option (own_loss marks entry.1 entry.2) (Called entry.0 entry.2 entry.1 ∷ marks))
-      lost = with_loss (own_loss marks entry.1 entry.2) refl
+  -- and an event, with all that it forces
+  pub grows_after : (marks : Timeline) (entry : Entry) → Grows pool limits start marks → IsAnswer limits (readings marks) entry.0 entry.1 entry.2 → Grows pool limits start (after pool marks entry)
+  grows_after marks entry g answer = settles (collection_of (Called entry.0 entry.2 entry.1 ∷ marks) entry.1 entry.2)
+    where
+      lost : Timeline
+      lost = cons_option (own_loss marks entry.1 entry.2) (Called entry.0 entry.2 entry.1 ∷ marks)
 
       settles : (o : Option ℕ) → Grows pool limits start (option_map_or (λ collection. settled pool collection (cons_option (own_loss marks entry.1 entry.2) (Called entry.0 entry.2 entry.1 ∷ marks))) o (cons_option (own_loss marks entry.1 entry.2) (Called entry.0 entry.2 entry.1 ∷ marks)))
-      settles None = lost
-      settles (Some collection) = grows_settled collection (2 * length (births (cons_option (own_loss marks entry.1 entry.2) (Called entry.0 entry.2 entry.1 ∷ marks)))) (cons_option (own_loss marks entry.1 entry.2) (Called entry.0 entry.2 entry.1 ∷ marks)) lost
+      settles None = grows_lost marks entry g answer
+      settles (Some collection) = grows_settled collection (2 * length (births lost)) lost (grows_lost marks entry g answer)
 
   -- so does the timeline of a history
   pub grows_history : (marks : Timeline) (history : List Entry) → Grows pool limits start marks → AreAnswers pool limits marks history → Grows pool limits start (fold (after pool) marks history)

@@ -1,5 +1,5 @@
 //! What happens in one collection stays in it.
-ghost use Rattle.std.specs.Prelude.{◌≡◌, ◌∷◌, ◌++◌, ◌==◌, ℕ, [], List, Some, true, false};
+ghost use Rattle.std.specs.Prelude.{◌≡◌, ◌∷◌, ◌++◌, ◌==◌, ℕ, [], List, Some, None, true, false};
 ghost use Rattle.sm_names.specs.declared.keys.BufferName.{BufferName};
 ghost use Rattle.sm_names.specs.declared.keys.NodeKey.{NodeKey};
 ghost use Rattle.sm_names.specs.declared.keys.Strength.{Strength};
@@ -13,7 +13,7 @@ ghost use Rattle.sm_names.specs.Legality.{IsLegal};
 ghost use Rattle.sm_names.specs.Losses.{reaches};
 ghost use Rattle.sm_names.specs.Marks.{Entry, Called, Loss, Allocated, Ended};
 ghost use Rattle.sm_names.specs.Members.{members};
-ghost use Rattle.sm_names.specs.Timelines.{timeline, collection_of};
+ghost use Rattle.sm_names.specs.Timelines.{timeline, collection_of, next_forced};
 
 /// A loss takes nodes of its own collection alone, and no loss, allocation or end of one collection changes
 /// how the nodes of another stand.
@@ -59,4 +59,11 @@ pub fn events_stay_in_their_collection()
         IsLegal pool limits (history ++ (client, call, reply) ∷ []) → (buffer : BufferName) →
         (collection_of (Called client reply call ∷ timeline pool history) call reply ≡ Some buffer.collection → ⊥) →
         home (timeline pool (history ++ (client, call, reply) ∷ [])) buffer ≡ home (timeline pool history) buffer }
+{}
+
+/// In a legal history each collection is at rest between two events: whatever the events did, none of its
+/// forced steps applies.
+pub fn every_collection_rests()
+    ensures { (pool : ℕ) (limits : Bound) (history : List Entry) → IsLegal pool limits history → (collection : ℕ) →
+        next_forced pool collection (timeline pool history) ≡ None }
 {}
