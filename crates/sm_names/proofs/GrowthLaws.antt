@@ -8,7 +8,7 @@ use Rattle.sm_names.specs.declared.messages.Reply.{Reply}
 use Rattle.sm_names.specs.declared.outcomes.Cause.{Cause}
 use Rattle.sm_names.specs.declared.outcomes.Fault.{Fault}
 use Rattle.sm_names.specs.declared.outcomes.Refusal.{Refusal}
-use Rattle.sm_names.specs.Answers.{OpenEnd, Readings, IsAnswer, answer, effect, new_key, closing, no_end, refused_if, unknown_client, shut_client, end_in_transit, peer_closed, wrong_kind, misuse, no_handle, limits_met}
+use Rattle.sm_names.specs.Answers.{OpenEnd, Readings, IsAnswer, answer, effect, new_key, closing, no_end, refused_if, unknown_client, shut_client, end_in_transit, end_named, peer_closed, wrong_kind, misuse, no_handle, limits_met}
 use Rattle.sm_names.specs.Births.{Birth, births, birth_at, birth_of, was_born}
 use Rattle.sm_names.specs.Bounds.{Bound}
 use Rattle.sm_names.specs.Ends.{spent}
@@ -103,6 +103,19 @@ pub unknown_rejects : (r : Readings) (client : ℕ) (call : Call) → Rejects (u
 unknown_rejects r client Call.Join = rejects_if _ _
 unknown_rejects r client _ = rejects_if _ _
 
+pub shut_rejects : (r : Readings) (client : ℕ) (call : Call) → Rejects (shut_client r client call)
+shut_rejects r client call = rejects_if _ _
+
+pub no_end_rejects : (r : Readings) (client : ℕ) (call : Call) → Rejects (no_end r client call)
+no_end_rejects r client call = rejects_then _ (λ key. rejects_if _ _) (key_of call)
+
+pub in_transit_rejects : (r : Readings) (call : Call) → Rejects (end_in_transit r call)
+in_transit_rejects r call = rejects_then _ (λ (e : OpenEnd). rejects_if _ _) (end_named r call)
+
+pub wrong_kind_rejects : (r : Readings) (call : Call) → Rejects (wrong_kind r call)
+wrong_kind_rejects r call = rejects_then _ (λ (e : OpenEnd). rejects_if _ _) (end_named r call)
+
+-- an answer that is no refusal comes after one that rejects
 pub strip : (o : Option Reply) (rest : List (Option Reply)) (e reply : Reply) → Rejects o → is_refusal reply ≡ false → reply ≡ unwrap_or (first_some (o ∷ rest)) e →
     (o ≡ None) × (reply ≡ unwrap_or (first_some rest) e)
 strip None rest e reply rejects stands is = (refl, is)
@@ -116,8 +129,8 @@ not_refused_end limits marks client call reply key answer stands is =
     let e : Reply = effect r client (option_map_or (λ key. key) (new_key reply) (record { slot = 0; generation = 0 })) call in
     let last : List (Option Reply) = end_in_transit r call ∷ closing call ∷ peer_closed r call ∷ wrong_kind r call ∷ misuse r call ∷ no_handle r client call ∷ limits_met limits r call in
     let a = strip (unknown_client r client call) (shut_client r client call ∷ no_end r client call ∷ last) e reply (unknown_rejects r client call) stands answer.told in
-    let b = strip (shut_client r client call) (no_end r client call ∷ last) e reply (rejects_if _ _) stands a.1 in
-    let c = strip (no_end r client call) last e reply (rejects_then _ (λ key. rejects_if _ _) (key_of call)) stands b.1 in
+    let b = strip (shut_client r client call) (no_end r client call ∷ last) e reply (shut_rejects r client call) stands a.1 in
+    let c = strip (no_end r client call) last e reply (no_end_rejects r client call) stands b.1 in
     has_end marks client call key c.0 is
 
 -- ---- a legal history's timeline grows

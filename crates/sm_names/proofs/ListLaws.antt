@@ -97,6 +97,11 @@ In-reverse_aux-back (y ∷ xs) ys x (inr on) = In-reverse_aux-back xs (y ∷ ys)
 pub In-reverse-back : {A : Type 0} (xs : List A) (x : A) → In x xs → In x (reverse xs)
 In-reverse-back xs x on = In-reverse_aux-back xs [] x (inl on)
 
+pub In-append : {A : Type 0} (xs ys : List A) (x : A) → In x (xs ++ ys) → In x xs ⊎ In x ys
+In-append [] ys x on = inr on
+In-append (y ∷ xs) ys x (inl is) = inl (inl is)
+In-append (y ∷ xs) ys x (inr on) = elim (In-append xs ys x on) [ inl here ↦ inl (inr here) | inr there ↦ inr there ]
+
 pub In-list_any : {A : Type 0} (test : A → Bool) (xs : List A) → list_any test xs ≡ true → (x : A) × In x xs × (test x ≡ true)
 In-list_any test [] h = cc
 In-list_any test (y ∷ ys) h =

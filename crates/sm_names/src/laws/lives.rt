@@ -1,17 +1,21 @@
-//! What is for good: nodes that are gone, and trackers that fired.
-ghost use Rattle.std.specs.Prelude.{◌≡◌, ◌++◌, ◌&&◌, not, if◌then◌else◌, ℕ, List, Some, true, false};
+//! What is for good: nodes that are gone, and trackers that fired. And that all goes in the end.
+ghost use Rattle.std.specs.Prelude.{◌≡◌, ◌++◌, ◌&&◌, ◌||◌, not, if◌then◌else◌, ℕ, List, [], Some, true, false};
 ghost use Rattle.std.specs.List.{list_any};
+ghost use Rattle.sm_names.specs.declared.keys.BufferName.{BufferName};
 ghost use Rattle.sm_names.specs.declared.keys.NodeKey.{NodeKey};
+ghost use Rattle.sm_names.specs.declared.keys.Strength.{Strength};
 ghost use Rattle.sm_names.specs.declared.outcomes.Fault.{Fault};
 ghost use Rattle.sm_names.specs.Births.{births, ancestors, was_born};
 ghost use Rattle.sm_names.specs.Bounds.{Bound};
+ghost use Rattle.sm_names.specs.Ends.{spent};
+ghost use Rattle.sm_names.specs.Handles.{open_total};
 ghost use Rattle.sm_names.specs.Legality.{IsLegal};
 ghost use Rattle.sm_names.specs.Losses.{fault, gone, live, released};
 ghost use Rattle.sm_names.specs.Marks.{Entry, Timeline};
 ghost use Rattle.sm_names.specs.Sameness.{same_key};
-ghost use Rattle.sm_names.specs.Timelines.{timeline};
+ghost use Rattle.sm_names.specs.Timelines.{held, timeline};
 ghost use Rattle.sm_names.specs.Trackers.{Tracked, fired_at};
-ghost use Rattle.sm_names.specs.Views.{live_nodes};
+ghost use Rattle.sm_names.specs.Views.{free_pages, live_nodes};
 ghost use Rattle.sm_names.specs.Words.{times};
 
 /// A node that is gone stays gone, with the fault by which it failed first, and is not live; and above a
@@ -38,4 +42,23 @@ pub fn fired_is_for_good()
     ensures { (pool : ℕ) (history more : List Entry) (t : Tracked) (event : ℕ) →
         fired_at (timeline pool history) t ≡ Some event →
         fired_at (timeline pool (history ++ more)) t ≡ Some event }
+{}
+
+/// A node whose end is spent is gone or released. So once every end is spent and every handle dropped, no node
+/// is live, no page is held, and the whole pool is free.
+pub fn all_goes()
+    ensures spent { (pool : ℕ) (limits : Bound) (history : List Entry) → IsLegal pool limits history →
+        (node : NodeKey) → spent (timeline pool history) node ≡ true →
+        (gone (timeline pool history) node || released (timeline pool history) node) ≡ true }
+    ensures live { (pool : ℕ) (limits : Bound) (history : List Entry) → IsLegal pool limits history →
+        ((node : NodeKey) → was_born (births (timeline pool history)) node ≡ true → spent (timeline pool history) node ≡ true) →
+        live_nodes (timeline pool history) ≡ [] }
+    ensures held { (pool : ℕ) (limits : Bound) (history : List Entry) → IsLegal pool limits history →
+        ((node : NodeKey) → was_born (births (timeline pool history)) node ≡ true → spent (timeline pool history) node ≡ true) →
+        ((buffer : BufferName) (strength : Strength) → open_total (timeline pool history) buffer strength ≡ 0) →
+        held pool (timeline pool history) ≡ [] }
+    ensures free { (pool : ℕ) (limits : Bound) (history : List Entry) → IsLegal pool limits history →
+        ((node : NodeKey) → was_born (births (timeline pool history)) node ≡ true → spent (timeline pool history) node ≡ true) →
+        ((buffer : BufferName) (strength : Strength) → open_total (timeline pool history) buffer strength ≡ 0) →
+        free_pages pool (timeline pool history) ≡ pool }
 {}
