@@ -1,4 +1,5 @@
 pub mod Answers
+pub mod Apart
 pub mod Births
 pub mod Bounds
 pub mod Changes

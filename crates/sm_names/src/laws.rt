@@ -29,6 +29,8 @@ ghost use Rattle.sm_names.specs.Timelines.{HeldPages, Settles, settled, next_for
 ghost use Rattle.sm_names.specs.Trackers.{unfired};
 ghost use Rattle.sm_names.specs.Views.{Views, live_nodes, held_by_page};
 
+pub mod pages;
+
 /// What a loss takes is the least set that has its node, the parent of each member whose link is
 /// not blocked, and every child of each member.
 pub fn reach_is_least()
