@@ -1,17 +1,19 @@
 -- Ends, who holds them, and what waits for a client.
 -- `kind` restates `fuchsia.sysmem2.Allocator.BindSharedCollection`, `spent` restates
 -- `fuchsia.sysmem2.Node.Release`. Clients, parcels and shutting are this profile's own.
-use Rattle.std.specs.Prelude.{ℕ, Bool, false, ◌==◌, if◌then◌else◌, List, [], ◌∷◌, drop, reverse, Option, Some, None}
+use Rattle.std.specs.Prelude.{ℕ, Bool, false, ◌&&◌, ◌==◌, if◌then◌else◌, List, [], ◌∷◌, drop, reverse, Option, Some, None}
 use Rattle.std.specs.List.{list_any, filter_map}
 use Rattle.std.specs.Option.{option_map_or}
 use Rattle.sm_names.specs.declared.keys.NodeKey.{NodeKey}
+use Rattle.sm_names.specs.declared.keys.BufferName.{BufferName}
 use Rattle.sm_names.specs.declared.keys.Kind.{Kind}
+use Rattle.sm_names.specs.declared.keys.Strength.{Strength}
 use Rattle.sm_names.specs.declared.messages.Call.{Call}
 use Rattle.sm_names.specs.declared.messages.Parcel.{Parcel}
 use Rattle.sm_names.specs.declared.messages.Reply.{Reply}
 use Rattle.sm_names.specs.Births.{Birth, birth_of}
 use Rattle.sm_names.specs.Marks.{Mark, Timeline, Called}
-use Rattle.sm_names.specs.Sameness.{same_key}
+use Rattle.sm_names.specs.Sameness.{same_key, same_buffer, same_strength}
 use Rattle.sm_names.specs.Words.{times}
 
 -- the client that the mark made: only a Join makes one
@@ -78,6 +80,11 @@ parcels marks client = drop (times (collects client) marks) (reverse (filter_map
 abbrev pub is_end_of : NodeKey → Parcel → Bool
 is_end_of node (Parcel.End key) = same_key key node
 is_end_of node (Parcel.Handle buffer strength) = false
+
+-- the parcel is a handle of this buffer and strength
+abbrev pub is_handle_of : BufferName → Strength → Parcel → Bool
+is_handle_of buffer strength (Parcel.Handle name given) = same_buffer name buffer && same_strength given strength
+is_handle_of buffer strength (Parcel.End key) = false
 
 -- the end is in a parcel
 abbrev pub in_transit : Timeline → NodeKey → Bool

@@ -1,0 +1,110 @@
+-- Counts and sums over lists.
+use Rattle.std.proofs.Common.{ℕ, ◌≡◌, ◌≤◌, ◌+◌, refl, ap, sym, ◌∙◌, Bool, true, false, cond, ◌&&◌, ◌||◌, ◌==◌, inl, inr, List, [], ◌∷◌, ◌++◌, arith}
+use Rattle.std.proofs.lemmas.Bool.{eqb-true, eq-eqb}
+use Rattle.std.proofs.lemmas.List.Sums.{sum_by-cons}
+use Rattle.std.specs.List.{list_any, sum_by}
+use Rattle.sm_names.specs.Words.{times}
+use Rattle.sm_names.proofs.ListLaws.{In}
+use Rattle.sm_names.proofs.SamenessLaws.{either_way, both_ways}
+
+-- ---- counts
+
+abbrev pub one : Bool → ℕ
+one b = cond b 1 0
+
+pub times-cons : {A : Type 0} (p : A → Bool) (x : A) (xs : List A) → times p (x ∷ xs) ≡ times p xs + one (p x)
+times-cons p x xs = elim (p x) as (λ (b : Bool). cond b (times p xs + 1) (times p xs) ≡ times p xs + one b) [ true ↦ refl | false ↦ omega arith ]
+
+pub times_push : {A : Type 0} (p : A → Bool) (xs : List A) (y : A) → times p (xs ++ y ∷ []) ≡ times p xs + one (p y)
+times_push p [] y = times-cons p y []
+times_push p (x ∷ xs) y =
+    let rest : times p (xs ++ y ∷ []) ≡ times p xs + one (p y) = times_push p xs y in
+    omega (arith, times-cons p x (xs ++ y ∷ []), times-cons p x xs)
+
+-- ---- sums
+
+pub sum_by-same : {A : Type 0} (f g : A → ℕ) (xs : List A) → ((x : A) → f x ≡ g x) → sum_by f xs ≡ sum_by g xs
+sum_by-same f g xs same = λ i. sum_by (λ x. same x i) xs
+
+pub sum_by-add : {A : Type 0} (f g : A → ℕ) (xs : List A) → sum_by (λ x. f x + g x) xs ≡ sum_by f xs + sum_by g xs
+sum_by-add f g [] = omega arith
+sum_by-add f g (x ∷ xs) =
+    let rest : sum_by (λ x. f x + g x) xs ≡ sum_by f xs + sum_by g xs = sum_by-add f g xs in
+    omega (arith, sum_by-cons (λ x. f x + g x) x xs, sum_by-cons f x xs, sum_by-cons g x xs)
+
+pub sum_by-zero : {A : Type 0} (xs : List A) → sum_by (λ (x : A). 0) xs ≡ 0
+sum_by-zero [] = refl
+sum_by-zero {A} (x ∷ xs) = omega (arith, sum_by-zero xs, sum_by-cons (λ (y : A). 0) x xs)
+
+pub In-le-sum_by : {A : Type 0} (f : A → ℕ) (xs : List A) (x : A) → In x xs → f x ≤ sum_by f xs
+In-le-sum_by f [] x on = absurd on
+In-le-sum_by f (y ∷ ys) x (inl is) = let e : f x ≡ f y = ap f is in omega (arith, sum_by-cons f y ys)
+In-le-sum_by f (y ∷ ys) x (inr on) = let e : f x ≤ sum_by f ys = In-le-sum_by f ys x on in omega (arith, sum_by-cons f y ys)
+
+-- ---- sums over numbers that are each listed once
+
+-- the number is listed
+abbrev pub one_of : List ℕ → ℕ → Bool
+one_of ns k = list_any (λ n. n == k) ns
+
+-- no number is listed twice
+abbrev pub AreOnce : List ℕ → Type 0
+AreOnce [] = Unit {0}
+AreOnce (n ∷ ns) = (one_of ns n ≡ false) × AreOnce ns
+
+swap_eq : (a b : ℕ) → (a == b) ≡ false → (b == a) ≡ false
+swap_eq a b differ = elim (either_way (b == a)) [
+  | inl e ↦ both_ways (a == b) (eq-eqb a b (sym (eqb-true b a e))) differ
+  | inr e ↦ e
+]
+
+-- a test that only an absent number passes, passes at none
+sum_absent : (k : ℕ) (t : Bool) (ns : List ℕ) → one_of ns k ≡ false → sum_by (λ n. one ((k == n) && t)) ns ≡ 0
+sum_absent k t [] none = refl
+sum_absent k t (n ∷ ns) none =
+    let other : (n == k) ≡ false = or_left_none (n == k) (one_of ns k) none in
+    let here : one ((k == n) && t) ≡ 0 = rw (swap_eq n k other) refl in
+    omega (arith, here, sum_by-cons (λ n. one ((k == n) && t)) n ns, sum_absent k t ns (or_right_none (n == k) (one_of ns k) none))
+  where
+    or_left_none : (a b : Bool) → (a || b) ≡ false → a ≡ false
+    or_left_none true b h = cc
+    or_left_none false b h = refl
+
+    or_right_none : (a b : Bool) → (a || b) ≡ false → b ≡ false
+    or_right_none true b h = cc
+    or_right_none false b h = h
+
+-- and one that a listed number passes, at that one alone
+pub sum_once : (k : ℕ) (t : Bool) (ns : List ℕ) → AreOnce ns → (t ≡ true → one_of ns k ≡ true) → sum_by (λ n. one ((k == n) && t)) ns ≡ one t
+sum_once k false ns once on = sum_by-same (λ n. one ((k == n) && false)) (λ n. 0) ns (λ n. neither (k == n)) ∙ sum_by-zero ns
+  where
+    neither : (b : Bool) → one (b && false) ≡ 0
+    neither true = refl
+    neither false = refl
+sum_once k true [] once on = let no : false ≡ true = on refl in cc
+sum_once k true (n ∷ ns) once on =
+    elim (either_way (n == k)) [
+      | inl e ↦
+          let is : n ≡ k = eqb-true n k e in
+          let here : one ((k == n) && true) ≡ 1 = rw (eq-eqb k n (sym is)) refl in
+          let none : one_of ns k ≡ false = ap (one_of ns) (sym is) ∙ once.0 in
+          omega (arith, here, sum_by-cons (λ n. one ((k == n) && true)) n ns, sum_absent k true ns none)
+      | inr e ↦
+          let here : one ((k == n) && true) ≡ 0 = rw (swap_eq n k e) refl in
+          let later : one_of ns k ≡ true = rw e at (on refl) in
+          let rest : sum_by (λ n. one ((k == n) && true)) ns ≡ 1 = sum_once k true ns once.1 (λ h. later) in
+          omega (arith, here, sum_by-cons (λ n. one ((k == n) && true)) n ns)
+    ]
+
+-- what all did is the sum of what each did, where whoever did something is listed
+module _ {A : Type 0} (all : A → Bool) (each : ℕ → A → Bool) (whose : A → ℕ) (split : (n : ℕ) (x : A) → each n x ≡ (whose x == n && all x)) (ns : List ℕ) (once : AreOnce ns) where
+  pub times_split : (xs : List A) → ((x : A) → In x xs → all x ≡ true → one_of ns (whose x) ≡ true) → times all xs ≡ sum_by (λ n. times (each n) xs) ns
+  times_split [] listed = sym (sum_by-zero ns)
+  times_split (x ∷ xs) listed =
+      let rest : times all xs ≡ sum_by (λ n. times (each n) xs) ns = times_split xs (λ y on. listed y (inr on)) in
+      let here : sum_by (λ n. one (each n x)) ns ≡ one (all x) =
+      sum_by-same (λ n. one (each n x)) (λ n. one ((whose x == n) && all x)) ns (λ n. ap one (split n x))
+      ∙ sum_once (whose x) (all x) ns once (listed x (inl refl)) in
+      let steps : sum_by (λ n. times (each n) (x ∷ xs)) ns ≡ sum_by (λ n. times (each n) xs + one (each n x)) ns =
+      sum_by-same (λ n. times (each n) (x ∷ xs)) (λ n. times (each n) xs + one (each n x)) ns (λ n. times-cons (each n) x xs) in
+      omega (arith, rest, here, steps, times-cons all x xs, sum_by-add (λ n. times (each n) xs) (λ n. one (each n x)) ns)
