@@ -1,7 +1,7 @@
 -- The handles that are open are those of the clients and those in parcels.
-use Rattle.std.proofs.Common.{ℕ, ◌≡◌, ◌≤◌, ◌+◌, refl, ap, sym, ◌∙◌, Bool, true, false, cond, not, ◌&&◌, ◌||◌, ◌==◌, inl, inr, List, [], ◌∷◌, drop, Option, Some, None, arith}
+use Rattle.std.proofs.Common.{ℕ, subst, ◌≡◌, ◌≤◌, ◌+◌, refl, ap, sym, ◌∙◌, Bool, true, false, cond, not, ◌&&◌, ◌||◌, ◌==◌, inl, inr, List, [], ◌∷◌, drop, Option, Some, None, arith}
 use Rattle.std.proofs.lemmas.Bool.{eqb-true}
-use Rattle.std.specs.List.{cons_option}
+use Rattle.std.specs.List.{cons_option, sum_by}
 use Rattle.std.specs.Option.{option_map_or}
 use Rattle.sm_names.specs.declared.keys.BufferName.{BufferName}
 use Rattle.sm_names.specs.declared.keys.Strength.{Strength}
@@ -12,16 +12,18 @@ use Rattle.sm_names.specs.declared.outcomes.Refusal.{Refusal}
 use Rattle.sm_names.specs.Answers.{IsAnswer, OpenEnd, collected, refused_if}
 use Rattle.sm_names.specs.Bounds.{Bound}
 use Rattle.sm_names.specs.Ends.{clients, joined_at, has_joined, given_at, collects, parcels, is_handle_of}
-use Rattle.sm_names.specs.Handles.{opens, drops, lifts, lands}
-use Rattle.sm_names.specs.Marks.{Mark, Timeline, Called, events}
+use Rattle.sm_names.specs.Handles.{opens, drops, lifts, lands, open_of, open_total, moving}
+use Rattle.sm_names.specs.Marks.{Mark, Timeline, Called, Loss, Allocated, Ended, events, is_event}
 use Rattle.sm_names.specs.Reading.{readings}
 use Rattle.sm_names.specs.Sameness.{same_buffer, same_strength}
 use Rattle.sm_names.specs.Words.{times}
 use Rattle.sm_names.proofs.AnswerLaws.{took_effect_all}
+use Rattle.sm_names.proofs.GrowthLaws.{Grows, kept-grown}
+use Rattle.sm_names.proofs.HandleLaws.{IsPaid, paid-called, paid_nothing}
 use Rattle.sm_names.proofs.ListLaws.{In, In-list_any}
-use Rattle.sm_names.proofs.ParcelLaws.{IsDrawn, parcels-given, parcels-collected, parcels-kept}
-use Rattle.sm_names.proofs.SamenessLaws.{either_way, none_or_some, or_right}
-use Rattle.sm_names.proofs.SumLaws.{one, one_of, AreOnce, times-cons, times_push}
+use Rattle.sm_names.proofs.ParcelLaws.{IsDrawn, drawn-called, drawn_nothing, parcels-given, parcels-collected, parcels-kept}
+use Rattle.sm_names.proofs.SamenessLaws.{either_way, none_or_some, or_right, both_ways}
+use Rattle.sm_names.proofs.SumLaws.{In-le-sum_by, one, one_of, AreOnce, times-cons, times_push, sum_by-same, sum_by-add, times_split}
 
 -- ---- whose a mark is
 
@@ -275,3 +277,156 @@ joined-called limits marks client reply call answer old =
         | inr there ↦ old.receivers m there h
       ]);
     }
+
+-- ---- all of it holds while a timeline grows
+
+pub record IsCounted (marks : Timeline) : Type 0 where
+  pub paid : IsPaid marks
+  pub drawn : IsDrawn marks
+  pub sent : (buffer : BufferName) (strength : Strength) → IsSent buffer strength marks
+  pub clients_are : AreClients marks
+  pub joined : HaveJoined marks
+
+counted-called : (limits : Bound) (marks : Timeline) (client : ℕ) (reply : Reply) (call : Call) → IsAnswer limits (readings marks) client call reply → IsCounted marks → IsCounted (Called client reply call ∷ marks)
+counted-called limits marks client reply call answer old = record {
+  paid = λ c buffer strength. paid-called c buffer strength limits marks (client, call, reply) answer (old.paid c buffer strength);
+  drawn = drawn-called limits marks (client, call, reply) answer old.drawn;
+  sent = λ buffer strength. sent-called buffer strength limits marks client reply call answer old.drawn (old.sent buffer strength);
+  clients_are = clients-called limits marks client reply call answer old.clients_are;
+  joined = joined-called limits marks client reply call answer old.joined;
+}
+
+-- what passes is not the mark that does not
+only_old : (test : Mark → Bool) (marks : Timeline) (mark m : Mark) → test mark ≡ false → In m (mark ∷ marks) → test m ≡ true → In m marks
+only_old test marks mark m quiet (inl is) h = both_ways (test mark) (ap test (sym is) ∙ h) quiet
+only_old test marks mark m quiet (inr there) h = there
+
+counted-mark : (marks : Timeline) (mark : Mark) → is_event mark ≡ false → IsCounted marks → IsCounted (mark ∷ marks)
+counted-mark marks (Called client reply call) h old = cc
+counted-mark marks (Loss origin cause) h old = record {
+  paid = old.paid; drawn = old.drawn; sent = old.sent;
+  clients_are = record { early = old.clients_are.early; once = old.clients_are.once };
+  joined = record {
+    callers = λ m on h. old.joined.callers m (only_old moves marks (Loss origin cause) m refl on h) h;
+    receivers = λ m on h. old.joined.receivers m (only_old gives marks (Loss origin cause) m refl on h) h;
+  };
+}
+counted-mark marks (Allocated head) h old = record {
+  paid = old.paid; drawn = old.drawn; sent = old.sent;
+  clients_are = record { early = old.clients_are.early; once = old.clients_are.once };
+  joined = record {
+    callers = λ m on h. old.joined.callers m (only_old moves marks (Allocated head) m refl on h) h;
+    receivers = λ m on h. old.joined.receivers m (only_old gives marks (Allocated head) m refl on h) h;
+  };
+}
+counted-mark marks (Ended top) h old = record {
+  paid = old.paid; drawn = old.drawn; sent = old.sent;
+  clients_are = record { early = old.clients_are.early; once = old.clients_are.once };
+  joined = record {
+    callers = λ m on h. old.joined.callers m (only_old moves marks (Ended top) m refl on h) h;
+    receivers = λ m on h. old.joined.receivers m (only_old gives marks (Ended top) m refl on h) h;
+  };
+}
+
+counted-nothing : IsCounted []
+counted-nothing = record {
+  paid = paid_nothing;
+  drawn = drawn_nothing;
+  sent = λ buffer strength client. refl;
+  clients_are = record { early = λ c on. absurd on; once = tt };
+  joined = record { callers = λ m on h. absurd on; receivers = λ m on h. absurd on };
+}
+
+pub counted : (pool : ℕ) (limits : Bound) (marks : Timeline) → Grows pool limits [] marks → IsCounted marks
+counted pool limits = kept-grown IsCounted counted-nothing pool limits (counted-called limits) counted-mark
+
+-- ---- so the counts add up
+
+module _ (buffer : BufferName) (strength : Strength) where
+  opens_moves : (m : Mark) → opens anyone buffer strength m ≡ true → moves m ≡ true
+  opens_moves (Called client (Reply.Taken collection taken set) (Call.Take key)) h = refl
+  opens_moves (Called client Reply.Done (Call.DupHandle name dup)) h = refl
+  opens_moves _ h = cc
+
+  drops_moves : (m : Mark) → drops anyone buffer strength m ≡ true → moves m ≡ true
+  drops_moves (Called client Reply.Done (Call.DropHandle name dropped)) h = refl
+  drops_moves _ h = cc
+
+  lifts_moves : (m : Mark) → lifts anyone buffer strength m ≡ true → moves m ≡ true
+  lifts_moves (Called client Reply.Done (Call.GiveHandle name given to)) h = refl
+  lifts_moves _ h = cc
+
+  lifts_gives : (m : Mark) → lifts anyone buffer strength m ≡ true → gives m ≡ true
+  lifts_gives (Called client Reply.Done (Call.GiveHandle name given to)) h = refl
+  lifts_gives _ h = cc
+
+  lands_moves : (m : Mark) → lands anyone buffer strength m ≡ true → moves m ≡ true
+  lands_moves (Called client (Reply.CollectedHandle name given) Call.Collect) h = refl
+  lands_moves _ h = cc
+
+-- how many handles the clients have open, and how many wait for them
+abbrev pub clients_have : Timeline → BufferName → Strength → ℕ
+clients_have marks buffer strength = sum_by (λ client. open_of marks client buffer strength) (clients marks)
+
+abbrev pub clients_await : Timeline → BufferName → Strength → ℕ
+clients_await marks buffer strength = sum_by (λ client. times (is_handle_of buffer strength) (parcels marks client)) (clients marks)
+
+pub record AddUp (marks : Timeline) (buffer : BufferName) (strength : Strength) : Type 0 where
+  -- what was opened was dropped, or is a client's, or waits
+  pub opened : times (opens anyone buffer strength) marks ≡ times (drops anyone buffer strength) marks + (clients_have marks buffer strength + clients_await marks buffer strength)
+  -- and what was given was collected or waits
+  pub given : times (lifts anyone buffer strength) marks ≡ times (lands anyone buffer strength) marks + clients_await marks buffer strength
+
+pub add_up : (marks : Timeline) → IsCounted marks → (buffer : BufferName) (strength : Strength) → AddUp marks buffer strength
+add_up marks c buffer strength =
+    let cs : List ℕ = clients marks in
+    let once : AreOnce cs = c.clients_are.once in
+    let opened_by : ℕ → ℕ = λ k. times (opens (λ i. i == k) buffer strength) marks in
+    let dropped_by : ℕ → ℕ = λ k. times (drops (λ i. i == k) buffer strength) marks in
+    let lifted_by : ℕ → ℕ = λ k. times (lifts (λ i. i == k) buffer strength) marks in
+    let landed_by : ℕ → ℕ = λ k. times (lands (λ i. i == k) buffer strength) marks in
+    let sent_to : ℕ → ℕ = λ k. times (sends buffer strength k) marks in
+    let waits_for : ℕ → ℕ = λ k. times (is_handle_of buffer strength) (parcels marks k) in
+    let has : ℕ → ℕ = λ k. open_of marks k buffer strength in
+    let o : times (opens anyone buffer strength) marks ≡ sum_by opened_by cs =
+    times_split (opens anyone buffer strength) (λ k. opens (λ i. i == k) buffer strength) caller (opens-who buffer strength) cs once marks (λ m on h. c.joined.callers m on (opens_moves buffer strength m h)) in
+    let d : times (drops anyone buffer strength) marks ≡ sum_by dropped_by cs =
+    times_split (drops anyone buffer strength) (λ k. drops (λ i. i == k) buffer strength) caller (drops-who buffer strength) cs once marks (λ m on h. c.joined.callers m on (drops_moves buffer strength m h)) in
+    let f : times (lifts anyone buffer strength) marks ≡ sum_by lifted_by cs =
+    times_split (lifts anyone buffer strength) (λ k. lifts (λ i. i == k) buffer strength) caller (lifts-who buffer strength) cs once marks (λ m on h. c.joined.callers m on (lifts_moves buffer strength m h)) in
+    let l : times (lands anyone buffer strength) marks ≡ sum_by landed_by cs =
+    times_split (lands anyone buffer strength) (λ k. lands (λ i. i == k) buffer strength) caller (lands-who buffer strength) cs once marks (λ m on h. c.joined.callers m on (lands_moves buffer strength m h)) in
+    let s : times (lifts anyone buffer strength) marks ≡ sum_by sent_to cs =
+    times_split (lifts anyone buffer strength) (λ k. sends buffer strength k) receiver (sends-who buffer strength) cs once marks (λ m on h. c.joined.receivers m on (lifts_gives buffer strength m h)) in
+    let sent : sum_by sent_to cs ≡ sum_by landed_by cs + sum_by waits_for cs =
+    sum_by-same sent_to (λ k. landed_by k + waits_for k) cs (c.sent buffer strength) ∙ sum_by-add landed_by waits_for cs in
+    let each : (k : ℕ) → has k + (dropped_by k + lifted_by k) ≡ opened_by k + landed_by k =
+    λ k. let paid : dropped_by k + lifted_by k ≤ opened_by k + landed_by k = c.paid k buffer strength in omega (arith, paid) in
+    let sums : sum_by has cs + (sum_by dropped_by cs + sum_by lifted_by cs) ≡ sum_by opened_by cs + sum_by landed_by cs =
+    ap (λ n. sum_by has cs + n) (sym (sum_by-add dropped_by lifted_by cs))
+    ∙ (sym (sum_by-add has (λ k. dropped_by k + lifted_by k) cs)
+    ∙ (sum_by-same (λ k. has k + (dropped_by k + lifted_by k)) (λ k. opened_by k + landed_by k) cs each ∙ sum_by-add opened_by landed_by cs)) in
+    record { opened = omega (arith, o, d, f, l, s, sent, sums); given = omega (arith, l, s, sent) }
+
+-- no difference of counts is cut off
+pub drops-le-opens : (marks : Timeline) → IsCounted marks → (buffer : BufferName) (strength : Strength) → times (drops anyone buffer strength) marks ≤ times (opens anyone buffer strength) marks
+drops-le-opens marks c buffer strength = let a : AddUp marks buffer strength = add_up marks c buffer strength in omega (arith, a.opened)
+
+pub lands-le-lifts : (marks : Timeline) → IsCounted marks → (buffer : BufferName) (strength : Strength) → times (lands anyone buffer strength) marks ≤ times (lifts anyone buffer strength) marks
+lands-le-lifts marks c buffer strength = let a : AddUp marks buffer strength = add_up marks c buffer strength in omega (arith, a.given)
+
+pub moving_is : (marks : Timeline) → IsCounted marks → (buffer : BufferName) (strength : Strength) → moving marks buffer strength ≡ clients_await marks buffer strength
+moving_is marks c buffer strength = let a : AddUp marks buffer strength = add_up marks c buffer strength in omega (arith, a.given)
+
+pub total_is : (marks : Timeline) → IsCounted marks → (buffer : BufferName) (strength : Strength) → open_total marks buffer strength ≡ clients_have marks buffer strength + moving marks buffer strength
+total_is marks c buffer strength =
+    let a : AddUp marks buffer strength = add_up marks c buffer strength in
+    omega (arith, a.opened, moving_is marks c buffer strength)
+
+-- a client has no more handles open than there are
+pub client-le-total : (marks : Timeline) → IsCounted marks → (client : ℕ) (buffer : BufferName) (strength : Strength) → has_joined marks client ≡ true → open_of marks client buffer strength ≤ open_total marks buffer strength
+client-le-total marks c client buffer strength joined =
+    let a = In-list_any (λ k. k == client) (clients marks) joined in
+    let is : a.0 ≡ client = eqb-true a.0 client a.2 in
+    let on : In client (clients marks) = subst (λ k. In k (clients marks)) is a.1 in
+    omega (arith, In-le-sum_by (λ k. open_of marks k buffer strength) (clients marks) client on, total_is marks c buffer strength)

@@ -14,7 +14,7 @@ use Rattle.sm_names.specs.Bounds.{Bound}
 use Rattle.sm_names.specs.Ends.{spent}
 use Rattle.sm_names.specs.Legality.{AreAnswers, IsLegal}
 use Rattle.sm_names.specs.Losses.{fault}
-use Rattle.sm_names.specs.Marks.{Entry, Mark, Timeline, Called, Loss, Allocated, Ended, events}
+use Rattle.sm_names.specs.Marks.{Entry, Mark, Timeline, Called, Loss, Allocated, Ended, events, is_event}
 use Rattle.sm_names.specs.Reading.{readings, open_end}
 use Rattle.sm_names.specs.Sameness.{same_key}
 use Rattle.sm_names.specs.Timelines.{after, timeline, settled, settled_within, next_forced, own_loss, key_of, collection_of}
@@ -228,3 +228,14 @@ legal_grows_on pool limits history more legal =
       first = grows_history pool limits [] [] history Stays r.0;
       then = subst (λ (marks : Timeline). Grows pool limits (timeline pool history) marks) (sym (fold-append (after pool) [] history more)) (grows_history pool limits (timeline pool history) (timeline pool history) more Stays r.1);
     }
+
+-- what answers and other marks keep, a timeline that grows from nothing keeps
+module _ (P : Timeline → Type 0) (nothing : P []) (pool : ℕ) (limits : Bound)
+    (answered : (marks : Timeline) (client : ℕ) (reply : Reply) (call : Call) → IsAnswer limits (readings marks) client call reply → P marks → P (Called client reply call ∷ marks))
+    (each : (marks : Timeline) (mark : Mark) → is_event mark ≡ false → P marks → P (mark ∷ marks)) where
+  pub kept-grown : (marks : Timeline) → Grows pool limits [] marks → P marks
+  kept-grown _ Stays = nothing
+  kept-grown _ (Answers before client reply call g answer) = answered before client reply call answer (kept-grown before g)
+  kept-grown _ (Loses before origin cause g born) = each before (Loss origin cause) refl (kept-grown before g)
+  kept-grown _ (Allocates before collection head g e) = each before (Allocated head) refl (kept-grown before g)
+  kept-grown _ (Ends before collection top g e) = each before (Ended top) refl (kept-grown before g)

@@ -21,19 +21,19 @@ use Rattle.sm_names.proofs.KeptLaws.{kept-after}
 use Rattle.sm_names.proofs.SamenessLaws.{either_way, and_left, and_right}
 use Rattle.sm_names.specs.Words.{times}
 
-same_buffer-true : (a b : BufferName) → same_buffer a b ≡ true → a ≡ b
+pub same_buffer-true : (a b : BufferName) → same_buffer a b ≡ true → a ≡ b
 same_buffer-true a b h =
     let collections : a.collection ≡ b.collection = eqb-true a.collection b.collection (and_left _ _ h) in
     let indices : a.index ≡ b.index = eqb-true a.index b.index (and_right _ _ h) in
     λ i. record { collection = collections i; index = indices i }
 
-same_strength-true : (a b : Strength) → same_strength a b ≡ true → a ≡ b
+pub same_strength-true : (a b : Strength) → same_strength a b ≡ true → a ≡ b
 same_strength-true Strong Strong h = refl
 same_strength-true Weak Weak h = refl
 same_strength-true Strong Weak h = cc
 same_strength-true Weak Strong h = cc
 
-some_open : (n : ℕ) → refused_if (n == 0) Refusal.NoSuchHandle ≡ None → 0 < n
+pub some_open : (n : ℕ) → refused_if (n == 0) Refusal.NoSuchHandle ≡ None → 0 < n
 some_open zero h = cc
 some_open (suc n) h = omega arith
 
@@ -77,7 +77,7 @@ module _ (client : ℕ) (buffer : BufferName) (strength : Strength) where
   once_more true n = omega arith
   once_more false n = omega arith
 
-  paid-called : (limits : Bound) (marks : Timeline) (entry : Entry) → IsAnswer limits (readings marks) entry.0 entry.1 entry.2 → let_go marks ≤ got marks →
+  pub paid-called : (limits : Bound) (marks : Timeline) (entry : Entry) → IsAnswer limits (readings marks) entry.0 entry.1 entry.2 → let_go marks ≤ got marks →
       let_go (Called entry.0 entry.2 entry.1 ∷ marks) ≤ got (Called entry.0 entry.2 entry.1 ∷ marks)
   paid-called limits marks entry answer paid =
       let mark : Mark = Called entry.0 entry.2 entry.1 in

@@ -156,7 +156,7 @@ pub times-none : {A : Type 0} (xs : List A) → times (λ x. false) xs ≡ 0
 times-none [] = refl
 times-none (x ∷ xs) = times-none xs
 
-times-append : {A : Type 0} (test : A → Bool) (xs ys : List A) → times test (xs ++ ys) ≡ times test xs + times test ys
+pub times-append : {A : Type 0} (test : A → Bool) (xs ys : List A) → times test (xs ++ ys) ≡ times test xs + times test ys
 times-append test [] ys = omega arith
 times-append test (x ∷ xs) ys =
     let rest : times test (xs ++ ys) ≡ times test xs + times test ys = times-append test xs ys in

@@ -61,7 +61,7 @@ more_given : (o : Option Parcel) (ps : List Parcel) → length ps ≤ length (co
 more_given None ps = omega arith
 more_given (Some p) ps = omega arith
 
-drawn-called : (limits : Bound) (marks : Timeline) (entry : Entry) → IsAnswer limits (readings marks) entry.0 entry.1 entry.2 → IsDrawn marks → IsDrawn (Called entry.0 entry.2 entry.1 ∷ marks)
+pub drawn-called : (limits : Bound) (marks : Timeline) (entry : Entry) → IsAnswer limits (readings marks) entry.0 entry.1 entry.2 → IsDrawn marks → IsDrawn (Called entry.0 entry.2 entry.1 ∷ marks)
 drawn-called limits marks entry answer drawn client =
     let mark : Mark = Called entry.0 entry.2 entry.1 in
     let more : length (given marks client) ≤ length (given (mark ∷ marks) client) = more_given (given_at client mark) (given marks client) in

@@ -4,7 +4,7 @@ use Rattle.std.proofs.lemmas.Bool.{eqb-true, eq-eqb}
 use Rattle.std.proofs.lemmas.List.Sums.{sum_by-cons}
 use Rattle.std.specs.List.{list_any, sum_by}
 use Rattle.sm_names.specs.Words.{times}
-use Rattle.sm_names.proofs.ListLaws.{In}
+use Rattle.sm_names.proofs.ListLaws.{In, times-append}
 use Rattle.sm_names.proofs.SamenessLaws.{either_way, both_ways}
 
 -- ---- counts
@@ -16,10 +16,7 @@ pub times-cons : {A : Type 0} (p : A → Bool) (x : A) (xs : List A) → times p
 times-cons p x xs = elim (p x) as (λ (b : Bool). cond b (times p xs + 1) (times p xs) ≡ times p xs + one b) [ true ↦ refl | false ↦ omega arith ]
 
 pub times_push : {A : Type 0} (p : A → Bool) (xs : List A) (y : A) → times p (xs ++ y ∷ []) ≡ times p xs + one (p y)
-times_push p [] y = times-cons p y []
-times_push p (x ∷ xs) y =
-    let rest : times p (xs ++ y ∷ []) ≡ times p xs + one (p y) = times_push p xs y in
-    omega (arith, times-cons p x (xs ++ y ∷ []), times-cons p x xs)
+times_push p xs y = omega (arith, times-append p xs (y ∷ []), times-cons p y [])
 
 -- ---- sums
 

@@ -1,6 +1,8 @@
 //! What the definitions of the service imply. The functions do nothing: their contracts are laws.
 pub mod collections;
+pub mod handles;
 pub mod lives;
+pub mod pages;
 
 ghost use Rattle.std.specs.Prelude.{◌≡◌, ◌≤◌, ◌∷◌, ◌++◌, ◌↔◌, ◌<◌, ℕ, List, [], length, map, drop, Some, None, is_some, true, false, ◌+◌, ◌==◌};
 ghost use Rattle.sm_names.specs.Words.{times};
@@ -29,7 +31,6 @@ ghost use Rattle.sm_names.specs.Timelines.{HeldPages, Settles, settled, next_for
 ghost use Rattle.sm_names.specs.Trackers.{unfired};
 ghost use Rattle.sm_names.specs.Views.{Views, live_nodes, held_by_page};
 
-pub mod pages;
 
 /// What a loss takes is the least set that has its node, the parent of each member whose link is
 /// not blocked, and every child of each member.

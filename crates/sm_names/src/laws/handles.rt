@@ -1,0 +1,35 @@
+//! How handles are counted, and what they keep.
+ghost use Rattle.std.specs.Prelude.{◌≡◌, ◌≤◌, ◌+◌, ◌==◌, ℕ, List, true};
+ghost use Rattle.std.specs.List.{sum_by};
+ghost use Rattle.sm_names.specs.declared.keys.BufferName.{BufferName};
+ghost use Rattle.sm_names.specs.declared.keys.Strength.{Strength};
+ghost use Rattle.sm_names.specs.Bounds.{Bound};
+ghost use Rattle.sm_names.specs.Ends.{clients, parcels, is_handle_of};
+ghost use Rattle.sm_names.specs.Handles.{opens, drops, lifts, lands, moving, open_of, open_total};
+ghost use Rattle.sm_names.specs.Legality.{IsLegal};
+ghost use Rattle.sm_names.specs.Marks.{Entry};
+ghost use Rattle.sm_names.specs.Timelines.{timeline};
+ghost use Rattle.sm_names.specs.Words.{times};
+
+/// In a legal history the handles that are open are those of the clients and those in parcels, and
+/// those in parcels wait for clients. All clients together drop no more handles than they opened,
+/// and collect no more than were given, so no difference of the two is cut off.
+pub fn handles_are_counted()
+    ensures total { (pool : ℕ) (limits : Bound) (history : List Entry) → IsLegal pool limits history →
+        (buffer : BufferName) (strength : Strength) →
+        open_total (timeline pool history) buffer strength
+        ≡ sum_by (λ client. open_of (timeline pool history) client buffer strength) (clients (timeline pool history))
+        + moving (timeline pool history) buffer strength }
+    ensures in_parcels { (pool : ℕ) (limits : Bound) (history : List Entry) → IsLegal pool limits history →
+        (buffer : BufferName) (strength : Strength) →
+        moving (timeline pool history) buffer strength
+        ≡ sum_by (λ client. times (is_handle_of buffer strength) (parcels (timeline pool history) client)) (clients (timeline pool history)) }
+    ensures dropped { (pool : ℕ) (limits : Bound) (history : List Entry) → IsLegal pool limits history →
+        (buffer : BufferName) (strength : Strength) →
+        times (drops (λ c. true) buffer strength) (timeline pool history)
+        ≤ times (opens (λ c. true) buffer strength) (timeline pool history) }
+    ensures collected { (pool : ℕ) (limits : Bound) (history : List Entry) → IsLegal pool limits history →
+        (buffer : BufferName) (strength : Strength) →
+        times (lands (λ c. true) buffer strength) (timeline pool history)
+        ≤ times (lifts (λ c. true) buffer strength) (timeline pool history) }
+{}
