@@ -240,7 +240,7 @@ not_back : (b : Bool) → not b ≡ false → b ≡ true
 not_back true h = refl
 not_back false h = cc
 
-caller_joined : (limits : Bound) (marks : Timeline) (client : ℕ) (reply : Reply) (call : Call) → IsAnswer limits (readings marks) client call reply → moves (Called client reply call) ≡ true → has_joined marks client ≡ true
+pub caller_joined : (limits : Bound) (marks : Timeline) (client : ℕ) (reply : Reply) (call : Call) → IsAnswer limits (readings marks) client call reply → moves (Called client reply call) ≡ true → has_joined marks client ≡ true
 caller_joined limits marks client (Reply.Taken collection taken set) (Call.Take key) answer h =
     (known_of (has_joined marks client) false (took_effect_all limits (readings marks) client (record { slot = 0; generation = 0 }) (Call.Take key) (Reply.Taken collection taken set) refl refl answer.told).known).0
 caller_joined limits marks client Reply.Done (Call.DupHandle name strength) answer h =

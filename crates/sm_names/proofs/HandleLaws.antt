@@ -37,6 +37,13 @@ pub some_open : (n : ℕ) → refused_if (n == 0) Refusal.NoSuchHandle ≡ None 
 some_open zero h = cc
 some_open (suc n) h = omega arith
 
+-- the caller of a DupHandle that took effect had the handle open
+pub dup_was_open : (limits : Bound) (marks : Timeline) (client : ℕ) (name : BufferName) (strength : Strength) → IsAnswer limits (readings marks) client (Call.DupHandle name strength) Reply.Done →
+    0 < open_of marks client name strength
+dup_was_open limits marks client name strength answer =
+    some_open (open_of marks client name strength)
+    (took_effect_all limits (readings marks) client (record { slot = 0; generation = 0 }) (Call.DupHandle name strength) Reply.Done refl refl answer.told).has_handle
+
 module _ (client : ℕ) (buffer : BufferName) (strength : Strength) where
   abbrev it : ℕ → Bool
   it = λ c. c == client

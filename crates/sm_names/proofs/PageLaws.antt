@@ -1,21 +1,18 @@
 -- Buffers are placed in the pool, apart from one another and from what is held.
-use Rattle.std.proofs.Common.{ℕ, zero, suc, ◌≡◌, ◌≤◌, ◌<◌, ◌+◌, refl, ap, sym, subst, Bool, true, false, cond, not, ◌&&◌, ◌||◌, nat_lt, nat_le, inl, inr, List, [], ◌∷◌, ◌++◌, map, length, Option, Some, None, arith}
+use Rattle.std.proofs.Common.{ℕ, zero, suc, ◌≡◌, ◌≤◌, ◌<◌, ◌+◌, refl, ap, sym, subst, Bool, true, false, cond, ◌&&◌, ◌||◌, nat_lt, nat_le, inl, inr, List, [], ◌∷◌, ◌++◌, map, length, Some, arith}
 use Rattle.std.proofs.lemmas.Bool.{ltb-true, ltb-false, leb-true, leb-false}
 use Rattle.std.proofs.lemmas.List.Sums.{sum_by-cons}
 use Rattle.std.specs.List.{list_any, range_with_len, sum_by}
-use Rattle.std.specs.Option.{option_map, option_and_then}
+use Rattle.std.specs.Option.{option_map}
 use Rattle.sm_names.specs.declared.keys.Interval.{Interval}
 use Rattle.sm_names.specs.Pages.{meets, has_room, least_start, places}
 use Rattle.sm_names.specs.Apart.{AreApart, are_in, at_pages}
 use Rattle.sm_names.proofs.ListLaws.{In-find}
-use Rattle.sm_names.proofs.SamenessLaws.{either_way, and_left, and_right}
-
-not_so : (b : Bool) → not b ≡ true → b ≡ false
-not_so true h = cc
-not_so false h = refl
+use Rattle.sm_names.proofs.SamenessLaws.{either_way, and_left, and_right, or_parts, or_both, and_both}
+use Rattle.sm_names.proofs.SettledLaws.{not_back, and_then-Some, map-Some}
 
 room_apart : (pool : ℕ) (held : List Interval) (i : Interval) → has_room pool held i ≡ true → (nat_le (i.start + i.pages) pool ≡ true) × (list_any (meets i) held ≡ false)
-room_apart pool held i h = (and_left (nat_le (i.start + i.pages) pool) _ h, not_so _ (and_right (nat_le (i.start + i.pages) pool) _ h))
+room_apart pool held i h = (and_left (nat_le (i.start + i.pages) pool) _ h, not_back _ (and_right (nat_le (i.start + i.pages) pool) _ h))
 
 start_has_room : (pool pages start : ℕ) (held : List Interval) → least_start pool pages held ≡ Some start → has_room pool held (at_pages pages start) ≡ true
 start_has_room pool pages start held h = (In-find (λ s. has_room pool held (at_pages pages s)) (range_with_len 0 pool) start h).1
@@ -26,30 +23,10 @@ pub record ArePlaced (pool pages count : ℕ) (held : List Interval) (starts : L
   pub apart : AreApart held → AreApart (map (at_pages pages) starts ++ held)
   pub inside : are_in pool held ≡ true → are_in pool (map (at_pages pages) starts ++ held) ≡ true
 
-and_then-Some : {A B : Type 0} (f : A → Option B) (o : Option A) (y : B) → option_and_then f o ≡ Some y → (x : A) × (o ≡ Some x) × (f x ≡ Some y)
-and_then-Some f None y h = cc
-and_then-Some f (Some x) y h = (x, refl, h)
-
-map-Some : {A B : Type 0} (f : A → B) (o : Option A) (y : B) → option_map f o ≡ Some y → (x : A) × (o ≡ Some x) × (f x ≡ y)
-map-Some f None y h = cc
-map-Some f (Some x) y h = (x, refl, cc)
-
 or_flip : (a b c : Bool) → (a || (b || c)) ≡ false → (b || (a || c)) ≡ false
 or_flip true b c h = cc
 or_flip false true c h = cc
 or_flip false false c h = h
-
-pub or_parts : (a b : Bool) → (a || b) ≡ false → (a ≡ false) × (b ≡ false)
-or_parts true b h = cc
-or_parts false b h = (refl, h)
-
-pub or_both : (a b : Bool) → a ≡ false → b ≡ false → (a || b) ≡ false
-or_both true b h k = cc
-or_both false b h k = k
-
-pub and_both : (a b : Bool) → a ≡ true → b ≡ true → (a && b) ≡ true
-and_both true b h k = k
-and_both false b h k = cc
 
 meets_back : (a b : Interval) → meets a b ≡ false → meets b a ≡ false
 meets_back a b h = both_turned (nat_lt a.start (b.start + b.pages)) (nat_lt b.start (a.start + a.pages)) h

@@ -6,6 +6,7 @@ use Rattle.std.specs.Option.{option_map, option_and_then}
 use Rattle.sm_names.specs.declared.keys.Interval.{Interval}
 use Rattle.sm_names.specs.Apart.{at_pages, IsFirst, AreFirst, with_placed, IsFull}
 use Rattle.sm_names.specs.Pages.{meets, has_room, least_start, places}
+use Rattle.sm_names.proofs.SettledLaws.{map-Some}
 use Rattle.sm_names.proofs.SamenessLaws.{either_way, both_ways, none_or_some}
 
 -- ---- the first number that passes a test
@@ -95,10 +96,6 @@ module _ (pool pages : ℕ) (held : List Interval) where
       ]
 
 -- ---- the starts of several buffers
-
-map-Some : {A B : Type 0} (f : A → B) (o : Option A) (y : B) → option_map f o ≡ Some y → (x : A) × (o ≡ Some x) × (f x ≡ y)
-map-Some f None y h = cc
-map-Some f (Some x) y h = (x, refl, cc)
 
 map-None : {A B : Type 0} (f : A → B) (o : Option A) → option_map f o ≡ None → o ≡ None
 map-None f None h = refl

@@ -1,11 +1,11 @@
 -- Counts and sums over lists.
-use Rattle.std.proofs.Common.{ℕ, ◌≡◌, ◌≤◌, ◌+◌, refl, ap, sym, ◌∙◌, Bool, true, false, cond, ◌&&◌, ◌||◌, ◌==◌, inl, inr, List, [], ◌∷◌, ◌++◌, arith}
+use Rattle.std.proofs.Common.{ℕ, ◌≡◌, ◌≤◌, ◌+◌, refl, ap, sym, ◌∙◌, Bool, true, false, cond, ◌&&◌, ◌==◌, inl, inr, List, [], ◌∷◌, ◌++◌, arith}
 use Rattle.std.proofs.lemmas.Bool.{eqb-true, eq-eqb}
 use Rattle.std.proofs.lemmas.List.Sums.{sum_by-cons}
 use Rattle.std.specs.List.{list_any, sum_by}
 use Rattle.sm_names.specs.Words.{times}
 use Rattle.sm_names.proofs.ListLaws.{In, times-append}
-use Rattle.sm_names.proofs.SamenessLaws.{either_way, both_ways}
+use Rattle.sm_names.proofs.SamenessLaws.{either_way, both_ways, or_none_left, or_none_right}
 
 -- ---- counts
 
@@ -59,17 +59,9 @@ swap_eq a b differ = elim (either_way (b == a)) [
 sum_absent : (k : ℕ) (t : Bool) (ns : List ℕ) → one_of ns k ≡ false → sum_by (λ n. one ((k == n) && t)) ns ≡ 0
 sum_absent k t [] none = refl
 sum_absent k t (n ∷ ns) none =
-    let other : (n == k) ≡ false = or_left_none (n == k) (one_of ns k) none in
+    let other : (n == k) ≡ false = or_none_left (n == k) (one_of ns k) none in
     let here : one ((k == n) && t) ≡ 0 = rw (swap_eq n k other) refl in
-    omega (arith, here, sum_by-cons (λ n. one ((k == n) && t)) n ns, sum_absent k t ns (or_right_none (n == k) (one_of ns k) none))
-  where
-    or_left_none : (a b : Bool) → (a || b) ≡ false → a ≡ false
-    or_left_none true b h = cc
-    or_left_none false b h = refl
-
-    or_right_none : (a b : Bool) → (a || b) ≡ false → b ≡ false
-    or_right_none true b h = cc
-    or_right_none false b h = h
+    omega (arith, here, sum_by-cons (λ n. one ((k == n) && t)) n ns, sum_absent k t ns (or_none_right (n == k) (one_of ns k) none))
 
 -- and one that a listed number passes, at that one alone
 pub sum_once : (k : ℕ) (t : Bool) (ns : List ℕ) → AreOnce ns → (t ≡ true → one_of ns k ≡ true) → sum_by (λ n. one ((k == n) && t)) ns ≡ one t

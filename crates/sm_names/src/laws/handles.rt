@@ -1,11 +1,15 @@
 //! How handles are counted, and what they keep.
-ghost use Rattle.std.specs.Prelude.{◌≡◌, ◌≤◌, ◌+◌, ◌==◌, ℕ, List, true};
-ghost use Rattle.std.specs.List.{sum_by};
+ghost use Rattle.std.specs.Prelude.{◌≡◌, ◌≤◌, ◌+◌, ◌∷◌, ◌++◌, ℕ, List, [], not, true};
+ghost use Rattle.std.specs.List.{filter, sum_by};
 ghost use Rattle.sm_names.specs.declared.keys.BufferName.{BufferName};
 ghost use Rattle.sm_names.specs.declared.keys.Strength.{Strength};
+ghost use Rattle.sm_names.specs.declared.keys.NodeKey.{NodeKey};
+ghost use Rattle.sm_names.specs.declared.messages.Call.{Call};
+ghost use Rattle.sm_names.specs.declared.messages.Reply.{Reply};
+ghost use Rattle.sm_names.specs.Answers.{set_of};
 ghost use Rattle.sm_names.specs.Bounds.{Bound};
 ghost use Rattle.sm_names.specs.Ends.{clients, parcels, is_handle_of};
-ghost use Rattle.sm_names.specs.Handles.{opens, drops, lifts, lands, moving, open_of, open_total};
+ghost use Rattle.sm_names.specs.Handles.{opens, drops, lifts, lands, moving, open_of, open_total, doomed, home, buffer_names};
 ghost use Rattle.sm_names.specs.Legality.{IsLegal};
 ghost use Rattle.sm_names.specs.Marks.{Entry};
 ghost use Rattle.sm_names.specs.Timelines.{timeline};
@@ -32,4 +36,18 @@ pub fn handles_are_counted()
         (buffer : BufferName) (strength : Strength) →
         times (lands (λ c. true) buffer strength) (timeline pool history)
         ≤ times (lifts (λ c. true) buffer strength) (timeline pool history) }
+{}
+
+/// A Take opens handles on exactly the buffers that are not doomed, and a buffer that is doomed, or
+/// home, stays so.
+pub fn doomed_is_for_good()
+    ensures taken { (pool : ℕ) (limits : Bound) (history : List Entry) (client collection : ℕ) (strength : Strength) (set : ℕ) (call : Call) →
+        IsLegal pool limits (history ++ (client, call, Reply.Taken collection strength set) ∷ []) →
+        set ≡ set_of (filter (λ name. not (doomed (timeline pool history) name)) (buffer_names (timeline pool history) collection)) }
+    ensures by_take { (pool : ℕ) (limits : Bound) (history : List Entry) (client collection : ℕ) (strength : Strength) (set : ℕ) (call : Call) →
+        IsLegal pool limits (history ++ (client, call, Reply.Taken collection strength set) ∷ []) → (key : NodeKey) × (call ≡ Call.Take key) }
+    ensures doomed { (pool : ℕ) (limits : Bound) (history more : List Entry) → IsLegal pool limits (history ++ more) →
+        (buffer : BufferName) → doomed (timeline pool history) buffer ≡ true → doomed (timeline pool (history ++ more)) buffer ≡ true }
+    ensures home { (pool : ℕ) (limits : Bound) (history more : List Entry) → IsLegal pool limits (history ++ more) →
+        (buffer : BufferName) → home (timeline pool history) buffer ≡ true → home (timeline pool (history ++ more)) buffer ≡ true }
 {}
