@@ -1,16 +1,18 @@
--- The bits of a set of buffers.
-use Rattle.std.proofs.Common.{ℕ, zero, suc, ◌≡◌, ◌≤◌, ◌<◌, ◌+◌, ◌*◌, ◌/◌, ◌%◌, ◌^◌, refl, ap, sym, ◌∙◌, Bool, true, false, cond, ◌&&◌, ◌==◌, nat_lt, inl, inr, List, ◌∷◌, map, arith}
-use Rattle.std.proofs.lemmas.Bool.{ltb-true, ltb-false}
+-- The bits of a set of buffers, and the names of so many buffers.
+use Rattle.std.proofs.Common.{ℕ, zero, suc, ◌≡◌, ◌≤◌, ◌<◌, ◌+◌, ◌*◌, ◌/◌, ◌%◌, ◌^◌, refl, ap, sym, ◌∙◌, Bool, true, false, cond, ◌&&◌, ◌==◌, nat_lt, inl, inr, List, [], ◌∷◌, map, arith}
+use Rattle.std.proofs.lemmas.Bool.{eqb-true, eq-eqb, ltb-true, ltb-false}
 use Rattle.std.proofs.Math.Nat.{pow-succ'}
 use Rattle.std.proofs.lemmas.List.Sums.{sum_by-cons}
 use Rattle.std.proofs.lemmas.Nat.Bits.{bit_at-zero, bit_at-suc, bit_at_lowest}
 use Rattle.std.specs.Int.{bit_at}
-use Rattle.std.specs.List.{filter, range_with_len}
+use Rattle.std.specs.List.{filter, list_any, range_with_len}
 use Rattle.sm_names.specs.declared.keys.BufferName.{BufferName}
 use Rattle.sm_names.specs.Answers.{set_of}
 use Rattle.sm_names.specs.Handles.{names}
+use Rattle.sm_names.specs.Sameness.{same_buffer}
+use Rattle.sm_names.specs.Words.{times}
 use Rattle.sm_names.proofs.SamenessLaws.{either_way}
-use Rattle.sm_names.proofs.SumLaws.{one}
+use Rattle.sm_names.proofs.SumLaws.{one, any_one}
 
 -- the number whose bits tell which of so many, from a on, pass
 abbrev bits_from : (ℕ → Bool) → ℕ → ℕ → ℕ
@@ -90,6 +92,51 @@ bit_of_set p collection n i =
     ap (λ s. bit_at s i) (scaled_bits p collection 0 n ∙ m)
     ∙ (bit_of (λ i. p (name i)) 0 n i ∙ ap (λ k. one (nat_lt i n && p (name k))) e)
 
-pub one_true : (b : Bool) → (one b == 1) ≡ true → b ≡ true
-one_true true h = refl
-one_true false h = cc
+pub one_is : (b : Bool) → (one b == 1) ≡ b
+one_is true = refl
+one_is false = refl
+
+-- ---- the names of so many buffers
+
+-- of so many numbers from a on, one is the j-th after a if there are more than j
+index_times : (a n j : ℕ) → times (λ i. i == a + j) (range_with_len a n) ≡ one (nat_lt j n)
+index_times a zero j = rw (none_below j) refl
+index_times a (suc n) zero =
+    let here : (a == a + 0) ≡ true = eq-eqb a (a + 0) (omega arith) in
+    rw (here, first_below n) (ap (λ k. k + 1) (later (a + 1) n (omega arith)))
+  where
+    later : (b m : ℕ) → a < b → times (λ i. i == a + 0) (range_with_len b m) ≡ 0
+    later b zero less = refl
+    later b (suc m) less =
+        let other : (b == a + 0) ≡ false = elim (either_way (b == a + 0)) [
+          | inl e ↦ let is : b ≡ a + 0 = eqb-true b (a + 0) e in absurd (omega (arith, is, less))
+          | inr e ↦ e
+        ] in
+        rw other (later (b + 1) m (omega (arith, less)))
+index_times a (suc n) (suc j) =
+    let other : (a == a + suc j) ≡ false = elim (either_way (a == a + suc j)) [
+      | inl e ↦ let is : a ≡ a + suc j = eqb-true a (a + suc j) e in absurd (omega (arith, is))
+      | inr e ↦ e
+    ] in
+    let shift : (a + 1) + j ≡ a + suc j = omega arith in
+    rw other (ap (λ k. times (λ i. i == k) (range_with_len (a + 1) n)) (sym shift) ∙ (index_times (a + 1) n j ∙ ap one (shift_below j n)))
+
+names_times : (collection : ℕ) (x : BufferName) (is : List ℕ) →
+    times (λ b. same_buffer b x) (map (λ i. record { collection = collection; index = i }) is) ≡ cond (collection == x.collection) (times (λ i. i == x.index) is) 0
+names_times collection x [] = elim (collection == x.collection) as (λ (b : Bool). ◌≡◌ {A = ℕ} 0 (cond b 0 0)) [ true ↦ refl | false ↦ refl ]
+names_times collection x (i ∷ is) =
+    elim (either_way (collection == x.collection)) [
+      | inl e ↦ rw e (ap (λ k. cond (i == x.index) (k + 1) k) (names_times collection x is ∙ rw e refl))
+      | inr e ↦ rw e (names_times collection x is ∙ rw e refl)
+    ]
+
+-- a buffer is one of so many of a collection exactly if it is of the collection and its index is below their number
+pub times_below : (collection n : ℕ) (x : BufferName) → times (λ b. same_buffer b x) (names collection n) ≡ one (collection == x.collection && nat_lt x.index n)
+times_below collection n x =
+    let zeros : 0 + x.index ≡ x.index = omega arith in
+    names_times collection x (range_with_len 0 n)
+    ∙ (ap (λ k. cond (collection == x.collection) k 0) (ap (λ k. times (λ i. i == k) (range_with_len 0 n)) (sym zeros) ∙ index_times 0 n x.index)
+    ∙ elim (collection == x.collection) as (λ (b : Bool). cond b (one (nat_lt x.index n)) 0 ≡ one (b && nat_lt x.index n)) [ true ↦ refl | false ↦ refl ])
+
+pub named_below : (collection n : ℕ) (x : BufferName) → list_any (λ b. same_buffer b x) (names collection n) ≡ (collection == x.collection && nat_lt x.index n)
+named_below collection n x = any_one (λ b. same_buffer b x) (names collection n) (collection == x.collection && nat_lt x.index n) (times_below collection n x)

@@ -1,13 +1,14 @@
 -- What is doomed or home stays so.
-use Rattle.std.proofs.Common.{ℕ, ◌≡◌, ◌≤◌, ◌<◌, ◌+◌, refl, ap, sym, ◌∙◌, subst, Bool, true, false, cond, not, ◌&&◌, ◌==◌, nat_lt, inl, inr, List, [], ◌∷◌, Option, Some, None, is_some, is_none, arith}
+use Rattle.std.proofs.Common.{ℕ, ◌≡◌, ◌≤◌, ◌<◌, ◌+◌, refl, ap, sym, ◌∙◌, subst, Bool, true, false, cond, not, ◌&&◌, ◌==◌, nat_lt, ◌⊎◌, inl, inr, List, [], ◌∷◌, Option, Some, None, is_some, is_none, arith}
 use Rattle.std.proofs.lemmas.Bool.{eqb-true, eq-eqb}
 use Rattle.std.proofs.lemmas.Nat.Bits.{bit_at-zero}
 use Rattle.std.specs.Int.{bit_at}
-use Rattle.std.specs.List.{filter}
+use Rattle.std.specs.List.{filter, list_any}
 use Rattle.std.specs.Option.{option_map_or, unwrap_or}
 use Rattle.sm_names.specs.declared.keys.BufferName.{BufferName}
 use Rattle.sm_names.specs.declared.keys.NodeKey.{NodeKey}
 use Rattle.sm_names.specs.declared.keys.Strength.{Strength}
+use Rattle.sm_names.specs.declared.keys.Strength.TheVariants.{Strong, Weak}
 use Rattle.sm_names.specs.declared.messages.Call.{Call}
 use Rattle.sm_names.specs.declared.messages.Reply.{Reply}
 use Rattle.sm_names.specs.declared.outcomes.Cause.{Cause}
@@ -25,15 +26,16 @@ use Rattle.sm_names.specs.Sameness.{same_buffer, same_strength}
 use Rattle.sm_names.specs.Timelines.{key_of}
 use Rattle.sm_names.specs.Weakness.{weak, sets_weak, born_to}
 use Rattle.sm_names.proofs.AnswerLaws.{took_effect_all}
-use Rattle.sm_names.proofs.BitLaws.{bit_of_set, one_true}
+use Rattle.sm_names.proofs.BitLaws.{bit_of_set, named_below, one_is}
 use Rattle.sm_names.proofs.CountLaws.{anyone, counted, caller_joined, client-le-total}
 use Rattle.sm_names.proofs.GrowthLaws.{Grows, Stays, Answers, Loses, Allocates, Ends, grows_on, birth_is, is_refusal, strip, rejects_if, rejects_then, unknown_rejects}
 use Rattle.sm_names.proofs.HandleLaws.{dup_was_open, same_buffer-true, same_strength-true}
-use Rattle.sm_names.proofs.LifeLaws.{IsOrdered, ordered, Comes, comes, named, In_new, list_any_on, members_on}
+use Rattle.sm_names.proofs.LifeLaws.{IsOrdered, ordered, Comes, comes, named, In_new, members_on}
 use Rattle.sm_names.proofs.ListLaws.{In, In-list_any}
 use Rattle.sm_names.proofs.SamenessLaws.{either_way, and_left, and_right, or_parts, and_both, both_ways}
 use Rattle.sm_names.proofs.SettledLaws.{member_birth, not_back}
-use Rattle.sm_names.proofs.SumLaws.{one, times-cons}
+use Rattle.sm_names.proofs.StandingLaws.{In-any}
+use Rattle.sm_names.proofs.SumLaws.{times-cons}
 use Rattle.sm_names.proofs.WholeLaws.{released_spent}
 use Rattle.sm_names.specs.declared.messages.Parcel.{Parcel}
 use Rattle.sm_names.specs.Words.{first_some, times}
@@ -159,7 +161,7 @@ pub live_strong : (marks : Timeline) (collection : ℕ) → StrongLive marks col
 live_strong marks collection s =
     let b : Birth = s.birth in
     let test : (not (gone marks b.node) && not (released marks b.node) && not (weak marks b.node)) ≡ true = rw (s.here, s.kept, s.strong) refl in
-    list_any_on (λ (m : Member). is_live m && not m.weak) (members marks collection) (member marks b) (members_on marks collection b s.there s.ours) test
+    In-any (λ (m : Member). is_live m && not m.weak) (members marks collection) (member marks b) (members_on marks collection b s.there s.ours) test
 
 -- ---- a collection with buffers was made before
 
@@ -181,29 +183,49 @@ buffers_early pool limits _ (Allocates before c head g e) collection h =
         let y : b.collection ≡ collection = eqb-true b.collection collection (and_right (is_none b.parent) _ h) in
         omega arith
 
+-- a Take opens handles on exactly the buffers of the collection that are not doomed
+same_strength-refl : (s : Strength) → same_strength s s ≡ true
+same_strength-refl Strong = refl
+same_strength-refl Weak = refl
+
+pub take_opens : (limits : Bound) (before : Timeline) (client collection : ℕ) (taken : Strength) (set : ℕ) (key : NodeKey) → IsAnswer limits (readings before) client (Call.Take key) (Reply.Taken collection taken set) → (buffer : BufferName) →
+    opens anyone buffer taken (Called client (Reply.Taken collection taken set) (Call.Take key)) ≡ (list_any (λ name. same_buffer name buffer) (buffer_names before collection) && not (doomed before buffer))
+take_opens limits before client collection taken set key answer buffer =
+    let k : Took before collection taken set (Call.Take key) = took limits before client collection taken set (Call.Take key) answer in
+    rw (same_strength-refl taken) (ap (λ n. collection == buffer.collection && bit_at n buffer.index == 1) k.set_is ∙ from (buffers_of before collection))
+  where
+    passes : BufferName → Bool
+    passes name = not (doomed before name)
+
+    by_collection : (n : ℕ) → ((collection == buffer.collection) ≡ true) ⊎ ((collection == buffer.collection) ≡ false) →
+        (collection == buffer.collection && (nat_lt buffer.index n && passes (record { collection = collection; index = buffer.index })))
+        ≡ ((collection == buffer.collection && nat_lt buffer.index n) && passes buffer)
+    by_collection n (inl e) = let is : collection ≡ buffer.collection = eqb-true collection buffer.collection e in rw e (ap (λ c. nat_lt buffer.index n && passes (record { collection = c; index = buffer.index })) is)
+    by_collection n (inr e) = rw e refl
+
+    from : (o : Option Buffers) →
+        (collection == buffer.collection && bit_at (set_of (filter (λ name. not (doomed before name)) (option_map_or (λ (b : Buffers). names collection b.count) o []))) buffer.index == 1)
+        ≡ (list_any (λ name. same_buffer name buffer) (option_map_or (λ (b : Buffers). names collection b.count) o []) && not (doomed before buffer))
+    from None = rw (bit_at-zero buffer.index) (elim (collection == buffer.collection) as (λ (b : Bool). (b && false) ≡ false) [ true ↦ refl | false ↦ refl ])
+    from (Some b) =
+        ap (λ n. collection == buffer.collection && n == 1) (bit_of_set (λ name. not (doomed before name)) collection b.count buffer.index)
+        ∙ (ap (λ t. collection == buffer.collection && t) (one_is (nat_lt buffer.index b.count && not (doomed before (record { collection = collection; index = buffer.index }))))
+        ∙ (by_collection b.count (either_way (collection == buffer.collection))
+        ∙ ap (λ t. t && not (doomed before buffer)) (sym (named_below collection b.count buffer))))
+
 -- no handle is opened on a doomed buffer that has none of that strength
-taken_none : (limits : Bound) (before : Timeline) (client : ℕ) (call : Call) (buffer : BufferName) (strength taken : Strength) (collection set : ℕ) → doomed before buffer ≡ true → IsAnswer limits (readings before) client call (Reply.Taken collection taken set) →
-    (collection == buffer.collection && (same_strength taken strength && bit_at set buffer.index == 1)) ≡ false
-taken_none limits before client call buffer strength taken collection set h answer =
-    elim (either_way (collection == buffer.collection && (same_strength taken strength && bit_at set buffer.index == 1))) [
+taken_none : (limits : Bound) (before : Timeline) (client : ℕ) (key : NodeKey) (buffer : BufferName) (strength taken : Strength) (collection set : ℕ) → doomed before buffer ≡ true → IsAnswer limits (readings before) client (Call.Take key) (Reply.Taken collection taken set) →
+    opens anyone buffer strength (Called client (Reply.Taken collection taken set) (Call.Take key)) ≡ false
+taken_none limits before client key buffer strength taken collection set h answer =
+    elim (either_way (opens anyone buffer strength (Called client (Reply.Taken collection taken set) (Call.Take key)))) [
       | inr n ↦ n
       | inl y ↦
-          let k : Took before collection taken set call = took limits before client collection taken set call answer in
-          let c : collection ≡ buffer.collection = eqb-true collection buffer.collection (and_left _ _ y) in
-          let bit : (bit_at set buffer.index == 1) ≡ true = and_right (same_strength taken strength) _ (and_right (collection == buffer.collection) _ y) in
-          let bit' : (bit_at (set_of (filter (λ name. not (doomed before name)) (buffer_names before collection))) buffer.index == 1) ≡ true = subst (λ (n : ℕ). (bit_at n buffer.index == 1) ≡ true) k.set_is bit in
-          let passes : not (doomed before (record { collection = collection; index = buffer.index })) ≡ true = from (buffers_of before collection) bit' in
-          let same : not (doomed before buffer) ≡ true = subst (λ (n : ℕ). not (doomed before (record { collection = n; index = buffer.index })) ≡ true) c passes in
-          both_ways (doomed before buffer) h (not_back _ same)
+          let s : taken ≡ strength = same_strength-true taken strength (and_left (same_strength taken strength) _ (and_right (collection == buffer.collection) _ y)) in
+          let y' : opens anyone buffer taken (Called client (Reply.Taken collection taken set) (Call.Take key)) ≡ true =
+          subst (λ (k : Strength). opens anyone buffer k (Called client (Reply.Taken collection taken set) (Call.Take key)) ≡ true) (sym s) y in
+          let t : (list_any (λ name. same_buffer name buffer) (buffer_names before collection) && not (doomed before buffer)) ≡ true = sym (take_opens limits before client collection taken set key answer buffer) ∙ y' in
+          both_ways (doomed before buffer) h (not_back (doomed before buffer) (and_right (list_any (λ name. same_buffer name buffer) (buffer_names before collection)) _ t))
     ]
-  where
-    from : (o : Option Buffers) → (bit_at (set_of (filter (λ name. not (doomed before name)) (option_map_or (λ (b : Buffers). names collection b.count) o []))) buffer.index == 1) ≡ true →
-        not (doomed before (record { collection = collection; index = buffer.index })) ≡ true
-    from None e = let z : (0 == 1) ≡ true = subst (λ (n : ℕ). (n == 1) ≡ true) (bit_at-zero buffer.index) e in cc
-    from (Some b) e =
-        let z : (one (nat_lt buffer.index b.count && not (doomed before (record { collection = collection; index = buffer.index }))) == 1) ≡ true =
-        subst (λ (n : ℕ). (n == 1) ≡ true) (bit_of_set (λ name. not (doomed before name)) collection b.count buffer.index) e in
-        and_right (nat_lt buffer.index b.count) _ (one_true _ z)
 
 dup_none : (pool : ℕ) (limits : Bound) (before : Timeline) (client : ℕ) → Grows pool limits [] before → (buffer : BufferName) (strength dup : Strength) (name : BufferName) → open_total before buffer strength ≡ 0 → IsAnswer limits (readings before) client (Call.DupHandle name dup) Reply.Done →
     (same_buffer name buffer && same_strength dup strength) ≡ false
@@ -292,7 +314,7 @@ module _ (pool : ℕ) (limits : Bound) (before : Timeline) (client : ℕ) (reply
   opens_none buffer strength h none = by_reply reply call answer
     where
       by_reply : (reply : Reply) (call : Call) → IsAnswer limits (readings before) client call reply → opens anyone buffer strength (Called client reply call) ≡ false
-      by_reply (Reply.Taken collection taken set) (Call.Take key) answer = taken_none limits before client (Call.Take key) buffer strength taken collection set h answer
+      by_reply (Reply.Taken collection taken set) (Call.Take key) answer = taken_none limits before client key buffer strength taken collection set h answer
       by_reply Reply.Done (Call.DupHandle name dup) answer = dup_none pool limits before client grown buffer strength dup name none answer
       by_reply reply call answer = refl
 

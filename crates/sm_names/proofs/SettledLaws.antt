@@ -114,7 +114,7 @@ member_birth marks collection m on =
     let f = In-filter (λ (b : Birth). b.collection == collection) (births marks) r.0 (In-reverse (filter (λ (b : Birth). b.collection == collection) (births marks)) r.0 r.1) in
     (r.0, f.0, r.2, f.1)
 
-none_if : (o : Option NodeKey) → is_none o ≡ true → o ≡ None
+pub none_if : (o : Option NodeKey) → is_none o ≡ true → o ≡ None
 none_if None h = refl
 none_if (Some x) h = cc
 

@@ -1,8 +1,8 @@
 -- Counts and sums over lists.
-use Rattle.std.proofs.Common.{ℕ, ◌≡◌, ◌≤◌, ◌+◌, refl, ap, sym, ◌∙◌, Bool, true, false, cond, ◌&&◌, ◌==◌, inl, inr, List, [], ◌∷◌, ◌++◌, arith}
+use Rattle.std.proofs.Common.{ℕ, ◌≡◌, ◌≤◌, ◌<◌, ◌+◌, refl, ap, sym, ◌∙◌, Bool, true, false, cond, ◌&&◌, ◌==◌, inl, inr, List, [], ◌∷◌, ◌++◌, arith}
 use Rattle.std.proofs.lemmas.Bool.{eqb-true, eq-eqb}
 use Rattle.std.proofs.lemmas.List.Sums.{sum_by-cons}
-use Rattle.std.specs.List.{list_any, sum_by}
+use Rattle.std.specs.List.{filter, list_any, sum_by}
 use Rattle.sm_names.specs.Words.{times}
 use Rattle.sm_names.proofs.ListLaws.{In, times-append}
 use Rattle.sm_names.proofs.SamenessLaws.{either_way, both_ways, or_none_left, or_none_right}
@@ -17,6 +17,41 @@ times-cons p x xs = elim (p x) as (λ (b : Bool). cond b (times p xs + 1) (times
 
 pub times_push : {A : Type 0} (p : A → Bool) (xs : List A) (y : A) → times p (xs ++ y ∷ []) ≡ times p xs + one (p y)
 times_push p xs y = omega (arith, times-append p xs (y ∷ []), times-cons p y [])
+
+times_none : {A : Type 0} (p : A → Bool) (xs : List A) → times p xs ≡ 0 → list_any p xs ≡ false
+times_none p [] h = refl
+times_none p (x ∷ xs) h = elim (either_way (p x)) [
+  | inl e ↦ let some : times p xs + 1 ≡ 0 = rw e at h in absurd (omega (arith, some))
+  | inr e ↦ rw e (times_none p xs (rw e at h))
+]
+
+times_some : {A : Type 0} (p : A → Bool) (xs : List A) → 0 < times p xs → list_any p xs ≡ true
+times_some p [] h = absurd (omega (arith, h))
+times_some p (x ∷ xs) h = elim (either_way (p x)) [
+  | inl e ↦ rw e refl
+  | inr e ↦ rw e (times_some p xs (rw e at h))
+]
+
+-- where one passes or none does, the count tells which
+pub any_one : {A : Type 0} (p : A → Bool) (xs : List A) (b : Bool) → times p xs ≡ one b → list_any p xs ≡ b
+any_one p xs true h = times_some p xs (omega (arith, h))
+any_one p xs false h = times_none p xs h
+
+-- if those that pass the first test are alike by the second, it keeps all of them or none
+pub times-filter : {A : Type 0} (f k : A → Bool) (t : Bool) (xs : List A) → ((x : A) → f x ≡ true → k x ≡ t) → times f (filter k xs) ≡ cond t (times f xs) 0
+times-filter f k t [] alike = elim t as (λ (b : Bool). ◌≡◌ {A = ℕ} 0 (cond b 0 0)) [ true ↦ refl | false ↦ refl ]
+times-filter f k true (x ∷ xs) alike =
+    let rest : times f (filter k xs) ≡ times f xs = times-filter f k true xs alike in
+    elim (either_way (f x)) [
+      | inl e ↦ let kept : k x ≡ true = alike x e in rw (kept, e) (ap (λ n. n + 1) rest)
+      | inr e ↦ elim (either_way (k x)) [ inl kept ↦ rw (kept, e) rest | inr gone ↦ rw (gone, e) rest ]
+    ]
+times-filter f k false (x ∷ xs) alike =
+    let rest : times f (filter k xs) ≡ 0 = times-filter f k false xs alike in
+    elim (either_way (f x)) [
+      | inl e ↦ let gone : k x ≡ false = alike x e in rw gone rest
+      | inr e ↦ elim (either_way (k x)) [ inl kept ↦ rw (kept, e) rest | inr gone ↦ rw gone rest ]
+    ]
 
 -- ---- sums
 

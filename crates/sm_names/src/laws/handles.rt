@@ -1,6 +1,6 @@
 //! How handles are counted, and what they keep.
-ghost use Rattle.std.specs.Prelude.{◌≡◌, ◌≤◌, ◌+◌, ◌∷◌, ◌++◌, ℕ, List, [], not, true};
-ghost use Rattle.std.specs.List.{filter, sum_by};
+ghost use Rattle.std.specs.Prelude.{◌≡◌, ◌&&◌, ◌≤◌, ◌+◌, ◌∷◌, ◌++◌, ℕ, List, [], not, true};
+ghost use Rattle.std.specs.List.{filter, list_any, sum_by};
 ghost use Rattle.sm_names.specs.declared.keys.BufferName.{BufferName};
 ghost use Rattle.sm_names.specs.declared.keys.Strength.{Strength};
 ghost use Rattle.sm_names.specs.declared.keys.NodeKey.{NodeKey};
@@ -11,7 +11,8 @@ ghost use Rattle.sm_names.specs.Bounds.{Bound};
 ghost use Rattle.sm_names.specs.Ends.{clients, parcels, is_handle_of};
 ghost use Rattle.sm_names.specs.Handles.{opens, drops, lifts, lands, moving, open_of, open_total, doomed, home, buffer_names};
 ghost use Rattle.sm_names.specs.Legality.{IsLegal};
-ghost use Rattle.sm_names.specs.Marks.{Entry};
+ghost use Rattle.sm_names.specs.Marks.{Entry, Called};
+ghost use Rattle.sm_names.specs.Sameness.{same_buffer};
 ghost use Rattle.sm_names.specs.Timelines.{timeline};
 ghost use Rattle.sm_names.specs.Words.{times};
 
@@ -44,6 +45,11 @@ pub fn doomed_is_for_good()
     ensures taken { (pool : ℕ) (limits : Bound) (history : List Entry) (client collection : ℕ) (strength : Strength) (set : ℕ) (call : Call) →
         IsLegal pool limits (history ++ (client, call, Reply.Taken collection strength set) ∷ []) →
         set ≡ set_of (filter (λ name. not (doomed (timeline pool history) name)) (buffer_names (timeline pool history) collection)) }
+    ensures opened { (pool : ℕ) (limits : Bound) (history : List Entry) (client collection : ℕ) (strength : Strength) (set : ℕ) (key : NodeKey) →
+        IsLegal pool limits (history ++ (client, Call.Take key, Reply.Taken collection strength set) ∷ []) → (buffer : BufferName) →
+        opens (λ c. true) buffer strength (Called client (Reply.Taken collection strength set) (Call.Take key))
+        ≡ (list_any (λ name. same_buffer name buffer) (buffer_names (timeline pool history) collection)
+            && not (doomed (timeline pool history) buffer)) }
     ensures by_take { (pool : ℕ) (limits : Bound) (history : List Entry) (client collection : ℕ) (strength : Strength) (set : ℕ) (call : Call) →
         IsLegal pool limits (history ++ (client, call, Reply.Taken collection strength set) ∷ []) → (key : NodeKey) × (call ≡ Call.Take key) }
     ensures doomed { (pool : ℕ) (limits : Bound) (history more : List Entry) → IsLegal pool limits (history ++ more) →

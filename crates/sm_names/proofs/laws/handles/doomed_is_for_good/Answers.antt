@@ -1,7 +1,8 @@
 use Rattle.std.proofs.Common.{[], ◌++◌}
+use Rattle.sm_names.specs.declared.messages.Call.{Call}
 use Rattle.sm_names.specs.declared.messages.Reply.{Reply}
 use Rattle.sm_names.specs.Timelines.{timeline}
-use Rattle.sm_names.proofs.DoomLaws.{took, doomed_on, home_on}
+use Rattle.sm_names.proofs.DoomLaws.{took, take_opens, doomed_on, home_on}
 use Rattle.sm_names.proofs.GrowthLaws.{legal_grows_on}
 use Rattle.sm_names.proofs.HistoryLaws.{AreAnswers-last}
 use Rattle.sm_names.proofs.laws.handles.doomed_is_for_good.Goals as goal
@@ -9,6 +10,10 @@ use Rattle.sm_names.proofs.laws.handles.doomed_is_for_good.Goals as goal
 pub returns-clause-taken : goal.returns-clause-taken
 returns-clause-taken c pool limits history client collection strength set call legal =
     (took limits (timeline pool history) client collection strength set call (AreAnswers-last pool limits [] history (client, call, Reply.Taken collection strength set) legal.answers).1).set_is
+
+pub returns-clause-opened : goal.returns-clause-opened
+returns-clause-opened c pool limits history client collection strength set key legal =
+    take_opens limits (timeline pool history) client collection strength set key (AreAnswers-last pool limits [] history (client, Call.Take key, Reply.Taken collection strength set) legal.answers).1
 
 pub returns-clause-by_take : goal.returns-clause-by_take
 returns-clause-by_take c pool limits history client collection strength set call legal =
