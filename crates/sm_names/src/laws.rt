@@ -28,7 +28,7 @@ ghost use Rattle.sm_names.specs.Members.{member, members};
 ghost use Rattle.sm_names.specs.Reading.{readings};
 ghost use Rattle.sm_names.specs.Sameness.{same_key};
 ghost use Rattle.sm_names.specs.Timelines.{HeldPages, Settles, settled, next_forced, standing, held, still_out, timeline, after};
-ghost use Rattle.sm_names.specs.Trackers.{unfired};
+ghost use Rattle.sm_names.specs.Trackers.{fired};
 ghost use Rattle.sm_names.specs.Views.{Views, live_nodes, held_by_page};
 
 
@@ -39,27 +39,32 @@ pub fn reach_is_least()
         (reaches marks origin node ≡ true) ↔ Reach (parent_of marks) (blocked marks) origin node }
 {}
 
-/// A refused call changes nothing but the number of events, and what trackers that have not fired
-/// may see at its end.
+/// A refused call changes nothing but the number of events, and no tracker fires.
 pub fn refused_calls_change_nothing()
     ensures read { (marks : Timeline) (client : ℕ) (refusal : Refusal) (call : Call) →
-        readings (Called client (Reply.Refused refusal) call ∷ marks)
-        ≡ record (readings marks) { events = events marks + 1; unfired = unfired (Called client (Reply.Refused refusal) call ∷ marks) } }
+        readings (Called client (Reply.Refused refusal) call ∷ marks) ≡ record (readings marks) { events = events marks + 1 } }
     ensures forced { (pool collection : ℕ) (marks : Timeline) (client : ℕ) (refusal : Refusal) (call : Call) →
         next_forced pool collection (Called client (Reply.Refused refusal) call ∷ marks) ≡ next_forced pool collection marks }
     ensures live { (marks : Timeline) (client : ℕ) (refusal : Refusal) (call : Call) →
         live_nodes (Called client (Reply.Refused refusal) call ∷ marks) ≡ live_nodes marks }
     ensures held { (pool : ℕ) (marks : Timeline) (client : ℕ) (refusal : Refusal) (call : Call) →
         held_by_page pool (Called client (Reply.Refused refusal) call ∷ marks) ≡ held_by_page pool marks }
+    ensures fired { (marks : Timeline) (client : ℕ) (refusal : Refusal) (call : Call) →
+        fired (Called client (Reply.Refused refusal) call ∷ marks) ≡ fired marks }
 {}
 
 /// Nor do calls that only ask, or that are answered by why the node is gone, unless they spend its end.
 pub fn quiet_calls_change_nothing()
     ensures read { (marks : Timeline) (client : ℕ) (reply : Reply) (call : Call) → is_quiet call reply ≡ true →
-        readings (Called client reply call ∷ marks)
-        ≡ record (readings marks) { events = events marks + 1; unfired = unfired (Called client reply call ∷ marks) } }
+        readings (Called client reply call ∷ marks) ≡ record (readings marks) { events = events marks + 1 } }
     ensures forced { (pool collection : ℕ) (marks : Timeline) (client : ℕ) (reply : Reply) (call : Call) → is_quiet call reply ≡ true →
         next_forced pool collection (Called client reply call ∷ marks) ≡ next_forced pool collection marks }
+    ensures live { (marks : Timeline) (client : ℕ) (reply : Reply) (call : Call) → is_quiet call reply ≡ true →
+        live_nodes (Called client reply call ∷ marks) ≡ live_nodes marks }
+    ensures held { (pool : ℕ) (marks : Timeline) (client : ℕ) (reply : Reply) (call : Call) → is_quiet call reply ≡ true →
+        held_by_page pool (Called client reply call ∷ marks) ≡ held_by_page pool marks }
+    ensures fired { (marks : Timeline) (client : ℕ) (reply : Reply) (call : Call) → is_quiet call reply ≡ true →
+        fired (Called client reply call ∷ marks) ≡ fired marks }
 {}
 
 /// A loss takes its reach, an allocation is of one unit, an end takes a node and all below it, and a birth
