@@ -19,24 +19,29 @@ abbrev bits_from : (ℕ → Bool) → ℕ → ℕ → ℕ
 bits_from p a zero = 0
 bits_from p a (suc n) = one (p a) + 2 * bits_from p (a + 1) n
 
+-- twice a part is a part of twice
 scale : (x o y m : ℕ) → y ≡ 2 * x → o * x + y * m ≡ x * (o + 2 * m)
 scale x o y m e = rw e (grind arith)
 
+-- the next power is twice the one before
 twice : (a : ℕ) → 2 ^ (a + 1) ≡ 2 * 2 ^ a
 twice a = let s : a + 1 ≡ suc a = omega arith in ap (λ k. 2 ^ k) s ∙ pow-succ' 2 a
 
+-- no number is below 0
 none_below : (j : ℕ) → nat_lt j 0 ≡ false
 none_below j = elim (either_way (nat_lt j 0)) [
   | inl e ↦ let x : j < 0 = ltb-true j 0 e in absurd (omega arith)
   | inr e ↦ e
 ]
 
+-- and 0 is below any other
 first_below : (n : ℕ) → nat_lt 0 (suc n) ≡ true
 first_below n = elim (either_way (nat_lt 0 (suc n))) [
   | inl e ↦ e
   | inr e ↦ let x : suc n ≤ 0 = ltb-false 0 (suc n) e in absurd (omega arith)
 ]
 
+-- the order stays as both grow by 1
 shift_below : (j n : ℕ) → nat_lt j n ≡ nat_lt (suc j) (suc n)
 shift_below j n = elim (either_way (nat_lt j n)) [
   | inl e ↦ let x : j < n = ltb-true j n e in elim (either_way (nat_lt (suc j) (suc n))) [
@@ -49,10 +54,12 @@ shift_below j n = elim (either_way (nat_lt j n)) [
   ]
 ]
 
+-- one more buffer adds its bit, if it passes
 set_cons : (b : Bool) (x : BufferName) (ys : List BufferName) → set_of (cond b (x ∷ ys) ys) ≡ one b * 2 ^ x.index + set_of ys
 set_cons true x ys = sum_by-cons (λ (b : BufferName). 2 ^ b.index) x ys ∙ omega arith
 set_cons false x ys = omega arith
 
+-- a set of buffers has the bits of those that pass
 scaled_bits : (p : BufferName → Bool) (collection a n : ℕ) →
     set_of (filter p (map (λ i. record { collection = collection; index = i }) (range_with_len a n))) ≡ 2 ^ a * bits_from (λ i. p (record { collection = collection; index = i })) a n
 scaled_bits p collection a zero = grind arith
@@ -63,14 +70,17 @@ scaled_bits p collection a (suc n) =
     ∙ (ap (λ s. one (p (name a)) * 2 ^ a + s) rest
     ∙ scale (2 ^ a) (one (p (name a))) (2 ^ (a + 1)) (bits_from (λ i. p (name i)) (a + 1) n) (twice a))
 
+-- half of it is the rest
 half : (b : Bool) (m : ℕ) → (one b + 2 * m) / 2 ≡ m
 half true m = omega arith
 half false m = omega arith
 
+-- and the remainder is the first bit
 rest_of : (b : Bool) (m : ℕ) → (one b + 2 * m) % 2 ≡ one b
 rest_of true m = omega arith
 rest_of false m = omega arith
 
+-- each bit tells of its number
 bit_of : (p : ℕ → Bool) (a n j : ℕ) → bit_at (bits_from p a n) j ≡ one (nat_lt j n && p (a + j))
 bit_of p a zero j = let e : nat_lt j 0 ≡ false = none_below j in bit_at-zero j ∙ rw e refl
 bit_of p a (suc n) zero =
@@ -92,6 +102,7 @@ bit_of_set p collection n i =
     ap (λ s. bit_at s i) (scaled_bits p collection 0 n ∙ m)
     ∙ (bit_of (λ i. p (name i)) 0 n i ∙ ap (λ k. one (nat_lt i n && p (name k))) e)
 
+-- the number of a truth value tells the value
 pub one_is : (b : Bool) → (one b == 1) ≡ b
 one_is true = refl
 one_is false = refl
@@ -121,6 +132,7 @@ index_times a (suc n) (suc j) =
     let shift : (a + 1) + j ≡ a + suc j = omega arith in
     rw other (ap (λ k. times (λ i. i == k) (range_with_len (a + 1) n)) (sym shift) ∙ (index_times (a + 1) n j ∙ ap one (shift_below j n)))
 
+-- the names of a collection have a buffer as often as its index is listed, if it is of that collection
 names_times : (collection : ℕ) (x : BufferName) (is : List ℕ) →
     times (λ b. same_buffer b x) (map (λ i. record { collection = collection; index = i }) is) ≡ cond (collection == x.collection) (times (λ i. i == x.index) is) 0
 names_times collection x [] = elim (collection == x.collection) as (λ (b : Bool). ◌≡◌ {A = ℕ} 0 (cond b 0 0)) [ true ↦ refl | false ↦ refl ]
@@ -138,5 +150,6 @@ times_below collection n x =
     ∙ (ap (λ k. cond (collection == x.collection) k 0) (ap (λ k. times (λ i. i == k) (range_with_len 0 n)) (sym zeros) ∙ index_times 0 n x.index)
     ∙ elim (collection == x.collection) as (λ (b : Bool). cond b (one (nat_lt x.index n)) 0 ≡ one (b && nat_lt x.index n)) [ true ↦ refl | false ↦ refl ])
 
+-- the same, as a test
 pub named_below : (collection n : ℕ) (x : BufferName) → list_any (λ b. same_buffer b x) (names collection n) ≡ (collection == x.collection && nat_lt x.index n)
 named_below collection n x = any_one (λ b. same_buffer b x) (names collection n) (collection == x.collection && nat_lt x.index n) (times_below collection n x)

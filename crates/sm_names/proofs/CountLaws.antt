@@ -42,11 +42,13 @@ anyone c = true
 abbrev pub sends : BufferName → Strength → ℕ → Mark → Bool
 sends buffer strength client mark = option_map_or (is_handle_of buffer strength) (given_at client mark) false
 
+-- no mark of another kind is anybody's
 neither : (b : Bool) → false ≡ (b && false)
 neither true = refl
 neither false = refl
 
 module _ (buffer : BufferName) (strength : Strength) where
+  -- each kind of mark is counted for the client whose it is
   opens-who : (c : ℕ) (mark : Mark) → opens (λ k. k == c) buffer strength mark ≡ (caller mark == c && opens anyone buffer strength mark)
   opens-who c (Called client (Reply.Taken collection taken set) (Call.Take key)) = refl
   opens-who c (Called client Reply.Done (Call.DupHandle name dup)) = refl
@@ -104,6 +106,7 @@ module _ (buffer : BufferName) (strength : Strength) where
     waited : parcels marks client ≡ parcel ∷ rest
     got_it : is_handle_of buffer strength parcel ≡ lands (λ c. c == client) buffer strength mark
 
+  -- a Collect is answered by the first parcel that waits
   first_parcel : (limits : Bound) (marks : Timeline) (client caller : ℕ) (reply : Reply) (call : Call) → IsAnswer limits (readings marks) caller call reply →
       collects client (Called caller reply call) ≡ true → IsFirstParcel marks client (Called caller reply call)
   first_parcel limits marks client caller (Reply.Collected key kind collection) Call.Collect answer e =
@@ -133,6 +136,7 @@ module _ (buffer : BufferName) (strength : Strength) where
           record { parcel = Parcel.Handle n g; rest = more; waited = w; got_it = rw (e, what, how) refl }
   first_parcel limits marks client caller _ _ answer e = cc
 
+  -- each answer keeps it so
   sent-called : (limits : Bound) (marks : Timeline) (caller : ℕ) (reply : Reply) (call : Call) → IsAnswer limits (readings marks) caller call reply → IsDrawn marks → IsSent marks → IsSent (Called caller reply call ∷ marks)
   sent-called limits marks caller reply call answer drawn sent client =
       let mark : Mark = Called caller reply call in
@@ -172,6 +176,7 @@ pub record AreClients (marks : Timeline) : Type 0 where
   pub early : (c : ℕ) → In c (clients marks) → c ≤ events marks
   pub once : AreOnce (clients marks)
 
+-- a client is made by the next event
 joined_is : (limits : Bound) (marks : Timeline) (caller : ℕ) (reply : Reply) (call : Call) (made : ℕ) → IsAnswer limits (readings marks) caller call reply → joined_at (Called caller reply call) ≡ Some made →
     made ≡ events marks + 1
 joined_is limits marks caller (Reply.Joined j) Call.Join made answer h =
@@ -183,6 +188,7 @@ joined_is limits marks caller (Reply.Joined j) Call.Join made answer h =
     sym f ∙ e
 joined_is limits marks caller reply call made answer h = cc
 
+-- each answer keeps the clients listed once
 clients-called : (limits : Bound) (marks : Timeline) (caller : ℕ) (reply : Reply) (call : Call) → IsAnswer limits (readings marks) caller call reply → AreClients marks → AreClients (Called caller reply call ∷ marks)
 clients-called limits marks caller reply call answer old = with_new (joined_at (Called caller reply call)) refl
   where
@@ -231,15 +237,17 @@ pub record HaveJoined (marks : Timeline) : Type 0 where
   pub callers : (m : Mark) → In m marks → moves m ≡ true → has_joined marks (caller m) ≡ true
   pub receivers : (m : Mark) → In m marks → gives m ≡ true → has_joined marks (receiver m) ≡ true
 
+-- who is known has joined, and so has the one whom the call names
 known_of : (b c : Bool) → refused_if (not b || c) Refusal.NoSuchClient ≡ None → (b ≡ true) × (c ≡ false)
 known_of true true h = cc
 known_of true false h = (refl, refl)
 known_of false c h = cc
 
-not_back : (b : Bool) → not b ≡ false → b ≡ true
-not_back true h = refl
-not_back false h = cc
+not_false : (b : Bool) → not b ≡ false → b ≡ true
+not_false true h = refl
+not_false false h = cc
 
+-- who moves a handle has joined
 pub caller_joined : (limits : Bound) (marks : Timeline) (client : ℕ) (reply : Reply) (call : Call) → IsAnswer limits (readings marks) client call reply → moves (Called client reply call) ≡ true → has_joined marks client ≡ true
 caller_joined limits marks client (Reply.Taken collection taken set) (Call.Take key) answer h =
     (known_of (has_joined marks client) false (took_effect_all limits (readings marks) client (record { slot = 0; generation = 0 }) (Call.Take key) (Reply.Taken collection taken set) refl refl answer.told).known).0
@@ -253,17 +261,20 @@ caller_joined limits marks client (Reply.CollectedHandle name strength) Call.Col
     (known_of (has_joined marks client) false (took_effect_all limits (readings marks) client (record { slot = 0; generation = 0 }) Call.Collect (Reply.CollectedHandle name strength) refl refl answer.told).known).0
 caller_joined limits marks client _ _ answer h = cc
 
+-- and so has who is given one
 receiver_joined : (limits : Bound) (marks : Timeline) (client : ℕ) (reply : Reply) (call : Call) → IsAnswer limits (readings marks) client call reply → gives (Called client reply call) ≡ true →
     has_joined marks (receiver (Called client reply call)) ≡ true
 receiver_joined limits marks client Reply.Done (Call.GiveHandle name strength to) answer h =
-    not_back (has_joined marks to)
+    not_false (has_joined marks to)
     (known_of (has_joined marks client) (not (has_joined marks to)) (took_effect_all limits (readings marks) client (record { slot = 0; generation = 0 }) (Call.GiveHandle name strength to) Reply.Done refl refl answer.told).known).1
 receiver_joined limits marks client _ _ answer h = cc
 
+-- who has joined stays so
 still_joined : (o : Option ℕ) (cs : List ℕ) (k : ℕ) → one_of cs k ≡ true → one_of (cons_option o cs) k ≡ true
 still_joined None cs k h = h
 still_joined (Some c) cs k h = or_right (c == k) (one_of cs k) h
 
+-- each answer keeps it so
 joined-called : (limits : Bound) (marks : Timeline) (client : ℕ) (reply : Reply) (call : Call) → IsAnswer limits (readings marks) client call reply → HaveJoined marks → HaveJoined (Called client reply call ∷ marks)
 joined-called limits marks client reply call answer old =
     let mark : Mark = Called client reply call in
@@ -287,6 +298,7 @@ pub record IsCounted (marks : Timeline) : Type 0 where
   pub clients_are : AreClients marks
   pub joined : HaveJoined marks
 
+-- each answer keeps it
 counted-called : (limits : Bound) (marks : Timeline) (client : ℕ) (reply : Reply) (call : Call) → IsAnswer limits (readings marks) client call reply → IsCounted marks → IsCounted (Called client reply call ∷ marks)
 counted-called limits marks client reply call answer old = record {
   paid = λ c buffer strength. paid-called c buffer strength limits marks (client, call, reply) answer (old.paid c buffer strength);
@@ -301,6 +313,7 @@ only_old : (test : Mark → Bool) (marks : Timeline) (mark m : Mark) → test ma
 only_old test marks mark m quiet (inl is) h = both_ways (test mark) (ap test (sym is) ∙ h) quiet
 only_old test marks mark m quiet (inr there) h = there
 
+-- and so does each mark that is no event
 counted-mark : (marks : Timeline) (mark : Mark) → is_event mark ≡ false → IsCounted marks → IsCounted (mark ∷ marks)
 counted-mark marks (Called client reply call) h old = cc
 counted-mark marks (Loss origin cause) h old = record {
@@ -328,6 +341,7 @@ counted-mark marks (Ended top) h old = record {
   };
 }
 
+-- it holds where nothing has happened
 counted-nothing : IsCounted []
 counted-nothing = record {
   paid = paid_nothing;
@@ -337,12 +351,14 @@ counted-nothing = record {
   joined = record { callers = λ m on h. absurd on; receivers = λ m on h. absurd on };
 }
 
+-- so it holds of each timeline that grows from nothing
 pub counted : (pool : ℕ) (limits : Bound) (marks : Timeline) → Grows pool limits [] marks → IsCounted marks
 counted pool limits = kept-grown IsCounted counted-nothing pool limits (counted-called limits) counted-mark
 
 -- ---- so the counts add up
 
 module _ (buffer : BufferName) (strength : Strength) where
+  -- what opens, drops, gives or collects a handle moves one
   opens_moves : (m : Mark) → opens anyone buffer strength m ≡ true → moves m ≡ true
   opens_moves (Called client (Reply.Taken collection taken set) (Call.Take key)) h = refl
   opens_moves (Called client Reply.Done (Call.DupHandle name dup)) h = refl
@@ -377,6 +393,7 @@ pub record AddUp (marks : Timeline) (buffer : BufferName) (strength : Strength) 
   -- and what was given was collected or waits
   pub given : times (lifts anyone buffer strength) marks ≡ times (lands anyone buffer strength) marks + clients_await marks buffer strength
 
+-- the counts of the clients add up to those of all
 pub add_up : (marks : Timeline) → IsCounted marks → (buffer : BufferName) (strength : Strength) → AddUp marks buffer strength
 add_up marks c buffer strength =
     let cs : List ℕ = clients marks in
@@ -415,9 +432,11 @@ drops-le-opens marks c buffer strength = let a : AddUp marks buffer strength = a
 pub lands-le-lifts : (marks : Timeline) → IsCounted marks → (buffer : BufferName) (strength : Strength) → times (lands anyone buffer strength) marks ≤ times (lifts anyone buffer strength) marks
 lands-le-lifts marks c buffer strength = let a : AddUp marks buffer strength = add_up marks c buffer strength in omega (arith, a.given)
 
+-- what is in parcels waits for clients
 pub moving_is : (marks : Timeline) → IsCounted marks → (buffer : BufferName) (strength : Strength) → moving marks buffer strength ≡ clients_await marks buffer strength
 moving_is marks c buffer strength = let a : AddUp marks buffer strength = add_up marks c buffer strength in omega (arith, a.given)
 
+-- what is open is a client's or in a parcel
 pub total_is : (marks : Timeline) → IsCounted marks → (buffer : BufferName) (strength : Strength) → open_total marks buffer strength ≡ clients_have marks buffer strength + moving marks buffer strength
 total_is marks c buffer strength =
     let a : AddUp marks buffer strength = add_up marks c buffer strength in

@@ -1,136 +1,37 @@
 -- What is doomed or home stays so.
-use Rattle.std.proofs.Common.{ℕ, ◌≡◌, ◌≤◌, ◌<◌, ◌+◌, refl, ap, sym, ◌∙◌, subst, Bool, true, false, cond, not, ◌&&◌, ◌==◌, nat_lt, ◌⊎◌, inl, inr, List, [], ◌∷◌, Option, Some, None, is_some, is_none, arith}
+use Rattle.std.proofs.Common.{ℕ, ◌≡◌, ◌≤◌, ◌<◌, ◌+◌, refl, sym, ◌∙◌, subst, Bool, true, false, not, ◌&&◌, ◌==◌, inl, inr, [], ◌∷◌, Option, Some, None, is_some, is_none, arith}
 use Rattle.std.proofs.lemmas.Bool.{eqb-true, eq-eqb}
-use Rattle.std.proofs.lemmas.Nat.Bits.{bit_at-zero}
-use Rattle.std.specs.Int.{bit_at}
-use Rattle.std.specs.List.{filter, list_any}
-use Rattle.std.specs.Option.{option_map_or, unwrap_or}
+use Rattle.std.specs.List.{list_any}
+use Rattle.std.specs.Option.{option_map_or}
 use Rattle.sm_names.specs.declared.keys.BufferName.{BufferName}
 use Rattle.sm_names.specs.declared.keys.NodeKey.{NodeKey}
 use Rattle.sm_names.specs.declared.keys.Strength.{Strength}
-use Rattle.sm_names.specs.declared.keys.Strength.TheVariants.{Strong, Weak}
 use Rattle.sm_names.specs.declared.messages.Call.{Call}
 use Rattle.sm_names.specs.declared.messages.Reply.{Reply}
 use Rattle.sm_names.specs.declared.outcomes.Cause.{Cause}
-use Rattle.sm_names.specs.declared.outcomes.Refusal.{Refusal}
-use Rattle.sm_names.specs.Answers.{IsAnswer, answer, OpenEnd, Readings, effect, set_of, strength_of, closing, unknown_client, shut_client, no_end, end_in_transit, peer_closed, wrong_kind, misuse, no_handle, limits_met, collected, end_named}
+use Rattle.sm_names.specs.Answers.{IsAnswer, answer}
 use Rattle.sm_names.specs.Births.{Birth, births, birth_at, birth_of, is_at_or_below}
 use Rattle.sm_names.specs.Bounds.{Bound}
 use Rattle.sm_names.specs.Ends.{spent}
-use Rattle.sm_names.specs.Handles.{opens, drops, open_of, open_total, doomed, home, buffers_of, buffer_names, names, is_initial}
-use Rattle.sm_names.specs.Losses.{gone, released, is_release, allocated, reaches}
+use Rattle.sm_names.specs.Handles.{opens, drops, open_of, open_total, doomed, home, buffers_of, buffer_names, is_initial}
+use Rattle.sm_names.specs.Losses.{gone, released, is_release, reaches}
 use Rattle.sm_names.specs.Marks.{Timeline, Called, Loss, Allocated, Ended, events}
 use Rattle.sm_names.specs.Members.{Member, member, members, is_live, some_strong_live}
-use Rattle.sm_names.specs.Reading.{readings, open_end}
+use Rattle.sm_names.specs.Reading.{readings}
 use Rattle.sm_names.specs.Sameness.{same_buffer, same_strength}
-use Rattle.sm_names.specs.Timelines.{key_of}
 use Rattle.sm_names.specs.Weakness.{weak, sets_weak, born_to}
-use Rattle.sm_names.proofs.AnswerLaws.{took_effect_all}
-use Rattle.sm_names.proofs.BitLaws.{bit_of_set, named_below, one_is}
 use Rattle.sm_names.proofs.CountLaws.{anyone, counted, caller_joined, client-le-total}
-use Rattle.sm_names.proofs.GrowthLaws.{Grows, Stays, Answers, Loses, Allocates, Ends, grows_on, birth_is, is_refusal, strip, rejects_if, rejects_then, unknown_rejects}
+use Rattle.sm_names.proofs.GrowthLaws.{Grows, Stays, Answers, Loses, Allocates, Ends, grows_on, birth_is}
 use Rattle.sm_names.proofs.HandleLaws.{dup_was_open, same_buffer-true, same_strength-true}
-use Rattle.sm_names.proofs.LifeLaws.{IsOrdered, ordered, Comes, comes, named, In_new, members_on}
+use Rattle.sm_names.proofs.LifeLaws.{IsOrdered, ordered, Comes, comes, In_new, members_on}
 use Rattle.sm_names.proofs.ListLaws.{In, In-list_any}
 use Rattle.sm_names.proofs.SamenessLaws.{either_way, and_left, and_right, or_parts, and_both, both_ways}
 use Rattle.sm_names.proofs.SettledLaws.{member_birth, not_back}
+use Rattle.sm_names.proofs.TakeLaws.{take_opens}
 use Rattle.sm_names.proofs.StandingLaws.{In-any}
 use Rattle.sm_names.proofs.SumLaws.{times-cons}
 use Rattle.sm_names.proofs.WholeLaws.{released_spent}
-use Rattle.sm_names.specs.declared.messages.Parcel.{Parcel}
-use Rattle.sm_names.specs.Words.{first_some, times}
-use Rattle.sm_names.specs.declared.outcomes.Buffers.{Buffers}
-
--- ---- what Take answers
-
-abbrev is_taken : Reply → Bool
-is_taken (Reply.Taken collection strength set) = true
-is_taken _ = false
-
-not_taken_end : (f : OpenEnd → Reply) → ((e : OpenEnd) → is_taken (f e) ≡ false) → (o : Option OpenEnd) → is_taken (option_map_or f o (Reply.Refused Refusal.NoSuchEnd)) ≡ false
-not_taken_end f each None = refl
-not_taken_end f each (Some e) = each e
-
-not_taken_check : (o : Option Buffers) → is_taken (option_map_or (λ (b : Buffers). Reply.Allocated b.count b.size) o Reply.Pending) ≡ false
-not_taken_check None = refl
-not_taken_check (Some b) = refl
-
-not_taken_collect : (r : Readings) (ps : List Parcel) → is_taken (collected r ps) ≡ false
-not_taken_collect r [] = refl
-not_taken_collect r (Parcel.Handle name given ∷ more) = refl
-not_taken_collect r (Parcel.End key ∷ more) = from (r.end_of key)
-  where
-    from : (o : Option OpenEnd) → is_taken (option_map_or (λ (e : OpenEnd). Reply.Collected key e.kind e.collection) o Reply.Empty) ≡ false
-    from None = refl
-    from (Some e) = refl
-
-abbrev pub none_key : NodeKey
-none_key = record { slot = 0; generation = 0 }
-
--- the set that was taken, of which buffers
-pub record Took (before : Timeline) (collection : ℕ) (taken : Strength) (set : ℕ) (call : Call) : Type 0 where
-  pub birth : Birth
-  pub there : In birth (births before)
-  pub named_by : key_of call ≡ Some birth.node
-  pub collection_is : collection ≡ birth.collection
-  pub strength_is : taken ≡ strength_of (weak before birth.node)
-  pub by_take : (key : NodeKey) × (call ≡ Call.Take key)
-  pub set_is : set ≡ set_of (filter (λ name. not (doomed before name)) (buffer_names before collection))
-
--- an answer that is no refusal is that of closing or one after it
-pub from_closing : (limits : Bound) (before : Timeline) (client : ℕ) (new : NodeKey) (call : Call) (reply : Reply) → is_refusal reply ≡ false → reply ≡ answer limits (readings before) client new call →
-    reply ≡
-    unwrap_or (first_some (closing call ∷ peer_closed (readings before) call ∷ wrong_kind (readings before) call ∷ misuse (readings before) call ∷ no_handle (readings before) client call ∷ limits_met limits (readings before) call))
-    (effect (readings before) client new call)
-from_closing limits before client new call reply stands told =
-    let r : Readings = readings before in
-    let e : Reply = effect r client new call in
-    let last : List (Option Reply) = closing call ∷ peer_closed r call ∷ wrong_kind r call ∷ misuse r call ∷ no_handle r client call ∷ limits_met limits r call in
-    let a = strip (unknown_client r client call) (shut_client r client call ∷ no_end r client call ∷ end_in_transit r call ∷ last) e reply (unknown_rejects r client call) stands told in
-    let b = strip (shut_client r client call) (no_end r client call ∷ end_in_transit r call ∷ last) e reply (rejects_if _ _) stands a.1 in
-    let c = strip (no_end r client call) (end_in_transit r call ∷ last) e reply (rejects_then _ (λ key. rejects_if _ _) (key_of call)) stands b.1 in
-    let d = strip (end_in_transit r call) last e reply (rejects_then _ (λ (x : OpenEnd). rejects_if _ _) (end_named r call)) stands c.1 in
-    d.1
-
-module _ (limits : Bound) (before : Timeline) (client collection : ℕ) (taken : Strength) (set : ℕ) where
-  not_it : (call : Call) → closing call ≡ None → is_taken (effect (readings before) client none_key call) ≡ false → IsAnswer limits (readings before) client call (Reply.Taken collection taken set) → Took before collection taken set call
-  not_it call open_call none answer =
-      let t = took_effect_all limits (readings before) client none_key call (Reply.Taken collection taken set) refl open_call answer.told in
-      both_ways (is_taken (effect (readings before) client none_key call)) (ap is_taken (sym t.answered)) none
-
-  from_buffers : (call : Call) (b : Birth) → In b (births before) → key_of call ≡ Some b.node → ((key : NodeKey) × (call ≡ Call.Take key)) → (a : Bool) → (o : Option Buffers) →
-      Reply.Taken collection taken set ≡
-      option_map_or (λ x. Reply.Taken b.collection (strength_of (weak before b.node)) (set_of (cond a (filter (λ name. not (doomed before name)) (buffer_names before b.collection)) []))) (cond a o None) Reply.Pending →
-      Took before collection taken set call
-  from_buffers call b on is take true None e = cc
-  from_buffers call b on is take true (Some x) e =
-      let c : collection ≡ b.collection = cc in
-      let s : taken ≡ strength_of (weak before b.node) = cc in
-      let n : set ≡ set_of (filter (λ name. not (doomed before name)) (buffer_names before b.collection)) = cc in
-      record { birth = b; there = on; named_by = is; collection_is = c; strength_is = s; by_take = take; set_is = rw c n }
-  from_buffers call b on is take false None e = cc
-  from_buffers call b on is take false (Some x) e = cc
-
-  took_by_call : (call : Call) → IsAnswer limits (readings before) client call (Reply.Taken collection taken set) → Took before collection taken set call
-  took_by_call (Call.Take key) answer =
-      let t = took_effect_all limits (readings before) client none_key (Call.Take key) (Reply.Taken collection taken set) refl refl answer.told in
-      let n = named limits before client none_key (Call.Take key) (Reply.Taken collection taken set) key t refl in
-      let told : Reply.Taken collection taken set ≡
-      option_map_or (λ x. Reply.Taken n.birth.collection (strength_of (weak before n.birth.node)) (set_of (open_end before n.birth).to_open)) (open_end before n.birth).buffers Reply.Pending =
-      rw (n.unspent, n.found) at t.answered in
-      from_buffers (Call.Take key) n.birth n.there (ap Some (sym n.is)) (key, refl) (allocated before n.birth.node) (buffers_of before n.birth.collection) told
-  took_by_call (Call.Close key) answer =
-      let x : Reply.Taken collection taken set ≡ Reply.Done = from_closing limits before client none_key (Call.Close key) (Reply.Taken collection taken set) refl answer.told in
-      cc
-  took_by_call (Call.Duplicate key) answer = not_it (Call.Duplicate key) refl (not_taken_end _ (λ e. refl) ((readings before).end_of key)) answer
-  took_by_call (Call.AttachToken key) answer = not_it (Call.AttachToken key) refl (not_taken_end _ (λ e. refl) ((readings before).end_of key)) answer
-  took_by_call (Call.Check key) answer = not_it (Call.Check key) refl (not_taken_end _ (λ e. not_taken_check e.buffers) ((readings before).end_of key)) answer
-  took_by_call Call.Collect answer = not_it Call.Collect refl (not_taken_collect (readings before) ((readings before).waiting client)) answer
-  took_by_call call answer = not_it call refl refl answer
-
-pub took : (limits : Bound) (before : Timeline) (client collection : ℕ) (taken : Strength) (set : ℕ) (call : Call) → IsAnswer limits (readings before) client call (Reply.Taken collection taken set) →
-    Took before collection taken set call
-took = took_by_call
+use Rattle.sm_names.specs.Words.{times}
 
 -- ---- strong nodes
 
@@ -143,12 +44,14 @@ pub record StrongLive (marks : Timeline) (collection : ℕ) : Type 0 where
   pub kept : released marks birth.node ≡ false
   pub strong : weak marks birth.node ≡ false
 
+-- a strong live node is neither gone nor released nor weak
 strong_parts : (g r w : Bool) → ((not g && not r) && not w) ≡ true → (g ≡ false) × (r ≡ false) × (w ≡ false)
 strong_parts true r w h = cc
 strong_parts false true w h = cc
 strong_parts false false true h = cc
 strong_parts false false false h = (refl, refl, refl)
 
+-- if some node is strong and live, there is one
 pub strong_live : (marks : Timeline) (collection : ℕ) → some_strong_live (members marks collection) ≡ true → StrongLive marks collection
 strong_live marks collection h =
     let a = In-list_any (λ m. is_live m && not m.weak) (members marks collection) h in
@@ -157,6 +60,7 @@ strong_live marks collection h =
     let t = strong_parts (gone marks b.node) (released marks b.node) (weak marks b.node) (subst (λ (m : Member). (is_live m && not m.weak) ≡ true) r.2 a.2) in
     record { birth = b; there = r.1; ours = r.3; here = t.0; kept = t.1; strong = t.2 }
 
+-- and if there is one, some is
 pub live_strong : (marks : Timeline) (collection : ℕ) → StrongLive marks collection → some_strong_live (members marks collection) ≡ true
 live_strong marks collection s =
     let b : Birth = s.birth in
@@ -165,6 +69,7 @@ live_strong marks collection s =
 
 -- ---- a collection with buffers was made before
 
+-- the buffers are of a collection that an event before made
 pub buffers_early : (pool : ℕ) (limits : Bound) (marks : Timeline) → Grows pool limits [] marks → (collection : ℕ) → is_some (buffers_of marks collection) ≡ true → collection ≤ events marks
 buffers_early pool limits _ Stays collection h = cc
 buffers_early pool limits _ (Answers before client reply call g answer) collection h = let x : collection ≤ events before = buffers_early pool limits before g collection h in omega arith
@@ -183,36 +88,6 @@ buffers_early pool limits _ (Allocates before c head g e) collection h =
         let y : b.collection ≡ collection = eqb-true b.collection collection (and_right (is_none b.parent) _ h) in
         omega arith
 
--- a Take opens handles on exactly the buffers of the collection that are not doomed
-same_strength-refl : (s : Strength) → same_strength s s ≡ true
-same_strength-refl Strong = refl
-same_strength-refl Weak = refl
-
-pub take_opens : (limits : Bound) (before : Timeline) (client collection : ℕ) (taken : Strength) (set : ℕ) (key : NodeKey) → IsAnswer limits (readings before) client (Call.Take key) (Reply.Taken collection taken set) → (buffer : BufferName) →
-    opens anyone buffer taken (Called client (Reply.Taken collection taken set) (Call.Take key)) ≡ (list_any (λ name. same_buffer name buffer) (buffer_names before collection) && not (doomed before buffer))
-take_opens limits before client collection taken set key answer buffer =
-    let k : Took before collection taken set (Call.Take key) = took limits before client collection taken set (Call.Take key) answer in
-    rw (same_strength-refl taken) (ap (λ n. collection == buffer.collection && bit_at n buffer.index == 1) k.set_is ∙ from (buffers_of before collection))
-  where
-    passes : BufferName → Bool
-    passes name = not (doomed before name)
-
-    by_collection : (n : ℕ) → ((collection == buffer.collection) ≡ true) ⊎ ((collection == buffer.collection) ≡ false) →
-        (collection == buffer.collection && (nat_lt buffer.index n && passes (record { collection = collection; index = buffer.index })))
-        ≡ ((collection == buffer.collection && nat_lt buffer.index n) && passes buffer)
-    by_collection n (inl e) = let is : collection ≡ buffer.collection = eqb-true collection buffer.collection e in rw e (ap (λ c. nat_lt buffer.index n && passes (record { collection = c; index = buffer.index })) is)
-    by_collection n (inr e) = rw e refl
-
-    from : (o : Option Buffers) →
-        (collection == buffer.collection && bit_at (set_of (filter (λ name. not (doomed before name)) (option_map_or (λ (b : Buffers). names collection b.count) o []))) buffer.index == 1)
-        ≡ (list_any (λ name. same_buffer name buffer) (option_map_or (λ (b : Buffers). names collection b.count) o []) && not (doomed before buffer))
-    from None = rw (bit_at-zero buffer.index) (elim (collection == buffer.collection) as (λ (b : Bool). (b && false) ≡ false) [ true ↦ refl | false ↦ refl ])
-    from (Some b) =
-        ap (λ n. collection == buffer.collection && n == 1) (bit_of_set (λ name. not (doomed before name)) collection b.count buffer.index)
-        ∙ (ap (λ t. collection == buffer.collection && t) (one_is (nat_lt buffer.index b.count && not (doomed before (record { collection = collection; index = buffer.index }))))
-        ∙ (by_collection b.count (either_way (collection == buffer.collection))
-        ∙ ap (λ t. t && not (doomed before buffer)) (sym (named_below collection b.count buffer))))
-
 -- no handle is opened on a doomed buffer that has none of that strength
 taken_none : (limits : Bound) (before : Timeline) (client : ℕ) (key : NodeKey) (buffer : BufferName) (strength taken : Strength) (collection set : ℕ) → doomed before buffer ≡ true → IsAnswer limits (readings before) client (Call.Take key) (Reply.Taken collection taken set) →
     opens anyone buffer strength (Called client (Reply.Taken collection taken set) (Call.Take key)) ≡ false
@@ -227,6 +102,7 @@ taken_none limits before client key buffer strength taken collection set h answe
           both_ways (doomed before buffer) h (not_back (doomed before buffer) (and_right (list_any (λ name. same_buffer name buffer) (buffer_names before collection)) _ t))
     ]
 
+-- no handle is doubled that is not open
 dup_none : (pool : ℕ) (limits : Bound) (before : Timeline) (client : ℕ) → Grows pool limits [] before → (buffer : BufferName) (strength dup : Strength) (name : BufferName) → open_total before buffer strength ≡ 0 → IsAnswer limits (readings before) client (Call.DupHandle name dup) Reply.Done →
     (same_buffer name buffer && same_strength dup strength) ≡ false
 dup_none pool limits before client grown buffer strength dup name none answer =
@@ -249,6 +125,7 @@ pub record IsDoomed (marks : Timeline) (buffer : BufferName) : Type 0 where
   pub none_open : open_total marks buffer Strength.Strong ≡ 0
   pub none_strong : some_strong_live (members marks buffer.collection) ≡ false
 
+-- a doomed buffer is of an allocated collection, with neither a strong handle nor a strong live node
 pub doomed_parts : (marks : Timeline) (buffer : BufferName) → doomed marks buffer ≡ true → IsDoomed marks buffer
 doomed_parts marks buffer h =
     let rest : (open_total marks buffer Strength.Strong == 0 && not (some_strong_live (members marks buffer.collection))) ≡ true = and_right (is_some (buffers_of marks buffer.collection)) _ h in
@@ -258,6 +135,7 @@ doomed_parts marks buffer h =
       none_strong = not_back _ (and_right (open_total marks buffer Strength.Strong == 0) _ rest);
     }
 
+-- and such a buffer is doomed
 pub doomed_whole : (marks : Timeline) (buffer : BufferName) → IsDoomed marks buffer → doomed marks buffer ≡ true
 doomed_whole marks buffer d =
     let strong : not (some_strong_live (members marks buffer.collection)) ≡ true = rw d.none_strong refl in
@@ -344,6 +222,7 @@ module _ (pool : ℕ) (limits : Bound) (before : Timeline) (client : ℕ) (reply
 
 -- ---- other marks
 
+-- a loss makes no node strong or live
 doomed_loss : (before : Timeline) (origin : NodeKey) (cause : Cause) (buffer : BufferName) → IsDoomed before buffer → IsDoomed (Loss origin cause ∷ before) buffer
 doomed_loss before origin cause buffer d = record {
   given = d.given;
@@ -357,6 +236,7 @@ doomed_loss before origin cause buffer d = record {
   ];
 }
 
+-- nor does an end
 doomed_end : (before : Timeline) (top : NodeKey) (buffer : BufferName) → IsDoomed before buffer → IsDoomed (Ended top ∷ before) buffer
 doomed_end before top buffer d = record {
   given = d.given;
@@ -370,6 +250,7 @@ doomed_end before top buffer d = record {
   ];
 }
 
+-- nor does an allocation, and buffers stay given
 doomed_allocation : (before : Timeline) (head : NodeKey) (buffer : BufferName) → IsDoomed before buffer → IsDoomed (Allocated head ∷ before) buffer
 doomed_allocation before head buffer d = record {
   given = elim (either_way (is_initial before buffer.collection (Allocated head))) [

@@ -26,6 +26,7 @@ last_match-again test x y ys same = from (last_match test ys) (test x) (test y) 
     from None true false same = cc
     from None false false same = refl
 
+-- the last match is one of the elements
 last_match-In : {A : Type 0} (test : A → Bool) (xs : List A) (x : A) → last_match test xs ≡ Some x → In x xs
 last_match-In test [] x h = cc
 last_match-In test (y ∷ ys) x h = from (last_match test ys) (last_match-In test ys x) (test y) h
@@ -37,6 +38,7 @@ last_match-In test (y ∷ ys) x h = from (last_match test ys) (last_match-In tes
 
 -- ---- no tracker fires at an event that is yet to come
 
+-- an earlier moment has no more events
 moment_early : (marks moment : Timeline) → In moment (earlier_moments marks) → events moment ≤ events marks
 moment_early [] moment on = absurd on
 moment_early (mark ∷ before) moment on =
@@ -53,6 +55,7 @@ moment_early (mark ∷ before) moment on =
     at_event : In moment (before ∷ earlier_moments before) → In moment (before ∷ earlier_moments before)
     at_event h = h
 
+-- a tracker fired at an event that was
 fired_early : (marks : Timeline) (t : Tracked) (event : ℕ) → fired_at marks t ≡ Some event → event ≤ events marks
 fired_early marks t event h = from (last_match (fires_at t) (moments marks)) refl h
   where
@@ -65,10 +68,12 @@ fired_early marks t event h = from (last_match (fires_at t) (moments marks)) ref
           | inr there ↦ let less : events moment ≤ events marks = moment_early marks moment there in omega (arith, is, less)
         ]
 
+-- where none passes, none is left
 filter_none : {A : Type 0} (test : A → Bool) (xs : List A) → ((x : A) → test x ≡ false) → filter test xs ≡ []
 filter_none test [] fails = refl
 filter_none test (x ∷ xs) fails = rw (fails x) (filter_none test xs fails)
 
+-- so none has fired at the next event
 none_to_come : (marks : Timeline) → fired_in marks (events marks + 1) ≡ []
 none_to_come marks =
     ap (map (λ (t : Tracked). record { tracker = t.id; event = events marks + 1 }))

@@ -1,7 +1,7 @@
 -- What is held: buffers apart from one another, each of them allocated and not home.
 use Rattle.std.proofs.Common.{ℕ, ◌≡◌, ◌≤◌, ◌+◌, refl, ap, sym, ◌∙◌, subst, Bool, true, false, cond, not, ◌&&◌, ◌==◌, nat_lt, ◌⊎◌, inl, inr, List, [], ◌∷◌, ◌++◌, map, length, Option, Some, None, is_some, is_none, arith}
 use Rattle.std.proofs.lemmas.Bool.{eqb-true}
-use Rattle.std.proofs.lemmas.List.{length-map}
+use Rattle.std.proofs.lemmas.List.{length-map, map-append}
 use Rattle.std.proofs.lemmas.List.FromFn.{length-range_with_len}
 use Rattle.std.proofs.lemmas.List.Sums.{sum_by-cons}
 use Rattle.std.specs.List.{list_any, filter, cons_option, sum_by, range_with_len}
@@ -42,21 +42,25 @@ pub data Part {A : Type 0} : List A → List A → Type 0 where
   Takes : (x : A) (xs ys : List A) → Part xs ys → Part (x ∷ xs) (x ∷ ys)
   Skips : (y : A) (xs ys : List A) → Part xs ys → Part xs (y ∷ ys)
 
+-- what misses all, misses a part of them
 pub part_misses : {A : Type 0} (f : A → Interval) (i : Interval) (xs ys : List A) → Part xs ys → list_any (meets i) (map f ys) ≡ false → list_any (meets i) (map f xs) ≡ false
 part_misses f i _ _ Nothing h = refl
 part_misses f i _ _ (Takes x xs ys p) h = let r = or_parts (meets i (f x)) _ h in or_both (meets i (f x)) _ r.0 (part_misses f i xs ys p r.1)
 part_misses f i _ _ (Skips y xs ys p) h = part_misses f i xs ys p (or_parts (meets i (f y)) _ h).1
 
+-- a part of what is apart is apart
 pub part_apart : {A : Type 0} (f : A → Interval) (xs ys : List A) → Part xs ys → AreApart (map f ys) → AreApart (map f xs)
 part_apart f _ _ Nothing h = tt
 part_apart f _ _ (Takes x xs ys p) h = (part_misses f (f x) xs ys p h.0, part_apart f xs ys p h.1)
 part_apart f _ _ (Skips y xs ys p) h = part_apart f xs ys p h.1
 
+-- a part of what lies in the pool lies in it
 pub part_in : {A : Type 0} (pool : ℕ) (f : A → Interval) (xs ys : List A) → Part xs ys → are_in pool (map f ys) ≡ true → are_in pool (map f xs) ≡ true
 part_in pool f _ _ Nothing h = refl
 part_in pool f _ _ (Takes x xs ys p) h = and_both _ _ (and_left _ _ h) (part_in pool f xs ys p (and_right _ _ h))
 part_in pool f _ _ (Skips y xs ys p) h = part_in pool f xs ys p (and_right _ _ h)
 
+-- those that pass a test are part of those that pass one that asks less
 pub part_filter : {A : Type 0} (p q : A → Bool) (xs : List A) → ((x : A) → p x ≡ true → q x ≡ true) → Part (filter p xs) (filter q xs)
 part_filter p q [] h = Nothing
 part_filter p q (x ∷ xs) h =
@@ -78,6 +82,7 @@ part_append p q (x ∷ new) xs h =
 
 -- ---- a collection with buffers has an allocated root
 
+-- the root of a collection that was given buffers is allocated
 pub given_root : (pool : ℕ) (limits : Bound) (marks : Timeline) → Grows pool limits [] marks → (b : Birth) → In b (births marks) → b.parent ≡ None → is_some (buffers_of marks b.collection) ≡ true →
     allocated marks b.node ≡ true
 given_root pool limits _ Stays b on root h = absurd on
@@ -119,6 +124,7 @@ given_root pool limits _ (Allocates before c top g e) b on root h =
 
 -- ---- what the allocation of a root unit lays out
 
+-- where nothing stands against it, there is room
 room_by : (a b c d : Bool) (x y z w : Failure) → first_some (when a x ∷ when b y ∷ when c z ∷ when d w ∷ []) ≡ None → d ≡ false
 room_by true b c d x y z w h = cc
 room_by false true c d x y z w h = cc
@@ -126,16 +132,19 @@ room_by false false true d x y z w h = cc
 room_by false false false true x y z w h = cc
 room_by false false false false x y z w h = refl
 
+-- what is not missing is there
 some_if : {A : Type 0} (o : Option A) → is_none o ≡ false → (x : A) × (o ≡ Some x)
 some_if None h = cc
 some_if (Some x) h = (x, refl)
 
+-- buffers are laid out at the starts
 map-laid_out : (pages : ℕ) (bs : List BufferName) (starts : List ℕ) → length starts ≡ length bs → map (λ (h : HeldPages). h.pages) (laid_out pages bs starts) ≡ map (at_pages pages) starts
 map-laid_out pages [] [] h = refl
 map-laid_out pages [] (s ∷ ss) h = absurd (omega arith)
 map-laid_out pages (b ∷ bs) [] h = absurd (omega arith)
 map-laid_out pages (b ∷ bs) (s ∷ ss) h = let e : length ss ≡ length bs = omega arith in λ i. at_pages pages s ∷ map-laid_out pages bs ss e i
 
+-- and each of them is
 named-laid_out : (pages : ℕ) (x : BufferName) (bs : List BufferName) (starts : List ℕ) → length starts ≡ length bs →
     times (λ (h : HeldPages). same_buffer h.buffer x) (laid_out pages bs starts) ≡ times (λ b. same_buffer b x) bs
 named-laid_out pages x [] [] h = refl
@@ -210,14 +219,12 @@ pub record AreHeld (pool : ℕ) (marks : Timeline) : Type 0 where
   -- a buffer was placed as often as it is one of those that its collection was given
   pub named : (x : BufferName) → times (λ (h : HeldPages). same_buffer h.buffer x) (placed pool marks) ≡ times (λ b. same_buffer b x) (buffer_names marks x.collection)
 
+-- what was not so before is not so now, if it stays so once it is
 not_turned : (a b : Bool) → (a ≡ true → b ≡ true) → not b ≡ true → not a ≡ true
 not_turned true b h k = both_ways b (h refl) (not_back b k)
 not_turned false b h k = refl
 
-map-append : {A B : Type 0} (f : A → B) (xs ys : List A) → map f (xs ++ ys) ≡ map f xs ++ map f ys
-map-append f [] ys = refl
-map-append f (x ∷ xs) ys = λ i. f x ∷ map-append f xs ys i
-
+-- there are as many names as buffers
 length-names : (c n : ℕ) → length (names c n) ≡ n
 length-names c n = length-map (range_with_len 0 n) (λ i. record { collection = c; index = i }) ∙ length-range_with_len 0 n
 
@@ -271,6 +278,7 @@ module _ (pool : ℕ) (limits : Bound) (before : Timeline) (mark : Mark) (first 
           let other : times (λ b. same_buffer b x) (names collection buffers.count) ≡ 0 = times_below collection buffers.count x ∙ rw e refl in
           rw e (omega (arith, other))
 
+-- so it holds of each timeline that grows from nothing
 pub are_held : (pool : ℕ) (limits : Bound) (marks : Timeline) → Grows pool limits [] marks → AreHeld pool marks
 are_held pool limits _ Stays = record { apart = tt; inside = refl; named = λ x. refl }
 are_held pool limits _ (Answers before client reply call g answer) =
@@ -307,10 +315,12 @@ times_held pool limits marks g x =
     both false true = refl
     both false false = refl
 
+-- so it stands among them exactly if it was given and is not home
 pub stands_held : (pool : ℕ) (limits : Bound) (marks : Timeline) → Grows pool limits [] marks → (x : BufferName) →
     list_any (λ (h : HeldPages). same_buffer h.buffer x) (held pool marks) ≡ (list_any (λ b. same_buffer b x) (buffer_names marks x.collection) && not (home marks x))
 stands_held pool limits marks g x = any_one (λ (h : HeldPages). same_buffer h.buffer x) (held pool marks) (list_any (λ b. same_buffer b x) (buffer_names marks x.collection) && not (home marks x)) (times_held pool limits marks g x)
 
+-- and at most once
 pub held_once : (pool : ℕ) (limits : Bound) (marks : Timeline) → Grows pool limits [] marks → (x : BufferName) → times (λ (h : HeldPages). same_buffer h.buffer x) (held pool marks) ≤ 1
 held_once pool limits marks g x =
     let n : times (λ (h : HeldPages). same_buffer h.buffer x) (held pool marks) ≡ one (list_any (λ b. same_buffer b x) (buffer_names marks x.collection) && not (home marks x)) = times_held pool limits marks g x in
@@ -320,6 +330,7 @@ held_once pool limits marks g x =
     few true = omega arith
     few false = omega arith
 
+-- the pages of the held ones are those of their intervals
 sum-pages : (hs : List HeldPages) → sum_by (λ (i : Interval). i.pages) (map (λ (h : HeldPages). h.pages) hs) ≡ sum_by (λ (h : HeldPages). h.pages.pages) hs
 sum-pages [] = refl
 sum-pages (h ∷ hs) =

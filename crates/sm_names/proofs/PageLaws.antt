@@ -11,9 +11,11 @@ use Rattle.sm_names.proofs.ListLaws.{In-find}
 use Rattle.sm_names.proofs.SamenessLaws.{either_way, and_left, and_right, or_parts, or_both, and_both}
 use Rattle.sm_names.proofs.SettledLaws.{not_back, and_then-Some, map-Some}
 
+-- an interval that has room ends within the pool and meets nothing that is held
 room_apart : (pool : ℕ) (held : List Interval) (i : Interval) → has_room pool held i ≡ true → (nat_le (i.start + i.pages) pool ≡ true) × (list_any (meets i) held ≡ false)
 room_apart pool held i h = (and_left (nat_le (i.start + i.pages) pool) _ h, not_back _ (and_right (nat_le (i.start + i.pages) pool) _ h))
 
+-- there is room at the start that is found
 start_has_room : (pool pages start : ℕ) (held : List Interval) → least_start pool pages held ≡ Some start → has_room pool held (at_pages pages start) ≡ true
 start_has_room pool pages start held h = (In-find (λ s. has_room pool held (at_pages pages s)) (range_with_len 0 pool) start h).1
 
@@ -28,6 +30,7 @@ or_flip true b c h = cc
 or_flip false true c h = cc
 or_flip false false c h = h
 
+-- if one misses the other, the other misses the one
 meets_back : (a b : Interval) → meets a b ≡ false → meets b a ≡ false
 meets_back a b h = both_turned (nat_lt a.start (b.start + b.pages)) (nat_lt b.start (a.start + a.pages)) h
   where
@@ -49,6 +52,7 @@ put_apart i (x ∷ xs) held h =
     split x [] h = or_parts (meets x i) _ h
     split x (y ∷ ys) h = let r = or_parts (meets x y) _ h in let t = split x ys r.1 in (t.0, or_both (meets x y) _ r.0 t.1)
 
+-- an interval that lies in the pool, may be put before all or between the parts
 put_in : (pool : ℕ) (i : Interval) (xs held : List Interval) → are_in pool (xs ++ i ∷ held) ≡ true → are_in pool (i ∷ xs ++ held) ≡ true
 put_in pool i [] held h = h
 put_in pool i (x ∷ xs) held h =
@@ -57,6 +61,7 @@ put_in pool i (x ∷ xs) held h =
     and_both (nat_le (i.start + i.pages) pool) _ (and_left (nat_le (i.start + i.pages) pool) _ r)
     (and_both (nat_le (x.start + x.pages) pool) _ here (and_right (nat_le (i.start + i.pages) pool) _ r))
 
+-- places lie in the pool, apart from one another and from what is held
 pub placed_apart : (pool pages count : ℕ) (held : List Interval) (starts : List ℕ) → places pool pages count held ≡ Some starts → ArePlaced pool pages count held starts
 placed_apart pool pages zero held starts h =
     let is : [] ≡ starts = cc in
@@ -89,6 +94,7 @@ abbrev taken_below : List Interval → ℕ → ℕ
 taken_below is zero = 0
 taken_below is (suc n) = cond (list_any (in_page n) is) 1 0 + taken_below is n
 
+-- there are no more such pages than pages
 taken-le : (is : List Interval) (n : ℕ) → taken_below is n ≤ n
 taken-le is zero = omega arith
 taken-le is (suc n) =
@@ -113,12 +119,14 @@ apart_page a b page h k =
           ]
     ]
 
+-- an interval that meets none of these has no page of theirs
 apart_pages : (a : Interval) (is : List Interval) (page : ℕ) → list_any (meets a) is ≡ false → in_page page a ≡ true → list_any (in_page page) is ≡ false
 apart_pages a [] page h k = refl
 apart_pages a (i ∷ is) page h k =
     let r = or_parts (meets a i) _ h in
     or_both (in_page page i) _ (apart_page a i page r.0 k) (apart_pages a is page r.1 k)
 
+-- it adds its own pages to theirs
 taken_cons : (a : Interval) (is : List Interval) (n : ℕ) → list_any (meets a) is ≡ false → taken_below (a ∷ is) n ≡ has_below a n + taken_below is n
 taken_cons a is zero h = refl
 taken_cons a is (suc n) h =
@@ -159,6 +167,7 @@ has_all a (suc n) =
           ]
     ]
 
+-- intervals that lie in the pool, apart, have as many pages as are taken
 sum_is_taken : (pool : ℕ) (is : List Interval) → AreApart is → are_in pool is ≡ true → sum_by (λ (i : Interval). i.pages) is ≡ taken_below is pool
 sum_is_taken pool [] apart inside = sym (none pool)
   where

@@ -18,6 +18,7 @@ record IsLeast (test : ℕ → Bool) (from many n : ℕ) : Type 0 where
   passes : test n ≡ true
   others : (k : ℕ) → from ≤ k → k < n → test k ≡ false
 
+-- what is found is the first that passes
 find_least : (test : ℕ → Bool) (from many n : ℕ) → find test (range_with_len from many) ≡ Some n → IsLeast test from many n
 find_least test from zero n h = cc
 find_least test from (suc many) n h =
@@ -39,6 +40,7 @@ find_least test from (suc many) n h =
           ] }
     ]
 
+-- where nothing is found, none passes
 find_none : (test : ℕ → Bool) (from many : ℕ) → find test (range_with_len from many) ≡ None → (k : ℕ) → from ≤ k → k < from + many → test k ≡ false
 find_none test from zero h k a b = absurd (omega arith)
 find_none test from (suc many) h k a b =
@@ -59,15 +61,18 @@ module _ (pool pages : ℕ) (held : List Interval) where
   abbrev fits_at : ℕ → Bool
   fits_at start = has_room pool held (at_pages pages start)
 
+  -- the start that is found is the first
   start_is_first : (start : ℕ) → least_start pool pages held ≡ Some start → IsFirst pool pages held start
   start_is_first start h =
       let r : IsLeast fits_at 0 pool start = find_least fits_at 0 pool start h in
       let early : start < 0 + pool = r.early in
       record { below = omega arith; fits = r.passes; least = λ earlier less. r.others earlier (omega arith) less }
 
+  -- where none is found, there is no room
   no_start : least_start pool pages held ≡ None → IsFull pool pages held
   no_start h start less = find_none fits_at 0 pool h start (omega arith) (omega (arith, less))
 
+  -- and the first is the one that is found
   first_is_start : (start : ℕ) → IsFirst pool pages held start → least_start pool pages held ≡ Some start
   first_is_start start first =
       elim (none_or_some (least_start pool pages held)) [
@@ -88,6 +93,7 @@ module _ (pool pages : ℕ) (held : List Interval) where
             ]
           ]
 
+  -- and where there is no room, none is found
   full_no_start : IsFull pool pages held → least_start pool pages held ≡ None
   full_no_start full =
       elim (none_or_some (least_start pool pages held)) [
@@ -97,10 +103,12 @@ module _ (pool pages : ℕ) (held : List Interval) where
 
 -- ---- the starts of several buffers
 
+-- only what was not there maps to nothing
 map-None : {A B : Type 0} (f : A → B) (o : Option A) → option_map f o ≡ None → o ≡ None
 map-None f None h = refl
 map-None f (Some x) h = cc
 
+-- places are first ones
 pub places_first : (pool pages count : ℕ) (held : List Interval) (starts : List ℕ) → places pool pages count held ≡ Some starts → (length starts ≡ count) × AreFirst pool pages held starts
 places_first pool pages zero held starts h =
     let is : [] ≡ starts = cc in
@@ -115,6 +123,7 @@ places_first pool pages (suc count) held starts h =
           subst (λ (ss : List ℕ). (length ss ≡ suc count) × AreFirst pool pages held ss) t.2 (ap suc rest.0, (start_is_first pool pages held found.0 found.1, rest.1))
     ]
 
+-- and first ones are the places
 pub first_places : (pool pages count : ℕ) (held : List Interval) (starts : List ℕ) → length starts ≡ count → AreFirst pool pages held starts → places pool pages count held ≡ Some starts
 first_places pool pages zero held [] many first = refl
 first_places pool pages zero held (start ∷ starts) many first = cc
@@ -127,6 +136,7 @@ first_places pool pages (suc count) held (start ∷ starts) many first =
 abbrev pub IsStuck : (pool pages count : ℕ) (held : List Interval) → Type 0
 IsStuck pool pages count held = (starts : List ℕ) × (length starts < count) × AreFirst pool pages held starts × IsFull pool pages (with_placed pages starts held)
 
+-- where there are no places, some buffer has no room
 pub places_stuck : (pool pages count : ℕ) (held : List Interval) → places pool pages count held ≡ None → IsStuck pool pages count held
 places_stuck pool pages zero held h = cc
 places_stuck pool pages (suc count) held h =
@@ -139,6 +149,7 @@ places_stuck pool pages (suc count) held h =
           (found.0 ∷ rest.0, omega (arith, fewer), (start_is_first pool pages held found.0 found.1, rest.2), rest.3)
     ]
 
+-- and where some buffer has no room, there are no places
 pub stuck_places : (pool pages count : ℕ) (held : List Interval) (starts : List ℕ) → length starts < count → AreFirst pool pages held starts → IsFull pool pages (with_placed pages starts held) →
     places pool pages count held ≡ None
 stuck_places pool pages zero held starts fewer first full = absurd (omega arith)
@@ -149,6 +160,7 @@ stuck_places pool pages (suc count) held (start ∷ starts) fewer first full =
 
 -- ---- the order of the pages that are held
 
+-- where the same pages are held, in whatever order, the places are the same
 pub places_same : (pool pages count : ℕ) (held other : List Interval) → ((test : Interval → Bool) → list_any test held ≡ list_any test other) →
     places pool pages count held ≡ places pool pages count other
 places_same pool pages zero held other same = refl

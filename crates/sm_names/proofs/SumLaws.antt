@@ -12,12 +12,15 @@ use Rattle.sm_names.proofs.SamenessLaws.{either_way, both_ways, or_none_left, or
 abbrev pub one : Bool → ℕ
 one b = cond b 1 0
 
+-- one more element adds one, or nothing
 pub times-cons : {A : Type 0} (p : A → Bool) (x : A) (xs : List A) → times p (x ∷ xs) ≡ times p xs + one (p x)
 times-cons p x xs = elim (p x) as (λ (b : Bool). cond b (times p xs + 1) (times p xs) ≡ times p xs + one b) [ true ↦ refl | false ↦ omega arith ]
 
+-- so does one at the end
 pub times_push : {A : Type 0} (p : A → Bool) (xs : List A) (y : A) → times p (xs ++ y ∷ []) ≡ times p xs + one (p y)
 times_push p xs y = omega (arith, times-append p xs (y ∷ []), times-cons p y [])
 
+-- where the count is 0, none passes
 times_none : {A : Type 0} (p : A → Bool) (xs : List A) → times p xs ≡ 0 → list_any p xs ≡ false
 times_none p [] h = refl
 times_none p (x ∷ xs) h = elim (either_way (p x)) [
@@ -25,6 +28,7 @@ times_none p (x ∷ xs) h = elim (either_way (p x)) [
   | inr e ↦ rw e (times_none p xs (rw e at h))
 ]
 
+-- where it is not, some passes
 times_some : {A : Type 0} (p : A → Bool) (xs : List A) → 0 < times p xs → list_any p xs ≡ true
 times_some p [] h = absurd (omega (arith, h))
 times_some p (x ∷ xs) h = elim (either_way (p x)) [
@@ -55,19 +59,23 @@ times-filter f k false (x ∷ xs) alike =
 
 -- ---- sums
 
+-- sums of the same numbers are the same
 pub sum_by-same : {A : Type 0} (f g : A → ℕ) (xs : List A) → ((x : A) → f x ≡ g x) → sum_by f xs ≡ sum_by g xs
 sum_by-same f g xs same = λ i. sum_by (λ x. same x i) xs
 
+-- a sum of sums is the sum of the two
 pub sum_by-add : {A : Type 0} (f g : A → ℕ) (xs : List A) → sum_by (λ x. f x + g x) xs ≡ sum_by f xs + sum_by g xs
 sum_by-add f g [] = omega arith
 sum_by-add f g (x ∷ xs) =
     let rest : sum_by (λ x. f x + g x) xs ≡ sum_by f xs + sum_by g xs = sum_by-add f g xs in
     omega (arith, sum_by-cons (λ x. f x + g x) x xs, sum_by-cons f x xs, sum_by-cons g x xs)
 
+-- nothing adds up to nothing
 pub sum_by-zero : {A : Type 0} (xs : List A) → sum_by (λ (x : A). 0) xs ≡ 0
 sum_by-zero [] = refl
 sum_by-zero {A} (x ∷ xs) = omega (arith, sum_by-zero xs, sum_by-cons (λ (y : A). 0) x xs)
 
+-- one of the numbers is at most their sum
 pub In-le-sum_by : {A : Type 0} (f : A → ℕ) (xs : List A) (x : A) → In x xs → f x ≤ sum_by f xs
 In-le-sum_by f [] x on = absurd on
 In-le-sum_by f (y ∷ ys) x (inl is) = let e : f x ≡ f y = ap f is in omega (arith, sum_by-cons f y ys)
@@ -84,6 +92,7 @@ abbrev pub AreOnce : List ℕ → Type 0
 AreOnce [] = Unit {0}
 AreOnce (n ∷ ns) = (one_of ns n ≡ false) × AreOnce ns
 
+-- numbers differ both ways
 swap_eq : (a b : ℕ) → (a == b) ≡ false → (b == a) ≡ false
 swap_eq a b differ = elim (either_way (b == a)) [
   | inl e ↦ both_ways (a == b) (eq-eqb a b (sym (eqb-true b a e))) differ
@@ -122,6 +131,7 @@ sum_once k true (n ∷ ns) once on =
 
 -- what all did is the sum of what each did, where whoever did something is listed
 module _ {A : Type 0} (all : A → Bool) (each : ℕ → A → Bool) (whose : A → ℕ) (split : (n : ℕ) (x : A) → each n x ≡ (whose x == n && all x)) (ns : List ℕ) (once : AreOnce ns) where
+  -- by the list of what was done
   pub times_split : (xs : List A) → ((x : A) → In x xs → all x ≡ true → one_of ns (whose x) ≡ true) → times all xs ≡ sum_by (λ n. times (each n) xs) ns
   times_split [] listed = sym (sum_by-zero ns)
   times_split (x ∷ xs) listed =

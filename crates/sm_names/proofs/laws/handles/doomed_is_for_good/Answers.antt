@@ -2,9 +2,10 @@ use Rattle.std.proofs.Common.{[], ◌++◌}
 use Rattle.sm_names.specs.declared.messages.Call.{Call}
 use Rattle.sm_names.specs.declared.messages.Reply.{Reply}
 use Rattle.sm_names.specs.Timelines.{timeline}
-use Rattle.sm_names.proofs.DoomLaws.{took, take_opens, doomed_on, home_on}
+use Rattle.sm_names.proofs.DoomLaws.{doomed_on, home_on}
 use Rattle.sm_names.proofs.GrowthLaws.{legal_grows_on}
 use Rattle.sm_names.proofs.HistoryLaws.{AreAnswers-last}
+use Rattle.sm_names.proofs.TakeLaws.{took, take_opens}
 use Rattle.sm_names.proofs.laws.handles.doomed_is_for_good.Goals as goal
 
 pub returns-clause-taken : goal.returns-clause-taken
