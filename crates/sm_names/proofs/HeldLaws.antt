@@ -207,7 +207,8 @@ module _ (pool : ℕ) (limits : Bound) (before : Timeline) (collection : ℕ) (g
       not_none None h = cc
       not_none (Some x) h = refl
 
-  allocation_lays : (head : NodeKey) → Why pool collection before (Allocated head) → Lays pool before (Allocated head)
+  -- what an allocation lays out
+  pub allocation_lays : (head : NodeKey) → Why pool collection before (Allocated head) → Lays pool before (Allocated head)
   allocation_lays _ (Initial b on ours root free waits found fits) = initial_lays b on ours root waits fits
   allocation_lays _ (Logical b on ours child free waits attached) = logical_lays b on child
 

@@ -1,14 +1,16 @@
 //! Where buffers are placed in the pool, and which of them are held.
-ghost use Rattle.std.specs.Prelude.{◌≡◌, ◌≤◌, ◌<◌, ◌+◌, ◌↔◌, ◌∷◌, ◌++◌, ◌&&◌, ℕ, List, length, map, Bool, not, Some, None, true, false};
-ghost use Rattle.std.specs.List.{list_any, sum_by};
+ghost use Rattle.std.specs.Prelude.{◌≡◌, ◌≤◌, ◌<◌, ◌+◌, ◌↔◌, ◌∷◌, ◌++◌, ◌&&◌, ◌==◌, ℕ, List, length, map, Bool, not, Some, None, true, false};
+ghost use Rattle.std.specs.List.{list_all, list_any, sum_by};
+ghost use Rattle.std.specs.Option.{option_map_or};
 ghost use Rattle.sm_names.specs.declared.keys.BufferName.{BufferName};
 ghost use Rattle.sm_names.specs.declared.keys.Interval.{Interval};
+ghost use Rattle.sm_names.specs.declared.outcomes.Buffers.{Buffers};
 ghost use Rattle.sm_names.specs.Apart.{AreApart, AreFirst, IsFull, are_in, at_pages, with_placed};
 ghost use Rattle.sm_names.specs.Bounds.{Bound};
-ghost use Rattle.sm_names.specs.Handles.{home, buffer_names};
+ghost use Rattle.sm_names.specs.Handles.{home, buffers_of, buffer_names};
 ghost use Rattle.sm_names.specs.Legality.{IsLegal};
 ghost use Rattle.sm_names.specs.Marks.{Entry};
-ghost use Rattle.sm_names.specs.Pages.{places, meets};
+ghost use Rattle.sm_names.specs.Pages.{places, meets, pages_of};
 ghost use Rattle.sm_names.specs.Sameness.{same_buffer};
 ghost use Rattle.sm_names.specs.Timelines.{held, timeline};
 ghost use Rattle.sm_names.specs.Views.{free_pages};
@@ -36,7 +38,8 @@ pub fn places_are_apart()
 {}
 
 /// No two held buffers overlap, a buffer is held exactly if it was allocated and is not home, and
-/// then once, and the free pages and the held ones are the pool.
+/// then once, with the pages that its collection's buffers take; and the free pages and the held
+/// ones are the pool.
 pub fn held_buffers_are_apart()
     ensures apart { (pool : ℕ) (limits : Bound) (history : List Entry) → IsLegal pool limits history →
         AreApart (map (λ h. h.pages) (held pool (timeline pool history))) }
@@ -48,6 +51,9 @@ pub fn held_buffers_are_apart()
             && not (home (timeline pool history) buffer)) }
     ensures once { (pool : ℕ) (limits : Bound) (history : List Entry) → IsLegal pool limits history → (buffer : BufferName) →
         times (λ h. same_buffer h.buffer buffer) (held pool (timeline pool history)) ≤ 1 }
+    ensures sizes { (pool : ℕ) (limits : Bound) (history : List Entry) → IsLegal pool limits history →
+        list_all (λ h. option_map_or (λ (b : Buffers). h.pages.pages == pages_of b.size) (buffers_of (timeline pool history) h.buffer.collection) false)
+            (held pool (timeline pool history)) ≡ true }
     ensures free { (pool : ℕ) (limits : Bound) (history : List Entry) → IsLegal pool limits history →
         free_pages pool (timeline pool history) + sum_by (λ h. h.pages.pages) (held pool (timeline pool history)) ≡ pool }
 {}

@@ -1,6 +1,7 @@
 use Rattle.sm_names.specs.Timelines.{timeline}
 use Rattle.sm_names.proofs.GrowthLaws.{legal_grows}
 use Rattle.sm_names.proofs.HeldLaws.{are_held, stands_held, held_once, free_and_held}
+use Rattle.sm_names.proofs.SizeLaws.{held_sized}
 use Rattle.sm_names.proofs.laws.pages.held_buffers_are_apart.Goals as goal
 
 pub returns-clause-apart : goal.returns-clause-apart
@@ -17,3 +18,6 @@ returns-clause-free c pool limits history legal = free_and_held pool limits (tim
 
 pub returns-clause-once : goal.returns-clause-once
 returns-clause-once c pool limits history legal buffer = held_once pool limits (timeline pool history) (legal_grows pool limits history legal) buffer
+
+pub returns-clause-sizes : goal.returns-clause-sizes
+returns-clause-sizes c pool limits history legal = held_sized pool limits (timeline pool history) (legal_grows pool limits history legal)
