@@ -317,7 +317,9 @@ only_old test marks mark m quiet (inr there) h = there
 counted-mark : (marks : Timeline) (mark : Mark) → is_event mark ≡ false → IsCounted marks → IsCounted (mark ∷ marks)
 counted-mark marks (Called client reply call) h old = cc
 counted-mark marks (Loss origin cause) h old = record {
-  paid = old.paid; drawn = old.drawn; sent = old.sent;
+  paid = old.paid;
+  drawn = old.drawn;
+  sent = old.sent;
   clients_are = record { early = old.clients_are.early; once = old.clients_are.once };
   joined = record {
     callers = λ m on h. old.joined.callers m (only_old moves marks (Loss origin cause) m refl on h) h;
@@ -325,7 +327,9 @@ counted-mark marks (Loss origin cause) h old = record {
   };
 }
 counted-mark marks (Allocated head) h old = record {
-  paid = old.paid; drawn = old.drawn; sent = old.sent;
+  paid = old.paid;
+  drawn = old.drawn;
+  sent = old.sent;
   clients_are = record { early = old.clients_are.early; once = old.clients_are.once };
   joined = record {
     callers = λ m on h. old.joined.callers m (only_old moves marks (Allocated head) m refl on h) h;
@@ -333,7 +337,9 @@ counted-mark marks (Allocated head) h old = record {
   };
 }
 counted-mark marks (Ended top) h old = record {
-  paid = old.paid; drawn = old.drawn; sent = old.sent;
+  paid = old.paid;
+  drawn = old.drawn;
+  sent = old.sent;
   clients_are = record { early = old.clients_are.early; once = old.clients_are.once };
   joined = record {
     callers = λ m on h. old.joined.callers m (only_old moves marks (Ended top) m refl on h) h;

@@ -31,13 +31,18 @@ find_least test from (suc many) n h =
           let r : IsLeast test (from + 1) many n = find_least test (from + 1) many n (rw e at h) in
           let late : from + 1 ≤ n = r.late in
           let early : n < from + 1 + many = r.early in
-          record { late = omega arith; early = omega arith; passes = r.passes; others = λ k a b. elim (either_way (nat_lt from k)) [
-            | inl l ↦ let lt : from < k = ltb-true from k l in r.others k (omega arith) b
-            | inr l ↦
-                let le : k ≤ from = ltb-false from k l in
-                let is : from ≡ k = omega arith in
-                ap test (sym is) ∙ e
-          ] }
+          record {
+            late = omega arith;
+            early = omega arith;
+            passes = r.passes;
+            others = λ k a b. elim (either_way (nat_lt from k)) [
+              | inl l ↦ let lt : from < k = ltb-true from k l in r.others k (omega arith) b
+              | inr l ↦
+                  let le : k ≤ from = ltb-false from k l in
+                  let is : from ≡ k = omega arith in
+                  ap test (sym is) ∙ e
+            ];
+          }
     ]
 
 -- where nothing is found, none passes

@@ -78,5 +78,5 @@ pub held_sized : (pool : ℕ) (limits : Bound) (marks : Timeline) → Grows pool
 held_sized pool limits marks g =
     all_on (λ (h : HeldPages). option_map_or (λ (b : Buffers). h.pages.pages == pages_of b.size) (buffers_of marks h.buffer.collection) false) (held pool marks)
     (λ h on.
-        let s : IsSized marks h = are_sized pool limits marks g h (In-filter (λ (k : HeldPages). not (home marks k.buffer)) (placed pool marks) h on).0 in
-        rw s.1 (eq-eqb h.pages.pages (pages_of s.0.size) s.2))
+    let s : IsSized marks h = are_sized pool limits marks g h (In-filter (λ (k : HeldPages). not (home marks k.buffer)) (placed pool marks) h on).0 in
+    rw s.1 (eq-eqb h.pages.pages (pages_of s.0.size) s.2))

@@ -31,7 +31,6 @@ ghost use Rattle.sm_names.specs.Timelines.{HeldPages, Settles, settled, next_for
 ghost use Rattle.sm_names.specs.Trackers.{fired};
 ghost use Rattle.sm_names.specs.Views.{Views, live_nodes, held_by_page};
 
-
 /// What a loss takes is the least set that has its node, the parent of each member whose link is
 /// not blocked, and every child of each member.
 pub fn reach_is_least()

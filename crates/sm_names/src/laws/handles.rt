@@ -49,7 +49,7 @@ pub fn doomed_is_for_good()
         IsLegal pool limits (history ++ (client, Call.Take key, Reply.Taken collection strength set) ∷ []) → (buffer : BufferName) →
         opens (λ c. true) buffer strength (Called client (Reply.Taken collection strength set) (Call.Take key))
         ≡ (list_any (λ name. same_buffer name buffer) (buffer_names (timeline pool history) collection)
-            && not (doomed (timeline pool history) buffer)) }
+        && not (doomed (timeline pool history) buffer)) }
     ensures by_take { (pool : ℕ) (limits : Bound) (history : List Entry) (client collection : ℕ) (strength : Strength) (set : ℕ) (call : Call) →
         IsLegal pool limits (history ++ (client, call, Reply.Taken collection strength set) ∷ []) → (key : NodeKey) × (call ≡ Call.Take key) }
     ensures doomed { (pool : ℕ) (limits : Bound) (history more : List Entry) → IsLegal pool limits (history ++ more) →
