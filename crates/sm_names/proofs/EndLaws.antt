@@ -1,36 +1,33 @@
 -- Once every end is spent and every handle dropped, nothing is live or held.
-use Rattle.std.proofs.Common.{ℕ, ◌≡◌, refl, ap, sym, ◌∙◌, subst, Bool, true, false, cond, not, ◌&&◌, ◌||◌, ◌==◌, ◌⊎◌, inl, inr, List, [], ◌∷◌, map, reverse, Option, Some, None, is_some, is_none}
-use Rattle.std.proofs.lemmas.Bool.{eq-eqb}
-use Rattle.std.specs.List.{filter, fold, cons_option}
-use Rattle.std.specs.Option.{option_map_or, option_map, option_and_then, unwrap_or}
+use Rattle.std.proofs.Common.{ℕ, ◌≡◌, refl, ap, sym, ◌∙◌, subst, Bool, true, false, cond, not, ◌&&◌, ◌||◌, ◌==◌, ◌⊎◌, inl, inr, List, [], ◌∷◌, map, reverse, Option, Some, None, is_some}
+use Rattle.std.specs.List.{fold, cons_option}
+use Rattle.std.specs.Option.{option_map, option_and_then, unwrap_or}
 use Rattle.sm_names.specs.declared.keys.BufferName.{BufferName}
-use Rattle.sm_names.specs.declared.keys.Interval.{Interval}
 use Rattle.sm_names.specs.declared.keys.NodeKey.{NodeKey}
 use Rattle.sm_names.specs.declared.keys.Strength.{Strength}
 use Rattle.sm_names.specs.declared.messages.Call.{Call}
 use Rattle.sm_names.specs.declared.messages.Reply.{Reply}
-use Rattle.sm_names.specs.declared.outcomes.Buffers.{Buffers}
 use Rattle.sm_names.specs.declared.outcomes.Cause.{Cause}
 use Rattle.sm_names.specs.declared.outcomes.Fault.{Fault}
 use Rattle.sm_names.specs.Answers.{IsAnswer, OpenEnd, Readings, answers_first, effect, closing, limits_met, misuse, misuse_of, no_handle, peer_closed}
 use Rattle.sm_names.specs.Births.{Birth, births, birth_of, ancestors}
 use Rattle.sm_names.specs.Bounds.{Bound}
 use Rattle.sm_names.specs.Ends.{spent, spends}
-use Rattle.sm_names.specs.Handles.{open_total, buffers_of, is_initial, names, home}
+use Rattle.sm_names.specs.Handles.{open_total, buffers_of, home}
 use Rattle.sm_names.specs.Legality.{AreAnswers, IsLegal}
 use Rattle.sm_names.specs.Losses.{fault, gone, reaches, released, is_release, live}
 use Rattle.sm_names.specs.Marks.{Entry, Mark, Timeline, Called, Loss, Allocated, Ended, is_event}
-use Rattle.sm_names.specs.Members.{Member, members, some_strong_live, is_live, asked}
-use Rattle.sm_names.specs.Pages.{places, pages_of}
+use Rattle.sm_names.specs.Members.{Member, members, some_strong_live, is_live}
 use Rattle.sm_names.specs.Reading.{readings, open_end}
 use Rattle.sm_names.specs.Sameness.{same_key}
-use Rattle.sm_names.specs.Timelines.{HeldPages, placed, held, layout, layout_at, laid_out, still_out, after, timeline, own_loss, collection_of, key_of}
+use Rattle.sm_names.specs.Timelines.{HeldPages, placed, held, after, timeline, own_loss, collection_of, key_of}
 use Rattle.sm_names.specs.Views.{live_nodes}
 use Rattle.sm_names.specs.Words.{first_some, when}
 use Rattle.sm_names.proofs.GoneLaws.{fault_gone, gone_stays}
 use Rattle.sm_names.proofs.GrowthLaws.{birth_is, is_refusal, Rejects, rejects_if, unknown_rejects, shut_rejects, no_end_rejects, in_transit_rejects, wrong_kind_rejects}
 use Rattle.sm_names.proofs.KeptLaws.{kept-rest}
-use Rattle.sm_names.proofs.ListLaws.{In, In-append, In-list_any, In-map, In-reverse}
+use Rattle.sm_names.proofs.LayoutLaws.{placed_given}
+use Rattle.sm_names.proofs.ListLaws.{filter-none, In, In-list_any, In-reverse}
 use Rattle.sm_names.proofs.ReachLaws.{top_on}
 use Rattle.sm_names.proofs.SamenessLaws.{either_way, and_left, both_ways, false_if, same_key-true, or_cases, or_left, or_right}
 use Rattle.sm_names.proofs.SettledLaws.{member_birth, map-Some}
@@ -189,10 +186,6 @@ spent_left pool limits history legal key = left_fold pool limits [] history key 
 
 -- ---- nothing is left
 
-filter_none : {A : Type 0} (test : A → Bool) (xs : List A) → ((x : A) → In x xs → test x ≡ false) → filter test xs ≡ []
-filter_none test [] h = refl
-filter_none test (x ∷ xs) h = let e : test x ≡ false = h x (inl refl) in rw e (filter_none test xs (λ y on. h y (inr on)))
-
 not_both : (g r : Bool) → (g || r) ≡ true → (not g && not r) ≡ false
 not_both true r h = refl
 not_both false true h = refl
@@ -201,51 +194,6 @@ not_both false false h = cc
 and_false : (a b : Bool) → b ≡ false → (a && b) ≡ false
 and_false true b h = h
 and_false false b h = refl
-
--- what is laid out bears the name of its collection
-laid_in : (collection pages : ℕ) (bs : List BufferName) (starts : List ℕ) → ((b : BufferName) → In b bs → b.collection ≡ collection) → (h : HeldPages) → In h (laid_out pages bs starts) → h.buffer.collection ≡ collection
-laid_in collection pages [] starts named h on = absurd on
-laid_in collection pages (b ∷ bs) [] named h on = absurd on
-laid_in collection pages (b ∷ bs) (start ∷ starts) named h (inl is) = ap (λ (x : HeldPages). x.buffer.collection) is ∙ named b (inl refl)
-laid_in collection pages (b ∷ bs) (start ∷ starts) named h (inr on) = laid_in collection pages bs starts (λ c there. named c (inr there)) h on
-
--- what an allocation lays out is of the collection whose root it is
-layout_given : (pool : ℕ) (before : Timeline) (out : List Interval) (mark : Mark) (h : HeldPages) → In h (layout_at pool before out mark) → is_initial before h.buffer.collection mark ≡ true
-layout_given pool before out (Called client reply call) h on = absurd on
-layout_given pool before out (Loss origin cause) h on = absurd on
-layout_given pool before out (Ended top) h on = absurd on
-layout_given pool before out (Allocated head) h on = from (birth_of before head) on
-  where
-    starts_given : (b : Birth) (g : Buffers) (o : Option (List ℕ)) → In h (option_map_or (laid_out (pages_of g.size) (names b.collection g.count)) o []) → h.buffer.collection ≡ b.collection
-    starts_given b g None on = absurd on
-    starts_given b g (Some starts) on =
-        laid_in b.collection (pages_of g.size) (names b.collection g.count) starts
-        (λ name there. let r = In-map (λ i. record { collection = b.collection; index = i }) _ name there in ap (λ (x : BufferName). x.collection) r.2) h on
-
-    of_root : (b : Birth) (root : Bool) → In h (cond root (layout pool b.collection (asked (members before b.collection)) out) []) → (root && b.collection == h.buffer.collection) ≡ true
-    of_root b true on =
-        let g : Buffers = asked (members before b.collection) in
-        eq-eqb b.collection h.buffer.collection (sym (starts_given b g (places pool (pages_of g.size) g.count out) on))
-    of_root b false on = absurd on
-
-    from : (o : Option Birth) → In h (option_map_or (λ (b : Birth). cond (is_none b.parent) (layout pool b.collection (asked (members before b.collection)) out) []) o []) →
-        option_map_or (λ (b : Birth). is_none b.parent && b.collection == h.buffer.collection) o false ≡ true
-    from None on = absurd on
-    from (Some b) on = of_root b (is_none b.parent) on
-
--- a buffer that was placed is one of a collection that was given some
-placed_given : (pool : ℕ) (marks : Timeline) (h : HeldPages) → In h (placed pool marks) → is_some (buffers_of marks h.buffer.collection) ≡ true
-placed_given pool [] h on = absurd on
-placed_given pool (mark ∷ before) h on =
-    elim (In-append (layout_at pool before (map (λ h. h.pages) (still_out before (placed pool before))) mark) (placed pool before) h on) [
-      | inl new ↦ rw (layout_given pool before (map (λ h. h.pages) (still_out before (placed pool before))) mark h new) refl
-      | inr old ↦ was (is_initial before h.buffer.collection mark) (placed_given pool before h old)
-    ]
-  where
-    was : (b : Bool) → is_some (buffers_of before h.buffer.collection) ≡ true →
-        is_some (cond b (Some (asked (members before h.buffer.collection))) (buffers_of before h.buffer.collection)) ≡ true
-    was true e = refl
-    was false e = e
 
 module _ (pool : ℕ) (limits : Bound) (history : List Entry) (legal : IsLegal pool limits history) (all_spent : (b : Birth) → In b (births (timeline pool history)) → spent (timeline pool history) b.node ≡ true) where
   abbrev now : Timeline
@@ -257,7 +205,7 @@ module _ (pool : ℕ) (limits : Bound) (history : List Entry) (legal : IsLegal p
   pub no_live_nodes : live_nodes now ≡ []
   no_live_nodes =
       ap (map (λ (b : Birth). b.node))
-      (filter_none (λ (b : Birth). live now b.node) (reverse (births now)) (λ b on. and_false (is_some (birth_of now b.node)) _ (none_live b (In-reverse (births now) b on))))
+      (filter-none (λ (b : Birth). live now b.node) (reverse (births now)) (λ b on. and_false (is_some (birth_of now b.node)) _ (none_live b (In-reverse (births now) b on))))
 
   none_strong : (collection : ℕ) → some_strong_live (members now collection) ≡ false
   none_strong collection = false_if (some_strong_live (members now collection)) (λ h.
@@ -275,4 +223,4 @@ module _ (pool : ℕ) (limits : Bound) (history : List Entry) (legal : IsLegal p
       λ i. (given i && (strong i == 0 && not (dead i))) && weak i == 0
 
   pub none_held : ((buffer : BufferName) (strength : Strength) → open_total now buffer strength ≡ 0) → held pool now ≡ []
-  none_held none = filter_none (λ (h : HeldPages). not (home now h.buffer)) (placed pool now) (λ h on. ap not (all_home none h on))
+  none_held none = filter-none (λ (h : HeldPages). not (home now h.buffer)) (placed pool now) (λ h on. ap not (all_home none h on))

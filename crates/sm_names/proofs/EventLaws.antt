@@ -8,9 +8,8 @@ use Rattle.sm_names.specs.declared.keys.NodeKey.{NodeKey}
 use Rattle.sm_names.specs.declared.keys.Strength.{Strength}
 use Rattle.sm_names.specs.declared.messages.Call.{Call}
 use Rattle.sm_names.specs.declared.messages.Reply.{Reply}
-use Rattle.sm_names.specs.declared.outcomes.Buffers.{Buffers}
 use Rattle.sm_names.specs.declared.outcomes.Cause.{Cause}
-use Rattle.sm_names.specs.Answers.{IsAnswer, strength_of, set_of, OpenEnd}
+use Rattle.sm_names.specs.Answers.{IsAnswer}
 use Rattle.sm_names.specs.Births.{Birth, births, birth_at, birth_of, head, collection_in, ancestors}
 use Rattle.sm_names.specs.Bounds.{Bound}
 use Rattle.sm_names.specs.Demands.{Demand}
@@ -19,48 +18,81 @@ use Rattle.sm_names.specs.Handles.{opens, drops, open_total, buffers_of, doomed,
 use Rattle.sm_names.specs.Losses.{fault, is_allocation, is_release, is_dispensable, released, allocated}
 use Rattle.sm_names.specs.Marks.{Mark, Timeline, Called, Loss, Allocated, events}
 use Rattle.sm_names.specs.Members.{member, members, births_in, constraints_at, constraints, some_strong_live}
-use Rattle.sm_names.specs.Reading.{readings, open_end}
+use Rattle.sm_names.specs.Reading.{readings}
 use Rattle.sm_names.specs.Sameness.{same_key}
 use Rattle.sm_names.specs.Timelines.{after, settled, settled_within, next_forced, own_loss, key_of, buffer_of, opened_by, collection_of}
 use Rattle.sm_names.specs.Weakness.{weak, sets_weak, born_to}
 use Rattle.sm_names.specs.Words.{first_some, times}
-use Rattle.sm_names.proofs.AnswerLaws.{took_effect_all}
+use Rattle.sm_names.proofs.CountLaws.{anyone}
+use Rattle.sm_names.proofs.TakeLaws.{Took, took}
+use Rattle.std.proofs.lemmas.Bool.{eq-eqb}
+use Rattle.sm_names.specs.declared.outcomes.Fault.{Fault}
+use Rattle.sm_names.specs.Ends.{binds, spends}
+use Rattle.sm_names.specs.Reading.{is_taking, is_tracking}
+use Rattle.sm_names.specs.Weakness.{covered, covers_children, sets_weak_ok, weak_ok}
+use Rattle.sm_names.specs.Timelines.{HeldPages, placed}
 use Rattle.sm_names.proofs.GrowthLaws.{Grows, Answers, own_loss_origin, not_refused_end, HasEnd, birth_is, grows_forced, grows_lost}
-use Rattle.sm_names.proofs.IsolationLaws.{members_loss, members_end, members_allocation, buffers_allocation, birth_of_collection, of_ours}
-use Rattle.sm_names.proofs.LifeLaws.{IsOrdered, ordered, whole, Comes, comes, In_old, ancestors_old, head_old, named, Named}
+use Rattle.sm_names.proofs.IsolationLaws.{fault_loss, placed_allocation, members_loss, members_end, members_allocation, buffers_allocation, birth_of_collection, of_ours}
+use Rattle.sm_names.proofs.LifeLaws.{IsOrdered, ordered, whole, Comes, comes, In_old, ancestors_old, head_old}
 use Rattle.sm_names.proofs.ListLaws.{In, map-In}
 use Rattle.sm_names.proofs.ReachLaws.{other_key}
-use Rattle.sm_names.proofs.SamenessLaws.{either_way, same_key-true, both_ways, false_if, none_or_some, or_false, or_none_left, or_none_right}
-use Rattle.sm_names.proofs.SettledLaws.{In-was_born, find_birth, Why, No_live, Fails, Initial, Logical, forced_why}
+use Rattle.sm_names.proofs.SamenessLaws.{either_way, same_key-true, both_ways, false_if, none_or_some}
+use Rattle.sm_names.proofs.SettledLaws.{In-was_born, find_birth, Why, No_live, Fails, Initial, Logical, forced_why, map-Some}
 use Rattle.sm_names.proofs.WholeLaws.{IsWhole}
 
-abbrev anyone : ℕ → Bool
-anyone client = true
+-- what the end of a node tells, but for what its collection tells and who holds it
+pub record EndState : Type 0 where
+  pub birth : Option Birth
+  pub spent : Bool
+  pub fault : Option Fault
+  pub bound : Bool
+  pub weak_ok : Bool
+  pub took : Bool
+  pub node_trackers : ℕ
+
+abbrev pub end_state : Timeline → NodeKey → EndState
+end_state marks node = record {
+  birth = birth_of marks node;
+  spent = spent marks node;
+  fault = fault marks node;
+  bound = list_any (binds node) marks;
+  weak_ok = weak_ok marks node;
+  took = list_any (is_taking node) marks;
+  node_trackers = times (is_tracking node) marks;
+}
 
 -- the collection stands in the later marks as it stood in the earlier
-pub record SameIn (earlier later : Timeline) (collection : ℕ) : Type 0 where
+pub record SameIn (pool : ℕ) (earlier later : Timeline) (collection : ℕ) : Type 0 where
+  pub born : births_in later collection ≡ births_in earlier collection
   pub nodes : members later collection ≡ members earlier collection
   pub given : buffers_of later collection ≡ buffers_of earlier collection
   pub handles : (buffer : BufferName) → buffer.collection ≡ collection → (strength : Strength) → open_total later buffer strength ≡ open_total earlier buffer strength
+  pub places : filter (λ (h : HeldPages). h.buffer.collection == collection) (placed pool later) ≡ filter (λ (h : HeldPages). h.buffer.collection == collection) (placed pool earlier)
+  pub ends : (node : NodeKey) → collection_in (births earlier) node ≡ Some collection → end_state later node ≡ end_state earlier node
 
 -- from one to the next, and so on
-same_on : (a b c : Timeline) (collection : ℕ) → SameIn a b collection → SameIn b c collection → SameIn a c collection
-same_on a b c collection p q = record {
+same_on : (pool : ℕ) (a b c : Timeline) (collection : ℕ) → SameIn pool a b collection → SameIn pool b c collection → SameIn pool a c collection
+same_on pool a b c collection p q = record {
+  born = q.born ∙ p.born;
   nodes = q.nodes ∙ p.nodes;
   given = q.given ∙ p.given;
   handles = λ buffer is strength. q.handles buffer is strength ∙ p.handles buffer is strength;
+  places = q.places ∙ p.places;
+  ends = λ node here.
+      (let first : end_state b node ≡ end_state a node = p.ends node here in
+      q.ends node (ap (λ (e : EndState). option_map (λ (x : Birth). x.collection) e.birth) first ∙ here) ∙ first);
 }
 
-same_here : (a : Timeline) (collection : ℕ) → SameIn a a collection
-same_here a collection = record { nodes = refl; given = refl; handles = λ buffer is strength. refl }
+same_here : (pool : ℕ) (a : Timeline) (collection : ℕ) → SameIn pool a a collection
+same_here pool a collection = record { born = refl; nodes = refl; given = refl; handles = λ buffer is strength. refl; places = refl; ends = λ node here. refl }
 
 -- then which of its buffers are doomed, and which home, is as before
-pub same_doomed : (a b : Timeline) (buffer : BufferName) → SameIn a b buffer.collection → doomed b buffer ≡ doomed a buffer
-same_doomed a b buffer s =
+pub same_doomed : (pool : ℕ) (a b : Timeline) (buffer : BufferName) → SameIn pool a b buffer.collection → doomed b buffer ≡ doomed a buffer
+same_doomed pool a b buffer s =
     λ i. is_some (s.given i) && (s.handles buffer refl Strength.Strong i == 0 && not (some_strong_live (s.nodes i)))
 
-pub same_home : (a b : Timeline) (buffer : BufferName) → SameIn a b buffer.collection → home b buffer ≡ home a buffer
-same_home a b buffer s = λ i. same_doomed a b buffer s i && s.handles buffer refl Strength.Weak i == 0
+pub same_home : (pool : ℕ) (a b : Timeline) (buffer : BufferName) → SameIn pool a b buffer.collection → home b buffer ≡ home a buffer
+same_home pool a b buffer s = λ i. same_doomed pool a b buffer s i && s.handles buffer refl Strength.Weak i == 0
 
 -- ---- of which collection a call is
 
@@ -94,40 +126,49 @@ root_in before client event (Reply.Token key collection) (Call.AttachToken paren
     cc
 root_in before client event reply call b h root = cc
 
--- that of the node through which handles are taken
-taken_in : (limits : Bound) (before : Timeline) (client collection : ℕ) (taken : Strength) (set : ℕ) (key : NodeKey) → IsAnswer limits (readings before) client (Call.Take key) (Reply.Taken collection taken set) →
-    (b : Birth) × (birth_of before key ≡ Some b) × (collection ≡ b.collection)
-taken_in limits before client collection taken set key answer =
-    let t = took_effect_all limits (readings before) client (record { slot = 0; generation = 0 }) (Call.Take key) (Reply.Taken collection taken set) refl refl answer.told in
-    let n : Named before key = named limits before client (record { slot = 0; generation = 0 }) (Call.Take key) (Reply.Taken collection taken set) key t refl in
-    let e : OpenEnd = open_end before n.birth in
-    let told : Reply.Taken collection taken set ≡ option_map_or (λ b. Reply.Taken e.collection (strength_of e.weak) (set_of e.to_open)) e.buffers Reply.Pending = rw (n.unspent, n.found) at t.answered in
-    (n.birth, n.found, from e e.buffers told)
-  where
-    from : (e : OpenEnd) (o : Option Buffers) → Reply.Taken collection taken set ≡ option_map_or (λ b. Reply.Taken e.collection (strength_of e.weak) (set_of e.to_open)) o Reply.Pending → collection ≡ e.collection
-    from e None h = cc
-    from e (Some b) h = cc
+-- ---- which node a call is about
 
--- ---- which nodes a call touches
+releases_it : (node : NodeKey) (client : ℕ) (reply : Reply) (call : Call) → is_release node (Called client reply call) ≡ true → key_of call ≡ Some node
+releases_it node client Reply.Done (Call.Release key) h = ap Some (same_key-true key node h)
+releases_it node client _ _ h = cc
 
--- the mark changes what the forced steps read of the node, and is no birth, loss, allocation or end
-abbrev touches : NodeKey → Mark → Bool
-touches node mark = is_release node mark || (is_dispensable node mark || (sets_weak node mark || is_some (constraints_at node mark)))
+dispenses_it : (node : NodeKey) (client : ℕ) (reply : Reply) (call : Call) → is_dispensable node (Called client reply call) ≡ true → key_of call ≡ Some node
+dispenses_it node client Reply.Done (Call.SetDispensable key) h = ap Some (same_key-true key node h)
+dispenses_it node client _ _ h = cc
 
--- then it names the node
-only : (key node : NodeKey) → (same_key key node || false) ≡ true → ◌≡◌ {A = Option NodeKey} (Some key) (Some node)
-only key node h = ap Some (same_key-true key node (sym (or_false (same_key key node)) ∙ h))
+weakens_it : (node : NodeKey) (client : ℕ) (reply : Reply) (call : Call) → sets_weak node (Called client reply call) ≡ true → key_of call ≡ Some node
+weakens_it node client Reply.Done (Call.SetWeak key) h = ap Some (same_key-true key node h)
+weakens_it node client _ _ h = cc
 
-touched : (node : NodeKey) (client : ℕ) (reply : Reply) (call : Call) → touches node (Called client reply call) ≡ true → key_of call ≡ Some node
-touched node client Reply.Done (Call.Release key) h = only key node h
-touched node client Reply.Done (Call.SetDispensable key) h = only key node h
-touched node client Reply.Done (Call.SetWeak key) h = only key node h
-touched node client Reply.Done (Call.SetConstraints key demand) h =
+allows_it : (node : NodeKey) (client : ℕ) (reply : Reply) (call : Call) → sets_weak_ok node (Called client reply call) ≡ true → key_of call ≡ Some node
+allows_it node client Reply.Done (Call.SetWeakOk key children) h = ap Some (same_key-true key node h)
+allows_it node client _ _ h = cc
+
+binds_it : (node : NodeKey) (client : ℕ) (reply : Reply) (call : Call) → binds node (Called client reply call) ≡ true → key_of call ≡ Some node
+binds_it node client Reply.Done (Call.Bind key) h = ap Some (same_key-true key node h)
+binds_it node client _ _ h = cc
+
+spends_it : (node : NodeKey) (client : ℕ) (reply : Reply) (call : Call) → spends node (Called client reply call) ≡ true → key_of call ≡ Some node
+spends_it node client Reply.Done (Call.Close key) h = ap Some (same_key-true key node h)
+spends_it node client Reply.Done (Call.Release key) h = ap Some (same_key-true key node h)
+spends_it node client (Reply.PeerClosed cause origin) (Call.Release key) h = ap Some (same_key-true key node h)
+spends_it node client _ _ h = cc
+
+takes_it : (node : NodeKey) (client : ℕ) (reply : Reply) (call : Call) → is_taking node (Called client reply call) ≡ true → key_of call ≡ Some node
+takes_it node client (Reply.Taken collection strength set) (Call.Take key) h = ap Some (same_key-true key node h)
+takes_it node client _ _ h = cc
+
+tracks_it : (node : NodeKey) (client : ℕ) (reply : Reply) (call : Call) → is_tracking node (Called client reply call) ≡ true → key_of call ≡ Some node
+tracks_it node client (Reply.Tracker id) (Call.TrackNode key) h = ap Some (same_key-true key node h)
+tracks_it node client _ _ h = cc
+
+constrains_it : (node : NodeKey) (client : ℕ) (reply : Reply) (call : Call) → is_some (constraints_at node (Called client reply call)) ≡ true → key_of call ≡ Some node
+constrains_it node client Reply.Done (Call.SetConstraints key demand) h =
     elim (either_way (same_key key node)) [
       | inl e ↦ ap Some (same_key-true key node e)
       | inr e ↦ let x : false ≡ true = rw e at h in cc
     ]
-touched node client reply call h = cc
+constrains_it node client _ _ h = cc
 
 is_none_if : (o : Option Demand) → is_some o ≡ false → o ≡ None
 is_none_if None h = refl
@@ -163,9 +204,10 @@ module _ (pool : ℕ) (limits : Bound) (before : Timeline) (client theirs : ℕ)
   not_theirs : (c : ℕ) → collection_of (Called client reply call ∷ before) call reply ≡ Some c → (c == theirs) ≡ false
   not_theirs c of = false_if (c == theirs) (λ e. away (of ∙ ap Some (eqb-true c theirs e)))
 
-  untouched : (b : Birth) → In b (births before) → b.collection == theirs ≡ true → touches b.node mark ≡ false
-  untouched b on h = false_if (touches b.node mark)
-      (λ t. both_ways (b.collection == theirs) h (not_theirs b.collection (key_in before client reply call b.node b ord (find_birth (births before) b old.sound on) (touched b.node client reply call t)).1))
+  -- a call that is about a node is about none of theirs
+  untouched : (b : Birth) → In b (births before) → b.collection == theirs ≡ true → (test : Bool) → (test ≡ true → key_of call ≡ Some b.node) → test ≡ false
+  untouched b on h test about = false_if test
+      (λ t. both_ways (b.collection == theirs) h (not_theirs b.collection (key_in before client reply call b.node b ord (find_birth (births before) b old.sound on) (about t)).1))
 
   -- no node of before is born
   not_born_now : (b : Birth) → In b (births before) → (o : Option Birth) → birth_at 0 mark ≡ o → option_and_then (λ (c : Birth). cond (same_key c.node b.node) c.parent None) o ≡ None
@@ -178,22 +220,44 @@ module _ (pool : ℕ) (limits : Bound) (before : Timeline) (client theirs : ℕ)
   member_same : (b : Birth) → In b (births before) → b.collection == theirs ≡ true → member called b ≡ member before b
   member_same b on h =
       let n : NodeKey = b.node in
-      let constrained : Bool = is_some (constraints_at n mark) in
-      let t0 : (is_release n mark || (is_dispensable n mark || (sets_weak n mark || constrained))) ≡ false = untouched b on h in
-      let t1 : (is_dispensable n mark || (sets_weak n mark || constrained)) ≡ false = or_none_right (is_release n mark) (is_dispensable n mark || (sets_weak n mark || constrained)) t0 in
-      let t2 : (sets_weak n mark || constrained) ≡ false = or_none_right (is_dispensable n mark) (sets_weak n mark || constrained) t1 in
       let heads : head (births called) n ≡ head (births before) n =
       head_old new (births before) n (In-was_born (births before) b on) (λ c e. (comes limits before client (events before + 1) reply call c answer e).fresh) in
       let allocates : allocated called n ≡ allocated before n = ap (λ (k : NodeKey). list_any (is_allocation k) before) heads in
-      let releases : released called n ≡ released before n = ap (λ (r : Bool). r || released before n) (or_none_left (is_release n mark) (is_dispensable n mark || (sets_weak n mark || constrained)) t0) in
-      let dispenses : list_any (is_dispensable n) called ≡ list_any (is_dispensable n) before = ap (λ (r : Bool). r || list_any (is_dispensable n) before) (or_none_left (is_dispensable n mark) (sets_weak n mark || constrained) t1) in
+      let free : (test : Bool) → (test ≡ true → key_of call ≡ Some n) → test ≡ false = untouched b on h in
+      let releases : released called n ≡ released before n = ap (λ (r : Bool). r || released before n) (free (is_release n mark) (releases_it n client reply call)) in
+      let dispenses : list_any (is_dispensable n) called ≡ list_any (is_dispensable n) before =
+      ap (λ (r : Bool). r || list_any (is_dispensable n) before) (free (is_dispensable n mark) (dispenses_it n client reply call)) in
       let born : born_to n mark ≡ None = not_born_now b on (birth_at 0 mark) refl in
-      let sets : sets_weak n mark ≡ false = or_none_left (sets_weak n mark) constrained t2 in
+      let sets : sets_weak n mark ≡ false = free (sets_weak n mark) (weakens_it n client reply call) in
       let weakens : weak called n ≡ weak before n =
       (λ i. sets i || (option_map_or (weak before) (born i) false || weak before n)) in
-      let constrains : constraints called n ≡ constraints before n = ap (λ (o : Option Demand). option_map_or Some o (constraints before n)) (is_none_if (constraints_at n mark) (or_none_right (sets_weak n mark) constrained t2)) in
+      let constrained : constraints_at n mark ≡ None = is_none_if (constraints_at n mark) (free (is_some (constraints_at n mark)) (constrains_it n client reply call)) in
+      let constrains : constraints called n ≡ constraints before n = ap (λ (o : Option Demand). option_map_or Some o (constraints before n)) constrained in
       let lines : ancestors (births called) n ≡ ancestors (births before) n = ancestors_old new (births before) n (In-was_born (births before) b on) (λ c e. (comes limits before client (events before + 1) reply call c answer e).fresh) in
       λ i. record (member before b) { above = lines i; head = heads i; allocated = allocates i; released = releases i; dispensable = dispenses i; weak = weakens i; constraints = constrains i }
+
+  -- and its end tells what it told
+  end_same : (b : Birth) → In b (births before) → b.collection == theirs ≡ true → end_state called b.node ≡ end_state before b.node
+  end_same b on h =
+      let n : NodeKey = b.node in
+      let free : (test : Bool) → (test ≡ true → key_of call ≡ Some n) → test ≡ false = untouched b on h in
+      let born : born_to n mark ≡ None = not_born_now b on (birth_at 0 mark) refl in
+      let found : birth_of called n ≡ birth_of before n = find_birth (births called) b ord.sound (In_old new (births before) b on) ∙ sym (find_birth (births before) b old.sound on) in
+      let spends_none : spends n mark ≡ false = free (spends n mark) (spends_it n client reply call) in
+      let binds_none : binds n mark ≡ false = free (binds n mark) (binds_it n client reply call) in
+      let sets : sets_weak n mark ≡ false = free (sets_weak n mark) (weakens_it n client reply call) in
+      let allows : sets_weak_ok n mark ≡ false = free (sets_weak_ok n mark) (allows_it n client reply call) in
+      let takes_none : is_taking n mark ≡ false = free (is_taking n mark) (takes_it n client reply call) in
+      let tracks : is_tracking n mark ≡ false = free (is_tracking n mark) (tracks_it n client reply call) in
+      λ i. record {
+        birth = found i;
+        spent = spends_none i || spent before n;
+        fault = fault before n;
+        bound = binds_none i || list_any (binds n) before;
+        weak_ok = (sets i || list_any (sets_weak n) before) || ((allows i || list_any (sets_weak_ok n) before) || (option_map_or (λ parent. list_any (covers_children parent) before || covered before parent) (born i) false || covered before n));
+        took = takes_none i || list_any (is_taking n) before;
+        node_trackers = cond (tracks i) (times (is_tracking n) before + 1) (times (is_tracking n) before);
+      }
 
   -- a node that is born is not theirs
   new_ours : (b : Birth) → new ≡ Some b → b.collection == theirs ≡ false
@@ -219,8 +283,8 @@ module _ (pool : ℕ) (limits : Bound) (before : Timeline) (client theirs : ℕ)
           ((key : NodeKey) (b : Birth) → birth_of before key ≡ Some b → key_of call ≡ Some key → collection_of (Called client reply call ∷ before) call reply ≡ Some b.collection) →
           opens anyone buffer strength (Called client reply call) ≡ false
       from (Reply.Taken collection taken set) (Call.Take key) answer other of_key =
-          let t = taken_in limits before client collection taken set key answer in
-          let e : (collection == buffer.collection) ≡ false = other collection (of_key key t.0 t.1 refl ∙ ap Some (sym t.2)) in
+          let t : Took before collection taken set (Call.Take key) = took limits before client collection taken set (Call.Take key) answer in
+          let e : (collection == buffer.collection) ≡ false = other collection (of_key t.birth.node t.birth (find_birth (births before) t.birth old.sound t.there) t.named_by ∙ ap Some (sym t.collection_is)) in
           rw e refl
       from Reply.Done (Call.DupHandle name dup) answer other of_key = let e : (name.collection == buffer.collection) ≡ false = other name.collection refl in rw e refl
       from reply call answer other of_key = refl
@@ -234,8 +298,9 @@ module _ (pool : ℕ) (limits : Bound) (before : Timeline) (client theirs : ℕ)
       from Reply.Done (Call.DropHandle name dropped) other = let e : (name.collection == buffer.collection) ≡ false = other name.collection refl in rw e refl
       from reply call other = refl
 
-  same_called : SameIn before (Called client reply call ∷ before) theirs
+  same_called : SameIn pool before (Called client reply call ∷ before) theirs
   same_called = record {
+    born = births_same;
     nodes = ap (map (member called)) births_same
         ∙ map-In (member called) (member before) (births_in before theirs) (λ b on. let t = birth_of_collection before theirs b on in member_same b t.0 t.1);
     given = refl;
@@ -243,37 +308,57 @@ module _ (pool : ℕ) (limits : Bound) (before : Timeline) (client theirs : ℕ)
         (let o : opens anyone buffer strength mark ≡ false = opens_none buffer is strength in
         let d : drops anyone buffer strength mark ≡ false = drops_none buffer is strength in
         λ i. cond (o i) (times (opens anyone buffer strength) before + 1) (times (opens anyone buffer strength) before) - cond (d i) (times (drops anyone buffer strength) before + 1) (times (drops anyone buffer strength) before));
+    places = refl;
+    ends = λ node here.
+        (let there = map-Some (λ (x : Birth). x.collection) (birth_of before node) theirs here in
+        let b : Birth = there.0 in
+        let f = birth_is before node b there.1 in
+        subst (λ (k : NodeKey). end_state called k ≡ end_state before k) f.1 (end_same b f.0 (eq-eqb b.collection theirs there.2)));
   }
 
   -- ---- what follows it
 
   -- a loss of one of ours
-  same_loss : (m : Timeline) (ours : ℕ) → IsWhole m → (ours == theirs) ≡ false → (origin : NodeKey) (cause : Cause) → collection_in (births m) origin ≡ Some ours → SameIn m (Loss origin cause ∷ m) theirs
-  same_loss m ours w other origin cause here = record { nodes = members_loss m ours theirs w other origin cause here; given = refl; handles = λ buffer is strength. refl }
+  same_loss : (m : Timeline) (ours : ℕ) → IsWhole m → (ours == theirs) ≡ false → (origin : NodeKey) (cause : Cause) → collection_in (births m) origin ≡ Some ours → SameIn pool m (Loss origin cause ∷ m) theirs
+  same_loss m ours w other origin cause here = record {
+    born = refl;
+    nodes = members_loss m ours theirs w other origin cause here;
+    given = refl;
+    handles = λ buffer is strength. refl;
+    places = refl;
+    ends = λ node there. ap (λ (f : Option Fault). record (end_state m node) { fault = f }) (fault_loss m ours theirs w other origin cause here node there);
+  }
 
-  same_allocation : (m : Timeline) (ours : ℕ) → IsWhole m → (ours == theirs) ≡ false → (key : NodeKey) → collection_in (births m) key ≡ Some ours → SameIn m (Allocated key ∷ m) theirs
+  same_allocation : (m : Timeline) (ours : ℕ) → IsWhole m → (ours == theirs) ≡ false → (key : NodeKey) → collection_in (births m) key ≡ Some ours → SameIn pool m (Allocated key ∷ m) theirs
   same_allocation m ours w other key here =
-      record { nodes = members_allocation m ours theirs w other key here; given = buffers_allocation m ours theirs w other key here; handles = λ buffer is strength. refl }
+      record {
+        born = refl;
+        nodes = members_allocation m ours theirs w other key here;
+        given = buffers_allocation m ours theirs w other key here;
+        handles = λ buffer is strength. refl;
+        places = placed_allocation m ours theirs w other pool key here;
+        ends = λ node there. refl;
+      }
 
-  same_forced : (m : Timeline) (ours : ℕ) (next : Mark) → IsWhole m → (ours == theirs) ≡ false → Why pool ours m next → SameIn m (next ∷ m) theirs
+  same_forced : (m : Timeline) (ours : ℕ) (next : Mark) → IsWhole m → (ours == theirs) ≡ false → Why pool ours m next → SameIn pool m (next ∷ m) theirs
   same_forced m ours _ w other (No_live b on h free none) =
-      record { nodes = members_end m ours theirs w other b.node (of_ours m ours w b on h); given = refl; handles = λ buffer is strength. refl }
+      record { born = refl; nodes = members_end m ours theirs w other b.node (of_ours m ours w b on h); given = refl; handles = λ buffer is strength. refl; places = refl; ends = λ node there. refl }
   same_forced m ours _ w other (Fails b cause on h free) = same_loss m ours w other b.node cause (of_ours m ours w b on h)
   same_forced m ours _ w other (Initial b on h root free waits found fits) = same_allocation m ours w other b.node (of_ours m ours w b on h)
   same_forced m ours _ w other (Logical b on h child free waits attached) = same_allocation m ours w other b.node (of_ours m ours w b on h)
 
-  same_settled : (ours most : ℕ) (m : Timeline) → (ours == theirs) ≡ false → Grows pool limits [] m → SameIn m (settled_within pool ours most m) theirs
-  same_settled ours zero m other g = same_here m theirs
+  same_settled : (ours most : ℕ) (m : Timeline) → (ours == theirs) ≡ false → Grows pool limits [] m → SameIn pool m (settled_within pool ours most m) theirs
+  same_settled ours zero m other g = same_here pool m theirs
   same_settled ours (suc most) m other g =
       elim (none_or_some (next_forced pool ours m)) [
-        | inl e ↦ rw e (same_here m theirs)
+        | inl e ↦ rw e (same_here pool m theirs)
         | inr some ↦
-            let step : SameIn m (some.0 ∷ m) theirs = same_forced m ours some.0 (whole pool limits m g) other (forced_why pool ours m some.0 some.1) in
-            let rest : SameIn (some.0 ∷ m) (settled_within pool ours most (some.0 ∷ m)) theirs = same_settled ours most (some.0 ∷ m) other (grows_forced pool limits [] ours m some.0 g some.1) in
-            rw some.1 (same_on m (some.0 ∷ m) (settled_within pool ours most (some.0 ∷ m)) theirs step rest)
+            let step : SameIn pool m (some.0 ∷ m) theirs = same_forced m ours some.0 (whole pool limits m g) other (forced_why pool ours m some.0 some.1) in
+            let rest : SameIn pool (some.0 ∷ m) (settled_within pool ours most (some.0 ∷ m)) theirs = same_settled ours most (some.0 ∷ m) other (grows_forced pool limits [] ours m some.0 g some.1) in
+            rw some.1 (same_on pool m (some.0 ∷ m) (settled_within pool ours most (some.0 ∷ m)) theirs step rest)
       ]
 
-  same_lost : (o : Option Mark) → own_loss before call reply ≡ o → SameIn before (cons_option o (Called client reply call ∷ before)) theirs
+  same_lost : (o : Option Mark) → own_loss before call reply ≡ o → SameIn pool before (cons_option o (Called client reply call ∷ before)) theirs
   same_lost None e = same_called
   same_lost (Some next) e =
       let t = own_loss_origin pool limits [] before call reply next e in
@@ -281,19 +366,19 @@ module _ (pool : ℕ) (limits : Bound) (before : Timeline) (client theirs : ℕ)
       let b : Birth = there.birth in
       let r = key_in before client reply call t.0 b ord there.is t.3 in
       let here : collection_in (births called) t.0 ≡ Some b.collection = ap (option_map (λ (b : Birth). b.collection)) r.0 in
-      let lost : SameIn called (Loss t.0 t.1 ∷ called) theirs = same_loss called b.collection (whole pool limits called grown) (not_theirs b.collection r.1) t.0 t.1 here in
-      rw t.2 (same_on before called (Loss t.0 t.1 ∷ called) theirs same_called lost)
+      let lost : SameIn pool called (Loss t.0 t.1 ∷ called) theirs = same_loss called b.collection (whole pool limits called grown) (not_theirs b.collection r.1) t.0 t.1 here in
+      rw t.2 (same_on pool before called (Loss t.0 t.1 ∷ called) theirs same_called lost)
 
   -- an event leaves each collection but its own as it stood
-  pub same_after : SameIn before (after pool before (client, call, reply)) theirs
+  pub same_after : SameIn pool before (after pool before (client, call, reply)) theirs
   same_after = from (collection_of called call reply) not_theirs
     where
       lost : Timeline
       lost = cons_option (own_loss before call reply) (Called client reply call ∷ before)
 
       from : (o : Option ℕ) → ((c : ℕ) → o ≡ Some c → (c == theirs) ≡ false) →
-          SameIn before (option_map_or (λ collection. settled pool collection (cons_option (own_loss before call reply) (Called client reply call ∷ before))) o (cons_option (own_loss before call reply) (Called client reply call ∷ before))) theirs
+          SameIn pool before (option_map_or (λ collection. settled pool collection (cons_option (own_loss before call reply) (Called client reply call ∷ before))) o (cons_option (own_loss before call reply) (Called client reply call ∷ before))) theirs
       from None other = same_lost (own_loss before call reply) refl
       from (Some ours) other =
-          let rest : SameIn lost (settled pool ours lost) theirs = same_settled ours (2 * length (births lost)) lost (other ours refl) (grows_lost pool limits [] before (client, call, reply) g answer) in
-          same_on before lost (settled pool ours lost) theirs (same_lost (own_loss before call reply) refl) rest
+          let rest : SameIn pool lost (settled pool ours lost) theirs = same_settled ours (2 * length (births lost)) lost (other ours refl) (grows_lost pool limits [] before (client, call, reply) g answer) in
+          same_on pool before lost (settled pool ours lost) theirs (same_lost (own_loss before call reply) refl) rest

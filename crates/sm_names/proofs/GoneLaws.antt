@@ -136,7 +136,7 @@ quiet : (marks : Timeline) (mark : Mark) → is_event mark ≡ false → earlier
 quiet marks mark h = rw h refl
 
 -- before one more event there are the moments that there were
-earlier_after : (pool : ℕ) (marks : Timeline) (entry : Entry) → earlier_moments (after pool marks entry) ≡ moments marks
+pub earlier_after : (pool : ℕ) (marks : Timeline) (entry : Entry) → earlier_moments (after pool marks entry) ≡ moments marks
 earlier_after pool marks entry = kept-after (λ m. earlier_moments m ≡ moments marks) (λ m mark q e. quiet m mark q ∙ e) pool marks entry refl
 
 kept_match : (l o : Option Timeline) (event : ℕ) → option_map events l ≡ Some event → option_map events (option_map_or Some l o) ≡ Some event

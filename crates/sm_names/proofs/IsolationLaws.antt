@@ -1,5 +1,5 @@
 -- What happens in one collection changes no node of another.
-use Rattle.std.proofs.Common.{ℕ, ◌≡◌, refl, ap, sym, ◌∙◌, Bool, true, false, cond, ◌&&◌, ◌||◌, ◌==◌, inl, inr, List, [], ◌∷◌, Option, Some, None, is_none}
+use Rattle.std.proofs.Common.{ℕ, ◌≡◌, refl, ap, sym, ◌∙◌, Bool, true, false, cond, ◌&&◌, ◌||◌, ◌==◌, inl, inr, List, [], ◌∷◌, ◌++◌, map, Option, Some, None, is_none}
 use Rattle.std.proofs.lemmas.Bool.{eqb-true, eq-eqb}
 use Rattle.std.specs.List.{filter}
 use Rattle.std.specs.Option.{option_map, option_map_or, IfSome}
@@ -11,10 +11,15 @@ use Rattle.sm_names.specs.Losses.{reaches, blocked, gone, allocated, takes, top}
 use Rattle.sm_names.specs.Marks.{Mark, Timeline, Loss, Allocated, Ended}
 use Rattle.sm_names.specs.Members.{member, members, births_in}
 use Rattle.sm_names.specs.Sameness.{same_key}
-use Rattle.sm_names.proofs.ListLaws.{In, In-filter, In-reverse, map-In}
+use Rattle.sm_names.proofs.ListLaws.{In, In-filter, filter-none, In-reverse, map-In}
 use Rattle.sm_names.proofs.ReachLaws.{other_key, top_on}
 use Rattle.sm_names.proofs.SamenessLaws.{false_if, either_way, same_key-true, both_ways, and_right, or_right}
 use Rattle.sm_names.proofs.SettledLaws.{In-was_born, find_birth}
+use Rattle.sm_names.proofs.LayoutLaws.{layout_given}
+use Rattle.std.proofs.lemmas.List.Elements.{filter-append}
+use Rattle.sm_names.specs.Timelines.{HeldPages, placed, layout_at, still_out}
+use Rattle.sm_names.specs.declared.keys.Interval.{Interval}
+use Rattle.sm_names.specs.Losses.{fault}
 use Rattle.sm_names.proofs.WholeLaws.{IsWhole, line_collection}
 
 -- all that a loss takes is in the collection of its node
@@ -111,9 +116,9 @@ module _ (marks : Timeline) (ours theirs : ℕ) (w : IsWhole marks) (other : (ou
       map-In (member (Allocated key ∷ marks)) (member marks) (births_in marks theirs)
       (λ b on. ap (λ (r : Bool). record (member marks b) { allocated = r || allocated marks b.node }) (not_head key b here on))
 
-  -- an allocation gives them no buffers
-  pub buffers_allocation : (key : NodeKey) → collection_in (births marks) key ≡ Some ours → buffers_of (Allocated key ∷ marks) theirs ≡ buffers_of marks theirs
-  buffers_allocation key here = let none : is_initial marks theirs (Allocated key) ≡ false = from (birth_of marks key) here in rw none refl
+  -- an allocation is not of their root
+  pub not_initial : (key : NodeKey) → collection_in (births marks) key ≡ Some ours → is_initial marks theirs (Allocated key) ≡ false
+  not_initial key here = from (birth_of marks key) here
     where
       from : (o : Option Birth) → option_map (λ (b : Birth). b.collection) o ≡ Some ours → option_map_or (λ (b : Birth). is_none b.parent && b.collection == theirs) o false ≡ false
       from None h = refl
@@ -121,3 +126,29 @@ module _ (marks : Timeline) (ours theirs : ℕ) (w : IsWhole marks) (other : (ou
           let ours_is : b.collection ≡ ours = cc in
           false_if (is_none b.parent && b.collection == theirs)
           (λ e. both_ways (ours == theirs) (eq-eqb ours theirs (sym ours_is ∙ eqb-true b.collection theirs (and_right (is_none b.parent) (b.collection == theirs) e))) other)
+
+  -- so it gives them no buffers
+  pub buffers_allocation : (key : NodeKey) → collection_in (births marks) key ≡ Some ours → buffers_of (Allocated key ∷ marks) theirs ≡ buffers_of marks theirs
+  buffers_allocation key here = rw (not_initial key here) refl
+
+  -- and places none of theirs
+  pub placed_allocation : (pool : ℕ) (key : NodeKey) → collection_in (births marks) key ≡ Some ours →
+      filter (λ (h : HeldPages). h.buffer.collection == theirs) (placed pool (Allocated key ∷ marks)) ≡ filter (λ (h : HeldPages). h.buffer.collection == theirs) (placed pool marks)
+  placed_allocation pool key here =
+      let out : List Interval = map (λ (h : HeldPages). h.pages) (still_out marks (placed pool marks)) in
+      let laid : List HeldPages = layout_at pool marks out (Allocated key) in
+      filter-append (λ (h : HeldPages). h.buffer.collection == theirs) laid (placed pool marks)
+      ∙ ap (λ (l : List HeldPages). l ++ filter (λ (h : HeldPages). h.buffer.collection == theirs) (placed pool marks))
+      (filter-none (λ (h : HeldPages). h.buffer.collection == theirs) laid
+      (λ h on. false_if (h.buffer.collection == theirs) (λ e.
+      both_ways (is_initial marks theirs (Allocated key))
+      (ap (λ (c : ℕ). is_initial marks c (Allocated key)) (sym (eqb-true h.buffer.collection theirs e)) ∙ layout_given pool marks out (Allocated key) h on) (not_initial key here))))
+
+  -- a loss is to none of theirs
+  pub fault_loss : (origin : NodeKey) (cause : Cause) → collection_in (births marks) origin ≡ Some ours → (node : NodeKey) → collection_in (births marks) node ≡ Some theirs → fault (Loss origin cause ∷ marks) node ≡ fault marks node
+  fault_loss origin cause here node there =
+      let taken : reaches marks origin node ≡ false = false_if (reaches marks origin node) (λ e.
+      (let both : Some theirs ≡ Some ours = sym there ∙ (reaches_in marks origin node w e ∙ here) in
+      let is : theirs ≡ ours = cc in
+      both_ways (ours == theirs) (eq-eqb ours theirs (sym is)) other)) in
+      rw taken refl

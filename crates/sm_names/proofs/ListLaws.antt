@@ -119,6 +119,36 @@ pub when-Some : {A : Type 0} (b : Bool) (x y : A) → when b x ≡ Some y → (b
 when-Some true x y h = (refl, cc)
 when-Some false x y h = cc
 
+pub filter-none : {A : Type 0} (test : A → Bool) (xs : List A) → ((x : A) → In x xs → test x ≡ false) → filter test xs ≡ []
+filter-none test [] h = refl
+filter-none test (x ∷ xs) h = let e : test x ≡ false = h x (inl refl) in rw e (filter-none test xs (λ y on. h y (inr on)))
+
+-- two filters in turn give the same in either order
+pub filter-swap : {A : Type 0} (p q : A → Bool) (xs : List A) → filter p (filter q xs) ≡ filter q (filter p xs)
+filter-swap p q [] = refl
+filter-swap {A = A} p q (x ∷ xs) =
+    elim (either_way (p x)) [
+      | inl e ↦ elim (either_way (q x)) [
+        | inl f ↦ rw (e, f, e) (ap (λ (l : List A). x ∷ l) (filter-swap p q xs))
+        | inr f ↦ rw (e, f) (filter-swap p q xs)
+      ]
+      | inr e ↦ elim (either_way (q x)) [
+        | inl f ↦ rw (e, f, e) (filter-swap p q xs)
+        | inr f ↦ rw (e, f) (filter-swap p q xs)
+      ]
+    ]
+
+-- two filters agree where their tests do
+pub filter-In : {A : Type 0} (p q : A → Bool) (xs : List A) → ((x : A) → In x xs → p x ≡ q x) → filter p xs ≡ filter q xs
+filter-In p q [] same = refl
+filter-In p q (x ∷ xs) same = λ i. cond (same x (inl refl) i) (x ∷ filter-In p q xs (λ y on. same y (inr on)) i) (filter-In p q xs (λ y on. same y (inr on)) i)
+
+-- maps that agree do so at each element
+pub map-at : {A B : Type 0} (f g : A → B) (xs : List A) → map f xs ≡ map g xs → (x : A) → In x xs → f x ≡ g x
+map-at f g [] same x on = absurd on
+map-at f g (y ∷ ys) same x (inl is) = let here : f y ≡ g y = cc in ap f is ∙ (here ∙ ap g (sym is))
+map-at f g (y ∷ ys) same x (inr on) = let rest : map f ys ≡ map g ys = cc in map-at f g ys rest x on
+
 -- ---- how many
 
 pub times-le-length : {A : Type 0} (test : A → Bool) (xs : List A) → times test xs ≤ length xs

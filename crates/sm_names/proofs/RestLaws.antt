@@ -69,8 +69,8 @@ any_same f g collection [] same = refl
 any_same f g collection (i ∷ is) same = λ j. same i j || any_same f g collection is same j
 
 -- so a strong handle is open if one was
-strong_same : (a b : Timeline) (collection : ℕ) → SameIn a b collection → (standing 0 b collection).strong_open ≡ (standing 0 a collection).strong_open
-strong_same a b collection s =
+strong_same : (pool : ℕ) (a b : Timeline) (collection : ℕ) → SameIn pool a b collection → (standing 0 b collection).strong_open ≡ (standing 0 a collection).strong_open
+strong_same pool a b collection s =
     ap (λ (o : Option Buffers). list_any (λ x. nat_lt 0 (open_total b x Strength.Strong)) (option_map_or (λ (g : Buffers). names collection g.count) o [])) s.given
     ∙ from (buffers_of a collection)
   where
@@ -84,11 +84,11 @@ strong_same a b collection s =
 rests_with : (s : Standing) (held : List Interval) → AtRest s → AtRest (record s { held = held })
 rests_with s held r = record { none_ends = r.none_ends; none_abandoned = r.none_abandoned; none_waits = r.none_waits; no_head = r.no_head }
 
-pub rests_same : (pool collection : ℕ) (a b : Timeline) → SameIn a b collection → next_forced pool collection a ≡ None → next_forced pool collection b ≡ None
+pub rests_same : (pool collection : ℕ) (a b : Timeline) → SameIn pool a b collection → next_forced pool collection a ≡ None → next_forced pool collection b ≡ None
 rests_same pool collection a b s h =
     let old : Standing = standing pool a collection in
     let new : Standing = standing pool b collection in
-    let is : new ≡ record old { held = new.held } = (λ i. record { members = s.nodes i; buffers = s.given i; strong_open = strong_same a b collection s i; held = new.held }) in
+    let is : new ≡ record old { held = new.held } = (λ i. record { members = s.nodes i; buffers = s.given i; strong_open = strong_same pool a b collection s i; held = new.held }) in
     ap (forced pool) is ∙ none_forced pool (record old { held = new.held }) (rests_with old new.held (at_rest pool old h))
 
 -- ---- each event leaves each collection at rest

@@ -7,6 +7,7 @@ pub mod Demands
 pub mod Ends
 pub mod Forced
 pub mod Handles
+pub mod Isolation
 pub mod Kept
 pub mod Legality
 pub mod Losses

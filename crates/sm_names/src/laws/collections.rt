@@ -1,19 +1,15 @@
 //! What happens in one collection stays in it.
 ghost use Rattle.std.specs.Prelude.{◌≡◌, ◌∷◌, ◌++◌, ◌==◌, ℕ, [], List, Some, None, true, false};
-ghost use Rattle.sm_names.specs.declared.keys.BufferName.{BufferName};
 ghost use Rattle.sm_names.specs.declared.keys.NodeKey.{NodeKey};
-ghost use Rattle.sm_names.specs.declared.keys.Strength.{Strength};
-ghost use Rattle.sm_names.specs.declared.messages.Call.{Call};
-ghost use Rattle.sm_names.specs.declared.messages.Reply.{Reply};
 ghost use Rattle.sm_names.specs.declared.outcomes.Cause.{Cause};
 ghost use Rattle.sm_names.specs.Births.{births, collection_in};
 ghost use Rattle.sm_names.specs.Bounds.{Bound};
-ghost use Rattle.sm_names.specs.Handles.{buffers_of, open_total, doomed, home};
+ghost use Rattle.sm_names.specs.Isolation.{IsAsBefore, collection_at};
 ghost use Rattle.sm_names.specs.Legality.{IsLegal};
 ghost use Rattle.sm_names.specs.Losses.{reaches};
-ghost use Rattle.sm_names.specs.Marks.{Entry, Called, Loss, Allocated, Ended};
+ghost use Rattle.sm_names.specs.Marks.{Entry, Loss, Allocated, Ended};
 ghost use Rattle.sm_names.specs.Members.{members};
-ghost use Rattle.sm_names.specs.Timelines.{timeline, collection_of, next_forced};
+ghost use Rattle.sm_names.specs.Timelines.{timeline, next_forced};
 
 /// A loss takes nodes of its own collection alone, and no loss, allocation or end of one collection changes
 /// how the nodes of another stand.
@@ -35,30 +31,14 @@ pub fn collections_are_apart()
         members (Ended top ∷ timeline pool history) theirs ≡ members (timeline pool history) theirs }
 {}
 
-/// An event leaves each collection but its own as it stood: its nodes, what it was given, the handles on its
-/// buffers, and which of them are doomed or home. An event that names no collection leaves all of them so.
+/// An event leaves each collection but its own as it was: how its nodes stand, what it was given, the handles
+/// on its buffers, which of them are doomed or home, the pages that they hold, what its ends answer, and when
+/// its trackers fired. An event that names no collection leaves all of them so. Only who holds an end may change.
 pub fn events_stay_in_their_collection()
-    ensures nodes { (pool : ℕ) (limits : Bound) (history : List Entry) (client : ℕ) (call : Call) (reply : Reply) →
-        IsLegal pool limits (history ++ (client, call, reply) ∷ []) →
-        (theirs : ℕ) → (collection_of (Called client reply call ∷ timeline pool history) call reply ≡ Some theirs → ⊥) →
-        members (timeline pool (history ++ (client, call, reply) ∷ [])) theirs ≡ members (timeline pool history) theirs }
-    ensures given { (pool : ℕ) (limits : Bound) (history : List Entry) (client : ℕ) (call : Call) (reply : Reply) →
-        IsLegal pool limits (history ++ (client, call, reply) ∷ []) →
-        (theirs : ℕ) → (collection_of (Called client reply call ∷ timeline pool history) call reply ≡ Some theirs → ⊥) →
-        buffers_of (timeline pool (history ++ (client, call, reply) ∷ [])) theirs ≡ buffers_of (timeline pool history) theirs }
-    ensures handles { (pool : ℕ) (limits : Bound) (history : List Entry) (client : ℕ) (call : Call) (reply : Reply) →
-        IsLegal pool limits (history ++ (client, call, reply) ∷ []) → (buffer : BufferName) (strength : Strength) →
-        (collection_of (Called client reply call ∷ timeline pool history) call reply ≡ Some buffer.collection → ⊥) →
-        open_total (timeline pool (history ++ (client, call, reply) ∷ [])) buffer strength
-        ≡ open_total (timeline pool history) buffer strength }
-    ensures doomed { (pool : ℕ) (limits : Bound) (history : List Entry) (client : ℕ) (call : Call) (reply : Reply) →
-        IsLegal pool limits (history ++ (client, call, reply) ∷ []) → (buffer : BufferName) →
-        (collection_of (Called client reply call ∷ timeline pool history) call reply ≡ Some buffer.collection → ⊥) →
-        doomed (timeline pool (history ++ (client, call, reply) ∷ [])) buffer ≡ doomed (timeline pool history) buffer }
-    ensures home { (pool : ℕ) (limits : Bound) (history : List Entry) (client : ℕ) (call : Call) (reply : Reply) →
-        IsLegal pool limits (history ++ (client, call, reply) ∷ []) → (buffer : BufferName) →
-        (collection_of (Called client reply call ∷ timeline pool history) call reply ≡ Some buffer.collection → ⊥) →
-        home (timeline pool (history ++ (client, call, reply) ∷ [])) buffer ≡ home (timeline pool history) buffer }
+    ensures { (pool : ℕ) (limits : Bound) (history : List Entry) (entry : Entry) →
+        IsLegal pool limits (history ++ entry ∷ []) → (collection : ℕ) →
+        (collection_at (timeline pool history) entry ≡ Some collection → ⊥) →
+        IsAsBefore pool (timeline pool history) (timeline pool (history ++ entry ∷ [])) collection }
 {}
 
 /// In a legal history each collection is at rest between two events: whatever the events did, none of its

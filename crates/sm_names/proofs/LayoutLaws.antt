@@ -1,0 +1,59 @@
+-- What an allocation lays out is of the collection whose root it is.
+use Rattle.std.proofs.Common.{ℕ, ◌≡◌, refl, ap, sym, ◌∙◌, Bool, true, false, cond, ◌&&◌, ◌==◌, inl, inr, List, [], ◌∷◌, map, Option, Some, None, is_some, is_none}
+use Rattle.std.proofs.lemmas.Bool.{eq-eqb}
+use Rattle.std.specs.Option.{option_map_or}
+use Rattle.sm_names.specs.declared.keys.BufferName.{BufferName}
+use Rattle.sm_names.specs.declared.keys.Interval.{Interval}
+use Rattle.sm_names.specs.declared.outcomes.Buffers.{Buffers}
+use Rattle.sm_names.specs.Births.{Birth, birth_of}
+use Rattle.sm_names.specs.Handles.{buffers_of, is_initial, names}
+use Rattle.sm_names.specs.Marks.{Mark, Timeline, Called, Loss, Allocated, Ended}
+use Rattle.sm_names.specs.Members.{members, asked}
+use Rattle.sm_names.specs.Pages.{places, pages_of}
+use Rattle.sm_names.specs.Timelines.{HeldPages, placed, layout, layout_at, laid_out, still_out}
+use Rattle.sm_names.proofs.ListLaws.{In, In-append, In-map}
+
+-- what is laid out bears the name of its collection
+laid_in : (collection pages : ℕ) (bs : List BufferName) (starts : List ℕ) → ((b : BufferName) → In b bs → b.collection ≡ collection) → (h : HeldPages) → In h (laid_out pages bs starts) → h.buffer.collection ≡ collection
+laid_in collection pages [] starts named h on = absurd on
+laid_in collection pages (b ∷ bs) [] named h on = absurd on
+laid_in collection pages (b ∷ bs) (start ∷ starts) named h (inl is) = ap (λ (x : HeldPages). x.buffer.collection) is ∙ named b (inl refl)
+laid_in collection pages (b ∷ bs) (start ∷ starts) named h (inr on) = laid_in collection pages bs starts (λ c there. named c (inr there)) h on
+
+-- what an allocation lays out is of the collection whose root it is
+pub layout_given : (pool : ℕ) (before : Timeline) (out : List Interval) (mark : Mark) (h : HeldPages) → In h (layout_at pool before out mark) → is_initial before h.buffer.collection mark ≡ true
+layout_given pool before out (Called client reply call) h on = absurd on
+layout_given pool before out (Loss origin cause) h on = absurd on
+layout_given pool before out (Ended top) h on = absurd on
+layout_given pool before out (Allocated head) h on = from (birth_of before head) on
+  where
+    starts_given : (b : Birth) (g : Buffers) (o : Option (List ℕ)) → In h (option_map_or (laid_out (pages_of g.size) (names b.collection g.count)) o []) → h.buffer.collection ≡ b.collection
+    starts_given b g None on = absurd on
+    starts_given b g (Some starts) on =
+        laid_in b.collection (pages_of g.size) (names b.collection g.count) starts
+        (λ name there. let r = In-map (λ i. record { collection = b.collection; index = i }) _ name there in ap (λ (x : BufferName). x.collection) r.2) h on
+
+    of_root : (b : Birth) (root : Bool) → In h (cond root (layout pool b.collection (asked (members before b.collection)) out) []) → (root && b.collection == h.buffer.collection) ≡ true
+    of_root b true on =
+        let g : Buffers = asked (members before b.collection) in
+        eq-eqb b.collection h.buffer.collection (sym (starts_given b g (places pool (pages_of g.size) g.count out) on))
+    of_root b false on = absurd on
+
+    from : (o : Option Birth) → In h (option_map_or (λ (b : Birth). cond (is_none b.parent) (layout pool b.collection (asked (members before b.collection)) out) []) o []) →
+        option_map_or (λ (b : Birth). is_none b.parent && b.collection == h.buffer.collection) o false ≡ true
+    from None on = absurd on
+    from (Some b) on = of_root b (is_none b.parent) on
+
+-- a buffer that was placed is one of a collection that was given some
+pub placed_given : (pool : ℕ) (marks : Timeline) (h : HeldPages) → In h (placed pool marks) → is_some (buffers_of marks h.buffer.collection) ≡ true
+placed_given pool [] h on = absurd on
+placed_given pool (mark ∷ before) h on =
+    elim (In-append (layout_at pool before (map (λ h. h.pages) (still_out before (placed pool before))) mark) (placed pool before) h on) [
+      | inl new ↦ rw (layout_given pool before (map (λ h. h.pages) (still_out before (placed pool before))) mark h new) refl
+      | inr old ↦ was (is_initial before h.buffer.collection mark) (placed_given pool before h old)
+    ]
+  where
+    was : (b : Bool) → is_some (buffers_of before h.buffer.collection) ≡ true →
+        is_some (cond b (Some (asked (members before h.buffer.collection))) (buffers_of before h.buffer.collection)) ≡ true
+    was true e = refl
+    was false e = e
