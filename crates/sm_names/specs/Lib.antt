@@ -16,7 +16,6 @@ pub mod Members
 pub mod Numbers
 pub mod Pages
 pub mod Reading
-pub mod Runs
 pub mod Sameness
 pub mod Timelines
 pub mod Trackers

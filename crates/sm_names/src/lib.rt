@@ -8,7 +8,6 @@ pub mod keys;
 pub mod laws;
 pub mod messages;
 pub mod outcomes;
-pub mod runs;
 #[cfg(test)]
 mod tests;
 pub mod tracking;

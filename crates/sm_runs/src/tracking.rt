@@ -3,10 +3,10 @@ ghost use Rattle.std.specs.Prelude.{◌≡◌, None, Some, [], take, ◌∷◌};
 ghost use Rattle.sm_names.specs.declared.messages.Reply.{Reply};
 ghost use Rattle.sm_names.specs.declared.tracking.Condition.{Condition};
 ghost use Rattle.sm_names.specs.Legality.{IsLegal};
-ghost use Rattle.sm_names.specs.Runs.{answered_instead, fires, full, key, tracking};
+ghost use Rattle.sm_runs.specs.Words.{answered_instead, fires, full, key, tracking};
 ghost use Rattle.sm_names.specs.Timelines.{timeline};
 ghost use Rattle.sm_names.specs.Trackers.{fired, fired_at};
-ghost use Rattle.sm_names.specs.Runs.Tracking.{attached_tracker, few_left, few_left_of_none, tracker_of_an_ended, tracker_of_an_unallocated_unit, node_trackers_full};
+ghost use Rattle.sm_runs.specs.Tracking.{attached_tracker, few_left, few_left_of_none, tracker_of_an_ended, tracker_of_an_unallocated_unit, node_trackers_full};
 
 /// A tracker of a node fires at the event that takes the node, and keeps that event.
 pub fn a_node_tracker_fires_once_the_node_is_gone()

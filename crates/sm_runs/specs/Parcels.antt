@@ -7,7 +7,7 @@ use Rattle.sm_names.specs.declared.messages.Reply.{Reply}
 use Rattle.sm_names.specs.declared.outcomes.Cause.{Cause}
 use Rattle.sm_names.specs.declared.outcomes.Refusal.{Refusal}
 use Rattle.sm_names.specs.Marks.{Entry}
-use Rattle.sm_names.specs.Runs.{asks, buffer, key}
+use Rattle.sm_runs.specs.Words.{asks, buffer, key}
 
 -- nothing is given to a shut client; a client gives its end to itself
 abbrev pub end_given_to_itself : List Entry

@@ -5,7 +5,7 @@ use Rattle.sm_names.specs.declared.messages.Reply.{Reply}
 use Rattle.sm_names.specs.declared.outcomes.Cause.{Cause}
 use Rattle.sm_names.specs.declared.outcomes.Failure.{Failure}
 use Rattle.sm_names.specs.Marks.{Entry}
-use Rattle.sm_names.specs.Runs.{asks, key}
+use Rattle.sm_runs.specs.Words.{asks, key}
 
 -- no call was made
 abbrev pub nothing : List Entry

@@ -6,7 +6,7 @@ use Rattle.sm_names.specs.declared.outcomes.Cause.{Cause}
 use Rattle.sm_names.specs.declared.outcomes.Failure.{Failure}
 use Rattle.sm_names.specs.declared.outcomes.Refusal.{Refusal}
 use Rattle.sm_names.specs.Marks.{Entry}
-use Rattle.sm_names.specs.Runs.{asks, key}
+use Rattle.sm_runs.specs.Words.{asks, key}
 
 -- client 1 opens root 0 with children 1 and 2, and closes the first
 abbrev pub child_lost : List Entry

@@ -5,10 +5,10 @@ ghost use Rattle.sm_names.specs.declared.outcomes.Cause.{Cause};
 ghost use Rattle.sm_names.specs.declared.outcomes.Failure.{Failure};
 ghost use Rattle.sm_names.specs.declared.outcomes.Refusal.{Refusal};
 ghost use Rattle.sm_names.specs.Legality.{IsLegal};
-ghost use Rattle.sm_names.specs.Runs.{answered_instead, at, buffer, full, key};
+ghost use Rattle.sm_runs.specs.Words.{answered_instead, at, buffer, full, key};
 ghost use Rattle.sm_names.specs.Timelines.{timeline};
 ghost use Rattle.sm_names.specs.Views.{free_pages, held_by_page};
-ghost use Rattle.sm_names.specs.Runs.Attached.{attached_closed, too_large, at_least_two, too_few_and_too_small, bytes_and_not_pages, two_attached, nested_attached, unready_below, checked_by_its_unit, attached_released, attached_with_a_child, attached_below_attached, attached_keeps, attached_token_keeps};
+ghost use Rattle.sm_runs.specs.Attached.{attached_closed, too_large, at_least_two, too_few_and_too_small, bytes_and_not_pages, two_attached, nested_attached, unready_below, checked_by_its_unit, attached_released, attached_with_a_child, attached_below_attached, attached_keeps, attached_token_keeps};
 
 /// An attached node that is closed fails nobody above it; a parent that is closed fails it.
 pub fn an_attached_failure_stops()

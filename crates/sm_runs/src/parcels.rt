@@ -8,10 +8,10 @@ ghost use Rattle.sm_names.specs.declared.outcomes.Refusal.{Refusal};
 ghost use Rattle.sm_names.specs.Handles.{moving, open_of, open_total};
 ghost use Rattle.sm_names.specs.Legality.{IsLegal};
 ghost use Rattle.sm_names.specs.Marks.{events};
-ghost use Rattle.sm_names.specs.Runs.{answered_instead, at, buffer, full, key};
+ghost use Rattle.sm_runs.specs.Words.{answered_instead, at, buffer, full, key};
 ghost use Rattle.sm_names.specs.Timelines.{timeline};
 ghost use Rattle.sm_names.specs.Views.{held_by_page};
-ghost use Rattle.sm_names.specs.Runs.Parcels.{end_given_to_itself, end_given_to_another, parcel_of_a_lost_node, lost_in_transit, two_parcels, handle_travels, handle_to_a_shut_client, handles_counted, shut_client};
+ghost use Rattle.sm_runs.specs.Parcels.{end_given_to_itself, end_given_to_another, parcel_of_a_lost_node, lost_in_transit, two_parcels, handle_travels, handle_to_a_shut_client, handles_counted, shut_client};
 
 /// An end that was given is nobody's to use until it is collected.
 pub fn an_end_waits_in_a_parcel()

@@ -7,7 +7,7 @@ use Rattle.sm_names.specs.declared.outcomes.Cause.{Cause}
 use Rattle.sm_names.specs.declared.outcomes.Failure.{Failure}
 use Rattle.sm_names.specs.declared.outcomes.Misuse.{Misuse}
 use Rattle.sm_names.specs.Marks.{Entry}
-use Rattle.sm_names.specs.Runs.{asks, buffer, key}
+use Rattle.sm_runs.specs.Words.{asks, buffer, key}
 
 -- attached 1 with a tracker is released and so ends
 abbrev pub attached_tracker : List Entry

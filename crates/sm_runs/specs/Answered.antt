@@ -8,7 +8,7 @@ use Rattle.sm_names.specs.declared.outcomes.Failure.{Failure}
 use Rattle.sm_names.specs.declared.outcomes.Misuse.{Misuse}
 use Rattle.sm_names.specs.declared.outcomes.Refusal.{Refusal}
 use Rattle.sm_names.specs.Marks.{Entry}
-use Rattle.sm_names.specs.Runs.{asks, buffer, key}
+use Rattle.sm_runs.specs.Words.{asks, buffer, key}
 
 -- a token is checked, and a collection bound
 abbrev pub wrong_kind : List Entry

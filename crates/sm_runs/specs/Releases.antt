@@ -5,7 +5,7 @@ use Rattle.sm_names.specs.declared.messages.Reply.{Reply}
 use Rattle.sm_names.specs.declared.outcomes.Cause.{Cause}
 use Rattle.sm_names.specs.declared.outcomes.Failure.{Failure}
 use Rattle.sm_names.specs.Marks.{Entry}
-use Rattle.sm_names.specs.Runs.{asks, key}
+use Rattle.sm_runs.specs.Words.{asks, key}
 
 -- root 0 has child 1, which is released as a token
 abbrev pub child_released : List Entry

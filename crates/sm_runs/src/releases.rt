@@ -4,10 +4,10 @@ ghost use Rattle.sm_names.specs.declared.messages.Reply.{Reply};
 ghost use Rattle.sm_names.specs.declared.outcomes.Cause.{Cause};
 ghost use Rattle.sm_names.specs.declared.outcomes.Failure.{Failure};
 ghost use Rattle.sm_names.specs.Legality.{IsLegal};
-ghost use Rattle.sm_names.specs.Runs.{answered_instead, full, key};
+ghost use Rattle.sm_runs.specs.Words.{answered_instead, full, key};
 ghost use Rattle.sm_names.specs.Timelines.{timeline};
 ghost use Rattle.sm_names.specs.Views.{live_nodes};
-ghost use Rattle.sm_names.specs.Runs.Releases.{child_released, orphan_asks, failed_counts_return, released_counts_stay};
+ghost use Rattle.sm_runs.specs.Releases.{child_released, orphan_asks, failed_counts_return, released_counts_stay};
 
 /// A child that is released asks for nothing and fails nobody.
 pub fn a_release_fails_nobody()

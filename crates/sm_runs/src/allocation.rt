@@ -4,11 +4,11 @@ ghost use Rattle.sm_names.specs.declared.messages.Reply.{Reply};
 ghost use Rattle.sm_names.specs.declared.outcomes.Cause.{Cause};
 ghost use Rattle.sm_names.specs.declared.outcomes.Failure.{Failure};
 ghost use Rattle.sm_names.specs.Legality.{IsLegal};
-ghost use Rattle.sm_names.specs.Runs.{answered_instead, at, buffer, full, key};
+ghost use Rattle.sm_runs.specs.Words.{answered_instead, at, buffer, full, key};
 ghost use Rattle.sm_names.specs.Timelines.{timeline};
 ghost use Rattle.sm_names.specs.Trackers.{fired};
 ghost use Rattle.sm_names.specs.Views.{free_pages, held_by_page, live_nodes};
-ghost use Rattle.sm_names.specs.Runs.Allocation.{nothing, two_buffers, most_buffers, too_many_buffers, too_many_for_the_pool_too, pool_full, weak_and_no_buffers, holes, scattered_pages, two_holes, buffers_apart};
+ghost use Rattle.sm_runs.specs.Allocation.{nothing, two_buffers, most_buffers, too_many_buffers, too_many_for_the_pool_too, pool_full, weak_and_no_buffers, holes, scattered_pages, two_holes, buffers_apart};
 
 /// Before the first call no node is live, nothing is held, and the whole pool is free.
 pub fn nothing_is_held_at_first()

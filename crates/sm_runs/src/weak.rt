@@ -5,11 +5,11 @@ ghost use Rattle.sm_names.specs.declared.messages.Reply.{Reply};
 ghost use Rattle.sm_names.specs.declared.outcomes.Misuse.{Misuse};
 ghost use Rattle.sm_names.specs.declared.tracking.Condition.{Condition};
 ghost use Rattle.sm_names.specs.Legality.{IsLegal};
-ghost use Rattle.sm_names.specs.Runs.{answered_instead, at, buffer, full, key, tracking};
+ghost use Rattle.sm_runs.specs.Words.{answered_instead, at, buffer, full, key, tracking};
 ghost use Rattle.sm_names.specs.Timelines.{timeline};
 ghost use Rattle.sm_names.specs.Trackers.{fired_at};
 ghost use Rattle.sm_names.specs.Views.{held_by_page};
-ghost use Rattle.sm_names.specs.Runs.Weak.{weak_not_ok, weak_ok_for_children, weak_ok_stays, weak_ok_too_late, weak_ok_for_grandchildren, attached_to_weak, weak_ok_across_attached, weak_after_birth, weak_holders, last_handle_dropped};
+ghost use Rattle.sm_runs.specs.Weak.{weak_not_ok, weak_ok_for_children, weak_ok_stays, weak_ok_too_late, weak_ok_for_grandchildren, attached_to_weak, weak_ok_across_attached, weak_after_birth, weak_holders, last_handle_dropped};
 
 /// A weak node that takes buffers, for which nobody sent SetWeakOk, fails; an ancestor that sent it
 /// for children covers those born after, for good.

@@ -1,6 +1,7 @@
 //! Worked runs: short histories, each proved to be legal by computing every reply, with what is
 //! seen after them, and with wrong replies that are proved not to be legal. The functions do
-//! nothing: their contracts are the facts. The histories stand in `specs/Runs`.
+//! nothing: their contracts are the facts. The histories stand in `specs/`.
+#![tactic(auto)]
 
 pub mod allocation;
 pub mod answers;

@@ -7,7 +7,7 @@ use Rattle.sm_names.specs.declared.outcomes.Cause.{Cause}
 use Rattle.sm_names.specs.declared.outcomes.Misuse.{Misuse}
 use Rattle.sm_names.specs.declared.outcomes.Refusal.{Refusal}
 use Rattle.sm_names.specs.Marks.{Entry}
-use Rattle.sm_names.specs.Runs.{asks, buffer, key}
+use Rattle.sm_runs.specs.Words.{asks, buffer, key}
 
 -- weak 1 has child 2, which takes
 abbrev pub weak_not_ok : List Entry

@@ -4,10 +4,10 @@ ghost use Rattle.sm_names.specs.declared.messages.Reply.{Reply};
 ghost use Rattle.sm_names.specs.declared.outcomes.Cause.{Cause};
 ghost use Rattle.sm_names.specs.declared.outcomes.Refusal.{Refusal};
 ghost use Rattle.sm_names.specs.Legality.{IsLegal};
-ghost use Rattle.sm_names.specs.Runs.{answered_instead, full, key};
+ghost use Rattle.sm_runs.specs.Words.{answered_instead, full, key};
 ghost use Rattle.sm_names.specs.Timelines.{timeline};
 ghost use Rattle.sm_names.specs.Views.{live_nodes};
-ghost use Rattle.sm_names.specs.Runs.Failures.{child_lost, lost_through_orphan, dispensable_lost_before, dispensable_lost_after, child_of_dispensable_lost, dispensable_after_its_child, failed_and_then_lost, failed_and_abandoned, end_spent};
+ghost use Rattle.sm_runs.specs.Failures.{child_lost, lost_through_orphan, dispensable_lost_before, dispensable_lost_after, child_of_dispensable_lost, dispensable_after_its_child, failed_and_then_lost, failed_and_abandoned, end_spent};
 
 /// A child that is closed without Release fails its parent, and with it the other child; whoever
 /// asks is told the origin.

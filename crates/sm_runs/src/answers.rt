@@ -7,9 +7,9 @@ ghost use Rattle.sm_names.specs.declared.outcomes.Refusal.{Refusal};
 ghost use Rattle.sm_names.specs.Legality.{IsLegal};
 ghost use Rattle.sm_names.specs.Timelines.{timeline};
 ghost use Rattle.sm_names.specs.Views.{live_nodes};
-ghost use Rattle.sm_names.specs.Runs.{answered_instead, full, key};
-ghost use Rattle.sm_names.specs.Runs.Answered.{wrong_kind, second_constraints, late_weak, late_weak_ok, weak_takes_early, misuse_before_limits, nodes_full, collections_full, trackers_full, handles_full, history_full, gift_of_a_spent_end, strangers, given_to_nobody, forged_keys};
-ghost use Rattle.sm_names.specs.Runs.Failures.{end_spent};
+ghost use Rattle.sm_runs.specs.Words.{answered_instead, full, key};
+ghost use Rattle.sm_runs.specs.Answered.{wrong_kind, second_constraints, late_weak, late_weak_ok, weak_takes_early, misuse_before_limits, nodes_full, collections_full, trackers_full, handles_full, history_full, gift_of_a_spent_end, strangers, given_to_nobody, forged_keys};
+ghost use Rattle.sm_runs.specs.Failures.{end_spent};
 
 /// A call for an end of the other kind is refused and changes nothing.
 pub fn kinds_are_told_apart()

@@ -1,0 +1,9 @@
+pub mod Allocation
+pub mod Answered
+pub mod Attached
+pub mod Failures
+pub mod Parcels
+pub mod Releases
+pub mod Tracking
+pub mod Weak
+pub mod Words
