@@ -8,8 +8,6 @@ pub mod keys;
 pub mod laws;
 pub mod messages;
 pub mod outcomes;
-#[cfg(test)]
-mod tests;
 pub mod tracking;
 
 pub use bounds::Limits;

@@ -11,3 +11,5 @@ pub mod parcels;
 pub mod releases;
 pub mod tracking;
 pub mod weak;
+#[cfg(test)]
+mod tests;

@@ -51,9 +51,14 @@ pub fn doomed_is_for_good()
         ≡ (list_any (λ name. same_buffer name buffer) (buffer_names (timeline pool history) collection)
         && not (doomed (timeline pool history) buffer)) }
     ensures by_take { (pool : ℕ) (limits : Bound) (history : List Entry) (client collection : ℕ) (strength : Strength) (set : ℕ) (call : Call) →
-        IsLegal pool limits (history ++ (client, call, Reply.Taken collection strength set) ∷ []) → (key : NodeKey) × (call ≡ Call.Take key) }
-    ensures doomed { (pool : ℕ) (limits : Bound) (history more : List Entry) → IsLegal pool limits (history ++ more) →
-        (buffer : BufferName) → doomed (timeline pool history) buffer ≡ true → doomed (timeline pool (history ++ more)) buffer ≡ true }
-    ensures home { (pool : ℕ) (limits : Bound) (history more : List Entry) → IsLegal pool limits (history ++ more) →
-        (buffer : BufferName) → home (timeline pool history) buffer ≡ true → home (timeline pool (history ++ more)) buffer ≡ true }
+        IsLegal pool limits (history ++ (client, call, Reply.Taken collection strength set) ∷ []) →
+        (key : NodeKey) × (call ≡ Call.Take key) }
+    ensures doomed { (pool : ℕ) (limits : Bound) (history more : List Entry) →
+        IsLegal pool limits (history ++ more) →
+        (buffer : BufferName) → doomed (timeline pool history) buffer ≡ true →
+        doomed (timeline pool (history ++ more)) buffer ≡ true }
+    ensures home { (pool : ℕ) (limits : Bound) (history more : List Entry) →
+        IsLegal pool limits (history ++ more) →
+        (buffer : BufferName) → home (timeline pool history) buffer ≡ true →
+        home (timeline pool (history ++ more)) buffer ≡ true }
 {}

@@ -18,15 +18,17 @@ ghost use Rattle.sm_names.specs.Trackers.{Tracked, fired_at};
 ghost use Rattle.sm_names.specs.Views.{free_pages, live_nodes};
 ghost use Rattle.sm_names.specs.Words.{times};
 
-/// A node that is gone stays gone, with the fault by which it failed first, and is not live; and above a
-/// node that is not gone none is gone. A node that was born is live exactly if it is neither gone nor
-/// released, and the live nodes are exactly those that are live, each once.
+/// A node that is gone stays gone, with the fault by which it failed first, and is not live; and
+/// above a node that is not gone none is gone. A node that was born is live exactly if it is
+/// neither gone nor released, and the live nodes are exactly those that are live, each once.
 pub fn gone_is_for_good()
     ensures gone { (pool : ℕ) (history more : List Entry) (node : NodeKey) →
         gone (timeline pool history) node ≡ true → gone (timeline pool (history ++ more)) node ≡ true }
     ensures fault { (pool : ℕ) (history more : List Entry) (node : NodeKey) (why : Fault) →
-        fault (timeline pool history) node ≡ Some why → fault (timeline pool (history ++ more)) node ≡ Some why }
-    ensures not_live { (marks : Timeline) (node : NodeKey) → gone marks node ≡ true → live marks node ≡ false }
+        fault (timeline pool history) node ≡ Some why →
+        fault (timeline pool (history ++ more)) node ≡ Some why }
+    ensures not_live { (marks : Timeline) (node : NodeKey) → gone marks node ≡ true →
+        live marks node ≡ false }
     ensures above { (pool : ℕ) (limits : Bound) (history : List Entry) → IsLegal pool limits history →
         (node : NodeKey) → gone (timeline pool history) node ≡ false →
         list_any (gone (timeline pool history)) (ancestors (births (timeline pool history)) node) ≡ false }
@@ -44,21 +46,26 @@ pub fn fired_is_for_good()
         fired_at (timeline pool (history ++ more)) t ≡ Some event }
 {}
 
-/// A node whose end is spent is gone or released. So once every end is spent and every handle dropped, no node
-/// is live, no page is held, and the whole pool is free.
+/// A node whose end is spent is gone or released. So once every end is spent and every handle
+/// dropped, no node is live, no page is held, and the whole pool is free.
 pub fn all_goes()
     ensures spent { (pool : ℕ) (limits : Bound) (history : List Entry) → IsLegal pool limits history →
         (node : NodeKey) → spent (timeline pool history) node ≡ true →
         (gone (timeline pool history) node || released (timeline pool history) node) ≡ true }
     ensures live { (pool : ℕ) (limits : Bound) (history : List Entry) → IsLegal pool limits history →
-        ((node : NodeKey) → was_born (births (timeline pool history)) node ≡ true → spent (timeline pool history) node ≡ true) →
+        ((node : NodeKey) → was_born (births (timeline pool history)) node ≡ true →
+        spent (timeline pool history) node ≡ true) →
         live_nodes (timeline pool history) ≡ [] }
     ensures held { (pool : ℕ) (limits : Bound) (history : List Entry) → IsLegal pool limits history →
-        ((node : NodeKey) → was_born (births (timeline pool history)) node ≡ true → spent (timeline pool history) node ≡ true) →
-        ((buffer : BufferName) (strength : Strength) → open_total (timeline pool history) buffer strength ≡ 0) →
+        ((node : NodeKey) → was_born (births (timeline pool history)) node ≡ true →
+        spent (timeline pool history) node ≡ true) →
+        ((buffer : BufferName) (strength : Strength) →
+        open_total (timeline pool history) buffer strength ≡ 0) →
         held pool (timeline pool history) ≡ [] }
     ensures free { (pool : ℕ) (limits : Bound) (history : List Entry) → IsLegal pool limits history →
-        ((node : NodeKey) → was_born (births (timeline pool history)) node ≡ true → spent (timeline pool history) node ≡ true) →
-        ((buffer : BufferName) (strength : Strength) → open_total (timeline pool history) buffer strength ≡ 0) →
+        ((node : NodeKey) → was_born (births (timeline pool history)) node ≡ true →
+        spent (timeline pool history) node ≡ true) →
+        ((buffer : BufferName) (strength : Strength) →
+        open_total (timeline pool history) buffer strength ≡ 0) →
         free_pages pool (timeline pool history) ≡ pool }
 {}
