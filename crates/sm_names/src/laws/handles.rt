@@ -23,12 +23,14 @@ pub fn handles_are_counted()
     ensures total { (pool : ℕ) (limits : Bound) (history : List Entry) → IsLegal pool limits history →
         (buffer : BufferName) (strength : Strength) →
         open_total (timeline pool history) buffer strength
-        ≡ sum_by (λ client. open_of (timeline pool history) client buffer strength) (clients (timeline pool history))
+        ≡ sum_by (λ client. open_of (timeline pool history) client buffer strength)
+            (clients (timeline pool history))
         + moving (timeline pool history) buffer strength }
     ensures in_parcels { (pool : ℕ) (limits : Bound) (history : List Entry) → IsLegal pool limits history →
         (buffer : BufferName) (strength : Strength) →
         moving (timeline pool history) buffer strength
-        ≡ sum_by (λ client. times (is_handle_of buffer strength) (parcels (timeline pool history) client)) (clients (timeline pool history)) }
+        ≡ sum_by (λ client. times (is_handle_of buffer strength) (parcels (timeline pool history) client))
+            (clients (timeline pool history)) }
     ensures dropped { (pool : ℕ) (limits : Bound) (history : List Entry) → IsLegal pool limits history →
         (buffer : BufferName) (strength : Strength) →
         times (drops (λ c. true) buffer strength) (timeline pool history)
@@ -39,26 +41,30 @@ pub fn handles_are_counted()
         ≤ times (lifts (λ c. true) buffer strength) (timeline pool history) }
 {}
 
-/// A Take opens handles on exactly the buffers that are not doomed, and a buffer that is doomed, or
-/// home, stays so.
+/// In a legal history only a Take is answered Taken, and it opens handles on exactly the buffers of
+/// the collection that are not doomed. A buffer that is doomed, or home, stays so.
 pub fn doomed_is_for_good()
-    ensures taken { (pool : ℕ) (limits : Bound) (history : List Entry) (client collection : ℕ) (strength : Strength) (set : ℕ) (call : Call) →
+    ensures taken { (pool : ℕ) (limits : Bound) (history : List Entry) (client collection : ℕ)
+        (strength : Strength) (set : ℕ) (call : Call) →
         IsLegal pool limits (history ++ (client, call, Reply.Taken collection strength set) ∷ []) →
-        set ≡ set_of (filter (λ name. not (doomed (timeline pool history) name)) (buffer_names (timeline pool history) collection)) }
-    ensures opened { (pool : ℕ) (limits : Bound) (history : List Entry) (client collection : ℕ) (strength : Strength) (set : ℕ) (key : NodeKey) →
-        IsLegal pool limits (history ++ (client, Call.Take key, Reply.Taken collection strength set) ∷ []) → (buffer : BufferName) →
-        opens (λ c. true) buffer strength (Called client (Reply.Taken collection strength set) (Call.Take key))
-        ≡ (list_any (λ name. same_buffer name buffer) (buffer_names (timeline pool history) collection)
-        && not (doomed (timeline pool history) buffer)) }
-    ensures by_take { (pool : ℕ) (limits : Bound) (history : List Entry) (client collection : ℕ) (strength : Strength) (set : ℕ) (call : Call) →
+        set ≡ set_of (filter (λ name. not (doomed (timeline pool history) name))
+            (buffer_names (timeline pool history) collection)) }
+    ensures by_take { (pool : ℕ) (limits : Bound) (history : List Entry) (client collection : ℕ)
+        (strength : Strength) (set : ℕ) (call : Call) →
         IsLegal pool limits (history ++ (client, call, Reply.Taken collection strength set) ∷ []) →
         (key : NodeKey) × (call ≡ Call.Take key) }
+    ensures opened { (pool : ℕ) (limits : Bound) (history : List Entry) (client collection : ℕ)
+        (strength : Strength) (set : ℕ) (key : NodeKey) →
+        IsLegal pool limits (history ++ (client, Call.Take key, Reply.Taken collection strength set) ∷ []) →
+        (buffer : BufferName) →
+        opens (λ c. true) buffer strength (Called client (Reply.Taken collection strength set) (Call.Take key))
+        ≡ (list_any (λ name. same_buffer name buffer) (buffer_names (timeline pool history) collection)
+            && not (doomed (timeline pool history) buffer)) }
     ensures doomed { (pool : ℕ) (limits : Bound) (history more : List Entry) →
-        IsLegal pool limits (history ++ more) →
-        (buffer : BufferName) → doomed (timeline pool history) buffer ≡ true →
+        IsLegal pool limits (history ++ more) → (buffer : BufferName) →
+        doomed (timeline pool history) buffer ≡ true →
         doomed (timeline pool (history ++ more)) buffer ≡ true }
     ensures home { (pool : ℕ) (limits : Bound) (history more : List Entry) →
-        IsLegal pool limits (history ++ more) →
-        (buffer : BufferName) → home (timeline pool history) buffer ≡ true →
-        home (timeline pool (history ++ more)) buffer ≡ true }
+        IsLegal pool limits (history ++ more) → (buffer : BufferName) →
+        home (timeline pool history) buffer ≡ true → home (timeline pool (history ++ more)) buffer ≡ true }
 {}
