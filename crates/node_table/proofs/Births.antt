@@ -1,0 +1,173 @@
+-- What a birth does to a table.
+use Rattle.std.proofs.Common.{◌≡◌, ◌≢◌, ◌⊎◌, ℕ, zero, suc, ◌+◌, ◌<◌, ◌≤◌, ◌^◌, ◌==◌, ◌&&◌, ◌||◌, nat_le, nat_lt, Bool, true, false, List, [], ◌∷◌, ◌++◌, map, Option, Some, None, is_some, IsSome, IfSome, cond, count_by, option_map, arith, refl, ap, sym, ◌∙◌, slice_index_or, inl, inr, subst}
+use Rattle.std.proofs.lemmas.Bool.{cases_eq}
+use Rattle.std.proofs.lemmas.Bool.Decides.{nat_tests}
+use Rattle.slab.specs.Slab.{Slab, get, Updates}
+use Rattle.sm_names.specs.declared.keys.NodeKey.{NodeKey}
+use Rattle.sm_names.specs.Sameness.{same_key}
+use Rattle.node_table.specs.Table.{Row, Table, row_at, parent_at, parent_in, children_at, children_in, next_at, was_given, table_len}
+use Rattle.node_table.specs.Changes.{Births, at_parent, with_child}
+use Rattle.node_table.specs.Sound.{row_in, row_of, table_of, IsSound, IsLinked, EditsParent, at_slot, Bumped}
+use Rattle.node_table.specs.declared.slot.Entry.{Entry}
+use Rattle.node_table.specs.declared.slot.Slot.{Slot}
+use Rattle.node_table.specs.declared.slot.Slot.TheVariants.{Taken}
+use Rattle.node_table.proofs.Rows.{count-gain}
+use Rattle.node_table.proofs.Keys.{eq-true, eq-false, same-fields, key_cases, same_key-true, same_key-false}
+use Rattle.node_table.proofs.Parents.{map-parent, map-stranger, map-up, children-with}
+use Rattle.node_table.proofs.Links.{IsLinked-birth}
+use Rattle.node_table.proofs.Depths.{none-then}
+use Rattle.node_table.proofs.Slots.{row-at, map-then, is_some-option_map, edited-row, slot_as_parent, vacant-before}
+use Rattle.node_table.proofs.Readings.{given-between}
+
+and-false : (b : Bool) → (b && false) ≡ false
+and-false true = refl
+and-false false = refl
+
+-- one generation more was given, and no other
+given-more : (first generation next : ℕ) → generation ≢ next → (nat_le first generation && nat_lt generation (next + 1)) ≡ (nat_le first generation && nat_lt generation next)
+given-more first generation next differ = ap (λ b. nat_le first generation && b) (by_test (nat_lt generation next) refl)
+  where
+    by_test : (b : Bool) → nat_lt generation next ≡ b → nat_lt generation (next + 1) ≡ nat_lt generation next
+    by_test true test = let more : nat_lt generation (next + 1) ≡ true = grind (arith, nat_tests) in more ∙ sym test
+    by_test false test =
+        let high : next ≤ generation = grind (arith, nat_tests) in
+        let above : next < generation = omega arith in
+        let more : nat_lt generation (next + 1) ≡ false = grind (arith, nat_tests) in
+        more ∙ sym test
+
+module _ {N : Type 0} (old mid new : Slab (Slot N)) (nexts nexts2 : List ℕ) (first count limit : ℕ) (parent : Option NodeKey) (key : NodeKey) (e : Entry N) (node : N)
+    (sound : IsSound old.slots nexts first count limit)
+    (next : slice_index_or nexts key.slot first ≡ key.generation)
+    (was_vacant : slice_index_or old.slots key.slot None ≡ None)
+    (linked : EditsParent old mid parent (with_child key))
+    (bumped : Bumped nexts nexts2 first key.slot)
+    (updates : Updates mid new key.slot (Some (Taken e)))
+    (row : row_of e ≡ record { parent = parent; children = []; node = node })
+    (there : IfSome parent (λ p. IsSome (row_at (table_of old.slots nexts first limit) p)))
+    (room : count < limit)
+  where
+    -- the table before and after
+    abbrev before : Table N
+    before = table_of old.slots nexts first limit
+
+    abbrev after : Table N
+    after = table_of new.slots nexts2 first limit
+
+    other-row : (i : ℕ) → i ≢ key.slot → slice_index_or (map row_in new.slots) i None ≡ option_map (at_slot parent (with_child key) i) (slice_index_or (map row_in old.slots) i None)
+    other-row i differ = row-at new.slots i ∙ ap row_in (updates.others i differ) ∙ sym (row-at mid.slots i) ∙ edited-row old mid parent (with_child key) linked i
+
+    new-row : slice_index_or (map row_in new.slots) key.slot None ≡ Some (record { parent = parent; children = []; node = node })
+    new-row = row-at new.slots key.slot ∙ ap row_in updates.changed ∙ ap Some row
+
+    no-row : slice_index_or (map row_in old.slots) key.slot None ≡ None
+    no-row = row-at old.slots key.slot ∙ ap row_in was_vacant
+
+    absent : row_at before key ≡ None
+    absent = none-then (next_at before key.slot == key.generation + 1) (slice_index_or (map row_in old.slots) key.slot None) no-row
+
+    longer : count_by is_some (map row_in new.slots) ≡ count_by is_some (map row_in old.slots) + 1
+    longer =
+        count-gain key.slot (map row_in old.slots) (map row_in new.slots) (ap is_some no-row) (ap is_some new-row)
+        (λ i differ. ap is_some (other-row i differ) ∙ is_some-option_map (at_slot parent (with_child key) i) (slice_index_or (map row_in old.slots) i None))
+
+    fits : key.generation < 2 ^ 32
+    fits = let below : slice_index_or nexts key.slot first < 2 ^ 32 = sound.vacant key.slot was_vacant in rw next at below
+
+    born-row : row_at after key ≡ Some (record { parent = parent; children = []; node = node })
+    born-row = rw (bumped.at, next, eq-true (key.generation + 1) (key.generation + 1) refl) new-row
+
+    -- the row of every other key
+    others : (k : NodeKey) → k ≢ key → row_at after k ≡ option_map (at_parent parent (with_child key) k) (row_at before k)
+    others k differ =
+        elim (cases_eq k.slot key.slot) [
+          | inl same ↦
+              let apart : k.generation ≡ key.generation → ⊥ = λ generations. differ (same-fields k key same generations) in
+              let at : slice_index_or nexts2 k.slot first ≡ key.generation + 1 = rw (same, bumped.at, next) refl in
+              let none : slice_index_or (map row_in old.slots) k.slot None ≡ None = rw same no-row in
+              rw (at, eq-false (key.generation + 1) (k.generation + 1) (λ generations. apart (omega arith)), none-then _ _ none) refl
+          | inr apart ↦
+              rw (bumped.others k.slot apart, other-row k.slot apart)
+              (map-then _ _ (at_slot parent (with_child key) k.slot) (at_parent parent (with_child key) k) (slot_as_parent before parent (with_child key) k there))
+        ]
+
+    stranger : (p : Option NodeKey) → IfSome p (λ k. IsSome (row_at before k)) → p ≢ Some key
+    stranger None some same = absurd (cc)
+    stranger (Some k) some same = let is : k ≡ key = cc in let none : row_at before k ≡ None = subst (λ j. row_at before j ≡ None) (sym is) absent in absurd (cc)
+
+    parent-row : (p : Option NodeKey) (above : NodeKey) → IfSome p (λ k. IsSome (row_at before k)) → p ≡ Some above → IsSome (row_at before above)
+    parent-row None above some is = absurd (cc)
+    parent-row (Some k) above some is = let same : k ≡ above = cc in subst (λ j. IsSome (row_at before j)) same some
+
+    forest-born : IsLinked (parent_at after) (children_at after)
+    forest-born =
+        IsLinked-birth (parent_at before) (children_at before) (parent_at after) (children_at after) sound.forest parent key
+        (ap parent_in absent)
+        (ap children_in absent)
+        (stranger parent there)
+        (ap parent_in born-row)
+        (ap children_in born-row)
+        (λ k differ. ap parent_in (others k differ) ∙ map-up parent (with_child key) k (row_at before k) (λ row. refl))
+        (λ above is.
+        ap children_in (others above (λ same. stranger parent there (is ∙ ap Some same)) ∙ map-parent parent (with_child key) above (row_at before above) is)
+        ∙ children-with key (row_at before above) (parent-row parent above there is))
+        (λ above differ away. ap children_in (others above differ ∙ map-stranger parent (with_child key) above (row_at before above) away))
+
+    pub sound-born : IsSound new.slots nexts2 first (count + 1) limit
+    sound-born =
+        record {
+          counted = let c : count ≡ count_by is_some (map row_in old.slots) = sound.counted in omega (arith, longer);
+          within = omega arith;
+          vacant = λ i none. elim (cases_eq i key.slot) [
+            | inl same ↦ let gone : slice_index_or new.slots key.slot None ≡ None = subst (λ j. slice_index_or new.slots j None ≡ None) same none in absurd (cc (updates.changed))
+            | inr differ ↦ rw (bumped.others i differ) (sound.vacant i (vacant-before _ _ (linked.kinds i) (sym (updates.others i differ) ∙ none)))
+          ];
+          rising = λ i. elim (cases_eq i key.slot) [
+            | inl same ↦ rw (same, bumped.at) (omega (arith, sound.rising key.slot))
+            | inr differ ↦ rw (bumped.others i differ) (sound.rising i)
+          ];
+          narrow = λ i. elim (cases_eq i key.slot) [
+            | inl same ↦ rw (same, bumped.at, next) (omega (arith, fits))
+            | inr differ ↦ rw (bumped.others i differ) (sound.narrow i)
+          ];
+          begun = λ i some. elim (cases_eq i key.slot) [
+            | inl same ↦ rw (same, bumped.at) (omega (arith, sound.rising key.slot))
+            | inr differ ↦ rw (bumped.others i differ) (sound.begun i (sym (is_some-option_map (at_slot parent (with_child key) i) (slice_index_or (map row_in old.slots) i None)) ∙ ap is_some (sym (other-row i differ)) ∙ some))
+          ];
+          forest = forest-born;
+        }
+
+    given : (k : NodeKey) → was_given after k ≡ (same_key key k || was_given before k)
+    given k =
+        elim (key_cases key k) [
+          | inl same ↦
+              let slots : key.slot ≡ k.slot = ap (λ (j : NodeKey). j.slot) same in
+              let generations : key.generation ≡ k.generation = ap (λ (j : NodeKey). j.generation) same in
+              let at : slice_index_or nexts2 k.slot first ≡ key.generation + 1 = rw (sym slots, bumped.at, next) refl in
+              let low : first ≤ key.generation = rw next at (sound.rising key.slot) in
+              given-between first k.generation (slice_index_or nexts2 k.slot first) (omega arith) (omega arith) ∙ sym (ap (λ b. b || was_given before k) (same_key-true key k same))
+          | inr differ ↦ by_slot k differ ∙ sym (ap (λ b. b || was_given before k) (same_key-false key k differ))
+        ]
+      where
+        by_slot : (k : NodeKey) → key ≢ k → was_given after k ≡ was_given before k
+        by_slot k differ =
+            elim (cases_eq k.slot key.slot) [
+              | inl same ↦
+                  let apart : k.generation ≢ key.generation = λ generations. differ (sym (same-fields k key same generations)) in
+                  let now : slice_index_or nexts2 k.slot first ≡ key.generation + 1 = rw (same, bumped.at, next) refl in
+                  let was : slice_index_or nexts k.slot first ≡ key.generation = rw same next in
+                  rw (now, was) (given-more first k.generation key.generation apart)
+              | inr apart ↦ rw (bumped.others k.slot apart) refl
+            ]
+
+    pub births : Births before after parent node key
+    births =
+        record {
+          fresh = let none : nat_lt key.generation key.generation ≡ false = grind (arith, nat_tests) in rw (next, none) (and-false (nat_le first key.generation));
+          next = sym next;
+          born = born-row;
+          others = others;
+          given = given;
+          nexts = λ slot differ. bumped.others slot differ;
+          longer = longer;
+          limit = refl;
+        }

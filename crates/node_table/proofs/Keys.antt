@@ -1,0 +1,58 @@
+-- Whether two keys are one.
+use Rattle.std.proofs.Common.{◌≡◌, ◌≢◌, ◌⊎◌, ℕ, ◌==◌, ◌&&◌, Bool, true, false, not, arith, refl, sym, ap, ◌∙◌, inl, inr}
+use Rattle.std.proofs.lemmas.Bool.{cases_eq}
+use Rattle.std.proofs.lemmas.Bool.Decides.{nat_tests}
+use Rattle.sm_names.specs.declared.keys.NodeKey.{NodeKey}
+use Rattle.sm_names.specs.Sameness.{same_key}
+
+pub eq-false : (a b : ℕ) → (a ≡ b → ⊥) → (a == b) ≡ false
+eq-false a b differ = grind (arith, nat_tests)
+
+pub eq-true : (a b : ℕ) → a ≡ b → (a == b) ≡ true
+eq-true a b same = grind (arith, nat_tests)
+
+pub true-eq : (a b : ℕ) → (a == b) ≡ true → a ≡ b
+true-eq a b test = grind (arith, nat_tests)
+
+-- keys with equal fields are equal
+pub same-fields : (a b : NodeKey) → a.slot ≡ b.slot → a.generation ≡ b.generation → a ≡ b
+same-fields a b slots generations = λ i. record { slot = slots i; generation = generations i }
+
+pub key_cases : (a b : NodeKey) → (a ≡ b) ⊎ (a ≢ b)
+key_cases a b =
+    elim (cases_eq a.slot b.slot) [
+      | inl slots ↦ elim (cases_eq a.generation b.generation) [
+        | inl generations ↦ inl (same-fields a b slots generations)
+        | inr differ ↦ inr (λ same. differ (ap (λ (k : NodeKey). k.generation) same))
+      ]
+      | inr differ ↦ inr (λ same. differ (ap (λ (k : NodeKey). k.slot) same))
+    ]
+
+pub same_key-true : (a b : NodeKey) → a ≡ b → same_key a b ≡ true
+same_key-true a b same =
+    rw (eq-true a.slot b.slot (ap (λ (k : NodeKey). k.slot) same), eq-true a.generation b.generation (ap (λ (k : NodeKey). k.generation) same)) refl
+
+pub same_key-false : (a b : NodeKey) → a ≢ b → same_key a b ≡ false
+same_key-false a b differ =
+    elim (cases_eq a.slot b.slot) [
+      | inl slots ↦ rw (eq-true a.slot b.slot slots, eq-false a.generation b.generation (λ generations. differ (same-fields a b slots generations))) refl
+      | inr slots ↦ rw (eq-false a.slot b.slot slots) refl
+    ]
+
+pub true-same_key : (a b : NodeKey) → same_key a b ≡ true → a ≡ b
+true-same_key a b test =
+    elim (key_cases a b) [
+      | inl same ↦ same
+      | inr differ ↦ let none : same_key a b ≡ false = same_key-false a b differ in absurd (cc)
+    ]
+
+pub false-same_key : (a b : NodeKey) → same_key a b ≡ false → a ≢ b
+false-same_key a b test same = let yes : same_key a b ≡ true = same_key-true a b same in absurd (cc)
+
+-- where a common slot means a common generation, the slot tells the key
+pub slot_tells_key : (a b : NodeKey) → (a.slot ≡ b.slot → a.generation ≡ b.generation) → (a.slot == b.slot) ≡ same_key a b
+slot_tells_key a b same =
+    elim (cases_eq a.slot b.slot) [
+      | inl slots ↦ rw (eq-true a.slot b.slot slots, eq-true a.generation b.generation (same slots)) refl
+      | inr differ ↦ rw (eq-false a.slot b.slot differ) refl
+    ]

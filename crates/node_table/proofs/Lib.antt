@@ -1,0 +1,13 @@
+pub mod Keys
+pub mod Lists
+pub mod Rows
+pub mod Parents
+pub mod Links
+pub mod Depths
+pub mod Slots
+pub mod Readings
+pub mod Births
+pub mod Cuts
+pub mod Removals
+pub mod Writes
+pub mod Copies

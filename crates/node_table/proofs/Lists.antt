@@ -1,0 +1,173 @@
+-- Lists of keys in which none stands twice: one more at the end, and one less.
+use Rattle.std.proofs.Common.{◌≡◌, ◌≢◌, ◌⊎◌, ℕ, zero, suc, ◌+◌, ◌-◌, ◌<◌, ◌≤◌, Bool, true, false, not, cond, List, [], ◌∷◌, ◌++◌, length, take, drop, filter, remove, Contains, AllPairs, slice_index_or, arith, refl, sym, ap, ◌∙◌, subst, inl, inr}
+use Rattle.std.proofs.lemmas.Bool.{cases_eq}
+use Rattle.std.proofs.lemmas.List.{get_or_default, get_or_read}
+use Rattle.std.proofs.lemmas.List.Elements.{Contains-append_left, Contains-append_right, Contains-append_cases}
+use Rattle.std.proofs.lemmas.List.Kept.{AllPairs-filter}
+use Rattle.sm_names.specs.declared.keys.NodeKey.{NodeKey}
+use Rattle.sm_names.specs.Sameness.{same_key}
+use Rattle.node_table.proofs.Keys.{key_cases, same_key-true, same_key-false, true-same_key, false-same_key}
+
+-- no key stands twice
+abbrev pub AllDiffer : List NodeKey → Type 0
+AllDiffer keys = AllPairs (λ (a b : NodeKey). a ≢ b) keys
+
+-- the keys but this one
+abbrev pub without : NodeKey → List NodeKey → List NodeKey
+without key keys = filter (λ other. not (same_key key other)) keys
+
+-- the head is there
+Contains-head : (key : NodeKey) (rest : List NodeKey) → Contains (key ∷ rest) key
+Contains-head key rest = (zero, omega arith, refl)
+
+Contains-tail : (head key : NodeKey) (rest : List NodeKey) → Contains rest key → Contains (head ∷ rest) key
+Contains-tail head key rest there = (suc there.0, omega (arith, there.1), there.2)
+
+Contains-cons_cases : (head key : NodeKey) (rest : List NodeKey) → Contains (head ∷ rest) key → (head ≡ key) ⊎ Contains rest key
+Contains-cons_cases head key rest there = by_index there.0 there.1 there.2
+  where
+    by_index : (at : ℕ) → at < suc (length rest) → slice_index_or (head ∷ rest) at key ≡ key → (head ≡ key) ⊎ Contains rest key
+    by_index zero within found = inl found
+    by_index (suc at) within found = inr (at, omega arith, found)
+
+-- the last key is there, and all before it
+pub Contains-last : (keys : List NodeKey) (key : NodeKey) → Contains (keys ++ key ∷ []) key
+Contains-last keys key = Contains-append_right keys (key ∷ []) key (Contains-head key [])
+
+pub Contains-before_last : (keys : List NodeKey) (last key : NodeKey) → Contains keys key → Contains (keys ++ last ∷ []) key
+Contains-before_last keys last key there = Contains-append_left keys (last ∷ []) key there
+
+-- a key other than the last stands before it
+pub Contains-but_last : (keys : List NodeKey) (last key : NodeKey) → key ≢ last → Contains (keys ++ last ∷ []) key → Contains keys key
+Contains-but_last keys last key differ there =
+    elim (Contains-append_cases keys (last ∷ []) key there) [
+      | inl before ↦ before
+      | inr at_end ↦ elim (Contains-cons_cases last key [] at_end) [
+        | inl same ↦ absurd (differ (sym same))
+        | inr none ↦ absurd (omega (arith, none.1))
+      ]
+    ]
+
+no_pair_in_none : AllDiffer []
+no_pair_in_none i j d before within = absurd (omega arith)
+
+AllDiffer-cons : (head : NodeKey) (rest : List NodeKey) → (Contains rest head → ⊥) → AllDiffer rest → AllDiffer (head ∷ rest)
+AllDiffer-cons head rest off differ zero zero d before within = absurd (omega arith)
+AllDiffer-cons head rest off differ zero (suc j) d before within = λ same. off (j, omega arith, get_or_default rest j head d (omega arith) ∙ sym same)
+AllDiffer-cons head rest off differ (suc i) zero d before within = absurd (omega arith)
+AllDiffer-cons head rest off differ (suc i) (suc j) d before within = differ i j d (omega arith) (omega arith)
+
+AllDiffer-tail : (head : NodeKey) (rest : List NodeKey) → AllDiffer (head ∷ rest) → AllDiffer rest
+AllDiffer-tail head rest differ i j d before within = differ (suc i) (suc j) d (omega arith) (omega arith)
+
+head_differs : (head key : NodeKey) (rest : List NodeKey) → AllDiffer (head ∷ rest) → Contains rest key → head ≢ key
+head_differs head key rest differ there same = absurd (differ 0 (suc there.0) key (omega arith) (omega (arith, there.1)) (same ∙ sym there.2))
+
+-- a new key at the end
+pub AllDiffer-push : (keys : List NodeKey) (key : NodeKey) → (Contains keys key → ⊥) → AllDiffer keys → AllDiffer (keys ++ key ∷ [])
+AllDiffer-push [] key new differ = AllDiffer-cons key [] (λ there. absurd (omega (arith, there.1))) no_pair_in_none
+AllDiffer-push (head ∷ rest) key new differ =
+    AllDiffer-cons head (rest ++ key ∷ [])
+    (λ there. elim (key_cases head key) [
+      | inl same ↦ new (subst (λ k. Contains (head ∷ rest) k) same (Contains-head head rest))
+      | inr other ↦ head_differs head head rest differ (Contains-but_last rest key head other there) refl
+    ])
+    (AllDiffer-push rest key (λ there. new (Contains-tail head key rest there)) (AllDiffer-tail head rest differ))
+
+pub AllDiffer-without : (key : NodeKey) (keys : List NodeKey) → AllDiffer keys → AllDiffer (without key keys)
+AllDiffer-without key keys differ = AllPairs-filter (λ (a b : NodeKey). a ≢ b) (λ other. not (same_key key other)) keys differ
+
+without-same : (key head : NodeKey) (rest : List NodeKey) → key ≡ head → without key (head ∷ rest) ≡ without key rest
+without-same key head rest same = rw (same_key-true key head same) refl
+
+without-other : (key head : NodeKey) (rest : List NodeKey) → key ≢ head → without key (head ∷ rest) ≡ head ∷ without key rest
+without-other key head rest differ = rw (same_key-false key head differ) refl
+
+-- a key that is not there leaves all
+pub without_stranger : (key : NodeKey) (keys : List NodeKey) → (Contains keys key → ⊥) → without key keys ≡ keys
+without_stranger key [] off = refl
+without_stranger key (head ∷ rest) off =
+    without-other key head rest (λ same. off (subst (λ k. Contains (head ∷ rest) k) (sym same) (Contains-head head rest)))
+    ∙ ap (λ keys. head ∷ keys) (without_stranger key rest (λ there. off (Contains-tail head key rest there)))
+
+-- what is left is what was there, but for the key
+pub Contains-without : (key other : NodeKey) (keys : List NodeKey) → Contains (without key keys) other → Contains keys other
+Contains-without key other [] there = there
+Contains-without key other (head ∷ rest) there =
+    elim (key_cases key head) [
+      | inl same ↦ Contains-tail head other rest (Contains-without key other rest (subst (λ keys. Contains keys other) (without-same key head rest same) there))
+      | inr differ ↦ elim (Contains-cons_cases head other (without key rest) (subst (λ keys. Contains keys other) (without-other key head rest differ) there)) [
+        | inl found ↦ subst (λ k. Contains (head ∷ rest) k) found (Contains-head head rest)
+        | inr later ↦ Contains-tail head other rest (Contains-without key other rest later)
+      ]
+    ]
+
+pub without_lacks : (key : NodeKey) (keys : List NodeKey) → Contains (without key keys) key → ⊥
+without_lacks key [] there = absurd (omega (arith, there.1))
+without_lacks key (head ∷ rest) there =
+    elim (key_cases key head) [
+      | inl same ↦ without_lacks key rest (subst (λ keys. Contains keys key) (without-same key head rest same) there)
+      | inr differ ↦ elim (Contains-cons_cases head key (without key rest) (subst (λ keys. Contains keys key) (without-other key head rest differ) there)) [
+        | inl found ↦ differ (sym found)
+        | inr later ↦ without_lacks key rest later
+      ]
+    ]
+
+pub without_keeps : (key other : NodeKey) (keys : List NodeKey) → other ≢ key → Contains keys other → Contains (without key keys) other
+without_keeps key other [] differ there = there
+without_keeps key other (head ∷ rest) differ there =
+    elim (key_cases key head) [
+      | inl same ↦ elim (Contains-cons_cases head other rest there) [
+        | inl found ↦ absurd (differ (sym found ∙ sym same))
+        | inr later ↦ subst (λ keys. Contains keys other) (sym (without-same key head rest same)) (without_keeps key other rest differ later)
+      ]
+      | inr apart ↦ subst (λ keys. Contains keys other) (sym (without-other key head rest apart)) (elim (Contains-cons_cases head other rest there) [
+        | inl found ↦ subst (λ k. Contains (head ∷ without key rest) k) found (Contains-head head (without key rest))
+        | inr later ↦ Contains-tail head other (without key rest) (without_keeps key other rest differ later)
+      ])
+    ]
+
+-- the one place of a key is what a removal there takes out
+pub remove_one : (key : NodeKey) (keys : List NodeKey) (at : ℕ) → at < length keys → slice_index_or keys at key ≡ key → AllDiffer keys → remove keys at ≡ without key keys
+remove_one key [] at within found differ = absurd (omega arith)
+remove_one key (head ∷ rest) zero within found differ =
+    sym (without-same key head rest (sym found) ∙ without_stranger key rest (λ there. head_differs head key rest differ there found))
+remove_one key (head ∷ rest) (suc at) within found differ =
+    ap (λ keys. head ∷ keys) (remove_one key rest at (omega arith) found (AllDiffer-tail head rest differ))
+    ∙ sym (without-other key head rest (λ same. head_differs head key rest differ (at, omega arith, found) (sym same)))
+
+-- a search from the end has looked at the keys from here on, found none, and changed nothing
+pub record LookedDownTo (at : ℕ) (key : NodeKey) (old now : List NodeKey) : Type 0 where
+  pub same : now ≡ old
+  pub within : at ≤ length now
+  pub none : (place : ℕ) (d : NodeKey) → at ≤ place → place < length now → slice_index_or now place d ≢ key
+
+-- a search that came to the front found nothing
+pub LookedDownTo-all : (key : NodeKey) (old now : List NodeKey) (at : ℕ) → at ≤ 0 → LookedDownTo at key old now → now ≡ without key old
+LookedDownTo-all key old now at front looked =
+    looked.same ∙ sym (without_stranger key old (λ there. elsewhere there.0 there.1 there.2))
+  where
+    elsewhere : (place : ℕ) → place < length old → slice_index_or old place key ≡ key → ⊥
+    elsewhere place within found =
+        let size : length now ≡ length old = ap length looked.same in
+        looked.none place key (omega arith) (omega arith) (ap (λ keys. slice_index_or keys place key) looked.same ∙ found)
+
+-- one place more, where another key was read
+pub LookedDownTo-step : (key read : NodeKey) (old now : List NodeKey) (at : ℕ) → 0 < at → read ≡ slice_index_or now (at - 1) read → same_key read key ≡ false → LookedDownTo at key old now → LookedDownTo (at - 1) key old now
+LookedDownTo-step key read old now at more here other looked =
+    record {
+      same = looked.same;
+      within = omega (arith, looked.within);
+      none = λ place d low within. elim (cases_eq place (at - 1)) [
+        | inl is ↦ λ found. false-same_key read key other (get_or_read now (at - 1) read (omega (arith, looked.within)) here d ∙ ap (λ p. slice_index_or now p d) (sym is) ∙ found)
+        | inr above ↦ looked.none place d (omega arith) within
+      ];
+    }
+
+-- the next place has the key, and its removal leaves the others
+pub LookedDownTo-found : (key read : NodeKey) (old now : List NodeKey) (at : ℕ) → 0 < at → read ≡ slice_index_or now (at - 1) read → same_key read key ≡ true → AllDiffer old → LookedDownTo at key old now → remove now (at - 1) ≡ without key old
+LookedDownTo-found key read old now at more here found differ looked =
+    remove_one key now (at - 1) (omega (arith, looked.within))
+    (sym (get_or_read now (at - 1) read (omega (arith, looked.within)) here key) ∙ true-same_key read key found)
+    (subst AllDiffer (sym looked.same) differ)
+    ∙ ap (without key) looked.same

@@ -1,0 +1,5 @@
+pub mod Table
+pub mod Changes
+pub mod Forest
+pub mod Lending
+pub mod Sound
