@@ -19,6 +19,7 @@ use Rattle.node_table.proofs.Depths.{none-then}
 use Rattle.node_table.proofs.Slots.{row-at, map-then, is_some-option_map, edited-row, slot_as_parent, vacant-before}
 use Rattle.node_table.proofs.Readings.{given-between}
 
+-- `&&` with false is false
 and-false : (b : Bool) → (b && false) ≡ false
 and-false true = refl
 and-false false = refl

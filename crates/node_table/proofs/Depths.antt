@@ -12,6 +12,7 @@ use Rattle.node_table.proofs.Keys.{same-fields, true-eq}
 abbrev counts : Bool → ℕ → ℕ → ℕ
 counts taken rank most = if taken && nat_lt rank most then 1 else 0
 
+-- a slot counts once at most, and not at all where it is not taken
 counts-low : (taken : Bool) (rank most : ℕ) → counts taken rank most ≤ cond taken 1 0
 counts-low true rank most = if_below (nat_lt rank most)
   where
@@ -20,13 +21,16 @@ counts-low true rank most = if_below (nat_lt rank most)
     if_below false = omega arith
 counts-low false rank most = omega arith
 
+-- a taken slot below the number counts
 counts-yes : (rank most : ℕ) → rank < most → counts true rank most ≡ 1
 counts-yes rank most below = let test : nat_lt rank most ≡ true = grind (arith, nat_tests) in rw test refl
 
+-- a slot that ranks no lower does not count
 counts-no : (taken : Bool) (rank most : ℕ) → most ≤ rank → counts taken rank most ≡ 0
 counts-no true rank most above = let test : nat_lt rank most ≡ false = grind (arith, nat_tests) in rw test refl
 counts-no false rank most above = refl
 
+-- what counts below a number counts below a higher one
 counts-more : (taken : Bool) (rank most more : ℕ) → most ≤ more → counts taken rank most ≤ counts taken rank more
 counts-more false rank most more le = omega arith
 counts-more true rank most more le = by_test (nat_lt rank most) refl
@@ -62,6 +66,7 @@ module _ {X : Type 0} where
       let tail : ranked_below (λ slot. f (suc slot)) most rest < ranked_below (λ slot. f (suc slot)) more rest = ranked_below-rise (λ slot. f (suc slot)) most more slot rest taken low high in
       omega arith
 
+  -- no more are counted than are taken
   ranked_below-all : (f : ℕ → ℕ) (most : ℕ) (slots : List (Option X)) → ranked_below f most slots ≤ count_by is_some slots
   ranked_below-all f most [] = omega arith
   ranked_below-all f most (x ∷ rest) =
@@ -76,6 +81,7 @@ module _ {X : Type 0} where
       let all : ranked_below f (suc (f slot)) slots ≤ count_by is_some slots = ranked_below-all f (suc (f slot)) slots in
       omega arith
 
+  -- no more are taken than there are
   pub count-length : (slots : List (Option X)) → count_by is_some slots ≤ length slots
   count-length [] = omega arith
   count-length (x ∷ rest) =
@@ -92,6 +98,7 @@ row-then : {X : Type 0} (b : Bool) (o : Option X) → IsSome (cond b o None) →
 row-then true o some = some
 row-then false o some = absurd (cc)
 
+-- a test before a row holds
 then-row : {X : Type 0} (b : Bool) (o : Option X) → IsSome (cond b o None) → b ≡ true
 then-row true o some = refl
 then-row false o some = absurd (cc)
@@ -115,6 +122,7 @@ module _ {N : Type 0} where
   there-above None parent above = absurd (cc)
   there-above (Some row) parent above = refl
 
+  -- a key with a child is there
   pub there-below : (row : Option (Row N)) (key : NodeKey) → Contains (children_in row) key → IsSome row
   there-below None key there = absurd (omega (arith, there.1))
   there-below (Some row) key there = refl
@@ -128,6 +136,7 @@ module _ {N : Type 0} (t : Table N) (links : IsLinked (parent_at t) (children_at
   abbrev slot_rank : ℕ → ℕ
   slot_rank slot = links.rank (key_of slot)
 
+  -- the slot of a key that is there ranks as the key
   slot_rank-there : (key : NodeKey) → IsSome (row_at t key) → slot_rank key.slot ≡ links.rank key
   slot_rank-there key there =
       let next : next_at t key.slot ≡ key.generation + 1 = next-there t key there in
@@ -137,6 +146,7 @@ module _ {N : Type 0} (t : Table N) (links : IsLinked (parent_at t) (children_at
   abbrev nodes_below : ℕ → ℕ
   nodes_below most = ranked_below slot_rank most t.rows
 
+  -- a parent is there, since it has a child
   pub parent-there : (parent key : NodeKey) → parent_at t key ≡ Some parent → IsSome (row_at t parent)
   parent-there parent key above = there-below (row_at t parent) key ((links.linked parent key).0 above)
 

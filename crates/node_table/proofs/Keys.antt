@@ -5,12 +5,15 @@ use Rattle.std.proofs.lemmas.Bool.Decides.{nat_tests}
 use Rattle.sm_names.specs.declared.keys.NodeKey.{NodeKey}
 use Rattle.sm_names.specs.Sameness.{same_key}
 
+-- `==` of two numbers, told by `≡`
 pub eq-false : (a b : ℕ) → (a ≡ b → ⊥) → (a == b) ≡ false
 eq-false a b differ = grind (arith, nat_tests)
 
+-- the same where they are equal
 pub eq-true : (a b : ℕ) → a ≡ b → (a == b) ≡ true
 eq-true a b same = grind (arith, nat_tests)
 
+-- numbers that `==` ties are equal
 pub true-eq : (a b : ℕ) → (a == b) ≡ true → a ≡ b
 true-eq a b test = grind (arith, nat_tests)
 
@@ -18,6 +21,7 @@ true-eq a b test = grind (arith, nat_tests)
 pub same-fields : (a b : NodeKey) → a.slot ≡ b.slot → a.generation ≡ b.generation → a ≡ b
 same-fields a b slots generations = λ i. record { slot = slots i; generation = generations i }
 
+-- two keys are equal or not
 pub key_cases : (a b : NodeKey) → (a ≡ b) ⊎ (a ≢ b)
 key_cases a b =
     elim (cases_eq a.slot b.slot) [
@@ -28,10 +32,12 @@ key_cases a b =
       | inr differ ↦ inr (λ same. differ (ap (λ (k : NodeKey). k.slot) same))
     ]
 
+-- the test of equal keys holds
 pub same_key-true : (a b : NodeKey) → a ≡ b → same_key a b ≡ true
 same_key-true a b same =
     rw (eq-true a.slot b.slot (ap (λ (k : NodeKey). k.slot) same), eq-true a.generation b.generation (ap (λ (k : NodeKey). k.generation) same)) refl
 
+-- the test of other keys fails
 pub same_key-false : (a b : NodeKey) → a ≢ b → same_key a b ≡ false
 same_key-false a b differ =
     elim (cases_eq a.slot b.slot) [
@@ -39,6 +45,7 @@ same_key-false a b differ =
       | inr slots ↦ rw (eq-false a.slot b.slot slots) refl
     ]
 
+-- keys that the test ties are equal
 pub true-same_key : (a b : NodeKey) → same_key a b ≡ true → a ≡ b
 true-same_key a b test =
     elim (key_cases a b) [
@@ -46,6 +53,7 @@ true-same_key a b test =
       | inr differ ↦ let none : same_key a b ≡ false = same_key-false a b differ in absurd (cc)
     ]
 
+-- keys that the test parts differ
 pub false-same_key : (a b : NodeKey) → same_key a b ≡ false → a ≢ b
 false-same_key a b test same = let yes : same_key a b ≡ true = same_key-true a b same in absurd (cc)
 

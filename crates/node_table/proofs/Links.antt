@@ -3,6 +3,7 @@ use Rattle.std.proofs.Common.{◌≡◌, ◌≢◌, ◌⊎◌, ◌↔◌, ℕ, z
 use Rattle.sm_names.specs.declared.keys.NodeKey.{NodeKey}
 use Rattle.node_table.specs.Sound.{IsLinked}
 use Rattle.node_table.proofs.Keys.{key_cases}
+use Rattle.node_table.proofs.Parents.{parent_cases}
 use Rattle.node_table.proofs.Lists.{AllDiffer, without, AllDiffer-push, AllDiffer-without, Contains-last, Contains-before_last, Contains-but_last, Contains-without, without_lacks, without_keeps, without_stranger}
 
 module _ (up : NodeKey → Option NodeKey) (down : NodeKey → List NodeKey) (up2 : NodeKey → Option NodeKey) (down2 : NodeKey → List NodeKey) (old : IsLinked up down) where
@@ -34,13 +35,9 @@ module _ (up : NodeKey → Option NodeKey) (down : NodeKey → List NodeKey) (up
         ranked = λ parent other above. old.ranked parent other (kept parent other above);
       }
     where
-      option_cases : (o : Option NodeKey) (parent : NodeKey) → (o ≡ Some parent) ⊎ (o ≢ Some parent)
-      option_cases None parent = inr (λ same. absurd (cc))
-      option_cases (Some k) parent = elim (key_cases k parent) [ inl same ↦ inl (ap Some same) | inr differ ↦ inr (λ same. differ (cc)) ]
-
       downs : (parent : NodeKey) → down2 parent ≡ without key (down parent)
       downs parent =
-          elim (option_cases (up key) parent) [
+          elim (parent_cases (up key) parent) [
             | inl above ↦ losing parent above
             | inr other ↦ keeping parent other ∙ sym (without_stranger key (down parent) (λ there. other ((old.linked parent key).1 there)))
           ]
@@ -83,10 +80,6 @@ module _ (up : NodeKey → Option NodeKey) (down : NodeKey → List NodeKey) (up
         ranked = lower;
       }
     where
-      option_cases : (o : Option NodeKey) (above : NodeKey) → (o ≡ Some above) ⊎ (o ≢ Some above)
-      option_cases None above = inr (λ same. absurd (cc))
-      option_cases (Some k) above = elim (key_cases k above) [ inl same ↦ inl (ap Some same) | inr differ ↦ inr (λ same. differ (cc)) ]
-
       no_child_of_key : (other : NodeKey) → Contains (down key) other → ⊥
       no_child_of_key other there = let none : Contains [] other = subst (λ keys. Contains keys other) childless there in absurd (omega (arith, none.1))
 
@@ -101,7 +94,7 @@ module _ (up : NodeKey → Option NodeKey) (down : NodeKey → List NodeKey) (up
                 subst (λ keys. Contains keys other) (sym (gaining above here)) (subst (λ k. Contains (down above ++ key ∷ []) k) (sym same) (Contains-last (down above) key))
             | inr differ ↦
                 let was : Contains (down above) other = (old.linked above other).0 (sym (ups other differ) ∙ has) in
-                elim (option_cases parent above) [
+                elim (parent_cases parent above) [
                   | inl here ↦ subst (λ keys. Contains keys other) (sym (gaining above here)) (Contains-before_last (down above) key other was)
                   | inr away ↦ elim (key_cases above key) [
                     | inl same ↦ absurd (no_child_of_key other (subst (λ k. Contains (down k) other) same was))
@@ -116,7 +109,7 @@ module _ (up : NodeKey → Option NodeKey) (down : NodeKey → List NodeKey) (up
             | inl same ↦
                 let none : Contains [] other = subst (λ keys. Contains keys other) bare (subst (λ k. Contains (down2 k) other) same there) in
                 absurd (omega (arith, none.1))
-            | inr apart ↦ elim (option_cases parent above) [
+            | inr apart ↦ elim (parent_cases parent above) [
               | inl here ↦
                   let left : Contains (down above ++ key ∷ []) other = subst (λ keys. Contains keys other) (gaining above here) there in
                   elim (key_cases other key) [
@@ -136,7 +129,7 @@ module _ (up : NodeKey → Option NodeKey) (down : NodeKey → List NodeKey) (up
       differ above =
           elim (key_cases above key) [
             | inl same ↦ subst AllDiffer (sym (ap down2 same ∙ bare ∙ sym childless)) (old.once key)
-            | inr apart ↦ elim (option_cases parent above) [
+            | inr apart ↦ elim (parent_cases parent above) [
               | inl here ↦ subst AllDiffer (sym (gaining above here)) (AllDiffer-push (down above) key (key_is_no_child above) (old.once above))
               | inr away ↦ subst AllDiffer (sym (keeping above apart away)) (old.once above)
             ]

@@ -20,9 +20,11 @@ without key keys = filter (λ other. not (same_key key other)) keys
 Contains-head : (key : NodeKey) (rest : List NodeKey) → Contains (key ∷ rest) key
 Contains-head key rest = (zero, omega arith, refl)
 
+-- what is in the rest is there
 Contains-tail : (head key : NodeKey) (rest : List NodeKey) → Contains rest key → Contains (head ∷ rest) key
 Contains-tail head key rest there = (suc there.0, omega (arith, there.1), there.2)
 
+-- a key that is there is the head or in the rest
 Contains-cons_cases : (head key : NodeKey) (rest : List NodeKey) → Contains (head ∷ rest) key → (head ≡ key) ⊎ Contains rest key
 Contains-cons_cases head key rest there = by_index there.0 there.1 there.2
   where
@@ -34,6 +36,7 @@ Contains-cons_cases head key rest there = by_index there.0 there.1 there.2
 pub Contains-last : (keys : List NodeKey) (key : NodeKey) → Contains (keys ++ key ∷ []) key
 Contains-last keys key = Contains-append_right keys (key ∷ []) key (Contains-head key [])
 
+-- what was there is there before a last key
 pub Contains-before_last : (keys : List NodeKey) (last key : NodeKey) → Contains keys key → Contains (keys ++ last ∷ []) key
 Contains-before_last keys last key there = Contains-append_left keys (last ∷ []) key there
 
@@ -48,18 +51,22 @@ Contains-but_last keys last key differ there =
       ]
     ]
 
+-- an empty list has no key twice
 no_pair_in_none : AllDiffer []
 no_pair_in_none i j d before within = absurd (omega arith)
 
+-- a head that is not in the rest
 AllDiffer-cons : (head : NodeKey) (rest : List NodeKey) → (Contains rest head → ⊥) → AllDiffer rest → AllDiffer (head ∷ rest)
 AllDiffer-cons head rest off differ zero zero d before within = absurd (omega arith)
 AllDiffer-cons head rest off differ zero (suc j) d before within = λ same. off (j, omega arith, get_or_default rest j head d (omega arith) ∙ sym same)
 AllDiffer-cons head rest off differ (suc i) zero d before within = absurd (omega arith)
 AllDiffer-cons head rest off differ (suc i) (suc j) d before within = differ i j d (omega arith) (omega arith)
 
+-- the rest of a list in which no key stands twice
 AllDiffer-tail : (head : NodeKey) (rest : List NodeKey) → AllDiffer (head ∷ rest) → AllDiffer rest
 AllDiffer-tail head rest differ i j d before within = differ (suc i) (suc j) d (omega arith) (omega arith)
 
+-- the head is none of the rest
 head_differs : (head key : NodeKey) (rest : List NodeKey) → AllDiffer (head ∷ rest) → Contains rest key → head ≢ key
 head_differs head key rest differ there same = absurd (differ 0 (suc there.0) key (omega arith) (omega (arith, there.1)) (same ∙ sym there.2))
 
@@ -74,12 +81,15 @@ AllDiffer-push (head ∷ rest) key new differ =
     ])
     (AllDiffer-push rest key (λ there. new (Contains-tail head key rest there)) (AllDiffer-tail head rest differ))
 
+-- what is left has no key twice
 pub AllDiffer-without : (key : NodeKey) (keys : List NodeKey) → AllDiffer keys → AllDiffer (without key keys)
 AllDiffer-without key keys differ = AllPairs-filter (λ (a b : NodeKey). a ≢ b) (λ other. not (same_key key other)) keys differ
 
+-- the key at the head falls out
 without-same : (key head : NodeKey) (rest : List NodeKey) → key ≡ head → without key (head ∷ rest) ≡ without key rest
 without-same key head rest same = rw (same_key-true key head same) refl
 
+-- another key at the head stays
 without-other : (key head : NodeKey) (rest : List NodeKey) → key ≢ head → without key (head ∷ rest) ≡ head ∷ without key rest
 without-other key head rest differ = rw (same_key-false key head differ) refl
 
@@ -102,6 +112,7 @@ Contains-without key other (head ∷ rest) there =
       ]
     ]
 
+-- the key is not left
 pub without_lacks : (key : NodeKey) (keys : List NodeKey) → Contains (without key keys) key → ⊥
 without_lacks key [] there = absurd (omega (arith, there.1))
 without_lacks key (head ∷ rest) there =
@@ -113,6 +124,7 @@ without_lacks key (head ∷ rest) there =
       ]
     ]
 
+-- every other key is left
 pub without_keeps : (key other : NodeKey) (keys : List NodeKey) → other ≢ key → Contains keys other → Contains (without key keys) other
 without_keeps key other [] differ there = there
 without_keeps key other (head ∷ rest) differ there =

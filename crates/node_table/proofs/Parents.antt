@@ -27,10 +27,12 @@ module _ {N : Type 0} where
   map-stranger (Some other) f key None differ = refl
   map-stranger (Some other) f key (Some row) differ = rw (same_key-false other key (λ same. differ (ap Some same))) refl
 
+  -- a change under a test keeps the parent, if the change does
   up-through : (b : Bool) (f : Row N → Row N) (row : Row N) → (f row).parent ≡ row.parent → (if b then f row else row).parent ≡ row.parent
   up-through true f row keeps = keeps
   up-through false f row keeps = refl
 
+  -- a change under a test keeps the children, if the change does
   down-through : (b : Bool) (f : Row N → Row N) (row : Row N) → (f row).children ≡ row.children → (if b then f row else row).children ≡ row.children
   down-through true f row keeps = keeps
   down-through false f row keeps = refl
@@ -47,18 +49,22 @@ module _ {N : Type 0} where
   map-down None f key (Some row) keeps = refl
   map-down (Some other) f key (Some row) keeps = down-through (same_key other key) f row (keeps row)
 
+  -- a row that is there has the new child last
   pub children-with : (child : NodeKey) (o : Option (Row N)) → IsSome o → children_in (option_map (with_child child) o) ≡ children_in o ++ child ∷ []
   children-with child None there = absurd (cc)
   children-with child (Some row) there = refl
 
+  -- a row has the children but this one
   pub children-without : (child : NodeKey) (o : Option (Row N)) → children_in (option_map (without_child child) o) ≡ without child (children_in o)
   children-without child None = refl
   children-without child (Some row) = refl
 
+  -- a row without its parent has none
   pub parent-without : (o : Option (Row N)) → parent_in (option_map without_parent o) ≡ None
   parent-without None = refl
   parent-without (Some row) = refl
 
+  -- a row without its parent has its children
   pub children-kept : (o : Option (Row N)) → children_in (option_map without_parent o) ≡ children_in o
   children-kept None = refl
   children-kept (Some row) = refl

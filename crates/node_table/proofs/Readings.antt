@@ -49,6 +49,7 @@ module _ (N : Type 0) (first limit : ℕ) where
       by_test true test = let low : nat_lt key.generation first ≡ false = grind (arith, nat_tests) in rw (test, low) refl
       by_test false test = rw test refl
 
+  -- no slot, no node and no link is sound
   pub sound-empty : first < 2 ^ 32 → IsSound {N = N} [] [] first 0 limit
   sound-empty fits =
       record {

@@ -16,6 +16,7 @@ use Rattle.node_table.proofs.Links.{IsLinked-same}
 use Rattle.node_table.proofs.Depths.{next-there, none-then}
 use Rattle.node_table.proofs.Slots.{row-at, is_some-option_map}
 
+-- a row without its parent has its node
 node-through : {N : Type 0} (o : Option (Row N)) → option_map (λ (row : Row N). row.node) (option_map without_parent o) ≡ option_map (λ (row : Row N). row.node) o
 node-through None = refl
 node-through (Some row) = refl

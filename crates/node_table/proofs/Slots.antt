@@ -32,16 +32,19 @@ pub option_map-keeps : {X : Type 0} (f : X → X) → ((x : X) → f x ≡ x) �
 option_map-keeps f keeps None = refl
 option_map-keeps f keeps (Some x) = ap Some (keeps x)
 
+-- a write before a map is a write after it
 pub map-write : {X Y : Type 0} (f : X → Y) (xs : List X) (i : ℕ) (x : X) → map f (slice_set xs i x) ≡ slice_set (map f xs) i (f x)
 map-write f [] i x = refl
 map-write f (y ∷ ys) zero x = refl
 map-write f (y ∷ ys) (suc i) x = ap (λ zs. f y ∷ zs) (map-write f ys i x)
 
+-- a write is read where there was a value
 pub write-same : {X : Type 0} (xs : List (Option X)) (i : ℕ) (x : Option X) → IsSome (slice_index_or xs i None) → slice_index_or (slice_set xs i x) i None ≡ x
 write-same [] i x there = absurd (cc)
 write-same (y ∷ ys) zero x there = refl
 write-same (y ∷ ys) (suc i) x there = write-same ys i x there
 
+-- every other place keeps what it had
 pub write-other : {X : Type 0} (xs : List (Option X)) (i j : ℕ) (x : Option X) → j ≢ i → slice_index_or (slice_set xs i x) j None ≡ slice_index_or xs j None
 write-other [] i j x differ = refl
 write-other (y ∷ ys) zero zero x differ = absurd (differ refl)
@@ -50,6 +53,7 @@ write-other (y ∷ ys) (suc i) zero x differ = refl
 write-other (y ∷ ys) (suc i) (suc j) x differ = write-other ys i j x (λ same. differ (ap suc same))
 
 module _ {N : Type 0} where
+  -- the row of a slot is read from the slot
   pub row-at : (slots : List (Option (Slot N))) (i : ℕ) → slice_index_or (map row_in slots) i None ≡ row_in (slice_index_or slots i None)
   row-at slots i = get_or-map row_in slots i None
 
@@ -70,6 +74,7 @@ module _ {N : Type 0} where
   entry-there slots nexts first limit key there =
       entry-of-row (slice_index_or slots key.slot None) (subst (λ (o : Option (Row N)). IsSome o) (row-at slots key.slot) (slot-there (table_of slots nexts first limit) key there))
 
+  -- so has a parent that is there
   pub entry-parent : (slots : List (Option (Slot N))) (nexts : List ℕ) (first limit : ℕ) (parent : Option NodeKey) → IfSome parent (λ p. IsSome (row_at (table_of slots nexts first limit) p)) → IfSome parent (λ p. (e : Entry N) × (slice_index_or slots p.slot None ≡ Some (Taken e)))
   entry-parent slots nexts first limit None there = tt
   entry-parent slots nexts first limit (Some p) there = entry-there slots nexts first limit p there
@@ -147,14 +152,17 @@ module _ {N : Type 0} where
       rw (edited-row old new parent f edits key.slot)
       (map-then _ _ (at_slot parent f key.slot) (at_parent parent f key) (slot_as_parent (table_of old.slots nexts first limit) parent f key there))
 
+  -- there are as many nodes after an edit
   pub edited-count : (old new : Slab (Slot N)) (parent : Option NodeKey) (f : Row N → Row N) → EditsParent old new parent f → count_by is_some (map row_in new.slots) ≡ count_by is_some (map row_in old.slots)
   edited-count old new parent f edits =
       count-same (map row_in old.slots) (map row_in new.slots)
       (λ i. ap is_some (edited-row old new parent f edits i) ∙ is_some-option_map (at_slot parent f i) (slice_index_or (map row_in old.slots) i None))
 
+  -- as many slots are taken after an edit
   pub edited-len : (old new : Slab (Slot N)) (parent : Option NodeKey) (f : Row N → Row N) → EditsParent old new parent f → slab_len new ≡ slab_len old
   edited-len old new parent f edits = count-same old.slots new.slots edits.kinds
 
+  -- so the slab has as much room
   pub edited-room : (old new : Slab (Slot N)) (parent : Option NodeKey) (f : Row N → Row N) (more : ℕ) → EditsParent old new parent f → slab_len old + more ≤ old.capacity → slab_len new + more ≤ new.capacity
   edited-room old new parent f more edits room = rw (edited-len old new parent f edits, edits.capacity) room
 

@@ -80,16 +80,20 @@ module _ {N : Type 0} (t : Table N) (key : NodeKey) (node : N) (there : IsSome (
   abbrev after : Table N
   after = table_with_node t key node
 
+  -- the slot of the key has the new node
   here : slice_index_or after.rows key.slot None ≡ option_map (with_node node) (slice_index_or t.rows key.slot None)
   here = write-same t.rows key.slot (option_map (with_node node) (slice_index_or t.rows key.slot None)) (slot-there t key there)
 
+  -- every other slot has what it had
   away : (i : ℕ) → i ≢ key.slot → slice_index_or after.rows i None ≡ slice_index_or t.rows i None
   away i differ = write-other t.rows key.slot i (option_map (with_node node) (slice_index_or t.rows key.slot None)) differ
 
+  -- a write goes past a test
   through : (b : Bool) (o : Option (Row N)) → cond b (option_map (with_node node) o) None ≡ option_map (with_node node) (cond b o None)
   through true o = refl
   through false o = refl
 
+  -- every other key has what it had
   others : (k : NodeKey) → k ≢ key → row_at after k ≡ row_at t k
   others k differ =
       elim (cases_eq k.slot key.slot) [

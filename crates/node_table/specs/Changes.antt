@@ -32,7 +32,8 @@ module _ {N : Type 0} where
     pub nexts : (slot : ℕ) → next_at new slot ≡ next_at old slot
     pub limit : new.limit ≡ old.limit
 
-  -- a node was born under the next key of some slot, which no node had before; its parent has it as the last child, and no other row changed
+  -- a node was born under the next key of some slot, which no node had before; its parent has it as
+  -- the last child, and no other row changed
   pub record Births (old new : Table N) (parent : Option NodeKey) (node : N) (key : NodeKey) : Type 0 where
     pub fresh : was_given old key ≡ false
     pub next : key.generation ≡ next_at old key.slot

@@ -1,5 +1,6 @@
 -- What a contract sees of a node table.
--- Clauses speak through `row_at`, `node_at`, `parent_at`, `children_at`, `was_given` and `table_len`; how a table numbers its slots is nobody's business.
+-- Clauses speak through `row_at`, `node_at`, `parent_at`, `children_at`, `was_given`, `next_at` and
+-- `table_len`.
 use Rattle.std.specs.Prelude.{◌≡◌, ℕ, ◌+◌, ◌<◌, ◌==◌, Bool, ◌&&◌, nat_lt, nat_le, List, [], Option, Some, None, is_some, count_by, option_map, if◌then◌else◌, slice_index_or, refl}
 use Rattle.std.specs.Option.{option_and_then, option_map_or}
 use Rattle.std.specs.Coded.{Coded, code_by, coded×, coded_ℕ, coded_list, coded_option}
@@ -11,7 +12,8 @@ pub record Row (N : Type 0) : Type 0 where
   pub children : List NodeKey
   pub node : N
 
--- the row or nothing of each slot, the generation that each slot gives next, the generation that a slot gives first, and how many nodes fit
+-- the row or nothing of each slot, the generation that each slot gives next, the generation that a
+-- slot gives first, and how many nodes fit
 pub record Table (N : Type 0) : Type 0 where
   pub rows : List (Option (Row N))
   pub nexts : List ℕ

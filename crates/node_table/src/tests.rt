@@ -1,35 +1,40 @@
 //! What the contracts leave open: which slot comes next, and that each call succeeds.
-ghost use Rattle.std.specs.Prelude.{◌≡◌, [], IfOk, IfSome, IsSome, true};
-ghost use Rattle.node_table.specs.Table.{row_at, children_at};
-
 use crate::{NodeTable, TableFault};
 use sm_names::NodeKey;
+use std::process::Abort;
 use std::test::Fail;
 
-// Inserts a node, or fails the test.
-fn put(table: &mut NodeTable<u8>, parent: Option<NodeKey>, node: u8) -> Result<NodeKey, Fail>
-    requires { IfSome parent (λ p. IsSome (row_at table.old p)) }
-    ensures there { IfOk result (λ key. IsSome (row_at table.new key)) }
-    ensures leaf { IfOk result (λ key. children_at table.new key ≡ []) }
-{
-    match table.insert(parent, node) {
+// Inserts a node below a key that is there, or as a root.
+fn put(
+    rt: &impl Abort,
+    table: &mut NodeTable<u8>,
+    parent: Option<NodeKey>,
+    node: u8,
+) -> Result<NodeKey, Fail> {
+    let made = match parent {
+        Some(above) => {
+            assert!(rt; table.contains(above));
+            table.insert(Some(above), node)
+        }
+        None => table.insert(None, node),
+    };
+    match made {
         Ok(key) => Ok(key),
         Err(_) => Err(Fail::from("no insert")),
     }
 }
 
-// A key one generation later at the same slot.
-fn next_of(key: NodeKey) -> NodeKey {
-    NodeKey {
-        slot: key.slot,
-        generation: key.generation.wrapping_add(1),
-    }
+// Removes a key that is there and has no children.
+fn take(rt: &impl Abort, table: &mut NodeTable<u8>, key: NodeKey) -> u8 {
+    assert!(rt; table.contains(key));
+    assert!(rt; table.child_list(key).is_empty());
+    table.remove(key)
 }
 
 #[test]
 fn a_full_table_hands_the_node_back(rt: HostRuntime) -> Result<(), Fail> {
     let mut table = NodeTable::new(rt.alloc(), 1);
-    let key = put(&mut table, None, 7)?;
+    let key = put(&rt, &mut table, None, 7)?;
     assert_eq!(rt; table.insert(None, 8), Err((8, TableFault::Full)));
     assert_eq!(rt; (table.len(), table.get(key).copied()), (1, Some(7)));
     Ok(())
@@ -38,18 +43,14 @@ fn a_full_table_hands_the_node_back(rt: HostRuntime) -> Result<(), Fail> {
 #[test]
 fn a_cut_node_stays_and_so_in_a_copy(rt: HostRuntime) -> Result<(), Fail> {
     let mut table = NodeTable::new(rt.alloc(), 8);
-    let root = put(&mut table, None, 1)?;
-    let Ok(child) = table.insert(Some(root), 2) else {
-        return Err(Fail::from("no child"));
-    };
-    let Ok(below) = table.insert(Some(child), 3) else {
-        return Err(Fail::from("no grandchild"));
-    };
-    assert_eq!(rt; table.child_list(root), &[child]);
-    assert_eq!(rt; table.parent(below), Some(child));
+    let root = put(&rt, &mut table, None, 1)?;
+    let child = put(&rt, &mut table, Some(root), 2)?;
+    let below = put(&rt, &mut table, Some(child), 3)?;
+    assert_eq!(rt; table.child_list(root), [child].as_slice());
+    assert!(rt; table.contains(child));
     table.cut(child);
     if let Some(node) = table.get_mut(child) {
-        *node += 40;
+        *node = 42;
     }
     let Ok(copy) = table.copy() else {
         return Err(Fail::from("no copy"));
@@ -64,72 +65,65 @@ fn a_cut_node_stays_and_so_in_a_copy(rt: HostRuntime) -> Result<(), Fail> {
         let Ok(children) = seen.children(child) else {
             return Err(Fail::from("no list"));
         };
-        assert_eq!(rt; children.as_slice(), &[below]);
+        assert_eq!(rt; children.as_slice(), [below].as_slice());
     }
+    Ok(())
+}
+
+#[test]
+fn children_stand_by_birth_whoever_leaves(rt: HostRuntime) -> Result<(), Fail> {
+    let mut table = NodeTable::new(rt.alloc(), 4);
+    let root = put(&rt, &mut table, None, 0)?;
+    let first = put(&rt, &mut table, Some(root), 1)?;
+    let second = put(&rt, &mut table, Some(root), 2)?;
+    let third = put(&rt, &mut table, Some(root), 3)?;
+    assert_eq!(rt; table.child_list(root), [first, second, third].as_slice());
+    assert_eq!(rt; take(&rt, &mut table, second), 2);
+    assert_eq!(rt; table.child_list(root), [first, third].as_slice());
+    assert_eq!(rt; take(&rt, &mut table, first), 1);
+    assert_eq!(rt; take(&rt, &mut table, third), 3);
+    assert!(rt; table.child_list(root).is_empty());
     Ok(())
 }
 
 #[test]
 fn a_slot_comes_back_one_generation_later(rt: HostRuntime) -> Result<(), Fail> {
     let mut table = NodeTable::new(rt.alloc(), 2);
-    let first = put(&mut table, None, 1)?;
-    assert_eq!(rt; table.remove(first), 1);
-    let second = put(&mut table, None, 2)?;
-    assert_eq!(rt; second, next_of(first));
-    assert!(rt; !table.contains(first));
-    assert_eq!(rt; table.get(second).copied(), Some(2));
+    let first = put(&rt, &mut table, None, 1)?;
+    take(&rt, &mut table, first);
+    let second = put(&rt, &mut table, None, 2)?;
+    assert_eq!(rt; second.slot, first.slot);
+    assert_eq!(rt; (first.generation, second.generation), (0, 1));
+    assert!(rt; table.get(first).is_none());
     Ok(())
 }
 
 #[test]
 fn a_slot_at_its_last_generation_stays_taken(rt: HostRuntime) -> Result<(), Fail> {
     let mut table = NodeTable::starting_at(rt.alloc(), 8, 4_294_967_294);
-    let first = put(&mut table, None, 1)?;
-    table.remove(first);
-    let second = put(&mut table, None, 2)?;
-    assert_eq!(rt; second, next_of(first));
+    let first = put(&rt, &mut table, None, 1)?;
+    take(&rt, &mut table, first);
+    let second = put(&rt, &mut table, None, 2)?;
+    assert_eq!(rt; second.slot, first.slot);
     assert_eq!(rt; second.generation, 4_294_967_295);
-    table.remove(second);
-    let third = put(&mut table, None, 3)?;
+    take(&rt, &mut table, second);
+    let third = put(&rt, &mut table, None, 3)?;
     assert!(rt; third.slot != first.slot);
-    assert!(rt; !table.contains(first) && !table.contains(second));
+    assert!(rt; table.get(second).is_none());
     Ok(())
 }
 
 #[test]
-fn slots_of_one_generation_are_never_given_twice(rt: HostRuntime) -> Result<(), Fail> {
+fn retired_slots_take_no_place_of_a_node(rt: HostRuntime) -> Result<(), Fail> {
     let mut table = NodeTable::starting_at(rt.alloc(), 2, 4_294_967_295);
-    let first = put(&mut table, None, 1)?;
-    table.remove(first);
-    let second = put(&mut table, None, 2)?;
-    table.remove(second);
-    let third = put(&mut table, None, 3)?;
-    table.remove(third);
+    let first = put(&rt, &mut table, None, 1)?;
+    take(&rt, &mut table, first);
+    let second = put(&rt, &mut table, None, 2)?;
+    take(&rt, &mut table, second);
+    let third = put(&rt, &mut table, None, 3)?;
+    take(&rt, &mut table, third);
     assert!(rt; first.slot != second.slot && first.slot != third.slot);
     assert!(rt; second.slot != third.slot);
     assert_eq!(rt; table.len(), 0);
-    Ok(())
-}
-
-#[test]
-fn children_stand_by_birth_in_any_order_of_removal(rt: HostRuntime) -> Result<(), Fail> {
-    let mut table = NodeTable::new(rt.alloc(), 8);
-    let root = put(&mut table, None, 0)?;
-    let Ok(first) = table.insert(Some(root), 1) else {
-        return Err(Fail::from("no first child"));
-    };
-    let Ok(second) = table.insert(Some(root), 2) else {
-        return Err(Fail::from("no second child"));
-    };
-    let Ok(third) = table.insert(Some(root), 3) else {
-        return Err(Fail::from("no third child"));
-    };
-    assert_eq!(rt; table.child_list(root), &[first, second, third]);
-    assert_eq!(rt; table.remove(second), 2);
-    assert_eq!(rt; table.child_list(root), &[first, third]);
-    assert_eq!(rt; table.remove(first), 1);
-    assert_eq!(rt; table.child_list(root), &[third]);
-    assert_eq!(rt; table.remove(third), 3);
-    assert!(rt; table.child_list(root).is_empty());
     Ok(())
 }
