@@ -1,0 +1,13 @@
+mod Backs
+mod Comings
+mod Filling
+mod Fits
+mod Fronts
+mod Gaps
+mod Greatest
+mod Keeping
+mod Least
+mod Orders
+mod Placing
+mod Sounds
+mod Spaces

@@ -1,0 +1,166 @@
+-- Intervals in order of page.
+use Rattle.std.proofs.Common.{ℕ, zero, suc, ◌≡◌, ◌+◌, ◌<◌, ◌≤◌, refl, ap, sym, subst, true, false, List, [], ◌∷◌, length, get_or, inl, inr, arith, nat_lt, nat_le, ◌==◌, one-add}
+use Rattle.std.specs.Prelude.{Contains}
+use Rattle.std.specs.List.{insert, remove, prefix_len}
+use Rattle.std.specs.List.Sorted.{IsNonDecreasingBy}
+use Rattle.std.proofs.lemmas.Bool.{cases_Bool, and_parts, and_from, ltb-true, ltb-false, leb-true, lt-ltb, le-ltb, le-leb, ne_eqb, eq-eqb, cases_lt}
+use Rattle.std.proofs.lemmas.List.Sums.{sum_by-cons, prefix_len_passes, prefix_len_stops, prefix_len-le-length}
+use Rattle.std.proofs.lemmas.List.Sorted.{IsNonDecreasingBy-insert}
+use Rattle.sm_names.specs.declared.keys.Interval.{Interval}
+use Rattle.buffer_pool.specs.Holes.{end_of}
+use Rattle.buffer_pool.specs.Holdings.{in_order, pages_in, with_interval, without}
+
+-- the parts of an order with a first interval
+pub record IsFirst (low high : ℕ) (i : Interval) (is : List Interval) : Type 0 where
+  pub from : low ≤ i.start
+  pub has_pages : 0 < i.pages
+  pub rest : in_order (end_of i) high is ≡ true
+
+pub first_in_order : (low high : ℕ) (i : Interval) (is : List Interval) → in_order low high (i ∷ is) ≡ true → IsFirst low high i is
+first_in_order low high i is h =
+    let p = and_parts (nat_le low i.start) _ h in
+    let q = and_parts (nat_lt 0 i.pages) _ p.1 in
+    record { from = leb-true _ _ p.0; has_pages = ltb-true _ _ q.0; rest = q.1 }
+
+pub in_order-cons : (low high : ℕ) (i : Interval) (is : List Interval) → IsFirst low high i is → in_order low high (i ∷ is) ≡ true
+in_order-cons low high i is f =
+    and_from (nat_le low i.start) _ (le-leb _ _ f.from) (and_from (nat_lt 0 i.pages) _ (lt-ltb _ _ f.has_pages) f.rest)
+
+-- the ends of an order lie apart
+pub in_order-low-le : (low high : ℕ) (is : List Interval) → in_order low high is ≡ true → low ≤ high
+in_order-low-le low high [] h = leb-true _ _ h
+in_order-low-le low high (i ∷ is) h =
+    let f = first_in_order low high i is h in
+    let r = in_order-low-le (end_of i) high is f.rest in omega (arith, f.from)
+
+-- an order may begin earlier, and end later
+pub in_order-wider : (low high low' high' : ℕ) (is : List Interval) → low' ≤ low → high ≤ high' → in_order low high is ≡ true → in_order low' high' is ≡ true
+in_order-wider low high low' high' [] l u h = let r : low ≤ high = leb-true _ _ h in le-leb _ _ (omega arith)
+in_order-wider low high low' high' (i ∷ is) l u h =
+    let f = first_in_order low high i is h in
+    in_order-cons low' high' i is
+    (record { from = omega (arith, f.from); has_pages = f.has_pages; rest = in_order-wider (end_of i) high (end_of i) high' is (omega arith) u f.rest })
+
+-- where each interval of an order lies
+pub in_order-at : (low high : ℕ) (is : List Interval) → in_order low high is ≡ true → (k : ℕ) (d : Interval) → k < length is → (low ≤ (get_or is k d).start) × (0 < (get_or is k d).pages) × (end_of (get_or is k d) ≤ high)
+in_order-at low high [] h k d lt = absurd (omega arith)
+in_order-at low high (i ∷ is) h zero d lt =
+    let f = first_in_order low high i is h in
+    (f.from, f.has_pages, in_order-low-le (end_of i) high is f.rest)
+in_order-at low high (i ∷ is) h (suc k) d lt =
+    let f = first_in_order low high i is h in
+    let within : k < length is = omega arith in
+    let r = in_order-at (end_of i) high is f.rest k d within in
+    (omega (arith, f.from, r.0), r.1, r.2)
+
+-- one interval ends before a later one begins
+pub in_order-apart : (low high : ℕ) (is : List Interval) → in_order low high is ≡ true → (j k : ℕ) (d : Interval) → j < k → k < length is → end_of (get_or is j d) ≤ (get_or is k d).start
+in_order-apart low high [] h j k d less lt = absurd (omega arith)
+in_order-apart low high (i ∷ is) h j zero d less lt = absurd (omega arith)
+in_order-apart low high (i ∷ is) h zero (suc k) d less lt =
+    let f = first_in_order low high i is h in
+    let within : k < length is = omega arith in
+    (in_order-at (end_of i) high is f.rest k d within).0
+in_order-apart low high (i ∷ is) h (suc j) (suc k) d less lt =
+    let f = first_in_order low high i is h in
+    let within : k < length is = omega arith in
+    let before : j < k = omega arith in
+    in_order-apart (end_of i) high is f.rest j k d before within
+
+-- the starts of an order rise
+pub in_order-rises : (low high : ℕ) (is : List Interval) → in_order low high is ≡ true → IsNonDecreasingBy (λ (i : Interval). i.start) is
+in_order-rises low high is h j k d le lt =
+    elim (cases_lt j k) [
+      | inl less ↦ let r = in_order-apart low high is h j k d less lt in omega (arith, r)
+      | inr more ↦ let same : j ≡ k = omega arith in rw same (omega arith)
+    ]
+
+-- the intervals of an order have no more pages than there are
+pub pages_in-le : (low high : ℕ) (is : List Interval) → in_order low high is ≡ true → low + pages_in is ≤ high
+pages_in-le low high [] h = let r : low ≤ high = leb-true _ _ h in let n : pages_in [] ≡ 0 = refl in omega arith
+pages_in-le low high (i ∷ is) h =
+    let f = first_in_order low high i is h in
+    let r : end_of i + pages_in is ≤ high = pages_in-le (end_of i) high is f.rest in
+    let s : pages_in (i ∷ is) ≡ i.pages + pages_in is = sum_by-cons (λ (i : Interval). i.pages) i is in
+    omega (arith, f.from)
+
+-- one more interval has its pages
+pub pages_in-with_interval : (new : Interval) (is : List Interval) → pages_in (with_interval new is) ≡ new.pages + pages_in is
+pages_in-with_interval new [] = sum_by-cons (λ (i : Interval). i.pages) new []
+pages_in-with_interval new (i ∷ is) =
+    let s : pages_in (i ∷ is) ≡ i.pages + pages_in is = sum_by-cons (λ (i : Interval). i.pages) i is in
+    elim (cases_Bool (nat_lt i.start new.start)) [
+      | inl y ↦
+          let r : pages_in (with_interval new is) ≡ new.pages + pages_in is = pages_in-with_interval new is in
+          let t : pages_in (i ∷ with_interval new is) ≡ i.pages + pages_in (with_interval new is) = sum_by-cons (λ (i : Interval). i.pages) i (with_interval new is) in
+          rw y (omega arith)
+      | inr n ↦ rw n (sum_by-cons (λ (i : Interval). i.pages) new (i ∷ is))
+    ]
+
+-- one more interval
+pub length-with_interval : (new : Interval) (is : List Interval) → length (with_interval new is) ≡ suc (length is)
+length-with_interval new [] = refl
+length-with_interval new (i ∷ is) =
+    elim (cases_Bool (nat_lt i.start new.start)) [
+      | inl y ↦ rw y (ap suc (length-with_interval new is))
+      | inr n ↦ rw n refl
+    ]
+
+-- an insert behind those that begin earlier puts an interval in its place
+pub insert_in_place : (new : Interval) (is : List Interval) → insert is (prefix_len (λ (i : Interval). nat_lt i.start new.start) is) new ≡ with_interval new is
+insert_in_place new [] = refl
+insert_in_place new (i ∷ is) =
+    elim (cases_Bool (nat_lt i.start new.start)) [
+      | inl y ↦ rw (y, one-add) (ap (λ r. i ∷ r) (insert_in_place new is))
+      | inr n ↦ rw n refl
+    ]
+
+-- what begins later stays
+pub without-later : (start low high : ℕ) (is : List Interval) → start < low → in_order low high is ≡ true → without start is ≡ is
+without-later start low high [] lt h = refl
+without-later start low high (i ∷ is) lt h =
+    let f = first_in_order low high i is h in
+    let other : (i.start == start) ≡ false = ne_eqb _ _ (λ e. absurd (omega (arith, f.from))) in
+    let later : start < end_of i = omega (arith, f.from) in
+    rw other (ap (λ r. i ∷ r) (without-later start (end_of i) high is later f.rest))
+
+-- a remove behind those that begin earlier takes the interval away
+pub remove_in_place : (back : Interval) (low high : ℕ) (is : List Interval) → in_order low high is ≡ true → (k : ℕ) → k < length is → get_or is k back ≡ back → (prefix_len (λ (i : Interval). nat_lt i.start back.start) is < length is) × (remove is (prefix_len (λ (i : Interval). nat_lt i.start back.start) is) ≡ without back.start is)
+remove_in_place back low high [] h k lt at = absurd (omega arith)
+remove_in_place back low high (i ∷ is) h zero lt at =
+    let f = first_in_order low high i is h in
+    let same : i.start ≡ back.start = ap (λ (x : Interval). x.start) at in
+    let n : nat_lt i.start back.start ≡ false = le-ltb _ _ (omega arith) in
+    let e : (i.start == back.start) ≡ true = eq-eqb _ _ same in
+    let later : back.start < end_of i = omega (arith, f.has_pages) in
+    rw (n, e) (omega arith, sym (without-later back.start (end_of i) high is later f.rest))
+remove_in_place back low high (i ∷ is) h (suc k) lt at =
+    let f = first_in_order low high i is h in
+    let within : k < length is = omega arith in
+    let there = in_order-at (end_of i) high is f.rest k back within in
+    let from : end_of i ≤ back.start = rw at at there.0 in
+    let y : nat_lt i.start back.start ≡ true = lt-ltb _ _ (omega (arith, f.has_pages)) in
+    let e : (i.start == back.start) ≡ false = ne_eqb _ _ (λ same. absurd (omega (arith, f.has_pages))) in
+    let r = remove_in_place back (end_of i) high is f.rest k within at in
+    rw (y, e, one-add) (omega (arith, r.0), ap (λ r. i ∷ r) r.1)
+
+-- what is so at the place that a search for the interval's start found
+pub removed_in_place : (back : Interval) (high at : ℕ) (xs is : List Interval) → in_order 0 high is ≡ true → Contains is back → xs ≡ is → at ≡ prefix_len (λ (i : Interval). nat_lt i.start back.start) xs → (at < length is) × (remove is at ≡ without back.start is)
+removed_in_place back high at xs is h there same found =
+    let place : at ≡ prefix_len (λ (i : Interval). nat_lt i.start back.start) is = rw same at found in
+    rw place (remove_in_place back 0 high is h there.0 there.1 there.2)
+
+-- an interval put in its place keeps the starts rising
+pub with_interval-rises : (new : Interval) (is : List Interval) → IsNonDecreasingBy (λ (i : Interval). i.start) is → IsNonDecreasingBy (λ (i : Interval). i.start) (with_interval new is)
+with_interval-rises new is h =
+    let p = λ (i : Interval). nat_lt i.start new.start in
+    let at : ℕ = prefix_len p is in
+    let below : (k : ℕ) (d : Interval) → k < at → (get_or is k d).start ≤ new.start =
+    λ k d lt. let t : (get_or is k d).start < new.start = ltb-true _ _ (prefix_len_passes p is k d lt) in omega arith in
+    let above : (k : ℕ) (d : Interval) → at ≤ k → k < length is → new.start ≤ (get_or is k d).start =
+    λ k d le lt.
+    let stops : new.start ≤ (get_or is at d).start = ltb-false _ _ (prefix_len_stops p is d (omega arith)) in
+    let rises : (get_or is at d).start ≤ (get_or is k d).start = h at k d le lt in
+    omega arith in
+    subst (IsNonDecreasingBy (λ (i : Interval). i.start)) (insert_in_place new is)
+    (IsNonDecreasingBy-insert (λ (i : Interval). i.start) is at new h (prefix_len-le-length p is) below above)

@@ -1,0 +1,7 @@
+-- What was found so far.
+use Rattle.std.proofs.Common.{◌≡◌, take}
+use Rattle.buffer_pool.specs.Fitting.{rooms}
+use Rattle.buffer_pool.proofs.holes.has_rooms.Given as goal
+
+abbrev pub invariant-loop-hole : goal.invariant-loop-hole
+invariant-loop-hole l = l.found ≡ rooms l.pages_each (take l.hole-index l.holes)

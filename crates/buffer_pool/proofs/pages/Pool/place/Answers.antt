@@ -1,0 +1,76 @@
+-- What all the buffers together make of the pool.
+use Rattle.std.proofs.Common.{◌<◌, ◌∙◌, refl, sym, rules, vec_capacity}
+use Rattle.std.proofs.lemmas.Bool.{leb-true, leb-false}
+use Rattle.buffer_pool.specs.Fitting.{rooms}
+use Rattle.buffer_pool.proofs.Keeping.{KeepsRun, lists_of, keeps_run, places_buffers, not_full, is_full}
+use Rattle.buffer_pool.proofs.Sounds.{sound_from}
+use Rattle.buffer_pool.proofs.pages.Pool.place.Goals as goal
+use Rattle.buffer_pool.proofs.pages.Pool.place.Goals.{In-Ok, Else-not-has_rooms}
+
+pub returns-then-not-has_rooms-clause-full : goal.returns-then-not-has_rooms-clause-full
+returns-then-not-has_rooms-clause-full c =
+    let test = rw c.deref.ensures.value at c.has_rooms.ensures in
+    let few : rooms c.args.pages_each c.self.inside.holes.items < c.args.count = leb-false _ _ (sym test ∙ c.if-not-has_rooms.true) in
+    rw (← c.self.view_is)
+    (λ _. is_full c.self.inside.size c.self.inside.free c.args.count c.args.pages_each c.self.inside.holes.items c.self.inside.held.items (vec_capacity c.self.inside.holes) c.requires.1 c.self.invariant few, λ _. refl)
+
+pub returns-then-not-has_rooms-clause-sound : goal.returns-then-not-has_rooms-clause-sound
+returns-then-not-has_rooms-clause-sound c = rw (← c.self.view_is) (sound_from c.self.inside.size c.self.inside.held.items c.self.invariant.sized c.self.invariant.in_order)
+
+-- all buffers have room
+all_fit : (c : Else-not-has_rooms) → KeepsRun c.self.inside.size c.self.inside.free c.args.count c.args.pages_each c.self.inside.holes.items c.self.inside.held.items
+all_fit c =
+    let test = rw c.deref.ensures.value at c.has_rooms.ensures in
+    keeps_run c.self.inside.size c.self.inside.free c.args.count c.args.pages_each c.self.inside.holes.items c.self.inside.held.items (vec_capacity c.self.inside.holes) c.requires.1 c.self.invariant
+    (leb-true _ _ (sym test ∙ c.if-not-has_rooms.false))
+
+pub fill-placed-requires-clause-fits : goal.fill-placed-requires-clause-fits
+fill-placed-requires-clause-fits c =
+    rw c.reserve.ensures.holes (lists_of c.self.inside.size c.self.inside.free c.self.inside.holes.items c.self.inside.held.items (vec_capacity c.self.inside.holes) c.self.invariant).fits
+
+pub fill-placed-requires-clause-few : goal.fill-placed-requires-clause-few
+fill-placed-requires-clause-few c =
+    rw c.reserve.ensures.holes (lists_of c.self.inside.size c.self.inside.free c.self.inside.holes.items c.self.inside.held.items (vec_capacity c.self.inside.holes) c.self.invariant).few
+
+pub fill-placed-requires-clause-up : goal.fill-placed-requires-clause-up
+fill-placed-requires-clause-up c =
+    rw c.reserve.ensures.held (lists_of c.self.inside.size c.self.inside.free c.self.inside.holes.items c.self.inside.held.items (vec_capacity c.self.inside.holes) c.self.invariant).rises
+
+pub overflow_mul-self : goal.overflow_mul-self
+overflow_mul-self c = let small = (all_fit (goal.at.overflow_mul-self c).Else-not-has_rooms).small in search rules
+
+pub overflow_sub-self : goal.overflow_sub-self
+overflow_sub-self c = (all_fit (goal.at.overflow_sub-self c).Else-not-has_rooms).taken
+
+pub invariant_of-self : goal.invariant_of-self
+invariant_of-self c =
+    let same_holes = c.reserve.ensures.holes in
+    let same_held = c.reserve.ensures.held in
+    let k = (all_fit (goal.at.invariant_of-self c).Else-not-has_rooms).kept in
+    rw (c.fill-placed.ensures.holes, c.fill-placed.ensures.held, c.fill-placed.ensures.capacity, c.reserve.ensures.holes, c.reserve.ensures.held)
+    (k (vec_capacity c.reserve.new.holes) (rw c.reserve.ensures.held at c.in-Ok.ensures.holes_room))
+
+pub returns-in-Ok : goal.returns-in-Ok
+returns-in-Ok c =
+    let k = all_fit (goal.at.returns-in-Ok c).Else-not-has_rooms in
+    let kept = k.kept (vec_capacity c.reserve.new.holes) (rw c.reserve.ensures.held at c.in-Ok.ensures.holes_room) in
+    let p = places_buffers c.self.inside.size c.self.inside.free c.args.count c.args.pages_each c.self.inside.holes.items c.self.inside.held.items c.reserve.new.holes.items c.reserve.new.held.items c.fill-placed.new.held.items c.fill-placed.result.starts.items c.fill-placed.result.looks k
+    c.reserve.ensures.holes c.reserve.ensures.held c.fill-placed.ensures.starts c.fill-placed.ensures.looks c.fill-placed.ensures.held in
+    rw (← c.self.view_is)
+    (record {
+      ok = p;
+      err = tt;
+      full = (λ same. cc, not_full c.self.inside.size c.args.pages_each c.args.count c.self.inside.held.items c.fill-placed.result.starts.items _ p.starts_are);
+      sound = rw (c.fill-placed.ensures.held, c.reserve.ensures.holes, c.reserve.ensures.held) (sound_from c.self.inside.size _ kept.sized kept.in_order);
+    })
+
+pub returns-in-Err : goal.returns-in-Err
+returns-in-Err c =
+    let k = all_fit (goal.at.returns-in-Err c).Else-not-has_rooms in
+    rw (← c.self.view_is)
+    (record {
+      ok = tt;
+      err = λ i. record { size = c.self.inside.size; held = c.reserve.ensures.held i };
+      full = (λ same. cc, not_full c.self.inside.size c.args.pages_each c.args.count c.self.inside.held.items _ _ k.run.places_are);
+      sound = rw c.reserve.ensures.held (sound_from c.self.inside.size c.self.inside.held.items c.self.invariant.sized c.self.invariant.in_order);
+    })

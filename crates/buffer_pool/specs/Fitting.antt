@@ -1,0 +1,41 @@
+-- First fit on a list of holes.
+use Rattle.std.specs.Prelude.{ℕ, zero, suc, ◌+◌, ◌-◌, ◌/◌, nat_lt, Bool, ◌==◌, List, [], ◌∷◌, if◌then◌else◌}
+use Rattle.std.specs.List.{prefix_len, sum_by}
+use Rattle.sm_names.specs.declared.keys.Interval.{Interval}
+
+-- the hole has fewer pages
+abbrev pub too_small : ℕ → Interval → Bool
+too_small pages hole = nat_lt hole.pages pages
+
+-- how many buffers of so many pages the holes have room for
+abbrev pub rooms : ℕ → List Interval → ℕ
+rooms pages holes = sum_by (λ hole. hole.pages / pages) holes
+
+-- the start of the first hole that is not too small
+abbrev pub first_fit : ℕ → List Interval → ℕ
+first_fit pages [] = 0
+first_fit pages (h ∷ hs) = if too_small pages h then first_fit pages hs else h.start
+
+-- a hole less its first pages, before others
+abbrev pub shortened : ℕ → Interval → List Interval → List Interval
+shortened pages h hs = if h.pages == pages then hs else record { start = h.start + pages; pages = h.pages - pages } ∷ hs
+
+-- the holes once so many pages are taken from the front of the first that is not too small
+abbrev pub taken : ℕ → List Interval → List Interval
+taken pages [] = []
+taken pages (h ∷ hs) = if too_small pages h then h ∷ taken pages hs else shortened pages h hs
+
+-- the starts of so many buffers, one after another
+abbrev pub starts_in : ℕ → ℕ → List Interval → List ℕ
+starts_in pages zero holes = []
+starts_in pages (suc n) holes = first_fit pages holes ∷ starts_in pages n (taken pages holes)
+
+-- the holes after so many buffers
+abbrev pub left_in : ℕ → ℕ → List Interval → List Interval
+left_in pages zero holes = holes
+left_in pages (suc n) holes = left_in pages n (taken pages holes)
+
+-- the holes that a search from the first looks at, buffer by buffer
+abbrev pub looks_in : ℕ → ℕ → List Interval → ℕ
+looks_in pages zero holes = 0
+looks_in pages (suc n) holes = prefix_len (too_small pages) holes + 1 + looks_in pages n (taken pages holes)

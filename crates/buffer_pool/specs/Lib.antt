@@ -1,0 +1,6 @@
+pub mod Fitting
+pub mod Holdings
+pub mod Holes
+pub mod Looks
+pub mod Merging
+pub mod Placing

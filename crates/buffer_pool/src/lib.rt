@@ -1,0 +1,13 @@
+//! The pool of pages that buffers lie in: first fit, all or none, and pages that come back.
+#![tactic(auto)]
+
+mod holding;
+mod holes;
+pub mod laws;
+pub mod pages;
+pub mod placement;
+#[cfg(test)]
+mod tests;
+
+pub use pages::{MAX_PAGES, Pool};
+pub use placement::{Placed, PoolFault};

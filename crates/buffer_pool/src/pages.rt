@@ -1,0 +1,199 @@
+//! The pool.
+ghost use Rattle.std.specs.Prelude.{◌≡◌, ◌+◌, ◌*◌, ◌<◌, ◌≤◌, ◌↔◌, [], ◌∷◌, ◌++◌, length, vec_len, vec_capacity, ◌^◌, IfOk, OnErr, OnOk, None, Err, All, Contains};
+ghost use Rattle.std.specs.List.Sorted.{IsNonDecreasingBy};
+ghost use Rattle.sm_names.specs.Pages.{places};
+ghost use Rattle.buffer_pool.specs.Fitting.{rooms, starts_in, left_in, looks_in};
+ghost use Rattle.buffer_pool.specs.Holdings.{IsSound, pages_in, with_buffers, without};
+ghost use Rattle.buffer_pool.specs.Holes.{end_of};
+ghost use Rattle.buffer_pool.specs.Placing.{PlacesBuffers};
+
+use crate::holding::{hold, let_go};
+use crate::holes::{has_rooms, next_fit, release, take_front};
+use crate::placement::{Placed, PoolFault};
+use sm_names::{Interval, NoMemory};
+use std::alloc::{AllocError, Global};
+use std::marker::Model;
+
+/// The most pages that a pool has.
+pub const MAX_PAGES: u32 = 1_048_576;
+
+/// Pages 0, 1, 2, .. in which buffers lie apart from one another.
+#[derive(Drop)]
+pub struct Pool {
+    size: u32,
+    free: u32,
+    // By page, with capacity for as many as there are held intervals, so that none is refused
+    // its place when pages come back.
+    holes: Vec<Interval>,
+    // By page.
+    held: Vec<Interval>,
+}
+
+impl Model for Pool {
+    ghost use Rattle.std.specs.Prelude.{vec_capacity};
+    ghost use Rattle.buffer_pool.specs.Holdings.{Holdings, IsKept};
+
+    ghost Value = { Holdings };
+
+    ghost view = { λ p. record { size = p.size; held = p.held.items } };
+
+    ghost invariant = { λ p. IsKept p.size p.free p.holes.items p.held.items (vec_capacity p.holes) };
+}
+
+impl Pool {
+    /// A pool of so many pages, from 1 to `MAX_PAGES`, of which none is held.
+    ///
+    /// `NoMemory` where the list for its one hole is refused. The cost does not depend on the pages.
+    pub fn new(alloc: Global, pages: u32) -> Result<Pool, NoMemory>
+        requires { (1 ≤ pages) × (pages ≤ MAX_PAGES) }
+        ensures ok { IfOk result (λ pool. pool ≡ record { size = pages; held = [] }) }
+    {
+        let mut holes = Vec::new(alloc);
+        match holes.push(Interval { start: 0, pages }) {
+            Ok(()) => Ok(Pool {
+                size: pages,
+                free: pages,
+                holes,
+                held: Vec::new(alloc),
+            }),
+            Err(_) => Err(NoMemory),
+        }
+    }
+
+    /// Places `count` buffers of `pages_each` pages, at least one of each, one after another: each
+    /// at the least start at which it lies in the pool and meets nothing that is held.
+    ///
+    /// `PoolFull` where some buffer has no such start, and `NoMemory` where a growth is refused.
+    /// Either leaves the pool as it was.
+    ///
+    /// It costs two walks over the holes up to the last start, or over all where the pool is full,
+    /// and for each buffer a binary search and a shift of the held intervals behind it. A hole that
+    /// is filled costs a shift of the holes behind it.
+    pub fn place(&mut self, count: u32, pages_each: u32) -> Result<Placed, PoolFault>
+        requires { (1 ≤ count) × (1 ≤ pages_each) }
+
+        ensures ok { IfOk result (λ placed.
+            PlacesBuffers self.old self.new count pages_each placed.starts.items placed.looks) }
+        ensures err { OnErr result (self.new ≡ self.old) }
+
+        // It is full exactly where the definition has no place for some buffer.
+        ensures full { (result ≡ Err PoolFault.PoolFull)
+            ↔ (places self.old.size pages_each count self.old.held ≡ None) }
+        ensures sound { IsSound self.new }
+    {
+        if !has_rooms(&self.holes, count, pages_each) {
+            return Err(PoolFault::PoolFull);
+        }
+        match reserve(&mut self.holes, &mut self.held, count) {
+            Ok(starts) => {
+                let placed = fill(&mut self.holes, &mut self.held, starts, count, pages_each);
+                self.free -= count * pages_each;
+                Ok(placed)
+            }
+            Err(_) => Err(PoolFault::NoMemory),
+        }
+    }
+
+    /// Takes back the pages of a held interval, and leaves all others as they are. The pages form
+    /// one hole with the holes that they touch.
+    ///
+    /// It takes no memory, and costs a binary search and at most one shift in each of two lists:
+    /// the held intervals and the holes.
+    pub fn give_back(&mut self, start: u32, pages: u32)
+        requires { Contains self.old.held (record { start = start; pages = pages }) }
+        ensures held { self.new ≡ record self.old { held = without start self.old.held } }
+        ensures sound { IsSound self.new }
+    {
+        let back = Interval { start, pages };
+        let_go(&mut self.held, back);
+        release(&mut self.holes, back);
+        self.free += pages;
+    }
+
+    /// The held intervals in order of page, which lie in the pool and apart.
+    ///
+    /// `NoMemory` where the copy is refused, which is all that it costs.
+    pub fn held(&self) -> Result<Vec<Interval>, NoMemory>
+        ensures ok { IfOk result (λ held. held.items ≡ self.now.held) }
+        ensures sound { IsSound self.now }
+    {
+        match self.held.clone() {
+            Ok(held) => Ok(held),
+            Err(_) => Err(NoMemory),
+        }
+    }
+
+    /// How many pages nobody holds. It takes no memory, and costs one read.
+    pub fn free_pages(&self) -> u32
+        ensures free { result + pages_in self.now.held ≡ self.now.size }
+        ensures sound { IsSound self.now }
+    {
+        self.free
+    }
+}
+
+// Makes room for `count` more buffers: for their starts, among the held intervals, and for the
+// holes that they can leave.
+fn reserve(
+    holes: &mut Vec<Interval>,
+    held: &mut Vec<Interval>,
+    count: u32,
+) -> Result<Vec<u32>, AllocError>
+    ensures holes { holes.new.items ≡ holes.old.items }
+    ensures held { held.new.items ≡ held.old.items }
+    ensures kept { vec_capacity holes.old ≤ vec_capacity holes.new }
+    ensures starts { IfOk result (λ starts. starts.items ≡ []) }
+    ensures starts_room { IfOk result (λ starts. count ≤ vec_capacity starts) }
+    ensures held_room { OnOk result (length held.new.items + count ≤ vec_capacity held.new) }
+    ensures holes_room { OnOk result (length held.new.items + count ≤ vec_capacity holes.new) }
+{
+    let more = count as usize;
+    let starts = Vec::with_capacity(*held.allocator(), more)?;
+    held.reserve(more)?;
+    holes.reserve((held.len() + more).saturating_sub(holes.len()))?;
+    Ok(starts)
+}
+
+// Places buffers that all have room, and counts the looks. As the buffers are of one size, a hole
+// that was too small for one is too small for those after it, so the search goes on where it was.
+fn fill(
+    holes: &mut Vec<Interval>,
+    held: &mut Vec<Interval>,
+    mut starts: Vec<u32>,
+    count: u32,
+    pages_each: u32,
+) -> Placed
+    requires pages { 1 ≤ pages_each }
+    requires rooms { count ≤ rooms pages_each holes.old.items }
+    requires fits { All (λ h. end_of h < 2 ^ 32) holes.old.items }
+    requires few { length holes.old.items ≤ 2 ^ 20 }
+    requires up { IsNonDecreasingBy (λ i. i.start) held.old.items }
+    requires held_room { length held.old.items + count ≤ vec_capacity held.old }
+    requires empty { starts.items ≡ [] }
+    requires starts_room { count ≤ vec_capacity starts }
+    ensures starts { result.starts.items ≡ starts_in pages_each count holes.old.items }
+    ensures looks { result.looks ≡ looks_in pages_each count holes.old.items }
+    ensures holes { holes.new.items ≡ left_in pages_each count holes.old.items }
+    ensures held { held.new.items
+        ≡ with_buffers pages_each (starts_in pages_each count holes.old.items) held.old.items }
+    ensures capacity { vec_capacity holes.new ≡ vec_capacity holes.old }
+{
+    let mut at = 0;
+    let mut looks = 0;
+    let mut left = count;
+    while left > 0 {
+        at = next_fit(holes, at, pages_each);
+        looks += at as u64 + 1;
+        let start = take_front(holes, at, pages_each);
+        hold(
+            held,
+            Interval {
+                start,
+                pages: pages_each,
+            },
+        );
+        starts.push(start).unwrap();
+        left -= 1;
+    }
+    Placed { starts, looks }
+}
