@@ -1,0 +1,3 @@
+pub mod Row
+pub mod Stage
+pub mod Table

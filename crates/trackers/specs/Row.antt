@@ -1,0 +1,54 @@
+-- How the table keeps one tracker. No public clause cites this module.
+use Rattle.std.specs.Prelude.{ℕ, Bool, true, false, Option, Some, None, if◌then◌else◌}
+use Rattle.sm_names.specs.declared.tracking.Condition.{Condition}
+use Rattle.sm_names.specs.declared.tracking.Fired.{Fired}
+use Rattle.trackers.specs.Table.{Reader, Waiting, Cell}
+
+-- the first of two that knows a firing decides
+abbrev pub first_known : Option Fired → Option Fired → Option Fired
+first_known None other = other
+first_known (Some fired) other = Some fired
+
+-- how far a tracker is: it waits, filed under a collection, or it fired at an event
+pub data Stage : Type 0 where
+  Waits : ℕ → Condition → Stage
+  Over : ℕ → Stage
+
+-- a tracker: its id, the name of its cell, how far it is, and whether its reader is still here
+pub record Kept : Type 0 where
+  pub id : ℕ
+  pub cell : ℕ
+  pub stage : Stage
+  pub has_reader : Bool
+
+-- the tracker with this id waits at this stage
+abbrev pub waiting_at : ℕ → Stage → Option Waiting
+waiting_at id (Waits place condition) = Some (record { id = id; place = place; condition = condition })
+waiting_at id (Over event) = None
+
+-- the tracker with this id fired at this stage
+abbrev pub firing_at : ℕ → Stage → Option Fired
+firing_at id (Waits place condition) = None
+firing_at id (Over event) = Some (record { tracker = id; event = event })
+
+-- at this stage a tracker has not fired
+abbrev pub waits : Stage → Bool
+waits (Waits place condition) = true
+waits (Over event) = false
+
+-- the tracker has not fired
+abbrev pub is_waiting : Kept → Bool
+is_waiting row = waits row.stage
+
+-- what the tracker waits for, if it has not fired
+abbrev pub waiting_of_row : Kept → Option Waiting
+waiting_of_row row = waiting_at row.id row.stage
+
+-- the firing of the tracker, if it fired
+abbrev pub firing_of_row : Kept → Option Fired
+firing_of_row row = firing_at row.id row.stage
+
+-- the reader of the tracker, if it is still here
+abbrev pub reader_of_row : Kept → Option Reader
+reader_of_row row =
+    if row.has_reader then Some (record { tracker = row.id; cell = row.cell; known = firing_of_row row }) else None

@@ -1,0 +1,12 @@
+//! Trackers: each waits for a node to go, a lifetime to end or a buffer to be doomed, fires once,
+//! and is read without a lock.
+#![tactic(auto)]
+
+
+mod row;
+mod tracker;
+mod world;
+
+pub use sm_names::{Condition, Fired};
+pub use tracker::Tracker;
+pub use world::World;

@@ -1,0 +1,150 @@
+//! One tracker, as the table keeps it.
+ghost use Rattle.std.specs.Prelude.{◌≡◌, true, false, Some, IfSome, IfOk, IsTrue};
+ghost use Rattle.std.specs.Bool.{OnTrue};
+ghost use Rattle.trackers.specs.Table.{Reader};
+ghost use Rattle.trackers.specs.Row.{Kept, Waits, Over, firing_of_row, reader_of_row, is_waiting};
+
+use crate::tracker::Tracker;
+use crate::world::{World, is_met};
+use once_cell::race::{Note, OnceBox};
+use sm_names::{CollectionId, Condition, Fired, TrackerId};
+use std::alloc::{AllocError, Global};
+use std::marker::Model;
+use std::mem;
+use std::sync::Arc;
+
+/// All that the firing of a tracker will need.
+#[derive(Drop)]
+struct Spare {
+    place: CollectionId,
+    condition: Condition,
+    cell: Arc<OnceBox<Fired>>,
+    room: Box<Fired>,
+}
+
+/// How far a tracker is.
+#[derive(Drop)]
+enum Stage {
+    Waiting(Spare),
+    Over { event: u64, was_set: bool },
+}
+
+/// A tracker, with what is known of its cell, and its reader until that is taken.
+#[derive(Drop)]
+pub(crate) struct Row {
+    id: TrackerId,
+    stage: Stage,
+    note: Note<Fired>,
+    reader: Option<Tracker>,
+}
+
+impl Model for Row {
+    ghost use Rattle.trackers.specs.Row.{Kept};
+
+    ghost Value = { Kept };
+
+    ghost use Rattle.trackers.specs.Stage.{view_of, IsSound};
+
+    ghost view = { view_of };
+
+    ghost invariant = { IsSound };
+}
+
+impl Row {
+    /// A tracker that waits, filed under this collection, and its reader.
+    pub(crate) fn new(
+        alloc: Global,
+        id: TrackerId,
+        place: CollectionId,
+        condition: Condition,
+    ) -> Result<Row, AllocError>
+        ensures { IfOk result (λ r. (r.id ≡ id) × (r.stage ≡ Waits place condition) × (r.has_reader ≡ true)) }
+    {
+        let cell = Arc::new(alloc, OnceBox::new(alloc))?;
+        let room = Box::new(alloc, Fired { tracker: id, event: 0 })?;
+        let mut note = cell.note();
+        let reader = Tracker::new(id, Arc::try_clone(&cell)?, note.again());
+        Ok(Row {
+            id,
+            stage: Stage::Waiting(Spare {
+                place,
+                condition,
+                cell,
+                room,
+            }),
+            note,
+            reader: Some(reader),
+        })
+    }
+
+    pub(crate) fn id(&self) -> TrackerId
+        ensures { result ≡ self.now.id }
+    {
+        self.id
+    }
+
+    /// Whether the tracker has not fired.
+    pub(crate) fn is_waiting(&self) -> bool
+        ensures { result ≡ is_waiting self.now }
+    {
+        match &self.stage {
+            Stage::Waiting(_) => true,
+            Stage::Over { .. } => false,
+        }
+    }
+
+    /// Fires the tracker: sets its cell, and tells the reader that is still here.
+    pub(crate) fn fire(&mut self, event: u64) -> Fired
+        requires { IsTrue (is_waiting self.old) }
+        ensures over { self.new ≡ record self.old { stage = Over event } }
+        ensures firing { result ≡ record { tracker = self.old.id; event = event } }
+    {
+        let fired = Fired {
+            tracker: self.id,
+            event,
+        };
+        let over = Stage::Over {
+            event,
+            was_set: false,
+        };
+        match mem::replace(&mut self.stage, over) {
+            Stage::Over { .. } => unreachable!(),
+            Stage::Waiting(spare) => {
+                let Spare { cell, mut room, .. } = spare;
+                *room = fired;
+                let was_set = cell.set_as(room, &mut self.note).is_ok();
+                self.stage = Stage::Over { event, was_set };
+                if let Some(reader) = &mut self.reader {
+                    if was_set {
+                        reader.learn(self.note.again());
+                    } else {
+                        reader.tell(fired);
+                    }
+                }
+            }
+        }
+        fired
+    }
+
+    /// The reader, once.
+    pub(crate) fn take(&mut self) -> Option<Tracker>
+        ensures reader { result ≡ reader_of_row self.old }
+        ensures taken { self.new ≡ record self.old { has_reader = false } }
+    {
+        self.reader.take()
+    }
+
+    /// Holds what a reader of this cell knows against the firing that set it. The answer is false
+    /// where none did.
+    pub(crate) fn agree(&mut self, reader: &mut Tracker) -> bool
+        requires { reader.old.cell ≡ self.old.cell }
+        ensures kept { self.new ≡ self.old }
+        ensures reader_kept { reader.new ≡ reader.old }
+        ensures same { OnTrue result (IfSome reader.old.known (λ f. firing_of_row self.old ≡ Some f)) }
+    {
+        match self.stage {
+            Stage::Over { was_set: true, .. } => reader.compare(&mut self.note),
+            _ => false,
+        }
+    }
+}
