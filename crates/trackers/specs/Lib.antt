@@ -1,3 +1,4 @@
+pub mod Held
 pub mod Row
 pub mod Stage
 pub mod Table

@@ -2,9 +2,9 @@
 //! and is read without a lock.
 #![tactic(auto)]
 
-
 mod row;
 mod tracker;
+mod walk;
 mod world;
 
 pub use sm_names::{Condition, Fired};

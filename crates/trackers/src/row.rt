@@ -2,10 +2,11 @@
 ghost use Rattle.std.specs.Prelude.{◌≡◌, true, false, Some, IfSome, IfOk, IsTrue};
 ghost use Rattle.std.specs.Bool.{OnTrue};
 ghost use Rattle.trackers.specs.Table.{Reader};
+ghost use Rattle.trackers.specs.Held.{is_met};
 ghost use Rattle.trackers.specs.Row.{Kept, Waits, Over, firing_of_row, reader_of_row, is_waiting};
 
 use crate::tracker::Tracker;
-use crate::world::{World, is_met};
+use crate::world::{World, holds_in};
 use once_cell::race::{Note, OnceBox};
 use sm_names::{CollectionId, Condition, Fired, TrackerId};
 use std::alloc::{AllocError, Global};
@@ -89,6 +90,16 @@ impl Row {
     {
         match &self.stage {
             Stage::Waiting(_) => true,
+            Stage::Over { .. } => false,
+        }
+    }
+
+    /// Whether the tracker waits, and what it waits for holds.
+    pub(crate) fn is_due<W: World>(&self, world: &W) -> bool
+        ensures { result ≡ is_met (W.seen world.now) self.now }
+    {
+        match &self.stage {
+            Stage::Waiting(spare) => holds_in(spare.condition, world),
             Stage::Over { .. } => false,
         }
     }

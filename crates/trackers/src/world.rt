@@ -26,7 +26,7 @@ pub trait World {
 }
 
 /// Whether what is waited for holds.
-pub(crate) fn is_met<W: World>(condition: Condition, world: &W) -> bool
+pub(crate) fn holds_in<W: World>(condition: Condition, world: &W) -> bool
     ensures { result ≡ holds (W.seen world.now) condition }
 {
     match condition {
