@@ -1,3 +1,4 @@
+pub mod Filing
 pub mod Held
 pub mod Row
 pub mod Stage

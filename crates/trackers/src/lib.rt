@@ -2,6 +2,7 @@
 //! and is read without a lock.
 #![tactic(auto)]
 
+mod filing;
 mod row;
 mod tracker;
 mod walk;
