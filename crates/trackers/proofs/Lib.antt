@@ -1,1 +1,7 @@
+pub mod AttachLemmas
+pub mod FilingLemmas
+pub mod FoundLemmas
+pub mod HeldLemmas
+pub mod PlaceLemmas
+pub mod SweepLemmas
 pub mod Walks

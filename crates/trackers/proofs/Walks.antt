@@ -163,7 +163,7 @@ balance_at w e id cell (Waits place c) has row same =
     let still : Kept = record { id = id; cell = cell; stage = Waits place c; has_reader = has } in
     rw same (elim (holds w c) as (λ b. length (option_to_list (if b then fired else none_fired)) + cond (is_waiting (if b then over else still)) 1 0 ≡ 1) [ true ↦ refl | false ↦ refl ])
 
-balance : (w : World) (e : ℕ) (row : Kept) → length (option_to_list (fires w e row)) + cond (is_waiting (after w e row)) 1 0 ≡ cond (is_waiting row) 1 0
+pub balance : (w : World) (e : ℕ) (row : Kept) → length (option_to_list (fires w e row)) + cond (is_waiting (after w e row)) 1 0 ≡ cond (is_waiting row) 1 0
 balance w e row = balance_at w e row.id row.cell row.stage row.has_reader row refl
 
 module _ (rows : List Kept) (at : ℕ) (row : Kept) (within : at < length rows) (here : get_or rows at row ≡ row) where

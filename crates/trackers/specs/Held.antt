@@ -1,11 +1,13 @@
 -- How the rows of the table show it, and what is always true of them. No public clause cites this module.
-use Rattle.std.specs.Prelude.{◌≡◌, ℕ, ◌+◌, ◌<◌, ◌≤◌, Bool, true, false, ◌==◌, ◌&&◌, ⊤, if◌then◌else◌, List, [], ◌∷◌, map, length, Option, Some, None}
+use Rattle.std.specs.Prelude.{◌≡◌, ◌≢◌, ℕ, suc, ◌+◌, ◌<◌, ◌≤◌, Bool, true, false, ◌==◌, ⊤, if◌then◌else◌, List, [], ◌∷◌, map, length, Option, Some, None, MatchOption}
 use Rattle.std.specs.List.{filter_map, AllByRecursion, count_by}
 use Rattle.std.specs.Option.{option_map_or}
+use Rattle.sm_names.specs.declared.tracking.Condition.{Condition}
 use Rattle.sm_names.specs.declared.tracking.Fired.{Fired}
 use Rattle.sm_names.specs.Trackers.{World}
 use Rattle.trackers.specs.Table.{Table, Waiting, Cell, is_due, firing_of}
-use Rattle.trackers.specs.Row.{Kept, Stage, Waits, Over, is_waiting, waiting_of_row, firing_of_row}
+use Rattle.trackers.specs.Filing.{Piles, pile_of}
+use Rattle.trackers.specs.Row.{Kept, Waits, Over, is_waiting, waiting_of_row, firing_of_row}
 
 -- the cell of a row
 abbrev pub cell_of_row : Kept → Cell
@@ -39,7 +41,7 @@ fires world event row = if is_met world row then Some (record { tracker = row.id
 
 -- the row waits, filed under this place
 abbrev pub is_filed : ℕ → Kept → Bool
-is_filed place row = option_map_or (λ (t : Waiting). t.place == place) (waiting_of_row row) false
+is_filed place row = option_map_or (λ (t : Waiting). place == t.place) (waiting_of_row row) false
 
 -- the places of those that pass the test, where the list begins at this place
 abbrev pub positions : {X : Type 0} → (X → Bool) → ℕ → List X → List ℕ
@@ -51,14 +53,19 @@ abbrev pub AreRising : List Kept → Type 0
 AreRising [] = ⊤
 AreRising (row ∷ rows) = AllByRecursion (λ (later : Kept). row.id < later.id) rows × AreRising rows
 
+-- no row has this id
+abbrev pub NoneHas : ℕ → List Kept → Type 0
+NoneHas id rows = AllByRecursion (λ (row : Kept). row.id ≢ id) rows
+
 -- what holds of the rows and the firings: each row fired or waits, there is room for the firings of all, no more
--- wait than may, and the firing of each row is found under its id
+-- wait than may, the firing of each row is found under its id, and no other id has one
 pub record AreHeld (limit : ℕ) (rows : List Kept) (fired : List Fired) (capacity : ℕ) : Type 0 where
   pub rising : AreRising rows
   pub counted : length fired + count_by is_waiting rows ≡ length rows
   pub room : length rows ≤ capacity
   pub within : count_by is_waiting rows ≤ limit
   pub told : AllByRecursion (λ (row : Kept). firing_of fired row.id ≡ firing_of_row row) rows
+  pub own : (id : ℕ) → NoneHas id rows → firing_of fired id ≡ None
 
 -- these are places of rows, rising, and no row elsewhere is met
 pub data Reach (world : World) : ℕ → List Kept → List ℕ → Type 0 where
@@ -67,3 +74,25 @@ pub data Reach (world : World) : ℕ → List Kept → List ℕ → Type 0 where
       → Reach world (n + 1) rows due → Reach world n (row ∷ rows) due
   pick : {n : ℕ} {row : Kept} {rows : List Kept} {due : List ℕ}
       → Reach world (n + 1) rows due → Reach world n (row ∷ rows) (n ∷ due)
+
+-- under each collection the places of its rows that wait are filed
+pub record AreFiled (rows : List Kept) (piles : Piles) : Type 0 where
+  pub at : (collection : ℕ) → pile_of piles collection ≡ positions (is_filed collection) 0 rows
+
+-- the row of a tracker that was attached just now
+abbrev pub attached : ℕ → ℕ → ℕ → Condition → Kept
+attached id cell place condition = record { id = id; cell = cell; stage = Waits place condition; has_reader = true }
+
+-- what holds of the table: its rows and firings are sound, and those that wait are filed
+pub record IsKeptUp (limit : ℕ) (rows : List Kept) (fired : List Fired) (capacity : ℕ) (piles : Piles) : Type 0 where
+  pub held : AreHeld limit rows fired capacity
+  pub filed : AreFiled rows piles
+
+-- at this place the only row with this id stands
+pub data Found (id : ℕ) : List Kept → ℕ → Kept → Type 0 where
+  here : {row : Kept} {rows : List Kept} → row.id ≡ id → NoneHas id rows → Found id (row ∷ rows) 0 row
+  later : {row other : Kept} {rows : List Kept} {at : ℕ} → other.id ≢ id → Found id rows at row → Found id (other ∷ rows) (suc at) row
+
+-- what a search for this id answers
+abbrev pub IsPlace : ℕ → List Kept → Option ℕ → Type 0
+IsPlace id rows answer = MatchOption answer (NoneHas id rows) (λ at. (row : Kept) × Found id rows at row)

@@ -11,6 +11,16 @@ use std::collections::HashMap;
 /// Under each collection the places of its rows that wait, by rising place.
 pub(crate) type Piles = HashMap<CollectionId, Vec<usize>>;
 
+/// The places of the rows that are filed under the collection.
+pub(crate) fn pile(piles: &Piles, collection: CollectionId) -> &[usize]
+    ensures { result.now ≡ pile_of piles.now collection }
+{
+    match piles.get(&collection) {
+        Some(pile) => pile,
+        None => &[],
+    }
+}
+
 /// Files this place last under the collection.
 pub(crate) fn file(
     piles: &mut Piles,

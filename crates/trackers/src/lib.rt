@@ -4,10 +4,12 @@
 
 mod filing;
 mod row;
+mod table;
 mod tracker;
 mod walk;
 mod world;
 
 pub use sm_names::{Condition, Fired};
+pub use table::{TrackFault, Trackers};
 pub use tracker::Tracker;
 pub use world::World;

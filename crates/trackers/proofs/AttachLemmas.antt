@@ -1,0 +1,97 @@
+-- What one row more leaves.
+use Rattle.std.proofs.Common.{◌≡◌, ◌≢◌, ℕ, ◌+◌, ◌<◌, ◌≤◌, Bool, true, false, ◌==◌, if◌then◌else◌, cond, List, [], ◌∷◌, ◌++◌, map, length, count_by, Option, Some, None, refl, sym, ap, ◌∙◌, arith, length-append, append-nil}
+use Rattle.std.specs.List.{filter_map, cons_option, AllByRecursion}
+use Rattle.std.proofs.lemmas.List.{map_push, length_push}
+use Rattle.std.proofs.lemmas.List.Sums.{sum_by-append, sum_by-cons}
+use Rattle.std.proofs.lemmas.Bool.Decides.{nat_tests}
+use Rattle.sm_names.specs.declared.tracking.Fired.{Fired}
+use Rattle.sm_names.specs.declared.tracking.Condition.{Condition}
+use Rattle.trackers.specs.Table.{Table, Waiting, Cell, Attaches, firing_of}
+use Rattle.trackers.specs.Row.{Kept, Stage, Waits, Over, is_waiting, waiting_of_row, firing_of_row}
+use Rattle.trackers.specs.Filing.{Piles, pile_of}
+use Rattle.trackers.specs.Held.{cell_of_row, untaken_of_row, is_filed, positions, AreRising, AreHeld, AreFiled, IsKeptUp, NoneHas, table_of, attached}
+use Rattle.trackers.proofs.FilingLemmas.{positions_push}
+use Rattle.trackers.proofs.FoundLemmas.{table_with}
+use Rattle.trackers.proofs.Walks.{filter_map_push}
+
+-- a row that waits is shown
+shown_at : (id cell : ℕ) (stage : Stage) (has : Bool) (rows : List Kept) → length (filter_map waiting_of_row rows) ≡ count_by is_waiting rows → length (cons_option (waiting_of_row (record { id = id; cell = cell; stage = stage; has_reader = has })) (filter_map waiting_of_row rows)) ≡ cond (is_waiting (record { id = id; cell = cell; stage = stage; has_reader = has })) 1 0 + count_by is_waiting rows
+shown_at id cell (Over event) has rows same = omega arith
+shown_at id cell (Waits place c) has rows same = omega arith
+
+-- as many rows wait as are shown
+pub count_shown : (rows : List Kept) → length (filter_map waiting_of_row rows) ≡ count_by is_waiting rows
+count_shown [] = refl
+count_shown (row ∷ rows) = shown_at row.id row.cell row.stage row.has_reader rows (count_shown rows) ∙ sym (sum_by-cons (λ r. cond (is_waiting r) 1 0) row rows)
+
+-- the ids of the cells are those of the rows
+pub all_below : (n : ℕ) (rows : List Kept) → AllByRecursion (λ (c : Cell). c.id < n) (map cell_of_row rows) → AllByRecursion (λ (r : Kept). r.id < n) rows
+all_below n [] all = tt
+all_below n (row ∷ rows) all = (all.0, all_below n rows all.1)
+
+-- a greater id is one that no row has
+fresh : (n : ℕ) (rows : List Kept) → AllByRecursion (λ (r : Kept). r.id < n) rows → NoneHas n rows
+fresh n [] all = tt
+fresh n (row ∷ rows) all = ((λ same. omega (arith, all.0)), fresh n rows all.1)
+
+module _ (row : Kept) where
+  below_push : (n : ℕ) (rows : List Kept) → n < row.id → AllByRecursion (λ (r : Kept). n < r.id) rows → AllByRecursion (λ (r : Kept). n < r.id) (rows ++ row ∷ [])
+  below_push n [] above below = (above, tt)
+  below_push n (other ∷ rows) above below = (below.0, below_push n rows above below.1)
+
+  rising_push : (rows : List Kept) → AllByRecursion (λ (r : Kept). r.id < row.id) rows → AreRising rows → AreRising (rows ++ row ∷ [])
+  rising_push [] all rising = (tt, tt)
+  rising_push (other ∷ rows) all rising = (below_push other.id rows all.0 rising.0, rising_push rows all.1 rising.1)
+
+  told_push : (fired : List Fired) (rows : List Kept) → firing_of fired row.id ≡ firing_of_row row → AllByRecursion (λ (r : Kept). firing_of fired r.id ≡ firing_of_row r) rows → AllByRecursion (λ (r : Kept). firing_of fired r.id ≡ firing_of_row r) (rows ++ row ∷ [])
+  told_push fired [] here told = (here, tt)
+  told_push fired (other ∷ rows) here told = (told.0, told_push fired rows here told.1)
+
+  none_push : (id : ℕ) (rows : List Kept) → NoneHas id (rows ++ row ∷ []) → NoneHas id rows
+  none_push id [] none = tt
+  none_push id (other ∷ rows) none = (none.0, none_push id rows none.1)
+
+module _ (limit capacity capacity' : ℕ) (rows rows' : List Kept) (fired fired' : List Fired) (old new : Piles) (kept : IsKeptUp limit rows fired capacity old) (same : fired' ≡ fired) where
+  -- the table is right with one row more
+  pub kept_push : (id cell place : ℕ) (c : Condition) → AllByRecursion (λ (r : Kept). r.id < id) rows → count_by is_waiting rows < limit → length rows + 1 ≤ capacity' → rows' ≡ rows ++ attached id cell place c ∷ [] → ((k : ℕ) → pile_of new k ≡ (if k == place then pile_of old k ++ length rows ∷ [] else pile_of old k)) → IsKeptUp limit rows' fired' capacity' new
+  kept_push id cell place c all room_left room pushed filed =
+      let row : Kept = attached id cell place c in
+      rw (same, pushed) record {
+        held = record {
+          rising = rising_push row rows all kept.held.rising;
+          counted = omega (arith, kept.held.counted, length_push rows row, sum_by-append (λ r. cond (is_waiting r) 1 0) rows (row ∷ []));
+          room = omega (arith, room, length_push rows row);
+          within = omega (arith, room_left, sum_by-append (λ r. cond (is_waiting r) 1 0) rows (row ∷ []));
+          told = told_push row fired rows (kept.held.own id (fresh id rows all)) kept.held.told;
+          own = λ other none. kept.held.own other (none_push row other rows none);
+        };
+        filed = record { at = λ k. filed k ∙ elim (k == place) as (λ b. (if b then pile_of old k ++ length rows ∷ [] else pile_of old k) ≡ positions (is_filed k) 0 rows ++ (if b then (0 + length rows) ∷ [] else [])) [
+          true ↦ rw (kept.filed.at k) (ap (λ m. positions (is_filed k) 0 rows ++ m ∷ []) (omega arith))
+          | false ↦ kept.filed.at k ∙ sym (append-nil (positions (is_filed k) 0 rows)) ] ∙ sym (positions_push k 0 rows row) };
+      }
+
+  -- and with more room alone
+  pub kept_grown : capacity ≤ capacity' → rows' ≡ rows → ((k : ℕ) → pile_of new k ≡ pile_of old k) → IsKeptUp limit rows' fired' capacity' new
+  kept_grown more stay filed = rw (same, stay) record {
+    held = record {
+      rising = kept.held.rising;
+      counted = kept.held.counted;
+      room = omega (arith, kept.held.room);
+      within = kept.held.within;
+      told = kept.held.told;
+      own = kept.held.own;
+    };
+    filed = record { at = λ k. filed k ∙ kept.filed.at k };
+  }
+
+-- the table shows a row more
+pub table_push : (limit : ℕ) (rows rows' : List Kept) (fired fired' : List Fired) (id cell place : ℕ) (c : Condition) → fired' ≡ fired → rows' ≡ rows ++ attached id cell place c ∷ [] → Attaches (table_of limit rows fired) (table_of limit rows' fired') (record { id = id; place = place; condition = c })
+table_push limit rows rows' fired fired' id cell place c same pushed =
+    let row : Kept = attached id cell place c in
+    rw (same, pushed) record {
+      name = cell;
+      next =
+        ap (λ l. table_with limit l (filter_map waiting_of_row (rows ++ row ∷ [])) (filter_map untaken_of_row (rows ++ row ∷ [])) fired) (map_push cell_of_row rows row)
+        ∙ ap (λ l. table_with limit (map cell_of_row rows ++ cell_of_row row ∷ []) l (filter_map untaken_of_row (rows ++ row ∷ [])) fired) (filter_map_push waiting_of_row rows row)
+        ∙ ap (λ l. table_with limit (map cell_of_row rows ++ cell_of_row row ∷ []) (filter_map waiting_of_row rows ++ record { id = id; place = place; condition = c } ∷ []) l fired) (filter_map_push untaken_of_row rows row);
+    }

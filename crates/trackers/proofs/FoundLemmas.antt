@@ -1,0 +1,164 @@
+-- Rows by their ids: where one stands, what is found there, and what its change leaves.
+use Rattle.std.proofs.Common.{◌≡◌, ◌≢◌, ℕ, zero, suc, ◌+◌, ◌-◌, ◌<◌, ◌≤◌, Bool, true, false, not, ◌||◌, ◌==◌, List, [], ◌∷◌, ◌++◌, map, length, get_or, set, Option, Some, None, IfSome, unwrap_or, count_by, cond, if◌then◌else◌, refl, sym, ap, subst, ◌∙◌, arith}
+use Rattle.std.specs.List.{filter, filter_map, cons_option, find, list_any, AllByRecursion}
+use Rattle.std.specs.Option.{option_map}
+use Rattle.std.proofs.lemmas.List.Elements.{All-from_recursion}
+use Rattle.std.proofs.lemmas.List.Sums.{sum_by-cons}
+use Rattle.std.proofs.lemmas.Bool.Decides.{nat_tests}
+use Rattle.sm_names.specs.declared.tracking.Fired.{Fired}
+use Rattle.trackers.specs.Table.{Table, Waiting, Cell, firing_of, cell_of, is_untaken, without, reader_of}
+use Rattle.trackers.specs.Filing.{Piles}
+use Rattle.trackers.specs.Row.{Kept, is_waiting, waiting_of_row, firing_of_row, reader_of_row}
+use Rattle.trackers.specs.Held.{cell_of_row, untaken_of_row, is_filed, positions, AreRising, AreHeld, IsKeptUp, NoneHas, Found, here, later, table_of}
+
+-- the test of an id against itself, and against another
+pub same_id : (i : ℕ) → (i == i) ≡ true
+same_id i = grind (arith, nat_tests)
+
+pub other_id : (i j : ℕ) → i ≢ j → (i == j) ≡ false
+other_id i j differ = grind (arith, nat_tests)
+
+-- each row of rising ones is found at its place
+none_below : (id : ℕ) (rows : List Kept) → AllByRecursion (λ (r : Kept). id < r.id) rows → NoneHas id rows
+none_below id [] below = tt
+none_below id (row ∷ rows) below = ((λ same. omega (arith, below.0)), none_below id rows below.1)
+
+pub found_at : (rows : List Kept) → AreRising rows → (at : ℕ) (d : Kept) → at < length rows → Found (get_or rows at d).id rows at (get_or rows at d)
+found_at [] rising at d within = absurd (omega arith)
+found_at (row ∷ rows) rising zero d within = here refl (none_below row.id rows rising.0)
+found_at (row ∷ rows) rising (suc at) d within =
+    let below : row.id < (get_or rows at d).id = All-from_recursion (λ (r : Kept). row.id < r.id) rows rising.0 at d (omega arith) in
+    later (λ same. omega arith) (found_at rows rising.1 at d (omega arith))
+
+module _ (id : ℕ) where
+  -- the place is within, and the row stands there
+  pub found_within : {rows : List Kept} {at : ℕ} {row : Kept} → Found id rows at row → at < length rows
+  found_within (here same rest) = omega arith
+  found_within (later differ found) = omega (arith, found_within found)
+
+  pub found_row : {rows : List Kept} {at : ℕ} {row : Kept} → Found id rows at row → (d : Kept) → get_or rows at d ≡ row
+  found_row (here same rest) d = refl
+  found_row (later differ found) d = found_row found d
+
+  pub found_id : {rows : List Kept} {at : ℕ} {row : Kept} → Found id rows at row → row.id ≡ id
+  found_id (here same rest) = same
+  found_id (later differ found) = found_id found
+
+  -- its cell is found
+  pub found_cell : {rows : List Kept} {at : ℕ} {row : Kept} → Found id rows at row → cell_of (map cell_of_row rows) id ≡ Some row.cell
+  found_cell {row = row} (here same rest) = rw same (rw (same_id id))
+  found_cell (later {other = other} differ found) = rw (other_id other.id id differ) (found_cell found)
+
+  -- what holds of all holds of it
+  pub found_told : {rows : List Kept} {at : ℕ} {row : Kept} (fired : List Fired) → Found id rows at row → AllByRecursion (λ (r : Kept). firing_of fired r.id ≡ firing_of_row r) rows → firing_of fired id ≡ firing_of_row row
+  found_told fired (here same rest) told = rw (← same) told.0
+  found_told fired (later differ found) told = found_told fired found told.1
+
+  -- no reader is here of an id that none has
+  pub none_untaken : (rows : List Kept) → NoneHas id rows → is_untaken (filter_map untaken_of_row rows) id ≡ false
+  none_untaken [] none = refl
+  none_untaken (row ∷ rows) none = elim row.has_reader as (λ b. is_untaken (cons_option (if b then Some row.id else None) (filter_map untaken_of_row rows)) id ≡ false) [
+    true ↦ rw (other_id row.id id none.0) (none_untaken rows none.1)
+    | false ↦ none_untaken rows none.1 ]
+
+  pub none_without : (rows : List Kept) → NoneHas id rows → without (filter_map untaken_of_row rows) id ≡ filter_map untaken_of_row rows
+  none_without [] none = refl
+  none_without (row ∷ rows) none = elim row.has_reader as (λ b. without (cons_option (if b then Some row.id else None) (filter_map untaken_of_row rows)) id ≡ cons_option (if b then Some row.id else None) (filter_map untaken_of_row rows)) [
+    true ↦ rw (other_id row.id id none.0) (ap (λ l. row.id ∷ l) (none_without rows none.1))
+    | false ↦ none_without rows none.1 ]
+
+  -- its reader is here exactly if the id is untaken
+  pub found_untaken : {rows : List Kept} {at : ℕ} {row : Kept} → Found id rows at row → is_untaken (filter_map untaken_of_row rows) id ≡ row.has_reader
+  found_untaken (here {row = row} {rows = rows} same rest) = elim row.has_reader as (λ b. is_untaken (cons_option (if b then Some row.id else None) (filter_map untaken_of_row rows)) id ≡ b) [
+    true ↦ rw same (rw (same_id id))
+    | false ↦ none_untaken rows rest ]
+  found_untaken (later {row = row} {other = other} {rows = rows} differ found) = elim other.has_reader as (λ b. is_untaken (cons_option (if b then Some other.id else None) (filter_map untaken_of_row rows)) id ≡ row.has_reader) [
+    true ↦ rw (other_id other.id id differ) (found_untaken found)
+    | false ↦ found_untaken found ]
+
+-- a table of these parts
+abbrev pub table_with : ℕ → List Cell → List Waiting → List ℕ → List Fired → Table
+table_with limit cells unfired untaken fired = record { limit = limit; cells = cells; unfired = unfired; untaken = untaken; fired = fired }
+
+-- a row whose reader was taken
+abbrev pub taken : Kept → Kept
+taken row = record row { has_reader = false }
+
+module _ (id : ℕ) where
+  -- what the change of its reader leaves of the rows
+  pub taken_cells : {rows : List Kept} {at : ℕ} {row : Kept} → Found id rows at row → map cell_of_row (set rows at (taken row)) ≡ map cell_of_row rows
+  taken_cells (here same rest) = refl
+  taken_cells (later {other = other} differ found) = ap (λ l. cell_of_row other ∷ l) (taken_cells found)
+
+  pub taken_unfired : {rows : List Kept} {at : ℕ} {row : Kept} → Found id rows at row → filter_map waiting_of_row (set rows at (taken row)) ≡ filter_map waiting_of_row rows
+  taken_unfired (here same rest) = refl
+  taken_unfired (later {other = other} differ found) = ap (cons_option (waiting_of_row other)) (taken_unfired found)
+
+  pub taken_positions : (collection : ℕ) {rows : List Kept} {at : ℕ} {row : Kept} → Found id rows at row → (n : ℕ) → positions (is_filed collection) n (set rows at (taken row)) ≡ positions (is_filed collection) n rows
+  taken_positions collection (here same rest) n = refl
+  taken_positions collection (later {other = other} differ found) n = ap (λ l. if is_filed collection other then n ∷ l else l) (taken_positions collection found (n + 1))
+
+  pub taken_untaken : {rows : List Kept} {at : ℕ} {row : Kept} → Found id rows at row → filter_map untaken_of_row (set rows at (taken row)) ≡ without (filter_map untaken_of_row rows) id
+  taken_untaken (here {row = row} {rows = rows} same rest) = elim row.has_reader as (λ b. filter_map untaken_of_row rows ≡ without (cons_option (if b then Some row.id else None) (filter_map untaken_of_row rows)) id) [
+    true ↦ rw same (rw (same_id id) (sym (none_without id rows rest)))
+    | false ↦ sym (none_without id rows rest) ]
+  taken_untaken (later {row = row} {other = other} {rows = rows} {at = at} differ found) = elim other.has_reader as (λ b. cons_option (if b then Some other.id else None) (filter_map untaken_of_row (set rows at (taken row))) ≡ without (cons_option (if b then Some other.id else None) (filter_map untaken_of_row rows)) id) [
+    true ↦ rw (other_id other.id id differ) (ap (λ l. other.id ∷ l) (taken_untaken found))
+    | false ↦ taken_untaken found ]
+
+  taken_count : {rows : List Kept} {at : ℕ} {row : Kept} → Found id rows at row → count_by is_waiting (set rows at (taken row)) ≡ count_by is_waiting rows
+  taken_count (here {row = row} {rows = rows} same rest) = sum_by-cons (λ r. cond (is_waiting r) 1 0) (taken row) rows ∙ sym (sum_by-cons (λ r. cond (is_waiting r) 1 0) row rows)
+  taken_count (later {row = row} {other = other} {rows = rows} {at = at} differ found) =
+      sum_by-cons (λ r. cond (is_waiting r) 1 0) other (set rows at (taken row))
+      ∙ ap (λ n. cond (is_waiting other) 1 0 + n) (taken_count found)
+      ∙ sym (sum_by-cons (λ r. cond (is_waiting r) 1 0) other rows)
+
+  taken_length : {rows : List Kept} {at : ℕ} {row : Kept} → Found id rows at row → length (set rows at (taken row)) ≡ length rows
+  taken_length (here same rest) = refl
+  taken_length (later differ found) = ap suc (taken_length found)
+
+  taken_below : (n : ℕ) {rows : List Kept} {at : ℕ} {row : Kept} → Found id rows at row → AllByRecursion (λ (r : Kept). n < r.id) rows → AllByRecursion (λ (r : Kept). n < r.id) (set rows at (taken row))
+  taken_below n (here same rest) below = below
+  taken_below n (later differ found) below = (below.0, taken_below n found below.1)
+
+  taken_rising : {rows : List Kept} {at : ℕ} {row : Kept} → Found id rows at row → AreRising rows → AreRising (set rows at (taken row))
+  taken_rising (here same rest) rising = rising
+  taken_rising (later {other = other} differ found) rising = (taken_below other.id found rising.0, taken_rising found rising.1)
+
+  taken_told : (fired : List Fired) {rows : List Kept} {at : ℕ} {row : Kept} → Found id rows at row → AllByRecursion (λ (r : Kept). firing_of fired r.id ≡ firing_of_row r) rows → AllByRecursion (λ (r : Kept). firing_of fired r.id ≡ firing_of_row r) (set rows at (taken row))
+  taken_told fired (here same rest) told = told
+  taken_told fired (later differ found) told = (told.0, taken_told fired found told.1)
+
+  taken_none : (other : ℕ) {rows : List Kept} {at : ℕ} {row : Kept} → Found id rows at row → NoneHas other (set rows at (taken row)) → NoneHas other rows
+  taken_none other (here same rest) none = none
+  taken_none other (later differ found) none = (none.0, taken_none other found none.1)
+
+  -- the rows stay sound
+  pub held_taken : (limit : ℕ) (fired : List Fired) (capacity : ℕ) {rows : List Kept} {at : ℕ} {row : Kept} → Found id rows at row → AreHeld limit rows fired capacity → AreHeld limit (set rows at (taken row)) fired capacity
+  held_taken limit fired capacity found held = record {
+    rising = taken_rising found held.rising;
+    counted = ap (λ n. length fired + n) (taken_count found) ∙ held.counted ∙ sym (taken_length found);
+    room = rw (taken_length found) held.room;
+    within = rw (taken_count found) held.within;
+    told = taken_told fired found held.told;
+    own = λ other none. held.own other (taken_none other found none);
+  }
+
+  -- and so does the table
+  pub kept_taken : (limit : ℕ) (fired : List Fired) (capacity : ℕ) (piles : Piles) {rows : List Kept} {at : ℕ} {row : Kept} → Found id rows at row → IsKeptUp limit rows fired capacity piles → IsKeptUp limit (set rows at (taken row)) fired capacity piles
+  kept_taken limit fired capacity piles found kept = record {
+    held = held_taken limit fired capacity found kept.held;
+    filed = record { at = λ collection. kept.filed.at collection ∙ sym (taken_positions collection found 0) };
+  }
+
+  -- of what the table shows only those still to be taken change
+  pub table_taken : (limit : ℕ) (fired : List Fired) {rows : List Kept} {at : ℕ} {row : Kept} → Found id rows at row → table_of limit (set rows at (taken row)) fired ≡ record (table_of limit rows fired) { untaken = without (filter_map untaken_of_row rows) id }
+  table_taken limit fired {rows} {at} {row} found =
+      ap (λ l. table_with limit l (filter_map waiting_of_row (set rows at (taken row))) (filter_map untaken_of_row (set rows at (taken row))) fired) (taken_cells found)
+      ∙ ap (λ l. table_with limit (map cell_of_row rows) l (filter_map untaken_of_row (set rows at (taken row))) fired) (taken_unfired found)
+      ∙ ap (λ l. table_with limit (map cell_of_row rows) (filter_map waiting_of_row rows) l fired) (taken_untaken found)
+
+  -- the reader of the row is the one that the table gives
+  pub reader_taken : (limit : ℕ) (fired : List Fired) {rows : List Kept} {at : ℕ} {row : Kept} → Found id rows at row → AllByRecursion (λ (r : Kept). firing_of fired r.id ≡ firing_of_row r) rows → reader_of_row row ≡ (if is_untaken (table_of limit rows fired).untaken id then Some (reader_of (table_of limit rows fired) id) else None)
+  reader_taken limit fired {rows} {at} {row} found told =
+      rw (found_untaken id found, found_cell id found, found_told id fired found told, found_id id found) refl

@@ -1,0 +1,196 @@
+//! All trackers of a service.
+ghost use Rattle.std.specs.Prelude.{◌≡◌, ◌≢◌, ℕ, ◌+◌, ◌^◌, ◌<◌, ◌≤◌, ◌==◌, ◌↔◌, [], ◌∷◌, ◌++◌, length, vec_len, vec_capacity, false, if◌then◌else◌, Some, None, All, OnOk, OnErr, IfSome, Err};
+ghost use Rattle.std.specs.Bool.{OnTrue};
+ghost use Rattle.trackers.specs.Table.{Table, Waiting, Cell, empty, is_due, firings, still_waiting, firing_of, cell_of, is_untaken, without, reader_of, Attaches};
+ghost use Rattle.trackers.specs.Filing.{pile_of};
+ghost use Rattle.trackers.specs.Held.{AreRising, IsPlace, attached};
+
+use crate::filing::{Piles, file, pile, unfile};
+use crate::row::Row;
+use crate::tracker::Tracker;
+use crate::walk::fire_due;
+use crate::world::World;
+use sm_names::{CollectionId, Condition, Fired, TrackerId};
+use std::alloc::{AllocError, Global};
+use std::collections::HashMap;
+use std::marker::Model;
+
+/// Why a tracker was not attached. Then nothing changed.
+#[derive(Clone, Copy, Debug, PartialEq, Eq)]
+pub enum TrackFault {
+    /// Memory was refused.
+    NoMemory,
+    /// As many trackers wait as may.
+    Full,
+}
+
+/// All trackers of a service, those that fired too: their cells are kept for good.
+#[derive(Drop)]
+pub struct Trackers {
+    limit: u32,
+    // All that were attached, by rising id.
+    rows: Vec<Row>,
+    fired: Vec<Fired>,
+    piles: Piles,
+}
+
+impl Model for Trackers {
+    ghost use Rattle.trackers.specs.Table.{Table};
+
+    ghost Value = { Table };
+
+    ghost use Rattle.std.specs.Prelude.{vec_capacity};
+    ghost use Rattle.trackers.specs.Held.{table_of, IsKeptUp};
+
+    ghost view = { λ t. table_of t.limit t.rows.items t.fired.items };
+
+    ghost invariant = { λ t. IsKeptUp t.limit t.rows.items t.fired.items (vec_capacity t.fired) t.piles };
+}
+
+impl Trackers {
+    /// No trackers, of which so many may wait at once. It takes no memory.
+    pub fn new(alloc: Global, limit: u32) -> Trackers
+        ensures { result ≡ empty limit }
+    {
+        Trackers {
+            limit,
+            rows: Vec::new(alloc),
+            fired: Vec::new(alloc),
+            piles: HashMap::new(alloc),
+        }
+    }
+
+    /// Attaches a tracker under the number of this event, filed under the collection that its
+    /// condition concerns. All memory that its firing and its taking will need is taken here. It
+    /// takes constant time, but for the growth of the tables.
+    pub fn attach(
+        &mut self,
+        id: TrackerId,
+        collection: CollectionId,
+        condition: Condition,
+    ) -> Result<(), TrackFault>
+        requires rising { All (λ (c : Cell). c.id < id) self.old.cells }
+        ensures ok { OnOk result (Attaches self.old self.new
+            (record { id = id; place = collection; condition = condition })) }
+        ensures full { (result ≡ Err TrackFault.Full)
+            ↔ (length self.old.unfired ≡ self.old.limit) }
+        ensures err { OnErr result (self.new ≡ self.old) }
+    {
+        let waiting = self.rows.len() - self.fired.len();
+        if waiting >= self.limit as usize {
+            return Err(TrackFault::Full);
+        }
+        match add(
+            &mut self.rows,
+            &mut self.fired,
+            &mut self.piles,
+            waiting,
+            id,
+            collection,
+            condition,
+        ) {
+            Ok(()) => Ok(()),
+            Err(_) => Err(TrackFault::NoMemory),
+        }
+    }
+
+    /// Fires the trackers whose condition holds, by rising id, at this event, which concerned one
+    /// collection. It takes no memory, and looks at the trackers that wait under that collection
+    /// alone, twice where one of them fires.
+    pub fn sweep<W: World>(&mut self, event: u64, collection: CollectionId, world: &W)
+        requires elsewhere { All (λ (t : Waiting). t.place ≢ collection
+            → is_due (W.seen world.now) t ≡ false) self.old.unfired }
+        ensures fired { self.new.fired
+            ≡ self.old.fired ++ firings (W.seen world.now) event self.old.unfired }
+        ensures unfired { self.new.unfired
+            ≡ still_waiting (W.seen world.now) self.old.unfired }
+        ensures rest { self.new
+            ≡ record self.old { unfired = self.new.unfired; fired = self.new.fired } }
+    {
+        let before = self.fired.len();
+        fire_due(
+            &mut self.rows,
+            &mut self.fired,
+            pile(&self.piles, collection),
+            event,
+            world,
+        );
+        if self.fired.len() > before {
+            unfile(&mut self.piles, collection, &self.rows);
+        }
+    }
+
+    /// The firings, in their order: by event, and by rising id within one. It takes constant time.
+    pub fn fired(&self) -> &[Fired]
+        ensures { result.now ≡ self.now.fired }
+    {
+        &self.fired
+    }
+
+    /// The reader of the tracker with this id, once. It knows the firing if there was one. It takes
+    /// no memory, and a search among all that were attached.
+    pub fn take_tracker(&mut self, id: TrackerId) -> Option<Tracker>
+        ensures tracker { result ≡ (if is_untaken self.old.untaken id
+            then Some (reader_of self.old id) else None) }
+        ensures taken { self.new
+            ≡ record self.old { untaken = without self.old.untaken id } }
+    {
+        match place_of(&self.rows, id) {
+            Some(at) => self.rows[at].take(),
+            None => None,
+        }
+    }
+
+    /// Shows that what a reader knows is the firing of its tracker. The answer is true where that
+    /// firing set the cell; no other can have, but no contract of a cell says so.
+    pub fn agree(&mut self, tracker: &mut Tracker) -> bool
+        requires own { cell_of self.old.cells tracker.old.tracker ≡ Some tracker.old.cell }
+        ensures same { OnTrue result (IfSome tracker.old.known
+            (λ f. firing_of self.old.fired tracker.old.tracker ≡ Some f)) }
+        ensures kept { self.new ≡ self.old }
+        ensures tracker_kept { tracker.new ≡ tracker.old }
+    {
+        match place_of(&self.rows, tracker.id()) {
+            Some(at) => self.rows[at].agree(tracker),
+            None => false,
+        }
+    }
+}
+
+/// Adds a row that waits, with room for its firing beside those of the others that wait.
+fn add(
+    rows: &mut Vec<Row>,
+    fired: &mut Vec<Fired>,
+    piles: &mut Piles,
+    waiting: usize,
+    id: TrackerId,
+    collection: CollectionId,
+    condition: Condition,
+) -> Result<(), AllocError>
+    requires { waiting < 2 ^ 32 }
+    ensures row { OnOk result ((cell : ℕ) × (rows.new.items
+        ≡ rows.old.items ++ attached id cell collection condition ∷ [])) }
+    ensures room { OnOk result (vec_len fired.old + (waiting + 1) ≤ vec_capacity fired.new) }
+    ensures filed { OnOk result ((c : ℕ) → pile_of piles.new c
+        ≡ (if c == collection then pile_of piles.old c ++ vec_len rows.old ∷ [] else pile_of piles.old c)) }
+    ensures fired { fired.new.items ≡ fired.old.items }
+    ensures capacity { vec_capacity fired.old ≤ vec_capacity fired.new }
+    ensures rows_kept { OnErr result (rows.new.items ≡ rows.old.items) }
+    ensures piles_kept { OnErr result ((c : ℕ) → pile_of piles.new c ≡ pile_of piles.old c) }
+{
+    let alloc = *rows.allocator();
+    let row = Row::new(alloc, id, collection, condition)?;
+    rows.reserve(1)?;
+    fired.reserve(waiting + 1)?;
+    file(piles, alloc, collection, rows.len())?;
+    rows.push_reserved(row);
+    Ok(())
+}
+
+/// Where the row with this id stands.
+fn place_of(rows: &[Row], id: TrackerId) -> Option<usize>
+    requires { AreRising rows.now }
+    ensures { IsPlace id rows.now result }
+{
+    rows.binary_search_by_key(&id, |row| row.id()).ok()
+}
