@@ -1,15 +1,14 @@
 -- What one row more leaves.
-use Rattle.std.proofs.Common.{◌≡◌, ◌≢◌, ℕ, ◌+◌, ◌<◌, ◌≤◌, Bool, true, false, ◌==◌, if◌then◌else◌, cond, List, [], ◌∷◌, ◌++◌, map, length, count_by, Option, Some, None, refl, sym, ap, ◌∙◌, arith, length-append, append-nil}
+use Rattle.std.proofs.Common.{◌≡◌, ℕ, ◌+◌, ◌<◌, ◌≤◌, Bool, true, false, ◌==◌, if◌then◌else◌, cond, List, [], ◌∷◌, ◌++◌, map, length, count_by, refl, sym, ap, ◌∙◌, arith, append-nil}
 use Rattle.std.specs.List.{filter_map, cons_option, AllByRecursion}
 use Rattle.std.proofs.lemmas.List.{map_push, length_push}
 use Rattle.std.proofs.lemmas.List.Sums.{sum_by-append, sum_by-cons}
-use Rattle.std.proofs.lemmas.Bool.Decides.{nat_tests}
 use Rattle.sm_names.specs.declared.tracking.Fired.{Fired}
 use Rattle.sm_names.specs.declared.tracking.Condition.{Condition}
-use Rattle.trackers.specs.Table.{Table, Waiting, Cell, Attaches, firing_of}
+use Rattle.trackers.specs.Table.{Cell, Attaches, firing_of}
 use Rattle.trackers.specs.Row.{Kept, Stage, Waits, Over, is_waiting, waiting_of_row, firing_of_row}
 use Rattle.trackers.specs.Filing.{Piles, pile_of}
-use Rattle.trackers.specs.Held.{cell_of_row, untaken_of_row, is_filed, positions, AreRising, AreHeld, AreFiled, IsKeptUp, NoneHas, table_of, attached}
+use Rattle.trackers.specs.Held.{cell_of_row, untaken_of_row, is_filed, positions, AreRising, IsKeptUp, NoneHas, table_of, attached}
 use Rattle.trackers.proofs.FilingLemmas.{positions_push}
 use Rattle.trackers.proofs.FoundLemmas.{table_with}
 use Rattle.trackers.proofs.Walks.{filter_map_push}
@@ -65,9 +64,12 @@ module _ (limit capacity capacity' : ℕ) (rows rows' : List Kept) (fired fired'
           told = told_push row fired rows (kept.held.own id (fresh id rows all)) kept.held.told;
           own = λ other none. kept.held.own other (none_push row other rows none);
         };
-        filed = record { at = λ k. filed k ∙ elim (k == place) as (λ b. (if b then pile_of old k ++ length rows ∷ [] else pile_of old k) ≡ positions (is_filed k) 0 rows ++ (if b then (0 + length rows) ∷ [] else [])) [
-          true ↦ rw (kept.filed.at k) (ap (λ m. positions (is_filed k) 0 rows ++ m ∷ []) (omega arith))
-          | false ↦ kept.filed.at k ∙ sym (append-nil (positions (is_filed k) 0 rows)) ] ∙ sym (positions_push k 0 rows row) };
+        filed = record {
+          at = λ k. filed k ∙ elim (k == place) as (λ b. (if b then pile_of old k ++ length rows ∷ [] else pile_of old k) ≡ positions (is_filed k) 0 rows ++ (if b then (0 + length rows) ∷ [] else [])) [
+            | true ↦ rw (kept.filed.at k) (ap (λ m. positions (is_filed k) 0 rows ++ m ∷ []) (omega arith))
+            | false ↦ kept.filed.at k ∙ sym (append-nil (positions (is_filed k) 0 rows))
+          ] ∙ sym (positions_push k 0 rows row);
+        };
       }
 
   -- and with more room alone
@@ -91,7 +93,7 @@ table_push limit rows rows' fired fired' id cell place c same pushed =
     rw (same, pushed) record {
       name = cell;
       next =
-        ap (λ l. table_with limit l (filter_map waiting_of_row (rows ++ row ∷ [])) (filter_map untaken_of_row (rows ++ row ∷ [])) fired) (map_push cell_of_row rows row)
-        ∙ ap (λ l. table_with limit (map cell_of_row rows ++ cell_of_row row ∷ []) l (filter_map untaken_of_row (rows ++ row ∷ [])) fired) (filter_map_push waiting_of_row rows row)
-        ∙ ap (λ l. table_with limit (map cell_of_row rows ++ cell_of_row row ∷ []) (filter_map waiting_of_row rows ++ record { id = id; place = place; condition = c } ∷ []) l fired) (filter_map_push untaken_of_row rows row);
+          ap (λ l. table_with limit l (filter_map waiting_of_row (rows ++ row ∷ [])) (filter_map untaken_of_row (rows ++ row ∷ [])) fired) (map_push cell_of_row rows row)
+          ∙ ap (λ l. table_with limit (map cell_of_row rows ++ cell_of_row row ∷ []) l (filter_map untaken_of_row (rows ++ row ∷ [])) fired) (filter_map_push waiting_of_row rows row)
+          ∙ ap (λ l. table_with limit (map cell_of_row rows ++ cell_of_row row ∷ []) (filter_map waiting_of_row rows ++ record { id = id; place = place; condition = c } ∷ []) l fired) (filter_map_push untaken_of_row rows row);
     }

@@ -1,12 +1,11 @@
 -- Rows by their ids: where one stands, what is found there, and what its change leaves.
-use Rattle.std.proofs.Common.{◌≡◌, ◌≢◌, ℕ, zero, suc, ◌+◌, ◌-◌, ◌<◌, ◌≤◌, Bool, true, false, not, ◌||◌, ◌==◌, List, [], ◌∷◌, ◌++◌, map, length, get_or, set, Option, Some, None, IfSome, unwrap_or, count_by, cond, if◌then◌else◌, refl, sym, ap, subst, ◌∙◌, arith}
-use Rattle.std.specs.List.{filter, filter_map, cons_option, find, list_any, AllByRecursion}
-use Rattle.std.specs.Option.{option_map}
+use Rattle.std.proofs.Common.{◌≡◌, ◌≢◌, ℕ, zero, suc, ◌+◌, ◌<◌, true, false, ◌==◌, List, [], ◌∷◌, map, length, get_or, set, Some, None, IfSome, count_by, cond, if◌then◌else◌, refl, sym, ap, ◌∙◌, arith}
+use Rattle.std.specs.List.{filter_map, cons_option, AllByRecursion}
 use Rattle.std.proofs.lemmas.List.Elements.{All-from_recursion}
 use Rattle.std.proofs.lemmas.List.Sums.{sum_by-cons}
 use Rattle.std.proofs.lemmas.Bool.Decides.{nat_tests}
 use Rattle.sm_names.specs.declared.tracking.Fired.{Fired}
-use Rattle.trackers.specs.Table.{Table, Waiting, Cell, firing_of, cell_of, is_untaken, without, reader_of}
+use Rattle.trackers.specs.Table.{Table, Reader, Waiting, Cell, firing_of, cell_of, is_untaken, without, reader_of}
 use Rattle.trackers.specs.Filing.{Piles}
 use Rattle.trackers.specs.Row.{Kept, is_waiting, waiting_of_row, firing_of_row, reader_of_row}
 use Rattle.trackers.specs.Held.{cell_of_row, untaken_of_row, is_filed, positions, AreRising, AreHeld, IsKeptUp, NoneHas, Found, here, later, table_of}
@@ -58,23 +57,27 @@ module _ (id : ℕ) where
   pub none_untaken : (rows : List Kept) → NoneHas id rows → is_untaken (filter_map untaken_of_row rows) id ≡ false
   none_untaken [] none = refl
   none_untaken (row ∷ rows) none = elim row.has_reader as (λ b. is_untaken (cons_option (if b then Some row.id else None) (filter_map untaken_of_row rows)) id ≡ false) [
-    true ↦ rw (other_id row.id id none.0) (none_untaken rows none.1)
-    | false ↦ none_untaken rows none.1 ]
+    | true ↦ rw (other_id row.id id none.0) (none_untaken rows none.1)
+    | false ↦ none_untaken rows none.1
+  ]
 
   pub none_without : (rows : List Kept) → NoneHas id rows → without (filter_map untaken_of_row rows) id ≡ filter_map untaken_of_row rows
   none_without [] none = refl
   none_without (row ∷ rows) none = elim row.has_reader as (λ b. without (cons_option (if b then Some row.id else None) (filter_map untaken_of_row rows)) id ≡ cons_option (if b then Some row.id else None) (filter_map untaken_of_row rows)) [
-    true ↦ rw (other_id row.id id none.0) (ap (λ l. row.id ∷ l) (none_without rows none.1))
-    | false ↦ none_without rows none.1 ]
+    | true ↦ rw (other_id row.id id none.0) (ap (λ l. row.id ∷ l) (none_without rows none.1))
+    | false ↦ none_without rows none.1
+  ]
 
   -- its reader is here exactly if the id is untaken
   pub found_untaken : {rows : List Kept} {at : ℕ} {row : Kept} → Found id rows at row → is_untaken (filter_map untaken_of_row rows) id ≡ row.has_reader
   found_untaken (here {row = row} {rows = rows} same rest) = elim row.has_reader as (λ b. is_untaken (cons_option (if b then Some row.id else None) (filter_map untaken_of_row rows)) id ≡ b) [
-    true ↦ rw same (rw (same_id id))
-    | false ↦ none_untaken rows rest ]
+    | true ↦ rw same (rw (same_id id))
+    | false ↦ none_untaken rows rest
+  ]
   found_untaken (later {row = row} {other = other} {rows = rows} differ found) = elim other.has_reader as (λ b. is_untaken (cons_option (if b then Some other.id else None) (filter_map untaken_of_row rows)) id ≡ row.has_reader) [
-    true ↦ rw (other_id other.id id differ) (found_untaken found)
-    | false ↦ found_untaken found ]
+    | true ↦ rw (other_id other.id id differ) (found_untaken found)
+    | false ↦ found_untaken found
+  ]
 
 -- a table of these parts
 abbrev pub table_with : ℕ → List Cell → List Waiting → List ℕ → List Fired → Table
@@ -100,11 +103,13 @@ module _ (id : ℕ) where
 
   pub taken_untaken : {rows : List Kept} {at : ℕ} {row : Kept} → Found id rows at row → filter_map untaken_of_row (set rows at (taken row)) ≡ without (filter_map untaken_of_row rows) id
   taken_untaken (here {row = row} {rows = rows} same rest) = elim row.has_reader as (λ b. filter_map untaken_of_row rows ≡ without (cons_option (if b then Some row.id else None) (filter_map untaken_of_row rows)) id) [
-    true ↦ rw same (rw (same_id id) (sym (none_without id rows rest)))
-    | false ↦ sym (none_without id rows rest) ]
+    | true ↦ rw same (rw (same_id id) (sym (none_without id rows rest)))
+    | false ↦ sym (none_without id rows rest)
+  ]
   taken_untaken (later {row = row} {other = other} {rows = rows} {at = at} differ found) = elim other.has_reader as (λ b. cons_option (if b then Some other.id else None) (filter_map untaken_of_row (set rows at (taken row))) ≡ without (cons_option (if b then Some other.id else None) (filter_map untaken_of_row rows)) id) [
-    true ↦ rw (other_id other.id id differ) (ap (λ l. other.id ∷ l) (taken_untaken found))
-    | false ↦ taken_untaken found ]
+    | true ↦ rw (other_id other.id id differ) (ap (λ l. other.id ∷ l) (taken_untaken found))
+    | false ↦ taken_untaken found
+  ]
 
   taken_count : {rows : List Kept} {at : ℕ} {row : Kept} → Found id rows at row → count_by is_waiting (set rows at (taken row)) ≡ count_by is_waiting rows
   taken_count (here {row = row} {rows = rows} same rest) = sum_by-cons (λ r. cond (is_waiting r) 1 0) (taken row) rows ∙ sym (sum_by-cons (λ r. cond (is_waiting r) 1 0) row rows)
@@ -162,3 +167,7 @@ module _ (id : ℕ) where
   pub reader_taken : (limit : ℕ) (fired : List Fired) {rows : List Kept} {at : ℕ} {row : Kept} → Found id rows at row → AllByRecursion (λ (r : Kept). firing_of fired r.id ≡ firing_of_row r) rows → reader_of_row row ≡ (if is_untaken (table_of limit rows fired).untaken id then Some (reader_of (table_of limit rows fired) id) else None)
   reader_taken limit fired {rows} {at} {row} found told =
       rw (found_untaken id found, found_cell id found, found_told id fired found told, found_id id found) refl
+
+  -- and its cell is the one that the table has for the id
+  pub reader_cell : {rows : List Kept} {at : ℕ} {row : Kept} → Found id rows at row → IfSome (reader_of_row row) (λ (t : Reader). cell_of (map cell_of_row rows) id ≡ Some t.cell)
+  reader_cell {rows} {at} {row} found = elim row.has_reader as (λ b. IfSome (if b then Some (record { tracker = row.id; cell = row.cell; known = firing_of_row row }) else None) (λ (t : Reader). cell_of (map cell_of_row rows) id ≡ Some t.cell)) [ true ↦ found_cell id found | false ↦ tt ]

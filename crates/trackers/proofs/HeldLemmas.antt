@@ -1,16 +1,15 @@
 -- What a sweep leaves of the rows, and what it shows.
-use Rattle.std.proofs.Common.{option_to_list, get_or, ◌≡◌, ◌≢◌, ℕ, ◌+◌, ◌-◌, ◌<◌, ◌≤◌, Bool, true, false, not, ◌==◌, List, [], ◌∷◌, ◌++◌, map, length, Option, Some, None, count_by, cond, if◌then◌else◌, refl, sym, ap, subst, ◌∙◌, arith, length-append}
-use Rattle.std.specs.List.{filter, filter_map, cons_option, find, AllByRecursion}
+use Rattle.std.proofs.Common.{option_to_list, get_or, ◌≡◌, ◌≢◌, ℕ, ◌+◌, ◌<◌, Bool, true, false, not, ◌==◌, List, [], ◌∷◌, ◌++◌, map, length, Option, Some, None, count_by, cond, if◌then◌else◌, refl, sym, ap, subst, ◌∙◌, arith, length-append}
+use Rattle.std.specs.List.{filter, filter_map, cons_option, AllByRecursion}
 use Rattle.std.proofs.lemmas.List.{length-map, get_or-map}
 use Rattle.std.proofs.lemmas.List.Elements.{All-from_recursion, recursion_from_All}
 use Rattle.std.proofs.lemmas.List.Sums.{sum_by-cons}
 use Rattle.sm_names.specs.declared.tracking.Fired.{Fired}
-use Rattle.sm_names.specs.declared.tracking.Condition.{Condition}
 use Rattle.sm_names.specs.Trackers.{World, holds}
-use Rattle.trackers.specs.Table.{Waiting, Cell, is_due, firing, firings, still_waiting, firing_of}
+use Rattle.trackers.specs.Table.{Waiting, is_due, firing, firings, still_waiting, firing_of}
 use Rattle.trackers.specs.Row.{Kept, Stage, Waits, Over, is_waiting, waiting_of_row, firing_of_row}
-use Rattle.trackers.specs.Held.{cell_of_row, untaken_of_row, is_met, after, fires, AreRising, AreHeld, NoneHas, Found, here, later, table_of}
-use Rattle.trackers.proofs.FoundLemmas.{found_at, same_id, other_id, table_with}
+use Rattle.trackers.specs.Held.{cell_of_row, untaken_of_row, is_met, after, fires, AreRising, AreHeld, NoneHas, Found, here, later}
+use Rattle.trackers.proofs.FoundLemmas.{found_at, same_id, other_id}
 use Rattle.trackers.proofs.Walks.{balance}
 
 -- a row as the record of its fields
@@ -27,8 +26,9 @@ module _ (w : World) (e : ℕ) where
   unfired_at : (id cell : ℕ) (stage : Stage) (has : Bool) (rest more : List Waiting) → rest ≡ still_waiting w more → cons_option (waiting_of_row (after w e (row_of id cell stage has))) rest ≡ still_waiting w (cons_option (waiting_of_row (row_of id cell stage has)) more)
   unfired_at id cell (Over event) has rest more same = same
   unfired_at id cell (Waits place c) has rest more same = elim (holds w c) as (λ b. cons_option (waiting_of_row (if b then row_of id cell (Over e) has else row_of id cell (Waits place c) has)) rest ≡ (let t : Waiting = record { id = id; place = place; condition = c } in cond (not b) (t ∷ still_waiting w more) (still_waiting w more))) [
-    true ↦ same
-    | false ↦ ap (λ l. record { id = id; place = place; condition = c } ∷ l) same ]
+    | true ↦ same
+    | false ↦ ap (λ l. record { id = id; place = place; condition = c } ∷ l) same
+  ]
 
   pub unfired_after : (rows : List Kept) → filter_map waiting_of_row (map (after w e) rows) ≡ still_waiting w (filter_map waiting_of_row rows)
   unfired_after [] = refl
@@ -42,8 +42,9 @@ module _ (w : World) (e : ℕ) where
       let f : Fired = record { tracker = id; event = e } in
       let none : Option Fired = None in
       elim (holds w c) as (λ b. cons_option (if b then Some f else none) rest ≡ map (firing e) (cond b (t ∷ filter (is_due w) more) (filter (is_due w) more))) [
-    true ↦ ap (λ l. f ∷ l) same
-    | false ↦ same ]
+        | true ↦ ap (λ l. f ∷ l) same
+        | false ↦ same
+      ]
 
   pub firings_after : (rows : List Kept) → filter_map (fires w e) rows ≡ firings w e (filter_map waiting_of_row rows)
   firings_after [] = refl
@@ -71,21 +72,24 @@ module _ (w : World) (e : ℕ) where
 firing_before : (xs ys : List Fired) (id : ℕ) (f : Fired) → firing_of xs id ≡ Some f → firing_of (xs ++ ys) id ≡ Some f
 firing_before [] ys id f found = absurd (cc)
 firing_before (x ∷ xs) ys id f found = elim (x.tracker == id) as (λ b. cond b (Some x) (firing_of xs id) ≡ Some f → cond b (Some x) (firing_of (xs ++ ys) id) ≡ Some f) [
-  true ↦ λ h. h
-  | false ↦ λ h. firing_before xs ys id f h ] found
+  | true ↦ λ h. h
+  | false ↦ λ h. firing_before xs ys id f h
+] found
 
 firing_behind : (xs ys : List Fired) (id : ℕ) → firing_of xs id ≡ None → firing_of (xs ++ ys) id ≡ firing_of ys id
 firing_behind [] ys id none = refl
 firing_behind (x ∷ xs) ys id none = elim (x.tracker == id) as (λ b. cond b (Some x) (firing_of xs id) ≡ None → cond b (Some x) (firing_of (xs ++ ys) id) ≡ firing_of ys id) [
-  true ↦ λ h. absurd (let bad : Some x ≡ None = h in cc)
-  | false ↦ λ h. firing_behind xs ys id h ] none
+  | true ↦ λ h. absurd (let bad : Some x ≡ None = h in cc)
+  | false ↦ λ h. firing_behind xs ys id h
+] none
 
 module _ (w : World) (e : ℕ) where
   -- a row with another id gives no firing of this one
   skip_firing : (id : ℕ) (row : Kept) (rest : List Fired) → row.id ≢ id → firing_of (cons_option (fires w e row) rest) id ≡ firing_of rest id
   skip_firing id row rest differ = elim (is_met w row) as (λ b. firing_of (cons_option (if b then Some (record { tracker = row.id; event = e }) else None) rest) id ≡ firing_of rest id) [
-    true ↦ rw (other_id row.id id differ) refl
-    | false ↦ refl ]
+    | true ↦ rw (other_id row.id id differ) refl
+    | false ↦ refl
+  ]
 
   pub none_fires : (id : ℕ) (rows : List Kept) → NoneHas id rows → firing_of (filter_map (fires w e) rows) id ≡ None
   none_fires id [] none = refl
@@ -94,8 +98,9 @@ module _ (w : World) (e : ℕ) where
   -- the firing found under the id of a row is its own
   pub found_fires : (id : ℕ) {rows : List Kept} {at : ℕ} {row : Kept} → Found id rows at row → firing_of (filter_map (fires w e) rows) id ≡ fires w e row
   found_fires id (here {row = row} {rows = rows} same rest) = elim (is_met w row) as (λ b. firing_of (cons_option (if b then Some (record { tracker = row.id; event = e }) else None) (filter_map (fires w e) rows)) id ≡ (if b then Some (record { tracker = row.id; event = e }) else None)) [
-    true ↦ rw same (rw (same_id id) refl)
-    | false ↦ none_fires id rows rest ]
+    | true ↦ rw same (rw (same_id id) refl)
+    | false ↦ none_fires id rows rest
+  ]
   found_fires id (later {other = other} {rows = rows} differ found) = skip_firing id other (filter_map (fires w e) rows) differ ∙ found_fires id found
 
   -- of one row: what is found before and what fires now make what is found after
@@ -140,6 +145,6 @@ module _ (w : World) (e : ℕ) where
     within = omega (arith, held.within, count_after rows);
     told = told_after fired rows held.rising held.told;
     own = λ id none.
-      let before = none_after id rows none in
-      firing_behind fired (filter_map (fires w e) rows) id (held.own id before) ∙ none_fires id rows before;
+        let before = none_after id rows none in
+        firing_behind fired (filter_map (fires w e) rows) id (held.own id before) ∙ none_fires id rows before;
   }

@@ -1,6 +1,5 @@
 -- What a search among rows of rising ids finds.
-use Rattle.std.proofs.Common.{◌≡◌, ◌≢◌, ℕ, zero, suc, ◌+◌, ◌<◌, ◌≤◌, Bool, false, length, get_or, List, [], ◌∷◌, Option, Some, None, Result, Ok, Err, refl, sym, ap, subst, ◌∙◌, arith}
-use Rattle.std.specs.List.{AllByRecursion}
+use Rattle.std.proofs.Common.{◌≡◌, ◌≢◌, ℕ, zero, suc, ◌<◌, ◌≤◌, false, length, get_or, List, [], ◌∷◌, Result, Ok, Err, sym, subst, arith}
 use Rattle.std.specs.List.Sorted.{IsSearchInRange, IsBinarySearchResult, IsNonDecreasingBy}
 use Rattle.std.specs.Ordering.{nat_cmp, ordering_index}
 use Rattle.std.specs.Result.{result_ok}
@@ -8,7 +7,7 @@ use Rattle.std.proofs.lemmas.Cmp.{ranked}
 use Rattle.std.proofs.lemmas.List.Elements.{All-from_recursion, recursion_from_All}
 use Rattle.std.proofs.lemmas.Bool.Decides.{nat_tests}
 use Rattle.trackers.specs.Row.{Kept, Over}
-use Rattle.trackers.specs.Held.{AreRising, NoneHas, Found, IsPlace}
+use Rattle.trackers.specs.Held.{AreRising, Found, IsPlace}
 use Rattle.trackers.proofs.FoundLemmas.{found_at}
 
 -- each id is below those of later rows

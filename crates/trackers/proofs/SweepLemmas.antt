@@ -1,16 +1,16 @@
 -- What a sweep leaves, from what its walk did.
-use Rattle.std.proofs.Common.{◌≡◌, ◌≢◌, ℕ, ◌+◌, ◌≤◌, Bool, false, ◌==◌, if◌then◌else◌, List, [], ◌++◌, map, length, refl, sym, ap, ◌∙◌, arith, length-append, append-nil}
+use Rattle.std.proofs.Common.{◌≡◌, ℕ, ◌≤◌, ◌==◌, if◌then◌else◌, List, [], ◌++◌, map, length, ap, ◌∙◌, arith, length-append, append-nil}
 use Rattle.std.specs.List.{filter, filter_map, AllByRecursion}
 use Rattle.std.proofs.lemmas.List.{nil_from_length}
 use Rattle.sm_names.specs.declared.tracking.Fired.{Fired}
 use Rattle.sm_names.specs.Trackers.{World}
-use Rattle.trackers.specs.Table.{firings, still_waiting}
+use Rattle.trackers.specs.Table.{still_waiting}
 use Rattle.trackers.specs.Row.{Kept, waiting_of_row}
 use Rattle.trackers.specs.Filing.{Piles, pile_of, waits_at}
 use Rattle.trackers.specs.Held.{cell_of_row, untaken_of_row, after, fires, IsKeptUp, table_of}
 use Rattle.trackers.proofs.FilingLemmas.{Elsewhere, filed_unfiled, nothing_fired}
 use Rattle.trackers.proofs.FoundLemmas.{table_with}
-use Rattle.trackers.proofs.HeldLemmas.{held_after, cells_after, untaken_after, unfired_after, firings_after}
+use Rattle.trackers.proofs.HeldLemmas.{held_after, cells_after, untaken_after, unfired_after}
 
 module _ (w : World) (e : ℕ) (rows rows' : List Kept) (over : rows' ≡ map (after w e) rows) where
   -- of what the table shows those that wait and the firings change

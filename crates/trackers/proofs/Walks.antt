@@ -3,25 +3,26 @@ use Rattle.std.proofs.Common.{◌≡◌, ℕ, ◌+◌, ◌<◌, ◌≤◌, Bool,
 use Rattle.std.specs.List.{filter_map, cons_option}
 use Rattle.std.proofs.lemmas.List.{map-append, map_push, length-map, get_or_at, set_at, drop_more}
 use Rattle.std.proofs.lemmas.List.Sums.{sum_by-set}
-use Rattle.std.proofs.lemmas.Grind.{common_steps}
 use Rattle.sm_names.specs.declared.tracking.Fired.{Fired}
 use Rattle.sm_names.specs.Trackers.{World, holds}
 use Rattle.trackers.specs.Row.{Kept, Stage, Waits, Over, is_waiting, waits}
-use Rattle.trackers.specs.Held.{is_met, after, fires, Reach, none, pass, pick}
+use Rattle.trackers.specs.Held.{is_met, after, fires, Reach, pass, pick}
 
 -- what h gives of a list with one more item
 pub filter_map_push : {X Y : Type 0} (h : X → Option Y) (xs : List X) (x : X) → filter_map h (xs ++ x ∷ []) ≡ filter_map h xs ++ option_to_list (h x)
 filter_map_push h [] x = elim (h x) as (λ o. cons_option o [] ≡ option_to_list o) [ None ↦ refl | Some y ↦ refl ]
 filter_map_push h (y ∷ ys) x = elim (h y) as (λ o. cons_option o (filter_map h (ys ++ x ∷ [])) ≡ cons_option o (filter_map h ys) ++ option_to_list (h x)) [
-  None ↦ filter_map_push h ys x
-  | Some z ↦ ap (λ l. z ∷ l) (filter_map_push h ys x) ]
+  | None ↦ filter_map_push h ys x
+  | Some z ↦ ap (λ l. z ∷ l) (filter_map_push h ys x)
+]
 
 -- what h gives of two lists in a row
 pub filter_map_append : {X Y : Type 0} (h : X → Option Y) (xs ys : List X) → filter_map h (xs ++ ys) ≡ filter_map h xs ++ filter_map h ys
 filter_map_append h [] ys = refl
 filter_map_append h (x ∷ xs) ys = elim (h x) as (λ o. cons_option o (filter_map h (xs ++ ys)) ≡ cons_option o (filter_map h xs) ++ filter_map h ys) [
-  None ↦ filter_map_append h xs ys
-  | Some z ↦ ap (λ l. z ∷ l) (filter_map_append h xs ys) ]
+  | None ↦ filter_map_append h xs ys
+  | Some z ↦ ap (λ l. z ∷ l) (filter_map_append h xs ys)
+]
 
 -- a row that is not met stays as it was, and fires nothing
 pub after_unmet : (w : World) (e : ℕ) (row : Kept) → is_met w row ≡ false → after w e row ≡ row
@@ -113,14 +114,14 @@ module _ (w : World) (e : ℕ) (start : List Kept) (had : List Fired) where
       todo = stands.todo;
       whole = stands.whole ∙ sym (append_assoc stands.done (stands.row ∷ []) stands.todo);
       now =
-        ap (λ l. set l at (after w e stands.row)) stands.now
-        ∙ set_at (map (after w e) stands.done) stands.row stands.todo (after w e stands.row) at at_length
-        ∙ sym (append_assoc (map (after w e) stands.done) (after w e stands.row ∷ []) stands.todo)
-        ∙ ap (λ l. l ++ stands.todo) (sym (map_push (after w e) stands.done stands.row));
+          ap (λ l. set l at (after w e stands.row)) stands.now
+          ∙ set_at (map (after w e) stands.done) stands.row stands.todo (after w e stands.row) at at_length
+          ∙ sym (append_assoc (map (after w e) stands.done) (after w e stands.row ∷ []) stands.todo)
+          ∙ ap (λ l. l ++ stands.todo) (sym (map_push (after w e) stands.done stands.row));
       grown =
-        ap (λ l. l ++ option_to_list (fires w e stands.row)) stands.grown
-        ∙ append_assoc had (filter_map (fires w e) stands.done) (option_to_list (fires w e stands.row))
-        ∙ ap (λ l. had ++ l) (sym (filter_map_push (fires w e) stands.done stands.row));
+          ap (λ l. l ++ option_to_list (fires w e stands.row)) stands.grown
+          ∙ append_assoc had (filter_map (fires w e) stands.done) (option_to_list (fires w e stands.row))
+          ∙ ap (λ l. had ++ l) (sym (filter_map_push (fires w e) stands.done stands.row));
       reach = subst (λ m. Reach w m stands.todo due) (sym (length-append stands.done (stands.row ∷ []))) stands.reach;
     }
 
@@ -128,9 +129,10 @@ module _ (w : World) (e : ℕ) (start : List Kept) (had : List Fired) where
   none_due : (n : ℕ) (todo : List Kept) → Reach w n todo [] → (map (after w e) todo ≡ todo) × (filter_map (fires w e) todo ≡ [])
   none_due n [] reach = (refl, refl)
   none_due n (row ∷ todo) (pass unmet reach) =
-      let more = none_due (n + 1) todo reach in
-      ((ap (λ l. l ∷ map (after w e) todo) (after_unmet w e row unmet) ∙ ap (λ l. row ∷ l) more.0),
-      (ap (λ o. cons_option o (filter_map (fires w e) todo)) (fires_unmet w e row unmet) ∙ more.1))
+      let more = none_due (n + 1) todo reach in (
+        (ap (λ l. l ∷ map (after w e) todo) (after_unmet w e row unmet) ∙ ap (λ l. row ∷ l) more.0),
+        (ap (λ o. cons_option o (filter_map (fires w e) todo)) (fires_unmet w e row unmet) ∙ more.1),
+      )
 
   -- at the end of the walk all rows are over
   pub walked_rows : (rows : List Kept) (fired : List Fired) → Walked rows fired [] → rows ≡ map (after w e) start

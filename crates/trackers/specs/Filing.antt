@@ -1,5 +1,5 @@
 -- How the rows that wait are filed by collection. No public clause cites this module.
-use Rattle.std.specs.Prelude.{◌≡◌, ℕ, Bool, false, nat_eq, List, [], slice_get, Vec}
+use Rattle.std.specs.Prelude.{ℕ, Bool, false, nat_eq, List, [], slice_get, Vec}
 use Rattle.std.specs.Option.{option_map_or}
 use Rattle.std.specs.HashMap.{get, HashMap}
 use Rattle.std.specs.declared.hash.FoldHasher.{FoldHasher}

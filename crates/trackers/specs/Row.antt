@@ -2,7 +2,7 @@
 use Rattle.std.specs.Prelude.{ℕ, Bool, true, false, Option, Some, None, if◌then◌else◌}
 use Rattle.sm_names.specs.declared.tracking.Condition.{Condition}
 use Rattle.sm_names.specs.declared.tracking.Fired.{Fired}
-use Rattle.trackers.specs.Table.{Reader, Waiting, Cell}
+use Rattle.trackers.specs.Table.{Reader, Waiting}
 
 -- the first of two that knows a firing decides
 abbrev pub first_known : Option Fired → Option Fired → Option Fired

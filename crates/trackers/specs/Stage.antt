@@ -1,5 +1,5 @@
 -- What the fields of a row mean, and what is always true of them. No public clause cites this module.
-use Rattle.std.specs.Prelude.{◌≡◌, ℕ, Bool, true, false, Option, Some, None, IfSome, is_some}
+use Rattle.std.specs.Prelude.{◌≡◌, ℕ, Option, Some, None, IfSome, is_some}
 use Rattle.std.specs.Arc.{arc_value}
 use Rattle.std.specs.Bool.{OnTrue}
 use Rattle.once_cell.specs.Once.{cell_name}
@@ -29,4 +29,4 @@ IsKnown id name known (Past event was_set) = OnTrue was_set (known ≡ Some (rec
 pub record IsSound (row : Inside) : Type 0 where
   pub known : IsKnown row.id row.note.cell row.note.known row.stage
   pub reader : IfSome row.reader (λ (t : Reader).
-    t ≡ record { tracker = row.id; cell = row.note.cell; known = firing_at row.id (stage_of row.stage) })
+      t ≡ record { tracker = row.id; cell = row.note.cell; known = firing_at row.id (stage_of row.stage) })

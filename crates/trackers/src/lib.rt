@@ -5,6 +5,8 @@
 mod filing;
 mod row;
 mod table;
+#[cfg(test)]
+mod tests;
 mod tracker;
 mod walk;
 mod world;
@@ -12,4 +14,4 @@ mod world;
 pub use sm_names::{Condition, Fired};
 pub use table::{TrackFault, Trackers};
 pub use tracker::Tracker;
-pub use world::World;
+pub use world::{World, holds_in};

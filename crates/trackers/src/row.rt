@@ -62,7 +62,13 @@ impl Row {
         ensures { IfOk result (λ r. (r.id ≡ id) × (r.stage ≡ Waits place condition) × (r.has_reader ≡ true)) }
     {
         let cell = Arc::new(alloc, OnceBox::new(alloc))?;
-        let room = Box::new(alloc, Fired { tracker: id, event: 0 })?;
+        let room = Box::new(
+            alloc,
+            Fired {
+                tracker: id,
+                event: 0,
+            },
+        )?;
         let mut note = cell.note();
         let reader = Tracker::new(id, Arc::try_clone(&cell)?, note.again());
         Ok(Row {

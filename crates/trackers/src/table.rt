@@ -61,8 +61,10 @@ impl Trackers {
     }
 
     /// Attaches a tracker under the number of this event, filed under the collection that its
-    /// condition concerns. All memory that its firing and its taking will need is taken here. It
-    /// takes constant time, but for the growth of the tables.
+    /// condition concerns. It is `Full` exactly where as many wait as may, whatever memory there is;
+    /// a fault changes nothing. All memory that the firing and the taking will need is taken here:
+    /// a cell, the room for its value, and a place in each table. The time is constant, but for the
+    /// growth of the tables.
     pub fn attach(
         &mut self,
         id: TrackerId,
@@ -94,9 +96,10 @@ impl Trackers {
         }
     }
 
-    /// Fires the trackers whose condition holds, by rising id, at this event, which concerned one
-    /// collection. It takes no memory, and looks at the trackers that wait under that collection
-    /// alone, twice where one of them fires.
+    /// Fires the trackers that wait and whose condition holds, by rising id, at this event, which
+    /// concerned one collection: under another none holds. It takes no memory. It looks up that
+    /// collection, and tests each tracker that waits under it once; where one fires, it goes through
+    /// them once more. Those of other collections, and those that fired, cost nothing.
     pub fn sweep<W: World>(&mut self, event: u64, collection: CollectionId, world: &W)
         requires elsewhere { All (λ (t : Waiting). t.place ≢ collection
             → is_due (W.seen world.now) t ≡ false) self.old.unfired }
@@ -120,18 +123,21 @@ impl Trackers {
         }
     }
 
-    /// The firings, in their order: by event, and by rising id within one. It takes constant time.
+    /// The firings in their order: by event, as the sweeps came, and by rising id within one. It
+    /// takes constant time and no memory.
     pub fn fired(&self) -> &[Fired]
         ensures { result.now ≡ self.now.fired }
     {
         &self.fired
     }
 
-    /// The reader of the tracker with this id, once. It knows the firing if there was one. It takes
-    /// no memory, and a search among all that were attached.
+    /// The reader of the tracker with this id: `Some` once for each that was attached, and else
+    /// `None`. It knows the firing if there was one. It takes no memory, and a binary search among
+    /// all that were ever attached.
     pub fn take_tracker(&mut self, id: TrackerId) -> Option<Tracker>
         ensures tracker { result ≡ (if is_untaken self.old.untaken id
             then Some (reader_of self.old id) else None) }
+        ensures cell { IfSome result (λ t. cell_of self.old.cells id ≡ Some t.cell) }
         ensures taken { self.new
             ≡ record self.old { untaken = without self.old.untaken id } }
     {
@@ -141,8 +147,10 @@ impl Trackers {
         }
     }
 
-    /// Shows that what a reader knows is the firing of its tracker. The answer is true where that
-    /// firing set the cell; no other can have, but no contract of a cell says so.
+    /// Shows that what a reader of one of these cells knows is the firing of its tracker. The answer
+    /// is true where that firing set the cell, which is wherever there was one: nothing else sets a
+    /// cell, but no contract of a cell says so. Both sides are `&mut`, since what is known of a cell
+    /// is read through one; neither changes. It takes no memory, and a binary search.
     pub fn agree(&mut self, tracker: &mut Tracker) -> bool
         requires own { cell_of self.old.cells tracker.old.tracker ≡ Some tracker.old.cell }
         ensures same { OnTrue result (IfSome tracker.old.known

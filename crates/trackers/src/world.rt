@@ -4,7 +4,8 @@ ghost use Rattle.sm_names.specs.Trackers.{World as Seen, holds};
 
 use sm_names::{BufferName, CollectionId, Condition, NodeKey};
 
-/// What trackers look at. Of a node that was forgotten, `gone` and `allocated` are true.
+/// What trackers look at. It must still know a node when the event at which it left is swept; of one
+/// that was forgotten since, `gone` and `allocated` are true.
 pub trait World {
     ghost seen: { Self → Seen };
 
@@ -20,13 +21,14 @@ pub trait World {
     fn left(&self, collection: CollectionId) -> u32
         ensures { result ≡ (seen self.now).left collection };
 
-    /// Whether the buffer is doomed: no strong handle of it is open, and none can be.
+    /// Whether the buffer is doomed: nothing strong holds it, nor ever will again.
     fn doomed(&self, buffer: BufferName) -> bool
         ensures { result ≡ (seen self.now).doomed buffer };
 }
 
-/// Whether what is waited for holds.
-pub(crate) fn holds_in<W: World>(condition: Condition, world: &W) -> bool
+/// Whether what is waited for holds. After an event that did no more than attach a tracker, this is
+/// the test that tells whether a sweep is needed: two looks at the world at most.
+pub fn holds_in<W: World>(condition: Condition, world: &W) -> bool
     ensures { result ≡ holds (W.seen world.now) condition }
 {
     match condition {

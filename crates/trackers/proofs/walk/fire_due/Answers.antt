@@ -1,8 +1,6 @@
-use Rattle.std.proofs.Common.{◌≡◌, ◌+◌, ◌<◌, ◌++◌, get_or, set, length, option_to_list, drop, subst, sym, ap, ◌∙◌, arith}
+use Rattle.std.proofs.Common.{subst, sym, ◌∙◌, arith}
 use Rattle.std.proofs.lemmas.List.{drop_all}
-use Rattle.trackers.specs.Row.{Kept}
-use Rattle.trackers.specs.Held.{after, fires}
-use Rattle.trackers.proofs.Walks.{Walked, Stands, stand_here, stands_within, stands_row, stands_step, counted_here, room_step, walked_rows, walked_fired}
+use Rattle.trackers.proofs.Walks.{Walked, stand_here, stands_within, stands_row, stands_step, counted_here, room_step, walked_rows, walked_fired}
 use Rattle.trackers.proofs.walk.fire_due.Goals as goal
 
 pub index_mut-requires : goal.index_mut-requires

@@ -1,5 +1,4 @@
-use Rattle.std.proofs.Common.{◌≡◌, Some, refl, sym, ap, ◌∙◌, arith}
-use Rattle.trackers.specs.Held.{Found, table_of}
+use Rattle.std.proofs.Common.{◌∙◌, arith}
 use Rattle.trackers.proofs.FoundLemmas.{found_within, found_row, found_cell, found_told}
 use Rattle.trackers.proofs.table.Trackers.agree.Goals as goal
 

@@ -1,4 +1,4 @@
-use Rattle.std.proofs.Common.{◌≡◌, length, vec_len, refl, sym, ap, ◌∙◌, arith}
+use Rattle.std.proofs.Common.{◌≡◌, length, vec_len, refl, arith}
 use Rattle.std.specs.List.{filter_map}
 use Rattle.std.proofs.lemmas.List.Elements.{recursion_from_All}
 use Rattle.trackers.specs.Row.{waiting_of_row}
@@ -11,15 +11,16 @@ pub invariant_of-self : goal.invariant_of-self
 invariant_of-self c =
     let held = c.self.invariant.held in
     elim c.match-add.branch [
-      in-Ok w ↦
-        let long : vec_len c.self.inside.rows ≡ length c.self.inside.rows.items = omega arith in
-        let all = all_below c.args.id c.self.inside.rows.items (recursion_from_All _ _ (rw (← c.self.view_is) at c.requires.rising)) in
-        kept_push _ _ _ _ _ _ _ _ _ c.self.invariant c.add.ensures.fired c.args.id w.in-Ok.ensures.row.0 c.args.collection c.args.condition all
+      | in-Ok w ↦
+          let long : vec_len c.self.inside.rows ≡ length c.self.inside.rows.items = omega arith in
+          let all = all_below c.args.id c.self.inside.rows.items (recursion_from_All _ _ (rw (← c.self.view_is) at c.requires.rising)) in
+          kept_push _ _ _ _ _ _ _ _ _ c.self.invariant c.add.ensures.fired c.args.id w.in-Ok.ensures.row.0 c.args.collection c.args.condition all
           (omega (arith, held.counted, c.len.ensures, c.len-2.ensures))
           (omega (arith, w.in-Ok.ensures.room, held.counted, c.len.ensures, c.len-2.ensures))
           w.in-Ok.ensures.row.1
           (rw (← long) w.in-Ok.ensures.filed)
-      | in-Err w ↦ kept_grown _ _ _ _ _ _ _ _ _ c.self.invariant c.add.ensures.fired c.add.ensures.capacity w.in-Err.ensures.rows_kept w.in-Err.ensures.piles_kept ]
+      | in-Err w ↦ kept_grown _ _ _ _ _ _ _ _ _ c.self.invariant c.add.ensures.fired c.add.ensures.capacity w.in-Err.ensures.rows_kept w.in-Err.ensures.piles_kept
+    ]
 
 -- as many wait as may
 pub returns-then-waiting-self-clause-full : goal.returns-then-waiting-self-clause-full
@@ -31,8 +32,9 @@ returns-then-waiting-self-clause-full c =
 
 pub returns-clause-ok : goal.returns-clause-ok
 returns-clause-ok c = elim c.match-add.branch [
-  in-Ok w ↦ rw (w.result-is, ← c.self.view_is) (table_push c.self.inside.limit _ _ _ _ c.args.id w.in-Ok.ensures.row.0 c.args.collection c.args.condition c.add.ensures.fired w.in-Ok.ensures.row.1)
-  | in-Err w ↦ rw w.result-is tt ]
+  | in-Ok w ↦ rw (w.result-is, ← c.self.view_is) (table_push c.self.inside.limit _ _ _ _ c.args.id w.in-Ok.ensures.row.0 c.args.collection c.args.condition c.add.ensures.fired w.in-Ok.ensures.row.1)
+  | in-Err w ↦ rw w.result-is tt
+]
 
 -- fewer wait
 pub returns-clause-full : goal.returns-clause-full
@@ -40,5 +42,6 @@ returns-clause-full c =
     let shown = count_shown c.self.inside.rows.items in
     let held = c.self.invariant.held in
     elim c.match-add.branch [
-      in-Ok w ↦ rw (w.result-is, ← c.self.view_is) ((λ e. absurd (cc)), (λ full. absurd (omega (arith, shown, full, held.counted, c.len.ensures, c.len-2.ensures))))
-      | in-Err w ↦ rw (w.result-is, ← c.self.view_is) ((λ e. absurd (cc)), (λ full. absurd (omega (arith, shown, full, held.counted, c.len.ensures, c.len-2.ensures)))) ]
+      | in-Ok w ↦ rw (w.result-is, ← c.self.view_is) ((λ e. absurd (cc)), (λ full. absurd (omega (arith, shown, full, held.counted, c.len.ensures, c.len-2.ensures))))
+      | in-Err w ↦ rw (w.result-is, ← c.self.view_is) ((λ e. absurd (cc)), (λ full. absurd (omega (arith, shown, full, held.counted, c.len.ensures, c.len-2.ensures))))
+    ]

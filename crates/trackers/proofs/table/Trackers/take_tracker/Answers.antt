@@ -1,6 +1,5 @@
-use Rattle.std.proofs.Common.{◌≡◌, refl, sym, ap, ◌∙◌, arith}
-use Rattle.trackers.specs.Held.{Found, table_of}
-use Rattle.trackers.proofs.FoundLemmas.{found_within, found_row, none_untaken, none_without, kept_taken, table_taken, reader_taken}
+use Rattle.std.proofs.Common.{refl, ◌∙◌, arith}
+use Rattle.trackers.proofs.FoundLemmas.{found_within, found_row, none_untaken, none_without, kept_taken, table_taken, reader_taken, reader_cell}
 use Rattle.trackers.proofs.table.Trackers.take_tracker.Goals as goal
 
 pub index_mut-requires : goal.index_mut-requires
@@ -20,6 +19,12 @@ returns-in-Some-clause-tracker c =
     let found = rw c.deref.ensures.value at c.in-Some.ensures in
     let here = c.index_mut.ensures.value ∙ found_row _ found.1 c.index_mut.result.now in
     rw (← c.self.view_is, c.take.ensures.reader, here) (reader_taken _ c.self.inside.limit _ found.1 c.self.invariant.held.told)
+
+pub returns-in-Some-clause-cell : goal.returns-in-Some-clause-cell
+returns-in-Some-clause-cell c =
+    let found = rw c.deref.ensures.value at c.in-Some.ensures in
+    let here = c.index_mut.ensures.value ∙ found_row _ found.1 c.index_mut.result.now in
+    rw (← c.self.view_is, c.take.ensures.reader, here) (reader_cell _ found.1)
 
 pub returns-in-Some-clause-taken : goal.returns-in-Some-clause-taken
 returns-in-Some-clause-taken c =

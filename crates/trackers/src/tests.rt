@@ -1,0 +1,178 @@
+//! What no contract says: that calls succeed, and that a cell that was set is seen.
+use crate::{Condition, Fired, TrackFault};
+use fixture::{HERE, Here, Line, QUIET};
+use sm_names::{BufferName, NodeKey};
+use std::test::Fail;
+use std::thread;
+
+mod fixture;
+
+const NODE: NodeKey = NodeKey {
+    slot: 3,
+    generation: 0,
+};
+
+const OTHER: NodeKey = NodeKey {
+    slot: 4,
+    generation: 0,
+};
+
+const GONE: Here = Here {
+    gone: Some(3),
+    allocated: false,
+    left: 0,
+    doomed: None,
+};
+
+#[test]
+fn each_condition_fires_once_it_holds(rt: HostRuntime) -> Result<(), Fail> {
+    let few = Condition::Lifetime(NODE, HERE, 2);
+    let weak = Condition::Weak(BufferName {
+        collection: HERE,
+        index: 1,
+    });
+    let held = |left: u32| Here {
+        gone: None,
+        allocated: true,
+        left,
+        doomed: None,
+    };
+    let doomed = |index: u8| Here {
+        gone: None,
+        allocated: false,
+        left: 0,
+        doomed: Some(index),
+    };
+    let rows = [
+        ("node", Condition::Node(NODE), QUIET, GONE),
+        ("too many are left", few, held(3), held(2)),
+        ("never allocated, though none is left", few, QUIET, GONE),
+        ("another buffer", weak, doomed(0), doomed(1)),
+    ];
+    for (name, condition, before, after) in rows {
+        let mut line = Line::new(rt.alloc(), 4);
+        let tracker = line.track(condition).map_err(|_| "not attached")?;
+        line.sweep(&before);
+        assert!(rt; line.fired().is_empty(), "{name}");
+        line.pass();
+        line.sweep(&after);
+        line.pass();
+        line.sweep(&after);
+        let once = [Fired { tracker, event: 2 }];
+        assert!(rt; line.fired() == once.as_slice(), "{name}");
+    }
+    Ok(())
+}
+
+#[test]
+fn firings_stand_by_event_and_then_by_id(rt: HostRuntime) -> Result<(), Fail> {
+    let mut line = Line::new(rt.alloc(), 4);
+    for key in [NODE, OTHER, NODE, NODE] {
+        line.track(Condition::Node(key))
+            .map_err(|_| "not attached")?;
+    }
+    let full = line.track(Condition::Node(NODE));
+    assert!(rt; full == Err(TrackFault::Full));
+    line.sweep(&GONE);
+    line.track(Condition::Node(NODE)).map_err(|_| "still full")?;
+    line.sweep(&GONE);
+    let both = Here {
+        gone: Some(4),
+        ..GONE
+    };
+    line.sweep(&both);
+    let seen = [(1, 4), (3, 4), (4, 4), (5, 5), (2, 5)];
+    assert_eq!(rt; line.fired().len(), 5);
+    for (fired, (tracker, event)) in line.fired().iter().zip(seen) {
+        assert!(rt; *fired == Fired { tracker, event }, "{tracker}");
+    }
+    Ok(())
+}
+
+#[test]
+fn a_reader_sees_the_firing_whenever_it_was_taken(rt: HostRuntime) -> Result<(), Fail> {
+    let mut line = Line::new(rt.alloc(), 4);
+    let first = line
+        .track(Condition::Node(NODE))
+        .map_err(|_| "not attached")?;
+    let second = line
+        .track(Condition::Node(NODE))
+        .map_err(|_| "not attached")?;
+    let Some(mut early) = line.take(first) else {
+        return Err(Fail::from("not there"));
+    };
+    assert!(rt; early.poll().is_none());
+    line.sweep(&GONE);
+    assert!(rt;
+        early.poll()
+            == Some(Fired {
+                tracker: 1,
+                event: 2
+            })
+    );
+    assert!(rt;
+        early.poll()
+            == Some(Fired {
+                tracker: 1,
+                event: 2
+            })
+    );
+    match line.take(second) {
+        Some(mut late) => {
+            assert!(rt; line.agree(&mut late));
+            assert!(rt;
+                late.poll()
+                    == Some(Fired {
+                        tracker: 2,
+                        event: 2
+                    })
+            );
+        }
+        None => assert!(rt; false, "not there"),
+    }
+    assert!(rt; line.take(second).is_none());
+    assert!(rt; line.take(9).is_none());
+    Ok(())
+}
+
+#[test]
+fn a_reader_in_another_thread_sees_the_firing(rt: HostRuntime) -> Result<(), Fail> {
+    let mut line = Line::new(rt.alloc(), 4);
+    let id = line
+        .track(Condition::Node(NODE))
+        .map_err(|_| "not attached")?;
+    let Some(mut reader) = line.take(id) else {
+        return Err(Fail::from("not there"));
+    };
+    line.sweep(&GONE);
+    let child = thread::spawn(&rt, move || reader.poll()).map_err(|_| "no thread")?;
+    assert!(rt;
+        child.join(&rt)
+            == Some(Fired {
+                tracker: 1,
+                event: 1
+            })
+    );
+    Ok(())
+}
+
+// Run with each allocation refused in turn, this meets each growth of `attach`.
+#[test]
+fn refused_memory_leaves_all_as_it_was(rt: HostRuntime) -> Result<(), Fail> {
+    let mut line = Line::new(rt.alloc(), 8);
+    for wanted in 1..=6 {
+        let id = match line.track(Condition::Node(NODE)) {
+            Ok(id) => id,
+            Err(_) => {
+                assert!(rt; line.take(wanted).is_none());
+                assert!(rt; line.fired().is_empty());
+                line.track(Condition::Node(NODE))
+                    .map_err(|_| "refused twice")?
+            }
+        };
+        assert_eq!(rt; id, wanted);
+    }
+    line.sweep(&GONE);
+    assert_eq!(rt; line.fired().len(), 6);
+    Ok(())
+}
