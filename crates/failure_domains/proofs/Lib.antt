@@ -1,0 +1,4 @@
+pub mod Lists
+pub mod Climbs
+pub mod Descents
+pub mod Reaches

@@ -1,0 +1,13 @@
+use Rattle.std.proofs.Common.{◌<◌}
+use Rattle.node_table.specs.Table.{parent_at}
+use Rattle.node_table.specs.Forest.{IsForest}
+use Rattle.failure_domains.specs.Falls.{blocked_at}
+use Rattle.failure_domains.specs.Walks.{Climb}
+use Rattle.failure_domains.proofs.walks.climb.Given as goal
+
+-- so far each step climbed a link
+abbrev pub invariant-up : goal.invariant-up
+invariant-up g l = record {
+  path : Climb (parent_at l.table) (blocked_at g.N.Link.blocks l.table) l.fn.origin l.top l.steps;
+  forest : 0 < l.steps → IsForest l.table;
+}

@@ -1,0 +1,16 @@
+use Rattle.std.proofs.Common.{◌-◌, ◌<◌, ◌^◌}
+use Rattle.node_table.specs.Table.{children_at}
+use Rattle.node_table.specs.Forest.{IsForest, depth_at}
+use Rattle.failure_domains.specs.Walks.{IsWalk}
+use Rattle.failure_domains.proofs.walks.walk.Given as goal
+
+-- so far as many keys were taken as there were visits
+abbrev pub invariant-down : goal.invariant-down
+invariant-down g l = record {
+  walk : IsWalk (children_at l.table) (depth_at l.table) l.fn.top l.visits l.keys.items;
+  forest : 0 < l.visits → IsForest l.table;
+}
+
+-- a list has fewer keys than this
+abbrev pub decreases-down : goal.decreases-down
+decreases-down g l = 2 ^ 63 - l.visits

@@ -1,0 +1,31 @@
+-- How a failure goes through the nodes of a table: up over the links that do not block, and down to every child.
+-- What it takes is the least set `Reach` of sm_names, over the table's links and `blocked_at`.
+use Rattle.std.specs.Prelude.{◌≡◌, ℕ, zero, suc, Bool, false, List, [], ◌∷◌, Option, None, if◌then◌else◌}
+use Rattle.std.specs.List.{flat_map}
+use Rattle.std.specs.Option.{option_map_or}
+use Rattle.sm_names.specs.declared.keys.NodeKey.{NodeKey}
+use Rattle.node_table.specs.Table.{Table, node_at, parent_at}
+use Rattle.node_table.specs.Forest.{depth_at}
+
+module _ {N : Type 0} (blocks : N → Bool) (t : Table N) where
+  -- the node is there and blocks its link to its parent
+  abbrev pub blocked_at : NodeKey → Bool
+  blocked_at key = option_map_or blocks (node_at t key) false
+
+  -- the parent that a failure of the node goes to, if it goes to one
+  abbrev pub way_up : NodeKey → Option NodeKey
+  way_up key = if blocked_at key then None else parent_at t key
+
+  -- how many links a failure of the node goes up, counted up to this many
+  abbrev pub links_within : ℕ → NodeKey → ℕ
+  links_within zero key = 0
+  links_within (suc most) key = option_map_or (λ above. suc (links_within most above)) (way_up key) 0
+
+  -- how many links a failure of the origin goes up, one after the other
+  abbrev pub links_climbed : NodeKey → ℕ
+  links_climbed origin = links_within (depth_at t origin) origin
+
+-- the first key, then the children of each key in turn: layer by layer
+abbrev pub IsByLayers : (NodeKey → List NodeKey) → List NodeKey → Type 0
+IsByLayers children [] = ⊥
+IsByLayers children (top ∷ below) = below ≡ flat_map children (top ∷ below)
