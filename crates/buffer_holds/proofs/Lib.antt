@@ -1,0 +1,7 @@
+pub mod KindLemmas
+pub mod Opening
+pub mod Outcomes
+pub mod RowLemmas
+pub mod SoundLemmas
+pub mod Steps
+pub mod TallyRows

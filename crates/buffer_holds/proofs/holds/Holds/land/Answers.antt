@@ -1,0 +1,98 @@
+use Rattle.std.proofs.Common.{◌-◌, ◌+◌, ◌<◌, refl, sym, ap, arith}
+use Rattle.buffer_holds.specs.declared.tally.Tally.{Tally}
+use Rattle.buffer_holds.specs.Counts.{moving}
+use Rattle.buffer_holds.specs.Kinds.{kind_of, hold_of}
+use Rattle.buffer_holds.proofs.SoundLemmas.{moving_is, count_at-le-total, clients-le-length}
+use Rattle.buffer_holds.proofs.Steps.{Step-raised, sound_after, sets_by}
+use Rattle.buffer_holds.proofs.TallyRows.{lent_from_something, tally_lent, row_written}
+use Rattle.buffer_holds.proofs.holds.Holds.land.Goals as goal
+
+-- one lies in a parcel, and so there is room for it
+pub raise-requires : goal.raise-requires
+raise-requires c =
+    let inside = c.self.inside in
+    let hold = hold_of c.args.client c.args.buffer c.args.strength in
+    omega (
+      arith,
+      c.requires,
+      ap (λ counts. moving counts c.args.buffer c.args.strength) c.self.view_is,
+      moving_is inside.limit inside.rows.entries inside.tallies.entries c.args.buffer c.args.strength,
+      count_at-le-total inside.limit inside.rows.entries inside.tallies.entries c.self.invariant hold,
+      (c.self.invariant.tallied hold.kind).within,
+    )
+
+-- and so there is a tally
+pub unwrap-tally-requires : goal.unwrap-tally-requires
+unwrap-tally-requires c =
+    let inside = c.self.inside in
+    lent_from_something inside.tallies (kind_of c.args.buffer c.args.strength) _ c.get_mut.ensures.value
+    (omega (arith, c.requires, ap (λ counts. moving counts c.args.buffer c.args.strength) c.self.view_is, moving_is inside.limit inside.rows.entries inside.tallies.entries c.args.buffer c.args.strength))
+
+pub overflow_sub-tally : goal.overflow_sub-tally
+overflow_sub-tally c =
+    let inside = c.self.inside in
+    let kind = kind_of c.args.buffer c.args.strength in
+    omega (
+      arith,
+      c.requires,
+      ap (λ counts. moving counts c.args.buffer c.args.strength) c.self.view_is,
+      moving_is inside.limit inside.rows.entries inside.tallies.entries c.args.buffer c.args.strength,
+      ap (λ (t : Tally). t.moving) (tally_lent inside.tallies kind _ c.unwrap-tally.result c.unwrap-tally.ensures c.get_mut.ensures.value),
+    )
+
+-- no more clients are counted than there are rows
+pub overflow_add-tally : goal.overflow_add-tally
+overflow_add-tally c =
+    let inside = c.self.inside in
+    let hold = hold_of c.args.client c.args.buffer c.args.strength in
+    omega (
+      arith,
+      c.len.ensures.len,
+      c.len.ensures.small,
+      c.len-before.ensures.len,
+      c.len-before.ensures.small,
+      clients-le-length inside.limit inside.rows.entries inside.tallies.entries c.self.invariant hold,
+      ap (λ (t : Tally). t.clients) (tally_lent inside.tallies hold.kind _ c.unwrap-tally.result c.unwrap-tally.ensures c.get_mut.ensures.value),
+    )
+
+pub invariant_of-self-2 : goal.invariant_of-self-2
+invariant_of-self-2 c =
+    let inside = c.self.inside in
+    let hold = hold_of c.args.client c.args.buffer c.args.strength in
+    let tally = c.unwrap-tally.result.now in
+    let landed : Tally = record { total = tally.total; moving = tally.moving - 1; clients = tally.clients + (c.len.result - c.len-before.result) } in
+    let kept = tally_lent inside.tallies hold.kind _ c.unwrap-tally.result c.unwrap-tally.ensures c.get_mut.ensures.value in
+    let lies : 0 < tally.moving = omega (
+      arith,
+      c.requires,
+      ap (λ counts. moving counts c.args.buffer c.args.strength) c.self.view_is,
+      moving_is inside.limit inside.rows.entries inside.tallies.entries c.args.buffer c.args.strength,
+      ap (λ (t : Tally). t.moving) kept,
+    ) in
+    sound_after (Step-raised inside.limit inside.rows.entries c.raise.new.rows.entries inside.tallies.entries _ c.self.invariant hold landed
+    (row_written inside.tallies hold.kind _ c.unwrap-tally.result c.unwrap-tally.ensures c.get_mut.ensures.value (c.get_mut.follows.lender landed) landed (c.get_mut.follows.holds landed))
+    c.in-Ok.ensures.ok (omega (arith, c.len.ensures.len, c.len-before.ensures.len, ap (λ (t : Tally). t.clients) kept))
+    (omega (arith, (c.self.invariant.tallied hold.kind).within, ap (λ (t : Tally). t.total) kept))
+    (omega (arith, lies, ap (λ (t : Tally). t.total) kept, ap (λ (t : Tally). t.moving) kept)))
+
+pub returns-clause-landed : goal.returns-clause-landed
+returns-clause-landed c =
+    let inside = c.self.inside in
+    let hold = hold_of c.args.client c.args.buffer c.args.strength in
+    let tally = c.unwrap-tally.result.now in
+    let landed : Tally = record { total = tally.total; moving = tally.moving - 1; clients = tally.clients + (c.len.result - c.len-before.result) } in
+    let kept = tally_lent inside.tallies hold.kind _ c.unwrap-tally.result c.unwrap-tally.ensures c.get_mut.ensures.value in
+    let lies : 0 < tally.moving = omega (
+      arith,
+      c.requires,
+      ap (λ counts. moving counts c.args.buffer c.args.strength) c.self.view_is,
+      moving_is inside.limit inside.rows.entries inside.tallies.entries c.args.buffer c.args.strength,
+      ap (λ (t : Tally). t.moving) kept,
+    ) in
+    let step = Step-raised inside.limit inside.rows.entries c.raise.new.rows.entries inside.tallies.entries _ c.self.invariant hold landed
+    (row_written inside.tallies hold.kind _ c.unwrap-tally.result c.unwrap-tally.ensures c.get_mut.ensures.value (c.get_mut.follows.lender landed) landed (c.get_mut.follows.holds landed))
+    c.in-Ok.ensures.ok (omega (arith, c.len.ensures.len, c.len-before.ensures.len, ap (λ (t : Tally). t.clients) kept))
+    (omega (arith, (c.self.invariant.tallied hold.kind).within, ap (λ (t : Tally). t.total) kept))
+    (omega (arith, lies, ap (λ (t : Tally). t.total) kept, ap (λ (t : Tally). t.moving) kept)) in
+    sets_by c.args.client c.args.buffer c.args.strength step c.args.self.now c.self.view_is (λ n. n + 1) (λ n. n - 1) (λ n. n)
+    refl (ap (λ (t : Tally). t.moving - 1) (sym kept)) (ap (λ (t : Tally). t.total) (sym kept))

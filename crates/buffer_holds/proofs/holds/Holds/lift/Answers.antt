@@ -1,0 +1,59 @@
+use Rattle.std.proofs.Common.{◌-◌, ◌+◌, refl, sym, ap, arith}
+use Rattle.buffer_holds.specs.declared.tally.Tally.{Tally}
+use Rattle.buffer_holds.specs.Kinds.{hold_of}
+use Rattle.buffer_holds.specs.Rows.{row_at}
+use Rattle.buffer_holds.proofs.SoundLemmas.{one_row-some, count_at-le-total, one_row-le-clients}
+use Rattle.buffer_holds.proofs.Steps.{Step-lowered, sound_after, sets_by}
+use Rattle.buffer_holds.proofs.TallyRows.{lent_from_something, tally_lent, row_written}
+use Rattle.buffer_holds.proofs.holds.Holds.lift.Goals as goal
+
+-- the client has a row, so there is a tally
+pub unwrap-tally-requires : goal.unwrap-tally-requires
+unwrap-tally-requires c =
+    let inside = c.self.inside in
+    let hold = hold_of c.args.client c.args.buffer c.args.strength in
+    lent_from_something inside.tallies hold.kind _ c.get_mut.ensures.value
+    (omega (arith, one_row-some (row_at inside.rows.entries hold) (c.if-not-lower.ensures.had.0 refl), one_row-le-clients inside.limit inside.rows.entries inside.tallies.entries c.self.invariant hold))
+
+-- the client's handle is not among those in parcels
+pub overflow_add-tally : goal.overflow_add-tally
+overflow_add-tally c =
+    let inside = c.self.inside in
+    let hold = hold_of c.args.client c.args.buffer c.args.strength in
+    omega (
+      arith,
+      c.if-not-lower.ensures.had.0 refl,
+      count_at-le-total inside.limit inside.rows.entries inside.tallies.entries c.self.invariant hold,
+      ap (λ (t : Tally). t.moving) (tally_lent inside.tallies hold.kind _ c.unwrap-tally.result c.unwrap-tally.ensures c.get_mut.ensures.value),
+      (c.self.invariant.tallied hold.kind).within,
+    )
+
+pub invariant_of-self-2 : goal.invariant_of-self-2
+invariant_of-self-2 c =
+    let inside = c.self.inside in
+    let hold = hold_of c.args.client c.args.buffer c.args.strength in
+    let tally = c.unwrap-tally.result.now in
+    let left : Tally = record tally { moving = tally.moving + 1 } in
+    let kept = tally_lent inside.tallies hold.kind _ c.unwrap-tally.result c.unwrap-tally.ensures c.get_mut.ensures.value in
+    let had = c.if-not-lower.ensures.had.0 refl in
+    let among = count_at-le-total inside.limit inside.rows.entries inside.tallies.entries c.self.invariant hold in
+    sound_after (Step-lowered inside.limit inside.rows.entries c.lower.new.rows.entries inside.tallies.entries _ c.self.invariant hold left
+    (row_written inside.tallies hold.kind _ c.unwrap-tally.result c.unwrap-tally.ensures c.get_mut.ensures.value (c.get_mut.follows.lender left) left (c.get_mut.follows.holds left))
+    had (c.if-not-lower.ensures.lowered)
+    (ap (λ (t : Tally). t.clients) (sym kept)) (omega (arith, ap (λ (t : Tally). t.total) kept)) (omega (arith, had, among, ap (λ (t : Tally). t.total) kept, ap (λ (t : Tally). t.moving) kept)))
+
+pub returns-clause-lifted : goal.returns-clause-lifted
+returns-clause-lifted c =
+    let inside = c.self.inside in
+    let hold = hold_of c.args.client c.args.buffer c.args.strength in
+    let tally = c.unwrap-tally.result.now in
+    let left : Tally = record tally { moving = tally.moving + 1 } in
+    let kept = tally_lent inside.tallies hold.kind _ c.unwrap-tally.result c.unwrap-tally.ensures c.get_mut.ensures.value in
+    let had = c.if-not-lower.ensures.had.0 refl in
+    let among = count_at-le-total inside.limit inside.rows.entries inside.tallies.entries c.self.invariant hold in
+    let step = Step-lowered inside.limit inside.rows.entries c.lower.new.rows.entries inside.tallies.entries _ c.self.invariant hold left
+    (row_written inside.tallies hold.kind _ c.unwrap-tally.result c.unwrap-tally.ensures c.get_mut.ensures.value (c.get_mut.follows.lender left) left (c.get_mut.follows.holds left))
+    had (c.if-not-lower.ensures.lowered)
+    (ap (λ (t : Tally). t.clients) (sym kept)) (omega (arith, ap (λ (t : Tally). t.total) kept)) (omega (arith, had, among, ap (λ (t : Tally). t.total) kept, ap (λ (t : Tally). t.moving) kept)) in
+    sets_by c.args.client c.args.buffer c.args.strength step c.args.self.now c.self.view_is (λ n. n - 1) (λ n. n + 1) (λ n. n)
+    refl (ap (λ (t : Tally). t.moving + 1) (sym kept)) (ap (λ (t : Tally). t.total) (sym kept))

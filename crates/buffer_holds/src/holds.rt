@@ -1,0 +1,209 @@
+//! The counts of open handles.
+ghost use Rattle.std.specs.Prelude.{[], ◌≡◌, ◌≢◌, ◌+◌, ◌-◌, ◌<◌, ◌≤◌, ◌↔◌, IsTrue, OnOk, OnErr, IsOk, IsErrOf, IsOkUnless};
+ghost use Rattle.std.specs.Bool.{OnTrue, OnFalse};
+ghost use Rattle.std.specs.List.{IsDistinct};
+ghost use Rattle.std.specs.Map.{keys_of};
+ghost use Rattle.sm_names.specs.Handles.{is_doomed, is_home};
+ghost use Rattle.buffer_holds.specs.Counts.{of, moving, total, has_room};
+ghost use Rattle.buffer_holds.specs.Kinds.{same_hold};
+ghost use Rattle.buffer_holds.specs.Changes.{Sets, Tidies};
+
+use crate::fault::HoldFault;
+use crate::kinds::{HandleKind, Hold};
+use crate::rows::{forget, lower, raise};
+use crate::tally::{Tally, leave, open, tally_of};
+use sm_names::{BufferName, ClientId, NoMemory, Strength};
+use std::alloc::Global;
+use std::collections::HashMap;
+use std::marker::Model;
+
+/// How many handles are open, by client, buffer and strength, and how many are in parcels.
+///
+/// A contract sees the counts of clients and of parcels (`of`, `moving` and their sum, `total`),
+/// and for which of them one more handle takes no memory (`has_room`). A client gains room with
+/// the first handle that it opens or lands, and keeps it when the last one goes, so that `sub` is
+/// undone by `add`, and `lift` by `land`, without memory. `tidy` takes the room back: call it once
+/// a `sub` or a `lift` stands for good, else what was open keeps its memory. A room that was taken
+/// back is used again; the memory is as much as was needed at once.
+///
+/// Each call looks for one client's row, for the tally of one kind of handle, or for both, in a
+/// hash table each, and never goes over all clients. A new row is amortised: where a table grows,
+/// its entries are moved.
+#[derive(Drop)]
+pub struct Holds {
+    limit: u32,
+    rows: HashMap<Hold, u32>,
+    tallies: HashMap<HandleKind, Tally>,
+}
+
+impl Model for Holds {
+    ghost use Rattle.buffer_holds.specs.Counts.{Counts};
+
+    ghost Value = { Counts };
+
+    ghost use Rattle.buffer_holds.specs.Sound.{IsSound, parcels_in};
+
+    ghost view = { λ h. record {
+      limit = h.limit;
+      rows = h.rows.entries;
+      parcels = parcels_in h.tallies.entries;
+    } };
+
+    ghost invariant = { λ h. IsSound h.limit h.rows.entries h.tallies.entries };
+}
+
+impl Holds {
+    /// No handle is open. At most `limit` handles of one strength may be open on a buffer at a
+    /// time, those in parcels among them. Takes constant time and no memory from the allocator.
+    pub fn new(alloc: Global, limit: u32) -> Self
+        requires { 0 < limit }
+        ensures { result ≡ record { limit = limit; rows = []; parcels = [] } }
+    {
+        Holds {
+            limit,
+            rows: HashMap::new(alloc),
+            tallies: HashMap::new(alloc),
+        }
+    }
+
+    /// How many of these handles the client has open: what it opened and landed, less what it
+    /// closed and lifted. Those in parcels are nobody's. One look-up.
+    pub fn of(&self, client: ClientId, buffer: BufferName, strength: Strength) -> u32
+        ensures { result ≡ of self.now client buffer strength }
+    {
+        let kind = HandleKind { buffer, strength };
+        self.rows.get(&Hold { client, kind }).copied().unwrap_or(0)
+    }
+
+    /// How many of these handles are in parcels. One look-up.
+    pub fn moving(&self, buffer: BufferName, strength: Strength) -> u32
+        ensures { result ≡ moving self.now buffer strength }
+    {
+        let kind = HandleKind { buffer, strength };
+        tally_of(&self.tallies, kind).moving
+    }
+
+    /// How many of these handles are open, in parcels and out of them: what was opened, less what
+    /// was closed. It is the sum over all clients, which has one row for each, and the parcels. One
+    /// look-up.
+    pub fn total(&self, buffer: BufferName, strength: Strength) -> u32
+        ensures value { result ≡ total self.now buffer strength }
+        ensures within { result ≤ self.now.limit }
+        ensures one_row_each { IsDistinct same_hold (keys_of self.now.rows) }
+    {
+        let kind = HandleKind { buffer, strength };
+        tally_of(&self.tallies, kind).total
+    }
+
+    /// Whether nothing strong keeps this buffer of an allocated collection any longer: neither an
+    /// open handle, be it in a parcel, nor a live node (`fuchsia.sysmem2.Node.SetWeak`).
+    /// `strong_live` says whether a strong node of its collection is live. One look-up.
+    pub fn doomed(&self, buffer: BufferName, strong_live: bool) -> bool
+        ensures { result ≡ is_doomed (total self.now buffer Strength.Strong) strong_live }
+    {
+        !strong_live && self.total(buffer, Strength::Strong) == 0
+    }
+
+    /// Whether nothing at all keeps this buffer of an allocated collection, so that its pages go
+    /// back: it is doomed, and no weak handle is open, in a parcel or out of it. Two look-ups.
+    pub fn home(&self, buffer: BufferName, strong_live: bool) -> bool
+        ensures { result ≡ is_home (total self.now buffer Strength.Strong)
+            (total self.now buffer Strength.Weak) strong_live }
+    {
+        self.doomed(buffer, strong_live) && self.total(buffer, Strength::Weak) == 0
+    }
+
+    /// Opens one more of these handles for the client.
+    ///
+    /// `TooMany` comes exactly where as many are open as may be, and `NoMemory` only where the
+    /// client has no room and memory was refused. Neither changes anything. Two look-ups.
+    pub fn add(
+        &mut self,
+        client: ClientId,
+        buffer: BufferName,
+        strength: Strength,
+    ) -> Result<(), HoldFault>
+        ensures opened { OnOk result (Sets self.old self.new client buffer strength
+            (of self.old client buffer strength + 1) (moving self.old buffer strength) (total self.old buffer strength + 1)) }
+        ensures too_many { IsErrOf result HoldFault.TooMany ↔ (total self.old buffer strength ≡ self.old.limit) }
+        ensures room { IsTrue (has_room self.old client buffer strength) → IsOkUnless result HoldFault.TooMany }
+        ensures err { OnErr result (self.new ≡ self.old) }
+    {
+        let kind = HandleKind { buffer, strength };
+        let hold = Hold { client, kind };
+        open(&mut self.rows, &mut self.tallies, hold, self.limit)
+    }
+
+    /// Closes one of the client's handles, and answers whether it had one. Without one nothing
+    /// changes. The client keeps its room, so that `add` undoes this without memory until `tidy`.
+    /// Two look-ups.
+    pub fn sub(&mut self, client: ClientId, buffer: BufferName, strength: Strength) -> bool
+        ensures had { IsTrue result ↔ (0 < of self.old client buffer strength) }
+        ensures closed { OnTrue result (Sets self.old self.new client buffer strength
+            (of self.old client buffer strength - 1) (moving self.old buffer strength) (total self.old buffer strength - 1)) }
+        ensures unchanged { OnFalse result (self.new ≡ self.old) }
+    {
+        let kind = HandleKind { buffer, strength };
+        if !lower(&mut self.rows, Hold { client, kind }) {
+            return false;
+        }
+        let tally = self.tallies.get_mut(&kind).unwrap();
+        tally.total -= 1;
+        true
+    }
+
+    /// Takes back the room of a client that has none of these handles open. No count changes, and
+    /// no other client loses room. Two look-ups, and two removals at most.
+    pub fn tidy(&mut self, client: ClientId, buffer: BufferName, strength: Strength)
+        ensures { Tidies self.old self.new client buffer strength }
+    {
+        let kind = HandleKind { buffer, strength };
+        if forget(&mut self.rows, Hold { client, kind }) {
+            leave(&mut self.tallies, kind);
+        }
+    }
+
+    /// Puts one of the client's handles into a parcel, where it is open and nobody's, and answers
+    /// whether it had one. Without one nothing changes. The client keeps its room, so that `land`
+    /// undoes this without memory until `tidy`. Two look-ups.
+    pub fn lift(&mut self, client: ClientId, buffer: BufferName, strength: Strength) -> bool
+        ensures had { IsTrue result ↔ (0 < of self.old client buffer strength) }
+        ensures lifted { OnTrue result (Sets self.old self.new client buffer strength
+            (of self.old client buffer strength - 1) (moving self.old buffer strength + 1) (total self.old buffer strength)) }
+        ensures unchanged { OnFalse result (self.new ≡ self.old) }
+    {
+        let kind = HandleKind { buffer, strength };
+        if !lower(&mut self.rows, Hold { client, kind }) {
+            return false;
+        }
+        let tally = self.tallies.get_mut(&kind).unwrap();
+        tally.moving += 1;
+        true
+    }
+
+    /// Takes one of these handles out of a parcel, for the client. At least one has to be in a
+    /// parcel; the limit is not looked at, since the handle is open already. `NoMemory` comes only
+    /// where the client has no room and memory was refused, and changes nothing. Two look-ups.
+    pub fn land(
+        &mut self,
+        client: ClientId,
+        buffer: BufferName,
+        strength: Strength,
+    ) -> Result<(), NoMemory>
+        requires { 0 < moving self.old buffer strength }
+        ensures landed { OnOk result (Sets self.old self.new client buffer strength
+            (of self.old client buffer strength + 1) (moving self.old buffer strength - 1) (total self.old buffer strength)) }
+        ensures room { IsTrue (has_room self.old client buffer strength) → IsOk result }
+        ensures err { OnErr result (self.new ≡ self.old) }
+    {
+        let kind = HandleKind { buffer, strength };
+        let before = self.rows.len();
+        let Ok(()) = raise(&mut self.rows, Hold { client, kind }) else {
+            return Err(NoMemory);
+        };
+        let tally = self.tallies.get_mut(&kind).unwrap();
+        tally.moving -= 1;
+        tally.clients += self.rows.len() - before;
+        Ok(())
+    }
+}

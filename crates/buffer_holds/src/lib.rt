@@ -1,0 +1,13 @@
+//! How many handles on each buffer each client has open, how many lie in parcels, and what that
+//! keeps alive.
+#![tactic(auto)]
+
+mod fault;
+mod holds;
+mod kinds;
+mod rows;
+mod tally;
+
+pub use fault::HoldFault;
+pub use holds::Holds;
+pub use kinds::{HandleKind, Hold};
