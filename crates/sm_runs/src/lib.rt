@@ -9,7 +9,7 @@ pub mod attached;
 pub mod failures;
 pub mod parcels;
 pub mod releases;
-pub mod tracking;
-pub mod weak;
 #[cfg(test)]
 mod tests;
+pub mod tracking;
+pub mod weak;

@@ -24,13 +24,13 @@ pub fn handles_are_counted()
         (buffer : BufferName) (strength : Strength) →
         open_total (timeline pool history) buffer strength
         ≡ sum_by (λ client. open_of (timeline pool history) client buffer strength)
-            (clients (timeline pool history))
+        (clients (timeline pool history))
         + moving (timeline pool history) buffer strength }
     ensures in_parcels { (pool : ℕ) (limits : Bound) (history : List Entry) → IsLegal pool limits history →
         (buffer : BufferName) (strength : Strength) →
         moving (timeline pool history) buffer strength
         ≡ sum_by (λ client. times (is_handle_of buffer strength) (parcels (timeline pool history) client))
-            (clients (timeline pool history)) }
+        (clients (timeline pool history)) }
     ensures dropped { (pool : ℕ) (limits : Bound) (history : List Entry) → IsLegal pool limits history →
         (buffer : BufferName) (strength : Strength) →
         times (drops (λ c. true) buffer strength) (timeline pool history)
@@ -48,7 +48,7 @@ pub fn doomed_is_for_good()
         (strength : Strength) (set : ℕ) (call : Call) →
         IsLegal pool limits (history ++ (client, call, Reply.Taken collection strength set) ∷ []) →
         set ≡ set_of (filter (λ name. not (doomed (timeline pool history) name))
-            (buffer_names (timeline pool history) collection)) }
+        (buffer_names (timeline pool history) collection)) }
     ensures by_take { (pool : ℕ) (limits : Bound) (history : List Entry) (client collection : ℕ)
         (strength : Strength) (set : ℕ) (call : Call) →
         IsLegal pool limits (history ++ (client, call, Reply.Taken collection strength set) ∷ []) →
@@ -59,7 +59,7 @@ pub fn doomed_is_for_good()
         (buffer : BufferName) →
         opens (λ c. true) buffer strength (Called client (Reply.Taken collection strength set) (Call.Take key))
         ≡ (list_any (λ name. same_buffer name buffer) (buffer_names (timeline pool history) collection)
-            && not (doomed (timeline pool history) buffer)) }
+        && not (doomed (timeline pool history) buffer)) }
     ensures doomed { (pool : ℕ) (limits : Bound) (history more : List Entry) →
         IsLegal pool limits (history ++ more) → (buffer : BufferName) →
         doomed (timeline pool history) buffer ≡ true →

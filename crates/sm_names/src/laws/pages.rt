@@ -32,7 +32,7 @@ pub fn places_are_apart()
     ensures no_room { (pool pages count : ℕ) (held : List Interval) →
         (places pool pages count held ≡ None)
         ↔ ((starts : List ℕ) × (length starts < count) × AreFirst pool pages held starts
-            × IsFull pool pages (with_placed pages starts held)) }
+        × IsFull pool pages (with_placed pages starts held)) }
     ensures any_order { (pool pages count : ℕ) (held other : List Interval) →
         ((test : Interval → Bool) → list_any test held ≡ list_any test other) →
         places pool pages count held ≡ places pool pages count other }
@@ -52,14 +52,14 @@ pub fn held_buffers_are_apart()
         (buffer : BufferName) →
         list_any (λ h. same_buffer h.buffer buffer) (held pool (timeline pool history))
         ≡ (list_any (λ name. same_buffer name buffer) (buffer_names (timeline pool history) buffer.collection)
-            && not (home (timeline pool history) buffer)) }
+        && not (home (timeline pool history) buffer)) }
     ensures once { (pool : ℕ) (limits : Bound) (history : List Entry) → IsLegal pool limits history →
         (buffer : BufferName) →
         times (λ h. same_buffer h.buffer buffer) (held pool (timeline pool history)) ≤ 1 }
     ensures sizes { (pool : ℕ) (limits : Bound) (history : List Entry) → IsLegal pool limits history →
         list_all (λ h. option_map_or (λ (b : Buffers). h.pages.pages == pages_of b.size)
-            (buffers_of (timeline pool history) h.buffer.collection) false)
-            (held pool (timeline pool history)) ≡ true }
+        (buffers_of (timeline pool history) h.buffer.collection) false)
+        (held pool (timeline pool history)) ≡ true }
     ensures free { (pool : ℕ) (limits : Bound) (history : List Entry) → IsLegal pool limits history →
         free_pages pool (timeline pool history)
         + sum_by (λ h. h.pages.pages) (held pool (timeline pool history)) ≡ pool }
