@@ -24,17 +24,20 @@ use Rattle.sm_names.specs.Trackers.{Tracked, tracked, earlier_moments, fires_at,
 use Rattle.sm_names.specs.Words.{last_match}
 use Rattle.sm_names.proofs.EventLaws.{EndState, end_state, SameIn, same_after, same_doomed, same_home}
 use Rattle.sm_names.proofs.GoneLaws.{earlier_after}
-use Rattle.sm_names.proofs.GrowthLaws.{Grows, birth_is}
+use Rattle.sm_names.proofs.GrowthLaws.{Grows}
 use Rattle.sm_names.proofs.ListLaws.{In, In-filter, In-filter-back, In-map, In-reverse-back, filter-In, filter-swap, map-at}
 use Rattle.sm_names.proofs.SamenessLaws.{and_right}
 use Rattle.sm_names.proofs.SettledLaws.{map-Some}
+use Rattle.sm_names.proofs.BirthLaws.{birth_is}
 
 module _ (pool : ℕ) (a b : Timeline) (collection : ℕ) (s : SameIn pool a b collection) where
   -- ---- buffers
 
+  -- its buffers are doomed as before
   dooms_same : (buffer : BufferName) → buffer.collection ≡ collection → doomed b buffer ≡ doomed a buffer
   dooms_same buffer is = same_doomed pool a b buffer (subst (SameIn pool a b) (sym is) s)
 
+  -- and home as before
   homes_same : (buffer : BufferName) → buffer.collection ≡ collection → home b buffer ≡ home a buffer
   homes_same buffer is = same_home pool a b buffer (subst (SameIn pool a b) (sym is) s)
 
@@ -46,9 +49,11 @@ module _ (pool : ℕ) (a b : Timeline) (collection : ℕ) (s : SameIn pool a b c
       from None on = absurd on
       from (Some g) on = let r = In-map (λ i. record { collection = collection; index = i }) _ name on in ap (λ (x : BufferName). x.collection) r.2
 
+  -- it has the buffers that it had
   names_same : buffer_names b collection ≡ buffer_names a collection
   names_same = ap (λ (o : Option Buffers). option_map_or (λ (g : Buffers). names collection g.count) o []) s.given
 
+  -- as many of them are left
   left_same : left b collection ≡ left a collection
   left_same =
       ap (count_by (λ x. not (home b x))) names_same
@@ -56,6 +61,7 @@ module _ (pool : ℕ) (a b : Timeline) (collection : ℕ) (s : SameIn pool a b c
       ∙ (ap length (filter-In (λ x. not (home b x)) (λ x. not (home a x)) (buffer_names a collection) (λ x on. ap not (homes_same x (named_so x on))))
       ∙ length-filter (λ x. not (home a x)) (buffer_names a collection)))
 
+  -- and they hold the pages that they held
   pages_same : filter (λ (h : HeldPages). h.buffer.collection == collection) (held pool b) ≡ filter (λ (h : HeldPages). h.buffer.collection == collection) (held pool a)
   pages_same =
       let ours : HeldPages → Bool = λ h. h.buffer.collection == collection in
@@ -76,14 +82,17 @@ module _ (pool : ℕ) (a b : Timeline) (collection : ℕ) (s : SameIn pool a b c
       let f = birth_is a node x t.1 in
       (x, t.1, f.1, t.2, In-reverse-back _ x (In-filter-back (λ (y : Birth). y.collection == collection) (births a) x f.0 (eq-eqb x.collection collection t.2)))
 
+  -- each of its nodes stands as it stood
   member_at : (x : Birth) → In x (births_in a collection) → member b x ≡ member a x
   member_at x on = map-at (member b) (member a) (births_in a collection) (ap (map (member b)) (sym s.born) ∙ s.nodes) x on
 
+  -- so it is gone if it was
   gone_same : (node : NodeKey) → collection_in (births a) node ≡ Some collection → gone b node ≡ gone a node
   gone_same node here =
       let x = born_in node here in
       subst (λ (k : NodeKey). gone b k ≡ gone a k) x.2 (ap (λ (m : Member). m.gone) (member_at x.0 x.4))
 
+  -- and allocated if it was
   allocated_same : (node : NodeKey) → collection_in (births a) node ≡ Some collection → allocated b node ≡ allocated a node
   allocated_same node here =
       let x = born_in node here in
@@ -116,6 +125,7 @@ module _ (pool : ℕ) (a b : Timeline) (collection : ℕ) (s : SameIn pool a b c
         to_open = cond (m i).allocated (to_open i) [];
       }
 
+  -- its ends tell what they told, but for who holds them
   ends_same : (node : NodeKey) → collection_in (births a) node ≡ Some collection →
       (readings b).end_of node ≡ option_map (λ (e : OpenEnd). record e { holder = holder b node; in_transit = in_transit b node }) ((readings a).end_of node)
   ends_same node here =
@@ -135,6 +145,7 @@ module _ (pool : ℕ) (a b : Timeline) (collection : ℕ) (s : SameIn pool a b c
 
   -- ---- trackers
 
+  -- what is waited for holds if it held
   holds_same : (condition : Condition) → IsOf a collection condition → holds (world b) condition ≡ holds (world a) condition
   holds_same (Condition.Node key) here = gone_same key here
   holds_same (Condition.Lifetime key its most) here =

@@ -21,9 +21,9 @@ use Rattle.sm_names.specs.Reading.{readings}
 use Rattle.sm_names.specs.Sameness.{same_buffer, same_strength}
 use Rattle.sm_names.specs.Weakness.{weak, sets_weak, born_to}
 use Rattle.sm_names.proofs.CountLaws.{anyone, counted, caller_joined, client-le-total}
-use Rattle.sm_names.proofs.GrowthLaws.{Grows, Stays, Answers, Loses, Allocates, Ends, grows_on, birth_is}
+use Rattle.sm_names.proofs.GrowthLaws.{Grows, Stays, Answers, Loses, Allocates, Ends, grows_on}
 use Rattle.sm_names.proofs.HandleLaws.{dup_was_open, same_buffer-true, same_strength-true}
-use Rattle.sm_names.proofs.LifeLaws.{IsOrdered, ordered, Comes, comes, In_new, members_on}
+use Rattle.sm_names.proofs.LifeLaws.{IsOrdered, ordered, In_new, members_on}
 use Rattle.sm_names.proofs.ListLaws.{In, In-list_any}
 use Rattle.sm_names.proofs.SamenessLaws.{either_way, and_left, and_right, or_parts, and_both, both_ways}
 use Rattle.sm_names.proofs.SettledLaws.{member_birth, not_back}
@@ -32,6 +32,7 @@ use Rattle.sm_names.proofs.StandingLaws.{In-any}
 use Rattle.sm_names.proofs.SumLaws.{times-cons}
 use Rattle.sm_names.proofs.WholeLaws.{released_spent}
 use Rattle.sm_names.specs.Words.{times}
+use Rattle.sm_names.proofs.BirthLaws.{birth_is, Comes, comes}
 
 -- ---- strong nodes
 

@@ -31,14 +31,16 @@ use Rattle.sm_names.specs.Ends.{binds, spends}
 use Rattle.sm_names.specs.Reading.{is_taking, is_tracking}
 use Rattle.sm_names.specs.Weakness.{covered, covers_children, sets_weak_ok, weak_ok}
 use Rattle.sm_names.specs.Timelines.{HeldPages, placed}
-use Rattle.sm_names.proofs.GrowthLaws.{Grows, Answers, own_loss_origin, not_refused_end, HasEnd, birth_is, grows_forced, grows_lost}
+use Rattle.sm_names.proofs.GrowthLaws.{Grows, Answers, own_loss_origin, grows_forced, grows_lost}
 use Rattle.sm_names.proofs.IsolationLaws.{fault_loss, placed_allocation, members_loss, members_end, members_allocation, buffers_allocation, birth_of_collection, of_ours}
-use Rattle.sm_names.proofs.LifeLaws.{IsOrdered, ordered, whole, Comes, comes, In_old, ancestors_old, head_old}
+use Rattle.sm_names.proofs.LifeLaws.{IsOrdered, ordered, whole, In_old}
 use Rattle.sm_names.proofs.ListLaws.{In, map-In}
 use Rattle.sm_names.proofs.ReachLaws.{other_key}
 use Rattle.sm_names.proofs.SamenessLaws.{either_way, same_key-true, both_ways, false_if, none_or_some}
 use Rattle.sm_names.proofs.SettledLaws.{In-was_born, find_birth, Why, No_live, Fails, Initial, Logical, forced_why, map-Some}
 use Rattle.sm_names.proofs.WholeLaws.{IsWhole}
+use Rattle.sm_names.proofs.BirthLaws.{HasEnd, birth_is, Comes, comes, ancestors_old, head_old}
+use Rattle.sm_names.proofs.RejectLaws.{not_refused_end}
 
 -- what the end of a node tells, but for what its collection tells and who holds it
 pub record EndState : Type 0 where
@@ -50,6 +52,7 @@ pub record EndState : Type 0 where
   pub took : Bool
   pub node_trackers : ℕ
 
+-- this, after the marks
 abbrev pub end_state : Timeline → NodeKey → EndState
 end_state marks node = record {
   birth = birth_of marks node;
@@ -83,6 +86,7 @@ same_on pool a b c collection p q = record {
       q.ends node (ap (λ (e : EndState). option_map (λ (x : Birth). x.collection) e.birth) first ∙ here) ∙ first);
 }
 
+-- it stands as it stands
 same_here : (pool : ℕ) (a : Timeline) (collection : ℕ) → SameIn pool a a collection
 same_here pool a collection = record { born = refl; nodes = refl; given = refl; handles = λ buffer is strength. refl; places = refl; ends = λ node here. refl }
 
@@ -91,6 +95,7 @@ pub same_doomed : (pool : ℕ) (a b : Timeline) (buffer : BufferName) → SameIn
 same_doomed pool a b buffer s =
     λ i. is_some (s.given i) && (s.handles buffer refl Strength.Strong i == 0 && not (some_strong_live (s.nodes i)))
 
+-- and which are home
 pub same_home : (pool : ℕ) (a b : Timeline) (buffer : BufferName) → SameIn pool a b buffer.collection → home b buffer ≡ home a buffer
 same_home pool a b buffer s = λ i. same_doomed pool a b buffer s i && s.handles buffer refl Strength.Weak i == 0
 
@@ -128,40 +133,49 @@ root_in before client event reply call b h root = cc
 
 -- ---- which node a call is about
 
+-- a call that releases a node names it
 releases_it : (node : NodeKey) (client : ℕ) (reply : Reply) (call : Call) → is_release node (Called client reply call) ≡ true → key_of call ≡ Some node
 releases_it node client Reply.Done (Call.Release key) h = ap Some (same_key-true key node h)
 releases_it node client _ _ h = cc
 
+-- so does one that makes it dispensable
 dispenses_it : (node : NodeKey) (client : ℕ) (reply : Reply) (call : Call) → is_dispensable node (Called client reply call) ≡ true → key_of call ≡ Some node
 dispenses_it node client Reply.Done (Call.SetDispensable key) h = ap Some (same_key-true key node h)
 dispenses_it node client _ _ h = cc
 
+-- or weak
 weakens_it : (node : NodeKey) (client : ℕ) (reply : Reply) (call : Call) → sets_weak node (Called client reply call) ≡ true → key_of call ≡ Some node
 weakens_it node client Reply.Done (Call.SetWeak key) h = ap Some (same_key-true key node h)
 weakens_it node client _ _ h = cc
 
+-- or weak_ok
 allows_it : (node : NodeKey) (client : ℕ) (reply : Reply) (call : Call) → sets_weak_ok node (Called client reply call) ≡ true → key_of call ≡ Some node
 allows_it node client Reply.Done (Call.SetWeakOk key children) h = ap Some (same_key-true key node h)
 allows_it node client _ _ h = cc
 
+-- one that binds its token
 binds_it : (node : NodeKey) (client : ℕ) (reply : Reply) (call : Call) → binds node (Called client reply call) ≡ true → key_of call ≡ Some node
 binds_it node client Reply.Done (Call.Bind key) h = ap Some (same_key-true key node h)
 binds_it node client _ _ h = cc
 
+-- one that spends its end
 spends_it : (node : NodeKey) (client : ℕ) (reply : Reply) (call : Call) → spends node (Called client reply call) ≡ true → key_of call ≡ Some node
 spends_it node client Reply.Done (Call.Close key) h = ap Some (same_key-true key node h)
 spends_it node client Reply.Done (Call.Release key) h = ap Some (same_key-true key node h)
 spends_it node client (Reply.PeerClosed cause origin) (Call.Release key) h = ap Some (same_key-true key node h)
 spends_it node client _ _ h = cc
 
+-- one that takes handles through it
 takes_it : (node : NodeKey) (client : ℕ) (reply : Reply) (call : Call) → is_taking node (Called client reply call) ≡ true → key_of call ≡ Some node
 takes_it node client (Reply.Taken collection strength set) (Call.Take key) h = ap Some (same_key-true key node h)
 takes_it node client _ _ h = cc
 
+-- one that tracks it
 tracks_it : (node : NodeKey) (client : ℕ) (reply : Reply) (call : Call) → is_tracking node (Called client reply call) ≡ true → key_of call ≡ Some node
 tracks_it node client (Reply.Tracker id) (Call.TrackNode key) h = ap Some (same_key-true key node h)
 tracks_it node client _ _ h = cc
 
+-- and one that sets its constraints
 constrains_it : (node : NodeKey) (client : ℕ) (reply : Reply) (call : Call) → is_some (constraints_at node (Called client reply call)) ≡ true → key_of call ≡ Some node
 constrains_it node client Reply.Done (Call.SetConstraints key demand) h =
     elim (either_way (same_key key node)) [
@@ -170,10 +184,12 @@ constrains_it node client Reply.Done (Call.SetConstraints key demand) h =
     ]
 constrains_it node client _ _ h = cc
 
+-- what is not there is None
 is_none_if : (o : Option Demand) → is_some o ≡ false → o ≡ None
 is_none_if None h = refl
 is_none_if (Some x) h = cc
 
+-- a new element that does not pass adds none
 filter_old : (test : Birth → Bool) (o : Option Birth) (xs : List Birth) → ((b : Birth) → o ≡ Some b → test b ≡ false) → filter test (cons_option o xs) ≡ filter test xs
 filter_old test None xs h = refl
 filter_old test (Some b) xs h = let e : test b ≡ false = h b refl in rw e refl
@@ -182,21 +198,27 @@ filter_old test (Some b) xs h = let e : test b ≡ false = h b refl in rw e refl
 
 module _ (pool : ℕ) (limits : Bound) (before : Timeline) (client theirs : ℕ) (reply : Reply) (call : Call) (g : Grows pool limits [] before) (answer : IsAnswer limits (readings before) client call reply)
     (away : collection_of (Called client reply call ∷ before) call reply ≡ Some theirs → ⊥) where
+  -- the mark of the call
   abbrev mark : Mark
   mark = Called client reply call
 
+  -- the marks with it
   abbrev called : Timeline
   called = Called client reply call ∷ before
 
+  -- what it bears
   abbrev new : Option Birth
   new = birth_at (events before + 1) (Called client reply call)
 
+  -- they grow
   grown : Grows pool limits [] (Called client reply call ∷ before)
   grown = Answers before client reply call g answer
 
+  -- they were ordered
   old : IsOrdered before
   old = ordered pool limits before g
 
+  -- and are
   ord : IsOrdered (Called client reply call ∷ before)
   ord = ordered pool limits (Called client reply call ∷ before) grown
 
@@ -271,6 +293,7 @@ module _ (pool : ℕ) (limits : Bound) (before : Timeline) (client theirs : ℕ)
       from b e k (inl r) = root_in before client (events before + 1) reply call b e r.0
       from b e k (inr r) = (key_in before client reply call r.0.node r.0 ord (find_birth (births before) r.0 old.sound r.1) (k.below ∙ r.2)).1 ∙ ap Some (sym r.3)
 
+  -- so no birth is theirs
   births_same : births_in called theirs ≡ births_in before theirs
   births_same = ap reverse (filter_old (λ (b : Birth). b.collection == theirs) new (births before) new_ours)
 
@@ -298,6 +321,7 @@ module _ (pool : ℕ) (limits : Bound) (before : Timeline) (client theirs : ℕ)
       from Reply.Done (Call.DropHandle name dropped) other = let e : (name.collection == buffer.collection) ≡ false = other name.collection refl in rw e refl
       from reply call other = refl
 
+  -- the call leaves them as they stood
   same_called : SameIn pool before (Called client reply call ∷ before) theirs
   same_called = record {
     born = births_same;
@@ -329,6 +353,7 @@ module _ (pool : ℕ) (limits : Bound) (before : Timeline) (client theirs : ℕ)
     ends = λ node there. ap (λ (f : Option Fault). record (end_state m node) { fault = f }) (fault_loss m ours theirs w other origin cause here node there);
   }
 
+  -- an allocation of one of ours
   same_allocation : (m : Timeline) (ours : ℕ) → IsWhole m → (ours == theirs) ≡ false → (key : NodeKey) → collection_in (births m) key ≡ Some ours → SameIn pool m (Allocated key ∷ m) theirs
   same_allocation m ours w other key here =
       record {
@@ -340,6 +365,7 @@ module _ (pool : ℕ) (limits : Bound) (before : Timeline) (client theirs : ℕ)
         ends = λ node there. refl;
       }
 
+  -- a forced mark of ours
   same_forced : (m : Timeline) (ours : ℕ) (next : Mark) → IsWhole m → (ours == theirs) ≡ false → Why pool ours m next → SameIn pool m (next ∷ m) theirs
   same_forced m ours _ w other (No_live b on h free none) =
       record { born = refl; nodes = members_end m ours theirs w other b.node (of_ours m ours w b on h); given = refl; handles = λ buffer is strength. refl; places = refl; ends = λ node there. refl }
@@ -347,6 +373,7 @@ module _ (pool : ℕ) (limits : Bound) (before : Timeline) (client theirs : ℕ)
   same_forced m ours _ w other (Initial b on h root free waits found fits) = same_allocation m ours w other b.node (of_ours m ours w b on h)
   same_forced m ours _ w other (Logical b on h child free waits attached) = same_allocation m ours w other b.node (of_ours m ours w b on h)
 
+  -- all marks that ours forces
   same_settled : (ours most : ℕ) (m : Timeline) → (ours == theirs) ≡ false → Grows pool limits [] m → SameIn pool m (settled_within pool ours most m) theirs
   same_settled ours zero m other g = same_here pool m theirs
   same_settled ours (suc most) m other g =
@@ -358,6 +385,7 @@ module _ (pool : ℕ) (limits : Bound) (before : Timeline) (client theirs : ℕ)
             rw some.1 (same_on pool m (some.0 ∷ m) (settled_within pool ours most (some.0 ∷ m)) theirs step rest)
       ]
 
+  -- the call's own loss
   same_lost : (o : Option Mark) → own_loss before call reply ≡ o → SameIn pool before (cons_option o (Called client reply call ∷ before)) theirs
   same_lost None e = same_called
   same_lost (Some next) e =

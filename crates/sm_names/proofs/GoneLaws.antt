@@ -13,16 +13,17 @@ use Rattle.sm_names.specs.Timelines.{after, timeline}
 use Rattle.sm_names.specs.Trackers.{Tracked, moments, earlier_moments, fires_at, fired_at}
 use Rattle.sm_names.specs.Views.{live_nodes}
 use Rattle.sm_names.specs.Words.{times, last_match}
-use Rattle.sm_names.proofs.GrowthLaws.{birth_is}
 use Rattle.sm_names.proofs.KeptLaws.{kept-after, kept-on}
-use Rattle.sm_names.proofs.LegalLaws.{is_some-find}
 use Rattle.sm_names.proofs.LifeLaws.{IsOrdered}
 use Rattle.sm_names.proofs.ListLaws.{times-map_filter, times-none, times-reverse}
 use Rattle.sm_names.proofs.ReachLaws.{IsChain, ancestors_chain, parent_in}
 use Rattle.sm_names.proofs.SamenessLaws.{either_way, same_key-true, or_right, both_ways, and_left}
+use Rattle.sm_names.proofs.BirthLaws.{birth_is}
+use Rattle.sm_names.proofs.ListLaws.{is_some-find}
 
 -- ---- faults
 
+-- a fault is an old one, or its node was taken
 fault_parts : (r g : Bool) (x : Fault) (o : Option Fault) (why : Fault) → option_map_or Some (cond (r && not g) (Some x) None) o ≡ Some why → (o ≡ Some why → g ≡ true) → (r || g) ≡ true
 fault_parts true g x o why h old = refl
 fault_parts false g x o why h old = old h
@@ -36,6 +37,7 @@ fault_gone (Loss origin cause ∷ before) node why h =
 fault_gone (Allocated head ∷ before) node why h = fault_gone before node why h
 fault_gone (Ended top ∷ before) node why h = or_right (is_at_or_below (births before) top node) _ (fault_gone before node why h)
 
+-- a node that was gone keeps its fault
 kept_fault : (r g : Bool) (x : Fault) (o : Option Fault) (why : Fault) → g ≡ true → o ≡ Some why → option_map_or Some (cond (r && not g) (Some x) None) o ≡ Some why
 kept_fault true true x o why g h = h
 kept_fault true false x o why g h = cc
@@ -49,11 +51,13 @@ fault_stays (Loss origin cause) marks node why h =
 fault_stays (Allocated head) marks node why h = h
 fault_stays (Ended top) marks node why h = h
 
+-- a node that is gone stays so
 pub gone_stays : (mark : Mark) (marks : Timeline) (node : NodeKey) → gone marks node ≡ true → gone (mark ∷ marks) node ≡ true
 gone_stays mark marks node h = or_right (takes marks mark node) _ h
 
 -- ---- above a node that is not gone none is gone
 
+-- a parent is not gone, where its child is not
 up_here : (marks : Timeline) (node p : NodeKey) → IsOrdered marks → parent_in (births marks) node ≡ Some p → gone marks node ≡ false → gone marks p ≡ false
 up_here marks node p ord up here = from (birth_of marks node) refl up
   where
@@ -66,33 +70,40 @@ up_here marks node p ord up here = from (birth_of marks node) refl up
           | inl y ↦ both_ways (gone marks b.node) (ord.gone_down b f.0 p up y) (ap (gone marks) f.1 ∙ here)
         ]
 
+-- nor is any node up the line
 chain_here : (marks : Timeline) (node : NodeKey) (above : List NodeKey) → IsOrdered marks → IsChain (parent_in (births marks)) node above → gone marks node ≡ false → list_any (gone marks) above ≡ false
 chain_here marks node [] ord chain here = refl
 chain_here marks node (p ∷ above) ord chain here =
     let up : gone marks p ≡ false = up_here marks node p ord chain.0 here in
     rw up (chain_here marks p above ord chain.1 up)
 
+-- nor any ancestor
 pub above_here : (marks : Timeline) (node : NodeKey) → IsOrdered marks → gone marks node ≡ false → list_any (gone marks) (ancestors (births marks) node) ≡ false
 above_here marks node ord here =
     chain_here marks node (ancestors (births marks) node) ord (ancestors_chain (parent_in (births marks)) (births marks) (λ k _. refl) ord.sound node refl) here
 
 -- ---- so it is in a longer history
 
+-- a node stays gone
 pub gone_on : (pool : ℕ) (history more : List Entry) (node : NodeKey) → gone (timeline pool history) node ≡ true → gone (timeline pool (history ++ more)) node ≡ true
 gone_on pool history more node h = kept-on (λ marks. gone marks node ≡ true) (λ marks mark g. gone_stays mark marks node g) pool history more h
 
+-- and keeps its fault
 pub fault_on : (pool : ℕ) (history more : List Entry) (node : NodeKey) (why : Fault) → fault (timeline pool history) node ≡ Some why → fault (timeline pool (history ++ more)) node ≡ Some why
 fault_on pool history more node why h = kept-on (λ marks. fault marks node ≡ Some why) (λ marks mark f. fault_stays mark marks node why f) pool history more h
 
 -- ---- which nodes are live
 
+-- no test holds with one that does not
 never : (b : Bool) → (b && false) ≡ false
 never true = refl
 never false = refl
 
+-- a node that is gone is not live
 pub not_live : (marks : Timeline) (node : NodeKey) → gone marks node ≡ true → live marks node ≡ false
 not_live marks node h = rw h (never (is_some (birth_of marks node)))
 
+-- a node that was born is live if it is neither gone nor released
 pub live_born : (marks : Timeline) (node : NodeKey) → was_born (births marks) node ≡ true → live marks node ≡ (not (gone marks node) && not (released marks node))
 live_born marks node h =
     let there : is_some (birth_of marks node) ≡ true = is_some-find (λ (b : Birth). same_key b.node node) (births marks) ∙ h in
@@ -132,6 +143,7 @@ listed_once marks node sound =
 
 -- ---- firings
 
+-- a mark that is no event is no new moment
 quiet : (marks : Timeline) (mark : Mark) → is_event mark ≡ false → earlier_moments (mark ∷ marks) ≡ earlier_moments marks
 quiet marks mark h = rw h refl
 
@@ -139,6 +151,7 @@ quiet marks mark h = rw h refl
 pub earlier_after : (pool : ℕ) (marks : Timeline) (entry : Entry) → earlier_moments (after pool marks entry) ≡ moments marks
 earlier_after pool marks entry = kept-after (λ m. earlier_moments m ≡ moments marks) (λ m mark q e. quiet m mark q ∙ e) pool marks entry refl
 
+-- a moment that passed is found still
 kept_match : (l o : Option Timeline) (event : ℕ) → option_map events l ≡ Some event → option_map events (option_map_or Some l o) ≡ Some event
 kept_match None o event h = cc
 kept_match (Some m) o event h = h
@@ -151,10 +164,12 @@ fired_stays pool marks entry t event h =
     ap (λ (ms : List Timeline). option_map events (last_match (fires_at t) (m ∷ ms))) same
     ∙ kept_match (last_match (fires_at t) (moments marks)) (cond (fires_at t m) (Some m) None) event h
 
+-- and so after more events
 fired_on : (pool : ℕ) (marks : Timeline) (more : List Entry) (t : Tracked) (event : ℕ) → fired_at marks t ≡ Some event → fired_at (fold (after pool) marks more) t ≡ Some event
 fired_on pool marks [] t event h = h
 fired_on pool marks (entry ∷ more) t event h = fired_on pool (after pool marks entry) more t event (fired_stays pool marks entry t event h)
 
+-- so it is in a longer history
 pub fired_for_good : (pool : ℕ) (history more : List Entry) (t : Tracked) (event : ℕ) → fired_at (timeline pool history) t ≡ Some event → fired_at (timeline pool (history ++ more)) t ≡ Some event
 fired_for_good pool history more t event h =
     ap (λ (m : Timeline). fired_at m t) (fold-append (after pool) [] history more) ∙ fired_on pool (timeline pool history) more t event h

@@ -1,26 +1,24 @@
 -- How a timeline grows, one mark after another.
-use Rattle.std.proofs.Common.{ℕ, zero, suc, ◌≡◌, ◌+◌, ◌*◌, refl, ap, sym, ◌∙◌, subst, Bool, true, false, cond, not, ◌&&◌, ◌==◌, inl, inr, List, [], ◌∷◌, ◌++◌, length, Option, Some, None}
+use Rattle.std.proofs.Common.{ℕ, zero, suc, ◌≡◌, ◌+◌, ◌*◌, refl, sym, subst, true, false, inl, inr, List, [], ◌∷◌, ◌++◌, length, Option, Some, None}
 use Rattle.std.specs.List.{fold, cons_option}
-use Rattle.std.specs.Option.{option_map_or, option_map, option_and_then, unwrap_or}
+use Rattle.std.specs.Option.{option_map_or}
 use Rattle.sm_names.specs.declared.keys.NodeKey.{NodeKey}
 use Rattle.sm_names.specs.declared.messages.Call.{Call}
 use Rattle.sm_names.specs.declared.messages.Reply.{Reply}
 use Rattle.sm_names.specs.declared.outcomes.Cause.{Cause}
-use Rattle.sm_names.specs.declared.outcomes.Fault.{Fault}
-use Rattle.sm_names.specs.declared.outcomes.Refusal.{Refusal}
-use Rattle.sm_names.specs.Answers.{OpenEnd, Readings, IsAnswer, answer, effect, new_key, closing, no_end, refused_if, unknown_client, shut_client, end_in_transit, end_named, peer_closed, wrong_kind, misuse, no_handle, limits_met}
-use Rattle.sm_names.specs.Births.{Birth, births, birth_at, birth_of, was_born}
+use Rattle.sm_names.specs.Answers.{IsAnswer, answer, misuse}
+use Rattle.sm_names.specs.Births.{Birth, births, birth_at, was_born}
 use Rattle.sm_names.specs.Bounds.{Bound}
-use Rattle.sm_names.specs.Ends.{spent}
 use Rattle.sm_names.specs.Legality.{AreAnswers, IsLegal}
-use Rattle.sm_names.specs.Losses.{fault}
 use Rattle.sm_names.specs.Marks.{Entry, Mark, Timeline, Called, Loss, Allocated, Ended, events, is_event}
-use Rattle.sm_names.specs.Reading.{readings, open_end}
+use Rattle.sm_names.specs.Reading.{readings}
 use Rattle.sm_names.specs.Sameness.{same_key}
 use Rattle.sm_names.specs.Timelines.{after, timeline, settled, settled_within, next_forced, own_loss, key_of, collection_of}
-use Rattle.sm_names.specs.Words.{first_some}
-use Rattle.sm_names.proofs.ListLaws.{In, In-find, when-Some}
-use Rattle.sm_names.proofs.SamenessLaws.{same_key-true, or_right, both_ways, none_or_some}
+use Rattle.std.proofs.lemmas.List.Sums.{fold-append}
+use Rattle.sm_names.proofs.BirthLaws.{HasEnd, birth_was_born}
+use Rattle.sm_names.proofs.RejectLaws.{is_refusal, not_refused_end}
+use Rattle.sm_names.proofs.ListLaws.{when-Some}
+use Rattle.sm_names.proofs.SamenessLaws.{or_right, none_or_some}
 use Rattle.sm_names.proofs.SettledLaws.{In-was_born, Why, No_live, Fails, Initial, Logical, forced_why, map-Some}
 
 -- The timeline grows from `start` by marks that may come: answers to what came before, losses of nodes that were
@@ -40,99 +38,6 @@ grows_on pool limits a b _ g (Loses before origin cause h born) = Loses before o
 grows_on pool limits a b _ g (Allocates before collection head h e) = Allocates before collection head (grows_on pool limits a b before g h) e
 grows_on pool limits a b _ g (Ends before collection top h e) = Ends before collection top (grows_on pool limits a b before g h) e
 
--- ---- the end that a call names
-
--- the node's end is there
-pub record HasEnd (marks : Timeline) (key : NodeKey) : Type 0 where
-  pub birth : Birth
-  pub is : birth_of marks key ≡ Some birth
-  pub unspent : spent marks key ≡ false
-
--- a call that is not refused for its end names one that is there
-pub has_end : (marks : Timeline) (client : ℕ) (call : Call) (key : NodeKey) → no_end (readings marks) client call ≡ None → key_of call ≡ Some key → HasEnd marks key
-has_end marks client call key h is =
-    from (spent marks key) (birth_of marks key) refl refl (rw is at h)
-  where
-    from : (s : Bool) (o : Option Birth) → spent marks key ≡ s → birth_of marks key ≡ o →
-        refused_if (option_map_or (λ (e : OpenEnd). not (e.holder == client) && not e.in_transit) (cond s None (option_map (open_end marks) o)) true) Refusal.NoSuchEnd ≡ None → HasEnd marks key
-    from true o e f h = cc
-    from false None e f h = cc
-    from false (Some b) e f h = record { birth = b; is = f; unspent = e }
-
--- the birth that is found is that of the node
-pub birth_is : (marks : Timeline) (key : NodeKey) (b : Birth) → birth_of marks key ≡ Some b → In b (births marks) × (b.node ≡ key)
-birth_is marks key b h =
-    let f = In-find (λ (x : Birth). same_key x.node key) (births marks) b h in
-    (f.0, same_key-true b.node key f.1)
-
-pub birth_was_born : (marks : Timeline) (key : NodeKey) (b : Birth) → birth_of marks key ≡ Some b → was_born (births marks) key ≡ true
-birth_was_born marks key b h =
-    let f = birth_is marks key b h in
-    ap (was_born (births marks)) (sym f.1) ∙ In-was_born (births marks) b f.0
-
--- and a node of which PeerClosed is not answered has no fault
-pub has_no_fault : (marks : Timeline) (call : Call) (key : NodeKey) → HasEnd marks key → key_of call ≡ Some key → peer_closed (readings marks) call ≡ None → fault marks key ≡ None
-has_no_fault marks call key e is h =
-    let h' : option_map (λ (f : Fault). Reply.PeerClosed f.cause f.origin) (fault marks e.birth.node) ≡ None = rw (is, e.unspent, e.is) at h in
-    let none : fault marks e.birth.node ≡ None = none_of (fault marks e.birth.node) h' in
-    subst (λ (k : NodeKey). fault marks k ≡ None) (birth_is marks key e.birth e.is).1 none
-  where
-    none_of : (o : Option Fault) → option_map (λ (f : Fault). Reply.PeerClosed f.cause f.origin) o ≡ None → o ≡ None
-    none_of None h = refl
-    none_of (Some f) h = cc
-
--- ---- answers that do not refuse
-
-abbrev pub is_refusal : Reply → Bool
-is_refusal (Reply.Refused refusal) = true
-is_refusal _ = false
-
--- if there is an answer here, it is a refusal
-abbrev pub Rejects : Option Reply → Type 0
-Rejects o = (reply : Reply) → o ≡ Some reply → is_refusal reply ≡ true
-
-pub rejects_if : (b : Bool) (refusal : Refusal) → Rejects (refused_if b refusal)
-rejects_if true refusal reply h = let is : Reply.Refused refusal ≡ reply = cc in rw (← is) refl
-rejects_if false refusal reply h = cc
-
-pub rejects_then : {A : Type 0} (f : A → Option Reply) → ((x : A) → Rejects (f x)) → (o : Option A) → Rejects (option_and_then f o)
-rejects_then f each None reply h = cc
-rejects_then f each (Some x) reply h = each x reply h
-
-pub unknown_rejects : (r : Readings) (client : ℕ) (call : Call) → Rejects (unknown_client r client call)
-unknown_rejects r client Call.Join = rejects_if _ _
-unknown_rejects r client _ = rejects_if _ _
-
-pub shut_rejects : (r : Readings) (client : ℕ) (call : Call) → Rejects (shut_client r client call)
-shut_rejects r client call = rejects_if _ _
-
-pub no_end_rejects : (r : Readings) (client : ℕ) (call : Call) → Rejects (no_end r client call)
-no_end_rejects r client call = rejects_then _ (λ key. rejects_if _ _) (key_of call)
-
-pub in_transit_rejects : (r : Readings) (call : Call) → Rejects (end_in_transit r call)
-in_transit_rejects r call = rejects_then _ (λ (e : OpenEnd). rejects_if _ _) (end_named r call)
-
-pub wrong_kind_rejects : (r : Readings) (call : Call) → Rejects (wrong_kind r call)
-wrong_kind_rejects r call = rejects_then _ (λ (e : OpenEnd). rejects_if _ _) (end_named r call)
-
--- an answer that is no refusal comes after one that rejects
-pub strip : (o : Option Reply) (rest : List (Option Reply)) (e reply : Reply) → Rejects o → is_refusal reply ≡ false → reply ≡ unwrap_or (first_some (o ∷ rest)) e →
-    (o ≡ None) × (reply ≡ unwrap_or (first_some rest) e)
-strip None rest e reply rejects stands is = (refl, is)
-strip (Some x) rest e reply rejects stands is = both_ways (is_refusal reply) (ap is_refusal is ∙ rejects x refl) stands
-
--- a call that is not refused names an end that is there, if it names one
-pub not_refused_end : (limits : Bound) (marks : Timeline) (client : ℕ) (call : Call) (reply : Reply) (key : NodeKey) → IsAnswer limits (readings marks) client call reply →
-    is_refusal reply ≡ false → key_of call ≡ Some key → HasEnd marks key
-not_refused_end limits marks client call reply key answer stands is =
-    let r : Readings = readings marks in
-    let e : Reply = effect r client (option_map_or (λ key. key) (new_key reply) (record { slot = 0; generation = 0 })) call in
-    let last : List (Option Reply) = end_in_transit r call ∷ closing call ∷ peer_closed r call ∷ wrong_kind r call ∷ misuse r call ∷ no_handle r client call ∷ limits_met limits r call in
-    let a = strip (unknown_client r client call) (shut_client r client call ∷ no_end r client call ∷ last) e reply (unknown_rejects r client call) stands answer.told in
-    let b = strip (shut_client r client call) (no_end r client call ∷ last) e reply (shut_rejects r client call) stands a.1 in
-    let c = strip (no_end r client call) last e reply (no_end_rejects r client call) stands b.1 in
-    has_end marks client call key c.0 is
-
 -- ---- a legal history's timeline grows
 
 module _ (pool : ℕ) (limits : Bound) (start : Timeline) where
@@ -146,6 +51,7 @@ module _ (pool : ℕ) (limits : Bound) (start : Timeline) where
       by_why _ (Initial b on ours root free waits found fits) e = Allocates marks collection b.node g e
       by_why _ (Logical b on ours child free waits attached) e = Allocates marks collection b.node g e
 
+  -- and so do all that it forces
   grows_settled : (collection most : ℕ) (marks : Timeline) → Grows pool limits start marks → Grows pool limits start (settled_within pool collection most marks)
   grows_settled collection zero marks g = g
   grows_settled collection (suc most) marks g =
@@ -202,25 +108,24 @@ module _ (pool : ℕ) (limits : Bound) (start : Timeline) where
   grows_history marks [] g answers = g
   grows_history marks (entry ∷ entries) g answers = grows_history (after pool marks entry) entries (grows_after marks entry g answers.0) answers.1
 
+-- the timeline of a legal history grows from nothing
 pub legal_grows : (pool : ℕ) (limits : Bound) (history : List Entry) → IsLegal pool limits history → Grows pool limits [] (timeline pool history)
 legal_grows pool limits history legal = grows_history pool limits [] [] history Stays legal.answers
 
 -- ---- a history that goes on
 
+-- the answers of a history that goes on are those of its parts
 AreAnswers-append : (pool : ℕ) (limits : Bound) (marks : Timeline) (history more : List Entry) → AreAnswers pool limits marks (history ++ more) →
     AreAnswers pool limits marks history × AreAnswers pool limits (fold (after pool) marks history) more
 AreAnswers-append pool limits marks [] more h = (tt, h)
 AreAnswers-append pool limits marks (e ∷ es) more h = let r = AreAnswers-append pool limits (after pool marks e) es more h.1 in ((h.0, r.0), r.1)
-
-fold-append : {A B : Type 0} (f : B → A → B) (b : B) (xs ys : List A) → fold f b (xs ++ ys) ≡ fold f (fold f b xs) ys
-fold-append f b [] ys = refl
-fold-append f b (x ∷ xs) ys = fold-append f (f b x) xs ys
 
 -- the timeline grows, to that of the history and on to that of the longer one
 pub record GrowsOn (pool : ℕ) (limits : Bound) (history more : List Entry) : Type 0 where
   pub first : Grows pool limits [] (timeline pool history)
   pub then : Grows pool limits (timeline pool history) (timeline pool (history ++ more))
 
+-- so does that of a legal history that goes on
 pub legal_grows_on : (pool : ℕ) (limits : Bound) (history more : List Entry) → IsLegal pool limits (history ++ more) → GrowsOn pool limits history more
 legal_grows_on pool limits history more legal =
     let r = AreAnswers-append pool limits [] history more legal.answers in

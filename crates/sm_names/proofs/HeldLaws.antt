@@ -24,9 +24,9 @@ use Rattle.sm_names.specs.Timelines.{HeldPages, laid_out, layout_at, placed, hel
 use Rattle.sm_names.specs.Views.{free_pages}
 use Rattle.sm_names.proofs.BitLaws.{times_below}
 use Rattle.sm_names.proofs.DoomLaws.{buffers_early, home_on}
-use Rattle.sm_names.proofs.GrowthLaws.{Grows, Stays, Answers, Loses, Allocates, Ends, birth_is}
+use Rattle.sm_names.proofs.GrowthLaws.{Grows, Stays, Answers, Loses, Allocates, Ends}
 use Rattle.sm_names.proofs.HandleLaws.{same_buffer-true}
-use Rattle.sm_names.proofs.LifeLaws.{IsOrdered, ordered, Comes, comes, In_new, head_old}
+use Rattle.sm_names.proofs.LifeLaws.{IsOrdered, ordered, In_new}
 use Rattle.sm_names.proofs.ListLaws.{In, times-append}
 use Rattle.sm_names.proofs.PageLaws.{ArePlaced, placed_apart, sum-le-pool}
 use Rattle.sm_names.proofs.SamenessLaws.{either_way, and_left, and_right, or_left, or_right, or_parts, or_both, and_both, both_ways, same_key-refl}
@@ -34,6 +34,7 @@ use Rattle.sm_names.proofs.SettledLaws.{In-was_born, find_birth, head_itself, no
 use Rattle.sm_names.proofs.SumLaws.{one, any_one, times-filter}
 use Rattle.sm_names.specs.Words.{first_some, times, when}
 use Rattle.sm_names.specs.declared.outcomes.Buffers.{Buffers}
+use Rattle.sm_names.proofs.BirthLaws.{birth_is, Comes, comes, head_old}
 
 -- ---- a list that has some elements of another, in order
 

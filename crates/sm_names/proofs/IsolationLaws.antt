@@ -92,12 +92,14 @@ module _ (marks : Timeline) (ours theirs : ℕ) (w : IsWhole marks) (other : (ou
       let t = birth_of_collection marks theirs b on in
       false_if (takes marks mark b.node) (λ e. not_ours b t.0 t.1 key (within b.node e) here)
 
+  -- so a loss changes none of theirs
   pub members_loss : (origin : NodeKey) (cause : Cause) → collection_in (births marks) origin ≡ Some ours → members (Loss origin cause ∷ marks) theirs ≡ members marks theirs
   members_loss origin cause here =
       map-In (member (Loss origin cause ∷ marks)) (member marks) (births_in marks theirs)
       (λ b on. ap (λ (r : Bool). record (member marks b) { gone = r || gone marks b.node })
       (takes_none (Loss origin cause) origin here (λ node e. reaches_in marks origin node w e) b on))
 
+  -- nor does an end
   pub members_end : (top : NodeKey) → collection_in (births marks) top ≡ Some ours → members (Ended top ∷ marks) theirs ≡ members marks theirs
   members_end top here =
       map-In (member (Ended top ∷ marks)) (member marks) (births_in marks theirs)
@@ -111,6 +113,7 @@ module _ (marks : Timeline) (ours theirs : ℕ) (w : IsWhole marks) (other : (ou
       let r = head_in (births marks) w.sound w.together b.node (In-was_born (births marks) b t.0) in
       false_if (same_key key (head (births marks) b.node)) (λ e. not_ours b t.0 t.1 key (sym r.1 ∙ ap (collection_in (births marks)) (sym (same_key-true key (head (births marks) b.node) e))) here)
 
+  -- so an allocation changes none of theirs
   pub members_allocation : (key : NodeKey) → collection_in (births marks) key ≡ Some ours → members (Allocated key ∷ marks) theirs ≡ members marks theirs
   members_allocation key here =
       map-In (member (Allocated key ∷ marks)) (member marks) (births_in marks theirs)

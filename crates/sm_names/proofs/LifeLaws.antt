@@ -1,11 +1,11 @@
 -- What holds of the nodes of each timeline that grows from nothing.
-use Rattle.std.proofs.Common.{ℕ, ◌≡◌, ◌≤◌, ◌+◌, refl, ap, sym, ◌∙◌, subst, Bool, true, false, ◌||◌, ◌==◌, ◌⊎◌, inl, inr, List, [], ◌∷◌, Option, Some, None, is_some, arith}
+use Rattle.std.proofs.Common.{ℕ, ◌≡◌, ◌≤◌, ◌+◌, refl, ap, sym, ◌∙◌, Bool, true, false, ◌||◌, ◌==◌, ◌⊎◌, inl, inr, List, [], ◌∷◌, Option, Some, None, is_some, arith}
 use Rattle.std.specs.List.{list_any, find, cons_option}
 use Rattle.sm_names.specs.declared.keys.NodeKey.{NodeKey}
 use Rattle.sm_names.specs.declared.messages.Call.{Call}
 use Rattle.sm_names.specs.declared.messages.Reply.{Reply}
-use Rattle.sm_names.specs.Answers.{IsAnswer, OpenEnd, of_end}
-use Rattle.sm_names.specs.Births.{Birth, births, birth_at, birth_of, was_born, ancestors, head, is_at_or_below, collection_in, AreSound}
+use Rattle.sm_names.specs.Answers.{IsAnswer}
+use Rattle.sm_names.specs.Births.{Birth, births, birth_at, was_born, ancestors, head, is_at_or_below, collection_in, AreSound}
 use Rattle.sm_names.specs.Bounds.{Bound}
 use Rattle.sm_names.specs.Ends.{spent}
 use Rattle.sm_names.specs.Losses.{Reach, Origin, Up, Down, fault, gone, reaches, blocked}
@@ -13,14 +13,11 @@ use Rattle.sm_names.specs.Marks.{Timeline, Called, Loss, Allocated, Ended, event
 use Rattle.sm_names.specs.Members.{member, members, births_in}
 use Rattle.sm_names.specs.Reading.{readings}
 use Rattle.sm_names.specs.Sameness.{same_key}
-use Rattle.sm_names.specs.Timelines.{key_of}
-use Rattle.sm_names.specs.Weakness.{born_to}
-use Rattle.sm_names.proofs.AnswerLaws.{TookEffect, took_effect_all}
-use Rattle.sm_names.proofs.GrowthLaws.{Grows, Stays, Answers, Loses, Allocates, Ends, has_end, birth_is, has_no_fault}
-use Rattle.sm_names.proofs.LegalLaws.{is_some-find}
-use Rattle.sm_names.proofs.ListLaws.{In, In-filter-back, In-find, In-map-back, In-reverse-back}
-use Rattle.sm_names.proofs.ReachLaws.{IsChain, parent_in, parent_born, other_key, reached_sound, ancestors_chain}
-use Rattle.sm_names.proofs.SamenessLaws.{either_way, same_key-true, same_key-refl, or_right, none_or_some}
+use Rattle.sm_names.proofs.GrowthLaws.{Grows, Stays, Answers, Loses, Allocates, Ends}
+use Rattle.sm_names.proofs.BirthLaws.{Comes, comes}
+use Rattle.sm_names.proofs.ListLaws.{In, is_some-find, In-filter-back, In-find, In-map-back, In-reverse-back}
+use Rattle.sm_names.proofs.ReachLaws.{IsChain, parent_in, parent_born, reached_sound, ancestors_chain}
+use Rattle.sm_names.proofs.SamenessLaws.{either_way, same_key-true, or_right, none_or_some}
 use Rattle.sm_names.proofs.SettledLaws.{In-was_born, Why, No_live, forced_why, find_birth, map-Some}
 use Rattle.sm_names.proofs.WholeLaws.{IsWhole, whole-called, whole-mark, whole_nothing, forced_leaves, parent_collection}
 
@@ -32,90 +29,21 @@ In_new None xs x h = inr h
 In_new (Some y) xs x (inl is) = inl (ap Some (sym is))
 In_new (Some y) xs x (inr on) = inr on
 
+-- an old element is there still
 pub In_old : {A : Type 0} (o : Option A) (xs : List A) (x : A) → In x xs → In x (cons_option o xs)
 In_old None xs x h = h
 In_old (Some y) xs x h = inr h
 
+-- a node that was born was born still
 born_old : (o : Option Birth) (bs : List Birth) (key : NodeKey) → was_born bs key ≡ true → was_born (cons_option o bs) key ≡ true
 born_old None bs key h = h
 born_old (Some b) bs key h = or_right (same_key b.node key) _ h
-
--- a birth changes the head of no older node
-pub head_old : (o : Option Birth) (bs : List Birth) (node : NodeKey) → was_born bs node ≡ true → ((b : Birth) → o ≡ Some b → was_born bs b.node ≡ false) → head (cons_option o bs) node ≡ head bs node
-head_old None bs node born fresh = refl
-head_old (Some b) bs node born fresh = let other : same_key b.node node ≡ false = other_key bs node b.node born (fresh b refl) in rw other refl
-
--- nor its ancestors
-pub ancestors_old : (o : Option Birth) (bs : List Birth) (node : NodeKey) → was_born bs node ≡ true → ((b : Birth) → o ≡ Some b → was_born bs b.node ≡ false) → ancestors (cons_option o bs) node ≡ ancestors bs node
-ancestors_old None bs node born fresh = refl
-ancestors_old (Some b) bs node born fresh = let other : same_key b.node node ≡ false = other_key bs node b.node born (fresh b refl) in rw other refl
 
 -- a node of the collection is among those that stand in it
 pub members_on : (marks : Timeline) (collection : ℕ) (b : Birth) → In b (births marks) → b.collection == collection ≡ true → In (member marks b) (members marks collection)
 members_on marks collection b on ours =
     In-map-back (member marks) (births_in marks collection) b
     (In-reverse-back _ b (In-filter-back (λ (c : Birth). c.collection == collection) (births marks) b on ours))
-
--- ---- how a birth comes about
-
-pub record Comes (before : Timeline) (client : ℕ) (reply : Reply) (call : Call) (b : Birth) : Type 0 where
-  pub told : reply ≡ Reply.Token b.node b.collection
-  pub fresh : was_born (births before) b.node ≡ false
-  -- the root of a new collection, or the child of a node whose end is there and that has no fault
-  pub from : ((b.parent ≡ None) × (b.collection ≡ events before + 1)) ⊎ ((p : Birth) × In p (births before) × (b.parent ≡ Some p.node) × (b.collection ≡ p.collection) × (spent before p.node ≡ false) × (fault before p.node ≡ None))
-  pub bears : born_to b.node (Called client reply call) ≡ b.parent
-  pub below : key_of call ≡ b.parent
-
-fresh_key : (marks : Timeline) (key : NodeKey) → is_some (birth_of marks key) ≡ false → was_born (births marks) key ≡ false
-fresh_key marks key h = sym (is_some-find (λ (b : Birth). same_key b.node key) (births marks)) ∙ h
-
--- what a call that took effect tells of the node that it names
-pub record Named (marks : Timeline) (key : NodeKey) : Type 0 where
-  pub birth : Birth
-  pub there : In birth (births marks)
-  pub is : birth.node ≡ key
-  pub found : birth_of marks key ≡ Some birth
-  pub unspent : spent marks key ≡ false
-  pub unfailed : fault marks key ≡ None
-
-pub named : (limits : Bound) (marks : Timeline) (client : ℕ) (new : NodeKey) (call : Call) (reply : Reply) (key : NodeKey) → TookEffect limits (readings marks) client new call reply → key_of call ≡ Some key → Named marks key
-named limits marks client new call reply key t is =
-    let e = has_end marks client call key t.has_end is in
-    let f = birth_is marks key e.birth e.is in
-    record { birth = e.birth; there = f.0; is = f.1; found = e.is; unspent = e.unspent; unfailed = has_no_fault marks call key e is t.not_gone }
-
-child_of : (limits : Bound) (before : Timeline) (client : ℕ) (key parent : NodeKey) (collection : ℕ) (call : Call) → key_of call ≡ Some parent →
-    TookEffect limits (readings before) client key call (Reply.Token key collection) → Reply.Token key collection ≡ of_end (readings before) parent (λ (e : OpenEnd). Reply.Token key e.collection) →
-    (p : Birth) × In p (births before) × (◌≡◌ {A = Option NodeKey} (Some parent) (Some p.node)) × (collection ≡ p.collection) × (spent before p.node ≡ false) × (fault before p.node ≡ None)
-child_of limits before client key parent collection call is t answered =
-    let n = named limits before client key call (Reply.Token key collection) parent t is in
-    let told : Reply.Token key collection ≡ Reply.Token key n.birth.collection = rw (n.unspent, n.found) at answered in
-    let same : collection ≡ n.birth.collection = cc in
-    (n.birth, n.there, ap Some (sym n.is), same, rw n.is n.unspent, rw n.is n.unfailed)
-
-pub comes : (limits : Bound) (before : Timeline) (client event : ℕ) (reply : Reply) (call : Call) (b : Birth) → IsAnswer limits (readings before) client call reply → birth_at event (Called client reply call) ≡ Some b →
-    Comes before client reply call b
-comes limits before client event (Reply.Token key collection) Call.OpenRoot b answer h =
-    let t = took_effect_all limits (readings before) client key Call.OpenRoot (Reply.Token key collection) refl refl answer.told in
-    let same : Some (record { node = key; parent = None; attached = false; collection = collection; event = event; client = client }) ≡ Some b = h in
-    let is : record { node = key; parent = None; attached = false; collection = collection; event = event; client = client } ≡ b = cc in
-    let told : Reply.Token key collection ≡ Reply.Token key (events before + 1) = t.answered in
-    let now : collection ≡ events before + 1 = cc in
-    subst (Comes before client (Reply.Token key collection) Call.OpenRoot) is
-    (record { told = refl; fresh = fresh_key before key answer.is_new; from = inl (refl, now); bears = rw (same_key-refl key) refl; below = refl })
-comes limits before client event (Reply.Token key collection) (Call.Duplicate parent) b answer h =
-    let t = took_effect_all limits (readings before) client key (Call.Duplicate parent) (Reply.Token key collection) refl refl answer.told in
-    let same : Some (record { node = key; parent = Some parent; attached = false; collection = collection; event = event; client = client }) ≡ Some b = h in
-    let is : record { node = key; parent = Some parent; attached = false; collection = collection; event = event; client = client } ≡ b = cc in
-    subst (Comes before client (Reply.Token key collection) (Call.Duplicate parent)) is
-    (record { told = refl; fresh = fresh_key before key answer.is_new; from = inr (child_of limits before client key parent collection (Call.Duplicate parent) refl t t.answered); bears = rw (same_key-refl key) refl; below = refl })
-comes limits before client event (Reply.Token key collection) (Call.AttachToken parent) b answer h =
-    let t = took_effect_all limits (readings before) client key (Call.AttachToken parent) (Reply.Token key collection) refl refl answer.told in
-    let same : Some (record { node = key; parent = Some parent; attached = true; collection = collection; event = event; client = client }) ≡ Some b = h in
-    let is : record { node = key; parent = Some parent; attached = true; collection = collection; event = event; client = client } ≡ b = cc in
-    subst (Comes before client (Reply.Token key collection) (Call.AttachToken parent)) is
-    (record { told = refl; fresh = fresh_key before key answer.is_new; from = inr (child_of limits before client key parent collection (Call.AttachToken parent) refl t t.answered); bears = rw (same_key-refl key) refl; below = refl })
-comes limits before client event reply call b answer h = cc
 
 -- ---- which nodes are born, and where
 
@@ -173,12 +101,15 @@ record IsRooted (marks : Timeline) : Type 0 where
   pub gone_born : (k : NodeKey) → gone marks k ≡ true → was_born (births marks) k ≡ true
 
 module _ (limits : Bound) (before : Timeline) (client : ℕ) (reply : Reply) (call : Call) (answer : IsAnswer limits (readings before) client call reply) (old : IsRooted before) where
+  -- what the call bears
   abbrev new : Option Birth
   new = birth_at (events before + 1) (Called client reply call)
 
+  -- how it comes about
   came : (b : Birth) → new ≡ Some b → Comes before client reply call b
   came b e = comes limits before client (events before + 1) reply call b answer e
 
+  -- its collection was made by an event
   call_early : (b : Birth) → In b (cons_option new (births before)) → b.collection ≤ events before + 1
   call_early b on = elim (In_new new (births before) b on) [
     | inl e ↦ elim (came b e).from [
@@ -195,6 +126,7 @@ module _ (limits : Bound) (before : Timeline) (client : ℕ) (reply : Reply) (ca
     | inr r ↦ let x : None ≡ Some r.0.node = sym root ∙ r.2 in absurd (cc)
   ]
 
+  -- a collection has one root still
   call_roots : (b c : Birth) → In b (cons_option new (births before)) → In c (cons_option new (births before)) → b.parent ≡ None → c.parent ≡ None → b.collection ≡ c.collection → b ≡ c
   call_roots b c on there root root' same = elim (In_new new (births before) b on) [
     | inl e ↦ elim (In_new new (births before) c there) [
@@ -207,6 +139,7 @@ module _ (limits : Bound) (before : Timeline) (client : ℕ) (reply : Reply) (ca
     ]
   ]
 
+  -- so a call keeps all three
   rooted_call : IsRooted (Called client reply call ∷ before)
   rooted_call = record { early = call_early; roots = call_roots; gone_born = λ k h. born_old new (births before) k (old.gone_born k h) }
 
@@ -215,9 +148,11 @@ taken_born : (bs : List Birth) (taken before : Bool) (k : NodeKey) → (taken ||
 taken_born bs true before k h takes old = takes refl
 taken_born bs false before k h takes old = old h
 
+-- a node that ends was born
 end_born : (pool collection : ℕ) (marks : Timeline) (top : NodeKey) → Why pool collection marks (Ended top) → was_born (births marks) top ≡ true
 end_born pool collection marks _ (No_live b on ours free none) = In-was_born (births marks) b on
 
+-- each mark keeps them
 rooted : (pool : ℕ) (limits : Bound) (marks : Timeline) → Grows pool limits [] marks → IsRooted marks
 rooted pool limits _ Stays = record { early = λ b on. absurd on; roots = λ b c on there root root' same. absurd on; gone_born = λ k h. cc }
 rooted pool limits _ (Answers before client reply call g answer) = rooted_call limits before client reply call answer (rooted pool limits before g)
@@ -259,6 +194,7 @@ pub record IsOrdered (marks : Timeline) : Type 0 where
   -- a node that went with no fault had its end spent
   pub ended_spent : (k : NodeKey) → gone marks k ≡ true → fault marks k ≡ None → spent marks k ≡ true
 
+-- all of it, after each timeline that grows from nothing
 pub ordered : (pool : ℕ) (limits : Bound) (marks : Timeline) → Grows pool limits [] marks → IsOrdered marks
 ordered pool limits marks g =
     let w : IsWhole marks = whole pool limits marks g in

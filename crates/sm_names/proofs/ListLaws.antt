@@ -1,5 +1,5 @@
 -- Elements of lists, and how many pass a test.
-use Rattle.std.proofs.Common.{ℕ, ◌≡◌, ◌≤◌, ◌<◌, ◌+◌, refl, ap, sym, ◌∙◌, Bool, true, false, ◌&&◌, ◌||◌, cond, ◌⊎◌, inl, inr, List, [], ◌∷◌, ◌++◌, length, map, reverse, Option, Some, None, arith}
+use Rattle.std.proofs.Common.{ℕ, ◌≡◌, ◌≤◌, ◌<◌, ◌+◌, refl, ap, sym, ◌∙◌, Bool, true, false, ◌&&◌, ◌||◌, cond, ◌⊎◌, inl, inr, List, [], ◌∷◌, ◌++◌, length, map, reverse, Option, Some, None, is_some, arith}
 use Rattle.std.proofs.lemmas.List.{reverse-append}
 use Rattle.std.specs.List.{list_any, find, filter}
 use Rattle.sm_names.proofs.SamenessLaws.{either_way, or_none_left, or_none_right}
@@ -97,6 +97,7 @@ In-reverse_aux-back (y ∷ xs) ys x (inr on) = In-reverse_aux-back xs (y ∷ ys)
 pub In-reverse-back : {A : Type 0} (xs : List A) (x : A) → In x xs → In x (reverse xs)
 In-reverse-back xs x on = In-reverse_aux-back xs [] x (inl on)
 
+-- an element of two lists is one of either
 pub In-append : {A : Type 0} (xs ys : List A) (x : A) → In x (xs ++ ys) → In x xs ⊎ In x ys
 In-append [] ys x on = inr on
 In-append (y ∷ xs) ys x (inl is) = inl (inl is)
@@ -119,6 +120,7 @@ pub when-Some : {A : Type 0} (b : Bool) (x y : A) → when b x ≡ Some y → (b
 when-Some true x y h = (refl, cc)
 when-Some false x y h = cc
 
+-- where none passes, none is left
 pub filter-none : {A : Type 0} (test : A → Bool) (xs : List A) → ((x : A) → In x xs → test x ≡ false) → filter test xs ≡ []
 filter-none test [] h = refl
 filter-none test (x ∷ xs) h = let e : test x ≡ false = h x (inl refl) in rw e (filter-none test xs (λ y on. h y (inr on)))
@@ -148,6 +150,11 @@ pub map-at : {A B : Type 0} (f g : A → B) (xs : List A) → map f xs ≡ map g
 map-at f g [] same x on = absurd on
 map-at f g (y ∷ ys) same x (inl is) = let here : f y ≡ g y = cc in ap f is ∙ (here ∙ ap g (sym is))
 map-at f g (y ∷ ys) same x (inr on) = let rest : map f ys ≡ map g ys = cc in map-at f g ys rest x on
+
+-- something is found exactly if something passes
+pub is_some-find : {A : Type 0} (test : A → Bool) (xs : List A) → is_some (find test xs) ≡ list_any test xs
+is_some-find test [] = refl
+is_some-find test (x ∷ xs) = elim (test x) as (λ (b : Bool). is_some (cond b (Some x) (find test xs)) ≡ (b || list_any test xs)) [ true ↦ refl | false ↦ is_some-find test xs ]
 
 -- ---- how many
 
@@ -182,10 +189,12 @@ times-lt p q (x ∷ xs) y h (inr on) fails passes =
       | inr e ↦ rw e (elim (q x) as (λ (b : Bool). times p xs < cond b (times q xs + 1) (times q xs)) [ true ↦ omega arith | false ↦ omega arith ])
     ]
 
+-- none passes a test that fails
 pub times-none : {A : Type 0} (xs : List A) → times (λ x. false) xs ≡ 0
 times-none [] = refl
 times-none (x ∷ xs) = times-none xs
 
+-- as many pass as in both parts
 pub times-append : {A : Type 0} (test : A → Bool) (xs ys : List A) → times test (xs ++ ys) ≡ times test xs + times test ys
 times-append test [] ys = omega arith
 times-append test (x ∷ xs) ys =

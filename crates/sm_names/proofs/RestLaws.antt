@@ -32,6 +32,7 @@ pub record AtRest (s : Standing) : Type 0 where
   pub none_waits : option_map_or (λ (root : Member). not root.allocated && is_ready root.key s.members) (root_left s.members) false ≡ false
   pub no_head : logical_allocation s ≡ None
 
+-- none of four
 first_none : (a b c d : Option Mark) → first_some (a ∷ b ∷ c ∷ d ∷ []) ≡ None → (a ≡ None) × (b ≡ None) × (c ≡ None) × (d ≡ None)
 first_none None None None None h = (refl, refl, refl, refl)
 first_none None None None (Some m) h = cc
@@ -39,10 +40,12 @@ first_none None None (Some m) d h = cc
 first_none None (Some m) c d h = cc
 first_none (Some m) b c d h = cc
 
+-- what is not there failed its test
 when-None : {A : Type 0} (b : Bool) (x : A) → when b x ≡ None → b ≡ false
 when-None true x h = cc
 when-None false x h = refl
 
+-- where nothing is forced, all this is so
 pub at_rest : (pool : ℕ) (s : Standing) → forced pool s ≡ None → AtRest s
 at_rest pool s h =
     let n = first_none (ending s) (abandoned s) (initial_allocation pool s) (logical_allocation s) h in
@@ -53,6 +56,7 @@ at_rest pool s h =
     from None h = refl
     from (Some root) h = when-None (not root.allocated && is_ready root.key s.members) (outcome root.key (initial_failure pool s (asked s.members))) h
 
+-- and where it is so, nothing is forced
 pub none_forced : (pool : ℕ) (s : Standing) → AtRest s → forced pool s ≡ None
 none_forced pool s r = rw (r.none_ends, r.none_abandoned, from (root_left s.members) r.none_waits, r.no_head) refl
   where
@@ -63,6 +67,7 @@ none_forced pool s r = rw (r.none_ends, r.none_abandoned, from (root_left s.memb
 
 -- ---- a collection that stands as it stood rests as it rested
 
+-- tests that agree on the collection's buffers
 any_same : (f g : BufferName → Bool) (collection : ℕ) (is : List ℕ) → ((i : ℕ) → f (record { collection = collection; index = i }) ≡ g (record { collection = collection; index = i })) →
     list_any f (map (λ i. record { collection = collection; index = i }) is) ≡ list_any g (map (λ i. record { collection = collection; index = i }) is)
 any_same f g collection [] same = refl
@@ -84,6 +89,7 @@ strong_same pool a b collection s =
 rests_with : (s : Standing) (held : List Interval) → AtRest s → AtRest (record s { held = held })
 rests_with s held r = record { none_ends = r.none_ends; none_abandoned = r.none_abandoned; none_waits = r.none_waits; no_head = r.no_head }
 
+-- so it rests as it rested
 pub rests_same : (pool collection : ℕ) (a b : Timeline) → SameIn pool a b collection → next_forced pool collection a ≡ None → next_forced pool collection b ≡ None
 rests_same pool collection a b s h =
     let old : Standing = standing pool a collection in
@@ -93,9 +99,11 @@ rests_same pool collection a b s h =
 
 -- ---- each event leaves each collection at rest
 
+-- each collection rests
 abbrev Rests : ℕ → Timeline → Type 0
 Rests pool marks = (collection : ℕ) → next_forced pool collection marks ≡ None
 
+-- an event keeps them so
 rests_after : (pool : ℕ) (limits : Bound) (marks : Timeline) (entry : Entry) → Grows pool limits [] marks → IsAnswer limits (readings marks) entry.0 entry.1 entry.2 → Rests pool marks → Rests pool (after pool marks entry)
 rests_after pool limits marks entry g answer rests collection = from (collection_of called entry.1 entry.2) refl
   where
@@ -118,6 +126,7 @@ rests_after pool limits marks entry g answer rests collection = from (collection
       | inr other ↦ apart (λ e. let is : Some ours ≡ Some collection = sym of ∙ e in let both : ours ≡ collection = cc in both_ways (ours == collection) (eq-eqb ours collection both) other)
     ]
 
+-- and so do all
 rests_history : (pool : ℕ) (limits : Bound) (marks : Timeline) (history : List Entry) → Grows pool limits [] marks → AreAnswers pool limits marks history → Rests pool marks → Rests pool (fold (after pool) marks history)
 rests_history pool limits marks [] g answers rests = rests
 rests_history pool limits marks (entry ∷ entries) g answers rests =

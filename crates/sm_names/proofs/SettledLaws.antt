@@ -118,14 +118,17 @@ pub none_if : (o : Option NodeKey) → is_none o ≡ true → o ≡ None
 none_if None h = refl
 none_if (Some x) h = cc
 
+-- what there is in the end was there at first
 pub and_then-Some : {A B : Type 0} (f : A → Option B) (o : Option A) (y : B) → option_and_then f o ≡ Some y → (x : A) × (o ≡ Some x) × (f x ≡ Some y)
 and_then-Some f None y h = cc
 and_then-Some f (Some x) y h = (x, refl, h)
 
+-- and so through a map
 pub map-Some : {A B : Type 0} (f : A → B) (o : Option A) (y : B) → option_map f o ≡ Some y → (x : A) × (o ≡ Some x) × (f x ≡ y)
 map-Some f None y h = cc
 map-Some f (Some x) y h = (x, refl, cc)
 
+-- a parent that is allocated is there
 has_parent : (ms : List Member) (o : Option NodeKey) → option_map_or (is_allocated ms) o false ≡ true → is_some o ≡ true
 has_parent ms None h = cc
 has_parent ms (Some p) h = refl
@@ -165,9 +168,11 @@ next_head_parts ms m h =
     )
 
 module _ (pool collection : ℕ) (marks : Timeline) (mark : Mark) where
+  -- the collection as it stands
   abbrev now : Standing
   now = standing pool marks collection
 
+  -- why a node ends
   ending_why : ending now ≡ Some mark → Why pool collection marks mark
   ending_why h =
       let ms : List Member = members marks collection in
@@ -192,6 +197,7 @@ module _ (pool collection : ℕ) (marks : Timeline) (mark : Mark) where
       let left : (is_none b.parent && not (gone marks b.node)) ≡ true = subst (λ (m : Member). (is_root m && not m.gone) ≡ true) r.2 f.1 in
       (b, r.1, r.2, r.3, none_if b.parent (and_left (is_none b.parent) (not (gone marks b.node)) left), not_back (gone marks b.node) (and_right (is_none b.parent) (not (gone marks b.node)) left))
 
+  -- why the root is lost, with nothing strong left
   abandoned_why : abandoned now ≡ Some mark → Why pool collection marks mark
   abandoned_why h =
       let t = and_then-Some _ (root_left now.members) mark h in
@@ -199,11 +205,13 @@ module _ (pool collection : ℕ) (marks : Timeline) (mark : Mark) where
       let w = when-Some _ _ mark t.2 in
       subst (Why pool collection marks) w.1 (rw r.2 (Fails r.0 Cause.NoStrong r.1 r.3 r.5))
 
+  -- the root is allocated or fails
   initial_outcome : (b : Birth) (o : Option Failure) → In b (births marks) → b.collection == collection ≡ true → b.parent ≡ None → gone marks b.node ≡ false → allocated marks b.node ≡ false →
       root_left (members marks collection) ≡ Some (member marks b) → initial_failure pool now (asked now.members) ≡ o → Why pool collection marks (outcome b.node o)
   initial_outcome b None on ours root free waits found fits = Initial b on ours root free waits found fits
   initial_outcome b (Some failure) on ours root free waits found fits = Fails b (Cause.Failed failure) on ours free
 
+  -- why it is
   initial_why : initial_allocation pool now ≡ Some mark → Why pool collection marks mark
   initial_why h =
       let t = and_then-Some _ (root_left now.members) mark h in
@@ -214,11 +222,13 @@ module _ (pool collection : ℕ) (marks : Timeline) (mark : Mark) where
       let found : root_left (members marks collection) ≡ Some (member marks b) = t.1 ∙ ap Some r.2 in
       subst (Why pool collection marks) w.1 (rw r.2 (initial_outcome b (initial_failure pool now (asked now.members)) r.1 r.3 r.4 r.5 waits found refl))
 
+  -- an attached node is allocated or fails
   logical_outcome : (b : Birth) (o : Option Failure) → In b (births marks) → b.collection == collection ≡ true → is_some b.parent ≡ true → gone marks b.node ≡ false → allocated marks b.node ≡ false →
       b.attached ≡ true → Why pool collection marks (outcome b.node o)
   logical_outcome b None on ours child free waits attached = Logical b on ours child free waits attached
   logical_outcome b (Some failure) on ours child free waits attached = Fails b (Cause.Failed failure) on ours free
 
+  -- why it is
   logical_why : logical_allocation now ≡ Some mark → Why pool collection marks mark
   logical_why h =
       let ms : List Member = members marks collection in
@@ -256,6 +266,7 @@ allocation_changes marks b sound on heads waits = record {
   new = inr (waits, or_left (same_key b.node (head (births marks) b.node)) _ (rw (head_itself (births marks) b sound on heads) (same_key-refl b.node)));
 }
 
+-- each of them changes something
 why_changes : (pool collection : ℕ) (marks : Timeline) (mark : Mark) → AreSound (births marks) → Why pool collection marks mark → Changes marks mark
 why_changes pool collection marks _ sound (No_live b on ours free none) = record {
   no_event = refl;
@@ -283,6 +294,7 @@ why_no_event pool collection marks _ (Fails b cause on ours free) = refl
 why_no_event pool collection marks _ (Initial b on ours root free waits found fits) = refl
 why_no_event pool collection marks _ (Logical b on ours child free waits attached) = refl
 
+-- so no forced mark is one
 pub forced_no_event : (pool collection : ℕ) (marks : Timeline) (mark : Mark) → next_forced pool collection marks ≡ Some mark → is_event mark ≡ false
 forced_no_event pool collection marks mark h = why_no_event pool collection marks mark (forced_why pool collection marks mark h)
 

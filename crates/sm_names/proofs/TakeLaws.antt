@@ -25,13 +25,13 @@ use Rattle.sm_names.specs.Weakness.{weak}
 use Rattle.sm_names.proofs.AnswerLaws.{took_effect_all}
 use Rattle.sm_names.proofs.BitLaws.{bit_of_set, named_below, one_is}
 use Rattle.sm_names.proofs.CountLaws.{anyone}
-use Rattle.sm_names.proofs.GrowthLaws.{is_refusal, strip, rejects_if, rejects_then, unknown_rejects}
-use Rattle.sm_names.proofs.LifeLaws.{named}
 use Rattle.sm_names.proofs.ListLaws.{In}
 use Rattle.sm_names.proofs.SamenessLaws.{either_way, both_ways}
 use Rattle.sm_names.specs.declared.messages.Parcel.{Parcel}
 use Rattle.sm_names.specs.Words.{first_some}
 use Rattle.sm_names.specs.declared.outcomes.Buffers.{Buffers}
+use Rattle.sm_names.proofs.BirthLaws.{named}
+use Rattle.sm_names.proofs.RejectLaws.{is_refusal, strip, rejects_if, rejects_then, unknown_rejects}
 
 -- ---- what Take answers
 

@@ -1,6 +1,6 @@
 -- What holds after every legal history: a node is in its parent's collection and gone if its parent is, and one that is gone
 -- while its end is not spent has failed.
-use Rattle.std.proofs.Common.{ℕ, zero, suc, ◌≡◌, ◌+◌, ◌*◌, refl, ap, sym, ◌∙◌, subst, Bool, true, false, cond, not, ◌&&◌, ◌||◌, ◌==◌, inl, inr, List, [], ◌∷◌, length, Option, Some, None, is_some}
+use Rattle.std.proofs.Common.{ℕ, zero, suc, ◌≡◌, ◌+◌, ◌*◌, refl, ap, sym, ◌∙◌, subst, Bool, true, false, cond, not, ◌&&◌, ◌||◌, ◌==◌, ◌⊎◌, inl, inr, List, [], ◌∷◌, length, Option, Some, None, is_some}
 use Rattle.std.specs.List.{list_any, find, fold, cons_option}
 use Rattle.std.specs.Option.{option_map_or, option_map, IfSome}
 use Rattle.sm_names.specs.declared.keys.NodeKey.{NodeKey}
@@ -8,8 +8,7 @@ use Rattle.sm_names.specs.declared.messages.Call.{Call}
 use Rattle.sm_names.specs.declared.messages.Reply.{Reply}
 use Rattle.sm_names.specs.declared.outcomes.Cause.{Cause}
 use Rattle.sm_names.specs.declared.outcomes.Misuse.{Misuse}
-use Rattle.sm_names.specs.declared.outcomes.Refusal.{Refusal}
-use Rattle.sm_names.specs.Answers.{OpenEnd, IsAnswer, new_key, effect}
+use Rattle.sm_names.specs.Answers.{IsAnswer}
 use Rattle.sm_names.specs.Births.{Birth, births, birth_at, was_born, ancestors, is_at_or_below, collection_in, AreSound, AreTogether}
 use Rattle.sm_names.specs.Bounds.{Bound}
 use Rattle.sm_names.specs.Ends.{spent, spends}
@@ -17,15 +16,15 @@ use Rattle.sm_names.specs.Legality.{AreAnswers}
 use Rattle.sm_names.specs.Losses.{gone, fault, released, is_release, reaches, parent_of, top}
 use Rattle.sm_names.specs.Marks.{Entry, Mark, Timeline, Called, Loss, Allocated, Ended, events, is_event}
 use Rattle.sm_names.specs.Members.{member, members, births_in, is_live, is_under}
-use Rattle.sm_names.specs.Reading.{readings, open_end}
+use Rattle.sm_names.specs.Reading.{readings}
 use Rattle.sm_names.specs.Sameness.{same_key}
 use Rattle.sm_names.specs.Timelines.{after, settled, settled_within, next_forced, own_loss, key_of, collection_of}
 use Rattle.std.proofs.lemmas.Bool.{eqb-true, eq-eqb}
-use Rattle.sm_names.proofs.AnswerLaws.{took_effect_all}
-use Rattle.sm_names.proofs.LegalLaws.{IsBirth, is_birth, end_is_there, own_loss_no_event, sound_called}
+use Rattle.sm_names.proofs.LegalLaws.{own_loss_no_event, sound_called}
+use Rattle.sm_names.proofs.BirthLaws.{comes}
 use Rattle.sm_names.proofs.ListLaws.{In, In-filter-back, In-map-back, In-reverse-back, In-find, none-In}
 use Rattle.sm_names.proofs.ReachLaws.{IsChain, parent_in, parent_born, other_key, ancestors_on, ancestors_chain}
-use Rattle.sm_names.proofs.SamenessLaws.{either_way, same_key-true, or_left, or_right, or_first, or_none_right, both_ways, none_or_some}
+use Rattle.sm_names.proofs.SamenessLaws.{false_if, either_way, same_key-true, or_left, or_right, or_first, or_none_right, both_ways, none_or_some}
 use Rattle.sm_names.proofs.SettledLaws.{Changes, forced_changes, Why, No_live, Fails, Initial, Logical, forced_why, find_birth, map-Some}
 use Rattle.sm_names.specs.Words.{when}
 use Rattle.sm_names.specs.declared.outcomes.Fault.{Fault}
@@ -131,6 +130,7 @@ stands_in marks collection node here =
 
 -- ---- forced marks
 
+-- a Release spends the end
 release_spends : (node : NodeKey) (mark : Mark) → is_release node mark ≡ true → spends node mark ≡ true
 release_spends node (Called client Reply.Done (Call.Release key)) h = h
 release_spends node _ h = cc
@@ -144,6 +144,7 @@ released_spent (mark ∷ before) node h =
       | inr e ↦ or_right (spends node mark) _ (released_spent before node (rw e at h))
     ]
 
+-- a node that is not live, and not gone, was released
 pub not_live : (g r : Bool) → (not g && not r) ≡ false → g ≡ false → r ≡ true
 not_live true r h k = cc
 not_live false true h k = refl
@@ -169,6 +170,7 @@ why_leaves pool collection marks w _ (Fails b cause on ours here) = tt
 why_leaves pool collection marks w _ (Initial b on ours root here waits found fits) = tt
 why_leaves pool collection marks w _ (Logical b on ours child here waits attached) = tt
 
+-- so does each forced mark
 pub forced_leaves : (pool collection : ℕ) (marks : Timeline) → IsWhole marks → (mark : Mark) → next_forced pool collection marks ≡ Some mark → Leaves marks mark
 forced_leaves pool collection marks w mark h = why_leaves pool collection marks w mark (forced_why pool collection marks mark h)
 
@@ -190,47 +192,20 @@ pub record BornBelow (marks : Timeline) (b : Birth) (parent : NodeKey) : Type 0 
   pub together : collection_in (births marks) parent ≡ Some b.collection
   pub not_gone : gone marks parent ≡ false
 
--- the child is told the collection of its parent
-told_collection : (marks : Timeline) (event client : ℕ) (reply : Reply) (call : Call) (b c : Birth) (parent new : NodeKey) → birth_at event (Called client reply call) ≡ Some b → b.parent ≡ Some parent →
-    (readings marks).end_of parent ≡ Some (open_end marks c) → reply ≡ effect (readings marks) client new call → c.collection ≡ b.collection
-told_collection marks event client (Reply.Token key collection) Call.OpenRoot b c parent new at up there told =
-    let is : record { node = key; parent = None; attached = false; collection = collection; event = event; client = client } ≡ b = cc in
-    let no : None ≡ Some parent = ap (λ (x : Birth). x.parent) is ∙ up in cc
-told_collection marks event client (Reply.Token key collection) (Call.Duplicate p) b c parent new at up there told =
-    let is : record { node = key; parent = Some p; attached = false; collection = collection; event = event; client = client } ≡ b = cc in
-    let same : Some p ≡ Some parent = ap (λ (x : Birth). x.parent) is ∙ up in
-    let p_is : p ≡ parent = cc in
-    let end : (readings marks).end_of p ≡ Some (open_end marks c) = ap (readings marks).end_of p_is ∙ there in
-    let reply_is : Reply.Token key collection ≡ Reply.Token new c.collection =
-    told ∙ ap (λ (o : Option OpenEnd). option_map_or (λ (e : OpenEnd). Reply.Token new e.collection) o (Reply.Refused Refusal.NoSuchEnd)) end in
-    let both : collection ≡ c.collection = cc in
-    sym both ∙ ap (λ (x : Birth). x.collection) is
-told_collection marks event client (Reply.Token key collection) (Call.AttachToken p) b c parent new at up there told =
-    let is : record { node = key; parent = Some p; attached = true; collection = collection; event = event; client = client } ≡ b = cc in
-    let same : Some p ≡ Some parent = ap (λ (x : Birth). x.parent) is ∙ up in
-    let p_is : p ≡ parent = cc in
-    let end : (readings marks).end_of p ≡ Some (open_end marks c) = ap (readings marks).end_of p_is ∙ there in
-    let reply_is : Reply.Token key collection ≡ Reply.Token new c.collection =
-    told ∙ ap (λ (o : Option OpenEnd). option_map_or (λ (e : OpenEnd). Reply.Token new e.collection) o (Reply.Refused Refusal.NoSuchEnd)) end in
-    let both : collection ≡ c.collection = cc in
-    sym both ∙ ap (λ (x : Birth). x.collection) is
-told_collection marks event client _ _ b c parent new at up there told = cc
-
+-- the parent of a node that is born is in its collection, and not gone
 born_below : (limits : Bound) (marks : Timeline) (entry : Entry) (b : Birth) → IsWhole marks → IsAnswer limits (readings marks) entry.0 entry.1 entry.2 →
     birth_at (events marks + 1) (Called entry.0 entry.2 entry.1) ≡ Some b → (parent : NodeKey) → b.parent ≡ Some parent → BornBelow marks b parent
-born_below limits marks entry b w answer at parent up =
-    let is : IsBirth entry.1 entry.2 b = is_birth (events marks + 1) entry.0 entry.2 entry.1 b at in
-    let new : NodeKey = option_map_or (λ key. key) (new_key entry.2) (record { slot = 0; generation = 0 }) in
-    let t = took_effect_all limits (readings marks) entry.0 new entry.1 entry.2 is.effective is.no_close answer.told in
-    let x = end_is_there marks entry.0 entry.1 parent t.has_end t.not_gone (is.below ∙ up) in
-    let same : x.0.collection ≡ b.collection = told_collection marks (events marks + 1) entry.0 entry.2 entry.1 b x.0 parent new at up x.2 t.answered in
-    record {
-      together = ap (option_map (λ (c : Birth). c.collection)) x.1 ∙ ap Some same;
-      not_gone = elim (either_way (gone marks parent)) [
-        | inl e ↦ let no : false ≡ true = ap is_some (sym x.4) ∙ w.failed parent e x.3 in cc
-        | inr e ↦ e
-      ];
-    }
+born_below limits marks entry b w answer at parent up = from (comes limits marks entry.0 (events marks + 1) entry.2 entry.1 b answer at).from
+  where
+    from : ((b.parent ≡ None) × (b.collection ≡ events marks + 1)) ⊎ ((p : Birth) × In p (births marks) × (b.parent ≡ Some p.node) × (b.collection ≡ p.collection) × (spent marks p.node ≡ false) × (fault marks p.node ≡ None)) → BornBelow marks b parent
+    from (inl r) = let no : None ≡ Some parent = sym r.0 ∙ up in absurd (cc)
+    from (inr r) =
+        let same : Some r.0.node ≡ Some parent = sym r.2 ∙ up in
+        let is : r.0.node ≡ parent = cc in
+        let there : collection_in (births marks) r.0.node ≡ Some b.collection =
+        ap (option_map (λ (x : Birth). x.collection)) (find_birth (births marks) r.0 w.sound r.1) ∙ ap Some (sym r.3) in
+        let here : gone marks r.0.node ≡ false = false_if (gone marks r.0.node) (λ g. (let no : false ≡ true = ap is_some (sym r.5) ∙ w.failed r.0.node g r.4 in cc)) in
+        subst (BornBelow marks b) is (record { together = there; not_gone = here })
 
 -- a call that is answered
 pub whole-called : (limits : Bound) (marks : Timeline) (entry : Entry) → IsAnswer limits (readings marks) entry.0 entry.1 entry.2 → IsWhole marks → IsWhole (Called entry.0 entry.2 entry.1 ∷ marks)
