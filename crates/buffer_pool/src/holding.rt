@@ -1,5 +1,5 @@
 //! The held intervals, in order of page.
-ghost use Rattle.std.specs.Prelude.{◌≡◌, ◌+◌, ◌<◌, ◌≤◌, nat_lt, vec_len, vec_capacity, IsTrue, Contains};
+ghost use Rattle.std.specs.Prelude.{◌≡◌, ◌<◌, ◌≤◌, nat_lt, vec_len, vec_capacity, IsTrue, Contains};
 ghost use Rattle.std.specs.List.{prefix_len};
 ghost use Rattle.std.specs.List.Sorted.{IsNonDecreasingBy};
 ghost use Rattle.buffer_pool.specs.Holdings.{in_order, with_interval, without};

@@ -95,7 +95,8 @@ fn begins_at(holes: &[Interval], at: usize, page: u64) -> bool
 fn join_next(holes: &mut Vec<Interval>, at: usize, hole: Interval)
     requires there { at < length holes.old.items }
     requires fits { All (λ h. end_of h < 2 ^ 32) holes.old.items }
-    ensures holes { holes.new.items ≡ take at holes.old.items ++ joined hole (drop (at + 1) holes.old.items) }
+    ensures holes { holes.new.items
+        ≡ take at holes.old.items ++ joined hole (drop (at + 1) holes.old.items) }
     ensures capacity { vec_capacity holes.new ≡ vec_capacity holes.old }
 {
     let mut pages = hole.pages;

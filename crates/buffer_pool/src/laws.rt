@@ -7,5 +7,6 @@ ghost use Rattle.buffer_pool.specs.Holes.{IsHole, holes_of};
 /// The holes between held intervals in order of page are exactly the greatest intervals that lie
 /// in the pool and meet none of those.
 pub fn holes_are_greatest()
-    ensures { (size : ℕ) (held : List Interval) (i : Interval) → IsTrue (in_order 0 size held) → (Contains (holes_of size held) i ↔ IsHole size held i) }
+    ensures { (size : ℕ) (held : List Interval) (i : Interval) → IsTrue (in_order 0 size held)
+        → (Contains (holes_of size held) i ↔ IsHole size held i) }
 {}

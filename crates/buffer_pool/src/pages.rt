@@ -1,5 +1,5 @@
 //! The pool.
-ghost use Rattle.std.specs.Prelude.{◌≡◌, ◌+◌, ◌*◌, ◌<◌, ◌≤◌, ◌↔◌, [], ◌∷◌, ◌++◌, length, vec_len, vec_capacity, ◌^◌, IfOk, OnErr, OnOk, None, Err, All, Contains};
+ghost use Rattle.std.specs.Prelude.{◌≡◌, ◌+◌, ◌<◌, ◌≤◌, ◌↔◌, [], length, vec_capacity, ◌^◌, IfOk, OnErr, OnOk, None, Err, All, Contains};
 ghost use Rattle.std.specs.List.Sorted.{IsNonDecreasingBy};
 ghost use Rattle.sm_names.specs.Pages.{places};
 ghost use Rattle.buffer_pool.specs.Fitting.{rooms, starts_in, left_in, looks_in};
@@ -37,13 +37,14 @@ impl Model for Pool {
 
     ghost view = { λ p. record { size = p.size; held = p.held.items } };
 
-    ghost invariant = { λ p. IsKept p.size p.free p.holes.items p.held.items (vec_capacity p.holes) };
+    ghost invariant = { λ p.
+        IsKept p.size p.free p.holes.items p.held.items (vec_capacity p.holes) };
 }
 
 impl Pool {
     /// A pool of so many pages, from 1 to `MAX_PAGES`, of which none is held.
     ///
-    /// `NoMemory` where the list for its one hole is refused. The cost does not depend on the pages.
+    /// `NoMemory` where the list for its one hole is refused. It costs the same for any size.
     pub fn new(alloc: Global, pages: u32) -> Result<Pool, NoMemory>
         requires { (1 ≤ pages) × (pages ≤ MAX_PAGES) }
         ensures ok { IfOk result (λ pool. pool ≡ record { size = pages; held = [] }) }
