@@ -34,18 +34,22 @@ fresh n [] all = tt
 fresh n (row ∷ rows) all = ((λ same. omega (arith, all.0)), fresh n rows all.1)
 
 module _ (row : Kept) where
+  -- an id below all stays so, if the new one is greater
   below_push : (n : ℕ) (rows : List Kept) → n < row.id → AllByRecursion (λ (r : Kept). n < r.id) rows → AllByRecursion (λ (r : Kept). n < r.id) (rows ++ row ∷ [])
   below_push n [] above below = (above, tt)
   below_push n (other ∷ rows) above below = (below.0, below_push n rows above below.1)
 
+  -- the ids rise on with a greater one
   rising_push : (rows : List Kept) → AllByRecursion (λ (r : Kept). r.id < row.id) rows → AreRising rows → AreRising (rows ++ row ∷ [])
   rising_push [] all rising = (tt, tt)
   rising_push (other ∷ rows) all rising = (below_push other.id rows all.0 rising.0, rising_push rows all.1 rising.1)
 
+  -- each firing is found under its id with one row more
   told_push : (fired : List Fired) (rows : List Kept) → firing_of fired row.id ≡ firing_of_row row → AllByRecursion (λ (r : Kept). firing_of fired r.id ≡ firing_of_row r) rows → AllByRecursion (λ (r : Kept). firing_of fired r.id ≡ firing_of_row r) (rows ++ row ∷ [])
   told_push fired [] here told = (here, tt)
   told_push fired (other ∷ rows) here told = (told.0, told_push fired rows here told.1)
 
+  -- an id that none has was had by none before
   none_push : (id : ℕ) (rows : List Kept) → NoneHas id (rows ++ row ∷ []) → NoneHas id rows
   none_push id [] none = tt
   none_push id (other ∷ rows) none = (none.0, none_push id rows none.1)

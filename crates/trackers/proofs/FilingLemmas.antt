@@ -9,24 +9,18 @@ use Rattle.trackers.specs.Table.{Waiting, is_due}
 use Rattle.trackers.specs.Row.{Kept, Stage, Waits, Over, is_waiting, waiting_of_row}
 use Rattle.trackers.specs.Filing.{Piles, pile_of, waits_at}
 use Rattle.trackers.specs.Held.{is_met, after, fires, is_filed, positions, AreFiled, Reach, none, pass, pick}
-use Rattle.trackers.proofs.Walks.{after_unmet}
-
--- a row as the record of its fields
-abbrev row_of : ℕ → ℕ → Stage → Bool → Kept
-row_of id cell stage has = record { id = id; cell = cell; stage = stage; has_reader = has }
+use Rattle.trackers.proofs.Walks.{after_unmet, row_of}
 
 -- a test that fails tells two numbers apart
 apart : (m n : ℕ) → (m == n) ≡ false → n ≢ m
 apart m n failed same = grind (arith, nat_tests)
-
-differs : (m n : ℕ) → n ≢ m → (m == n) ≡ false
-differs m n differ = grind (arith, nat_tests)
 
 -- the row behind so many others
 row_behind : (before : List Kept) (row : Kept) (rows : List Kept) → slice_get (before ++ row ∷ rows) (length before) ≡ Some row
 row_behind [] row rows = refl
 row_behind (other ∷ before) row rows = row_behind before row rows
 
+-- the same, at that number
 get_behind : (before : List Kept) (row : Kept) (rows : List Kept) (n : ℕ) → length before ≡ n → slice_get (before ++ row ∷ rows) n ≡ Some row
 get_behind before row rows n long = rw (← long) (row_behind before row rows)
 
@@ -65,6 +59,7 @@ module _ (w : World) (e : ℕ) where
     | false ↦ λ e. rw (elsewhere.0 (apart place p e)) refl
   ] refl
 
+  -- so do all their places
   pub other_positions : (place collection n : ℕ) (rows : List Kept) → collection ≢ place → AllByRecursion (Elsewhere w place) (filter_map waiting_of_row rows) → positions (is_filed collection) n (map (after w e) rows) ≡ positions (is_filed collection) n rows
   other_positions place collection n [] differ all = refl
   other_positions place collection n (row ∷ rows) differ all =
@@ -96,6 +91,7 @@ module _ (w : World) (e : ℕ) where
         | false ↦ more
       ])
 
+  -- the same for the whole table
   pub kept_positions : (collection : ℕ) (rows : List Kept) → filter (waits_at (map (after w e) rows)) (positions (is_filed collection) 0 rows) ≡ positions (is_filed collection) 0 (map (after w e) rows)
   kept_positions collection rows = kept_from collection 0 [] rows refl
 
@@ -129,6 +125,7 @@ nothing_at w e row rest none_fired = elim (is_met w row) as (λ b. is_met w row 
   | false ↦ λ unmet. (after_unmet w e row unmet, rw unmet at none_fired)
 ] refl
 
+-- the same for all rows
 pub nothing_fired : (w : World) (e : ℕ) (rows : List Kept) → filter_map (fires w e) rows ≡ [] → map (after w e) rows ≡ rows
 nothing_fired w e [] none_fired = refl
 nothing_fired w e (row ∷ rows) none_fired =

@@ -10,18 +10,20 @@ use Rattle.trackers.specs.Filing.{Piles}
 use Rattle.trackers.specs.Row.{Kept, is_waiting, waiting_of_row, firing_of_row, reader_of_row}
 use Rattle.trackers.specs.Held.{cell_of_row, untaken_of_row, is_filed, positions, AreRising, AreHeld, IsKeptUp, NoneHas, Found, here, later, table_of}
 
--- the test of an id against itself, and against another
+-- the test of an id against itself
 pub same_id : (i : ℕ) → (i == i) ≡ true
 same_id i = grind (arith, nat_tests)
 
+-- and against another
 pub other_id : (i j : ℕ) → i ≢ j → (i == j) ≡ false
 other_id i j differ = grind (arith, nat_tests)
 
--- each row of rising ones is found at its place
+-- an id below all is that of none
 none_below : (id : ℕ) (rows : List Kept) → AllByRecursion (λ (r : Kept). id < r.id) rows → NoneHas id rows
 none_below id [] below = tt
 none_below id (row ∷ rows) below = ((λ same. omega (arith, below.0)), none_below id rows below.1)
 
+-- each row of rising ones is found at its place
 pub found_at : (rows : List Kept) → AreRising rows → (at : ℕ) (d : Kept) → at < length rows → Found (get_or rows at d).id rows at (get_or rows at d)
 found_at [] rising at d within = absurd (omega arith)
 found_at (row ∷ rows) rising zero d within = here refl (none_below row.id rows rising.0)
@@ -30,15 +32,17 @@ found_at (row ∷ rows) rising (suc at) d within =
     later (λ same. omega arith) (found_at rows rising.1 at d (omega arith))
 
 module _ (id : ℕ) where
-  -- the place is within, and the row stands there
+  -- the place is within
   pub found_within : {rows : List Kept} {at : ℕ} {row : Kept} → Found id rows at row → at < length rows
   found_within (here same rest) = omega arith
   found_within (later differ found) = omega (arith, found_within found)
 
+  -- that row stands there
   pub found_row : {rows : List Kept} {at : ℕ} {row : Kept} → Found id rows at row → (d : Kept) → get_or rows at d ≡ row
   found_row (here same rest) d = refl
   found_row (later differ found) d = found_row found d
 
+  -- and has the id
   pub found_id : {rows : List Kept} {at : ℕ} {row : Kept} → Found id rows at row → row.id ≡ id
   found_id (here same rest) = same
   found_id (later differ found) = found_id found
@@ -61,6 +65,7 @@ module _ (id : ℕ) where
     | false ↦ none_untaken rows none.1
   ]
 
+  -- and no id is lost with it
   pub none_without : (rows : List Kept) → NoneHas id rows → without (filter_map untaken_of_row rows) id ≡ filter_map untaken_of_row rows
   none_without [] none = refl
   none_without (row ∷ rows) none = elim row.has_reader as (λ b. without (cons_option (if b then Some row.id else None) (filter_map untaken_of_row rows)) id ≡ cons_option (if b then Some row.id else None) (filter_map untaken_of_row rows)) [
@@ -93,14 +98,17 @@ module _ (id : ℕ) where
   taken_cells (here same rest) = refl
   taken_cells (later {other = other} differ found) = ap (λ l. cell_of_row other ∷ l) (taken_cells found)
 
+  -- it waits as before
   pub taken_unfired : {rows : List Kept} {at : ℕ} {row : Kept} → Found id rows at row → filter_map waiting_of_row (set rows at (taken row)) ≡ filter_map waiting_of_row rows
   taken_unfired (here same rest) = refl
   taken_unfired (later {other = other} differ found) = ap (cons_option (waiting_of_row other)) (taken_unfired found)
 
+  -- it is filed as before
   pub taken_positions : (collection : ℕ) {rows : List Kept} {at : ℕ} {row : Kept} → Found id rows at row → (n : ℕ) → positions (is_filed collection) n (set rows at (taken row)) ≡ positions (is_filed collection) n rows
   taken_positions collection (here same rest) n = refl
   taken_positions collection (later {other = other} differ found) n = ap (λ l. if is_filed collection other then n ∷ l else l) (taken_positions collection found (n + 1))
 
+  -- its id is no longer untaken
   pub taken_untaken : {rows : List Kept} {at : ℕ} {row : Kept} → Found id rows at row → filter_map untaken_of_row (set rows at (taken row)) ≡ without (filter_map untaken_of_row rows) id
   taken_untaken (here {row = row} {rows = rows} same rest) = elim row.has_reader as (λ b. filter_map untaken_of_row rows ≡ without (cons_option (if b then Some row.id else None) (filter_map untaken_of_row rows)) id) [
     | true ↦ rw same (rw (same_id id) (sym (none_without id rows rest)))
@@ -111,6 +119,7 @@ module _ (id : ℕ) where
     | false ↦ taken_untaken found
   ]
 
+  -- as many wait
   taken_count : {rows : List Kept} {at : ℕ} {row : Kept} → Found id rows at row → count_by is_waiting (set rows at (taken row)) ≡ count_by is_waiting rows
   taken_count (here {row = row} {rows = rows} same rest) = sum_by-cons (λ r. cond (is_waiting r) 1 0) (taken row) rows ∙ sym (sum_by-cons (λ r. cond (is_waiting r) 1 0) row rows)
   taken_count (later {row = row} {other = other} {rows = rows} {at = at} differ found) =
@@ -118,22 +127,27 @@ module _ (id : ℕ) where
       ∙ ap (λ n. cond (is_waiting other) 1 0 + n) (taken_count found)
       ∙ sym (sum_by-cons (λ r. cond (is_waiting r) 1 0) other rows)
 
+  -- there are as many rows
   taken_length : {rows : List Kept} {at : ℕ} {row : Kept} → Found id rows at row → length (set rows at (taken row)) ≡ length rows
   taken_length (here same rest) = refl
   taken_length (later differ found) = ap suc (taken_length found)
 
+  -- an id below all stays so
   taken_below : (n : ℕ) {rows : List Kept} {at : ℕ} {row : Kept} → Found id rows at row → AllByRecursion (λ (r : Kept). n < r.id) rows → AllByRecursion (λ (r : Kept). n < r.id) (set rows at (taken row))
   taken_below n (here same rest) below = below
   taken_below n (later differ found) below = (below.0, taken_below n found below.1)
 
+  -- the ids rise on
   taken_rising : {rows : List Kept} {at : ℕ} {row : Kept} → Found id rows at row → AreRising rows → AreRising (set rows at (taken row))
   taken_rising (here same rest) rising = rising
   taken_rising (later {other = other} differ found) rising = (taken_below other.id found rising.0, taken_rising found rising.1)
 
+  -- each firing is found under its id
   taken_told : (fired : List Fired) {rows : List Kept} {at : ℕ} {row : Kept} → Found id rows at row → AllByRecursion (λ (r : Kept). firing_of fired r.id ≡ firing_of_row r) rows → AllByRecursion (λ (r : Kept). firing_of fired r.id ≡ firing_of_row r) (set rows at (taken row))
   taken_told fired (here same rest) told = told
   taken_told fired (later differ found) told = (told.0, taken_told fired found told.1)
 
+  -- no id is new
   taken_none : (other : ℕ) {rows : List Kept} {at : ℕ} {row : Kept} → Found id rows at row → NoneHas other (set rows at (taken row)) → NoneHas other rows
   taken_none other (here same rest) none = none
   taken_none other (later differ found) none = (none.0, taken_none other found none.1)

@@ -10,11 +10,7 @@ use Rattle.trackers.specs.Table.{Waiting, is_due, firing, firings, still_waiting
 use Rattle.trackers.specs.Row.{Kept, Stage, Waits, Over, is_waiting, waiting_of_row, firing_of_row}
 use Rattle.trackers.specs.Held.{cell_of_row, untaken_of_row, is_met, after, fires, AreRising, AreHeld, NoneHas, Found, here, later}
 use Rattle.trackers.proofs.FoundLemmas.{found_at, same_id, other_id}
-use Rattle.trackers.proofs.Walks.{balance}
-
--- a row as the record of its fields
-abbrev row_of : ℕ → ℕ → Stage → Bool → Kept
-row_of id cell stage has = record { id = id; cell = cell; stage = stage; has_reader = has }
+use Rattle.trackers.proofs.Walks.{balance, row_of}
 
 -- the length with one more, if there is one
 length_cons_option : {X : Type 0} (o : Option X) (xs : List X) → length (cons_option o xs) ≡ length (option_to_list o) + length xs
@@ -30,6 +26,7 @@ module _ (w : World) (e : ℕ) where
     | false ↦ ap (λ l. record { id = id; place = place; condition = c } ∷ l) same
   ]
 
+  -- the same for all rows
   pub unfired_after : (rows : List Kept) → filter_map waiting_of_row (map (after w e) rows) ≡ still_waiting w (filter_map waiting_of_row rows)
   unfired_after [] = refl
   unfired_after (row ∷ rows) = unfired_at row.id row.cell row.stage row.has_reader _ _ (unfired_after rows)
@@ -46,6 +43,7 @@ module _ (w : World) (e : ℕ) where
         | false ↦ same
       ]
 
+  -- the same for all rows
   pub firings_after : (rows : List Kept) → filter_map (fires w e) rows ≡ firings w e (filter_map waiting_of_row rows)
   firings_after [] = refl
   firings_after (row ∷ rows) = firings_at row.id row.cell row.stage row.has_reader _ _ (firings_after rows)
@@ -54,16 +52,20 @@ module _ (w : World) (e : ℕ) where
   id_after : (row : Kept) → (after w e row).id ≡ row.id
   id_after row = elim (is_met w row) as (λ b. (if b then record row { stage = Over e } else row).id ≡ row.id) [ true ↦ refl | false ↦ refl ]
 
+  -- its cell stays
   cell_after : (row : Kept) → cell_of_row (after w e row) ≡ cell_of_row row
   cell_after row = elim (is_met w row) as (λ b. cell_of_row (if b then record row { stage = Over e } else row) ≡ cell_of_row row) [ true ↦ refl | false ↦ refl ]
 
+  -- its reader stays
   untaken_after_row : (row : Kept) → untaken_of_row (after w e row) ≡ untaken_of_row row
   untaken_after_row row = elim (is_met w row) as (λ b. untaken_of_row (if b then record row { stage = Over e } else row) ≡ untaken_of_row row) [ true ↦ refl | false ↦ refl ]
 
+  -- so do all cells
   pub cells_after : (rows : List Kept) → map cell_of_row (map (after w e) rows) ≡ map cell_of_row rows
   cells_after [] = refl
   cells_after (row ∷ rows) = ap (λ c. c ∷ map cell_of_row (map (after w e) rows)) (cell_after row) ∙ ap (λ l. cell_of_row row ∷ l) (cells_after rows)
 
+  -- and all readers
   pub untaken_after : (rows : List Kept) → filter_map untaken_of_row (map (after w e) rows) ≡ filter_map untaken_of_row rows
   untaken_after [] = refl
   untaken_after (row ∷ rows) = ap (λ o. cons_option o (filter_map untaken_of_row (map (after w e) rows))) (untaken_after_row row) ∙ ap (cons_option (untaken_of_row row)) (untaken_after rows)
@@ -76,6 +78,7 @@ firing_before (x ∷ xs) ys id f found = elim (x.tracker == id) as (λ b. cond b
   | false ↦ λ h. firing_before xs ys id f h
 ] found
 
+-- a firing that is not in the first list is sought in the second
 firing_behind : (xs ys : List Fired) (id : ℕ) → firing_of xs id ≡ None → firing_of (xs ++ ys) id ≡ firing_of ys id
 firing_behind [] ys id none = refl
 firing_behind (x ∷ xs) ys id none = elim (x.tracker == id) as (λ b. cond b (Some x) (firing_of xs id) ≡ None → cond b (Some x) (firing_of (xs ++ ys) id) ≡ firing_of ys id) [
@@ -91,6 +94,7 @@ module _ (w : World) (e : ℕ) where
     | false ↦ refl
   ]
 
+  -- nor do rows that all have others
   pub none_fires : (id : ℕ) (rows : List Kept) → NoneHas id rows → firing_of (filter_map (fires w e) rows) id ≡ None
   none_fires id [] none = refl
   none_fires id (row ∷ rows) none = skip_firing id row (filter_map (fires w e) rows) none.0 ∙ none_fires id rows none.1
@@ -113,20 +117,24 @@ module _ (w : World) (e : ℕ) where
   below_after n [] below = tt
   below_after n (row ∷ rows) below = (rw (id_after w e row) below.0, below_after n rows below.1)
 
+  -- the ids rise on
   rising_after : (rows : List Kept) → AreRising rows → AreRising (map (after w e) rows)
   rising_after [] rising = tt
   rising_after (row ∷ rows) rising = (rw (id_after w e row) (below_after row.id rows rising.0), rising_after rows rising.1)
 
+  -- no id is lost
   none_after : (id : ℕ) (rows : List Kept) → NoneHas id (map (after w e) rows) → NoneHas id rows
   none_after id [] none = tt
   none_after id (row ∷ rows) none = (rw (id_after w e row) at none.0, none_after id rows none.1)
 
+  -- each firing is of a row that waited
   count_after : (rows : List Kept) → length (filter_map (fires w e) rows) + count_by is_waiting (map (after w e) rows) ≡ count_by is_waiting rows
   count_after [] = refl
   count_after (row ∷ rows) =
       let joined : length (cons_option (fires w e row) (filter_map (fires w e) rows)) ≡ length (option_to_list (fires w e row)) + length (filter_map (fires w e) rows) = length_cons_option (fires w e row) (filter_map (fires w e) rows) in
       omega (arith, joined, balance w e row, count_after rows, sum_by-cons (λ r. cond (is_waiting r) 1 0) row rows, sum_by-cons (λ r. cond (is_waiting r) 1 0) (after w e row) (map (after w e) rows))
 
+  -- each firing is found under its id
   told_after : (fired : List Fired) (rows : List Kept) → AreRising rows → AllByRecursion (λ (r : Kept). firing_of fired r.id ≡ firing_of_row r) rows → AllByRecursion (λ (r : Kept). firing_of (fired ++ filter_map (fires w e) rows) r.id ≡ firing_of_row r) (map (after w e) rows)
   told_after fired rows rising told = recursion_from_All _ (map (after w e) rows) (λ k d within.
       let below : k < length rows = omega (arith, length-map rows (after w e)) in

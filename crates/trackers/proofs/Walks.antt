@@ -24,10 +24,15 @@ filter_map_append h (x ∷ xs) ys = elim (h x) as (λ o. cons_option o (filter_m
   | Some z ↦ ap (λ l. z ∷ l) (filter_map_append h xs ys)
 ]
 
+-- a row as the record of its fields
+abbrev pub row_of : ℕ → ℕ → Stage → Bool → Kept
+row_of id cell stage has = record { id = id; cell = cell; stage = stage; has_reader = has }
+
 -- a row that is not met stays as it was, and fires nothing
 pub after_unmet : (w : World) (e : ℕ) (row : Kept) → is_met w row ≡ false → after w e row ≡ row
 after_unmet w e row unmet = rw unmet
 
+-- and fires nothing
 pub fires_unmet : (w : World) (e : ℕ) (row : Kept) → is_met w row ≡ false → fires w e row ≡ None
 fires_unmet w e row unmet = rw unmet
 
@@ -96,6 +101,7 @@ module _ (w : World) (e : ℕ) (start : List Kept) (had : List Fired) where
   stand_here rows fired due i below walked = stand rows fired (get_or due i 0) (drop (i + 1) due) (subst (Walked rows fired) (drop_more due i 0 below) walked)
 
   module _ (rows : List Kept) (fired : List Fired) (at : ℕ) (due : List ℕ) (stands : Stands rows fired at due) where
+    -- so many rows are done
     at_length : length (map (after w e) stands.done) ≡ at
     at_length = length-map stands.done (after w e) ∙ sym stands.place
 
@@ -165,6 +171,7 @@ balance_at w e id cell (Waits place c) has row same =
     let still : Kept = record { id = id; cell = cell; stage = Waits place c; has_reader = has } in
     rw same (elim (holds w c) as (λ b. length (option_to_list (if b then fired else none_fired)) + cond (is_waiting (if b then over else still)) 1 0 ≡ 1) [ true ↦ refl | false ↦ refl ])
 
+-- the same for a row as it is
 pub balance : (w : World) (e : ℕ) (row : Kept) → length (option_to_list (fires w e row)) + cond (is_waiting (after w e row)) 1 0 ≡ cond (is_waiting row) 1 0
 balance w e row = balance_at w e row.id row.cell row.stage row.has_reader row refl
 
