@@ -1,11 +1,11 @@
 -- What a birth does to a table.
-use Rattle.std.proofs.Common.{◌≡◌, ◌≢◌, ◌⊎◌, ℕ, zero, suc, ◌+◌, ◌<◌, ◌≤◌, ◌^◌, ◌==◌, ◌&&◌, ◌||◌, nat_le, nat_lt, Bool, true, false, List, [], ◌∷◌, ◌++◌, map, Option, Some, None, is_some, IsSome, IfSome, cond, count_by, option_map, arith, refl, ap, sym, ◌∙◌, slice_index_or, inl, inr, subst}
+use Rattle.std.proofs.Common.{◌≡◌, ◌≢◌, ℕ, ◌+◌, ◌<◌, ◌≤◌, ◌^◌, ◌==◌, ◌&&◌, ◌||◌, nat_le, nat_lt, Bool, true, false, List, [], map, Option, Some, None, is_some, IsSome, IfSome, count_by, option_map, arith, refl, ap, sym, ◌∙◌, slice_index_or, inl, inr, subst}
 use Rattle.std.proofs.lemmas.Bool.{cases_eq}
 use Rattle.std.proofs.lemmas.Bool.Decides.{nat_tests}
-use Rattle.slab.specs.Slab.{Slab, get, Updates}
+use Rattle.slab.specs.Slab.{Slab, Updates}
 use Rattle.sm_names.specs.declared.keys.NodeKey.{NodeKey}
 use Rattle.sm_names.specs.Sameness.{same_key}
-use Rattle.node_table.specs.Table.{Row, Table, row_at, parent_at, parent_in, children_at, children_in, next_at, was_given, table_len}
+use Rattle.node_table.specs.Table.{Table, row_at, parent_at, parent_in, children_at, children_in, next_at, was_given}
 use Rattle.node_table.specs.Changes.{Births, at_parent, with_child}
 use Rattle.node_table.specs.Sound.{row_in, row_of, table_of, IsSound, IsLinked, EditsParent, at_slot, Bumped}
 use Rattle.node_table.specs.declared.slot.Entry.{Entry}

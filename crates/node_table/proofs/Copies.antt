@@ -2,8 +2,8 @@
 use Rattle.std.proofs.Common.{◌≡◌, ℕ, zero, suc, List, [], ◌∷◌, map, Option, Some, None, is_some, IsSome, count_by, slice_index_or, refl, sym, ap, ◌∙◌, subst}
 use Rattle.std.specs.List.{AllZip}
 use Rattle.slab.specs.Slab.{IsSlotClone}
-use Rattle.node_table.specs.Table.{Row, Table, parent_at, children_at}
-use Rattle.node_table.specs.Sound.{row_in, table_of, IsSound, IsLinked}
+use Rattle.node_table.specs.Table.{Row, parent_at, children_at}
+use Rattle.node_table.specs.Sound.{row_in, IsSound, IsLinked}
 use Rattle.node_table.specs.declared.slot.Slot.{Slot}
 
 module _ {N : Type 0} where

@@ -1,13 +1,13 @@
 -- What a cut does to a table.
-use Rattle.std.proofs.Common.{◌≡◌, ◌≢◌, ◌⊎◌, ℕ, ◌+◌, ◌<◌, ◌==◌, Bool, true, false, List, map, Option, Some, None, is_some, IsSome, IfSome, cond, count_by, option_map, AllPairs, arith, refl, ap, sym, ◌∙◌, slice_index_or, inl, inr, subst}
+use Rattle.std.proofs.Common.{◌≡◌, ◌≢◌, ℕ, ◌+◌, ◌<◌, List, map, Option, Some, None, is_some, IsSome, IfSome, cond, count_by, option_map, AllPairs, arith, refl, ap, sym, ◌∙◌, slice_index_or, subst}
 use Rattle.slab.specs.Slab.{Slab, get}
 use Rattle.sm_names.specs.declared.keys.NodeKey.{NodeKey}
 use Rattle.node_table.specs.Table.{Row, Table, row_at, parent_at, parent_in, children_at, children_in, next_at}
 use Rattle.node_table.specs.Changes.{Cuts, at_parent, without_child, without_parent}
 use Rattle.node_table.specs.Sound.{row_in, table_of, HasEntry, IsSound, IsLinked, EditsParent, at_slot}
 use Rattle.node_table.specs.declared.slot.Slot.{Slot}
-use Rattle.node_table.proofs.Keys.{key_cases, eq-true}
-use Rattle.node_table.proofs.Parents.{parent_cases, map-parent, map-stranger, map-up, map-down, children-without, parent-without, children-kept}
+use Rattle.node_table.proofs.Keys.{eq-true}
+use Rattle.node_table.proofs.Parents.{map-parent, map-stranger, map-up, map-down, children-without, parent-without}
 use Rattle.node_table.proofs.Lists.{without}
 use Rattle.node_table.proofs.Links.{IsLinked-cut}
 use Rattle.node_table.proofs.Depths.{next-there, slot-there, parent-there}

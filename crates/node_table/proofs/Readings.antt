@@ -1,10 +1,10 @@
 -- What a sound table shows to those who read it.
-use Rattle.std.proofs.Common.{◌≡◌, ◌≢◌, ℕ, ◌+◌, ◌<◌, ◌≤◌, ◌==◌, ◌^◌, ◌&&◌, nat_le, nat_lt, Bool, true, false, cond, List, [], Option, Some, None, IsSome, Contains, AllPairs, slice_index_or, map, arith, refl, sym, ap, ◌∙◌, subst}
+use Rattle.std.proofs.Common.{◌≡◌, ◌≢◌, ℕ, ◌+◌, ◌<◌, ◌≤◌, ◌==◌, ◌^◌, ◌&&◌, nat_le, nat_lt, Bool, true, false, List, [], Option, Some, None, IsSome, Contains, AllPairs, slice_index_or, arith, refl, sym, ap, subst}
 use Rattle.std.proofs.lemmas.Bool.Decides.{nat_tests}
 use Rattle.sm_names.specs.declared.keys.NodeKey.{NodeKey}
-use Rattle.node_table.specs.Table.{Row, Table, empty_table, row_at, was_given, next_at, parent_at, parent_in, children_at, children_in}
+use Rattle.node_table.specs.Table.{Table, empty_table, row_at, was_given, parent_at, parent_in, children_at, children_in}
 use Rattle.node_table.specs.Forest.{IsForest}
-use Rattle.node_table.specs.Sound.{IsSound, table_of, row_in}
+use Rattle.node_table.specs.Sound.{IsSound, table_of}
 use Rattle.node_table.specs.declared.slot.Slot.{Slot}
 use Rattle.node_table.proofs.Depths.{parent-there, deeper, shallow, next-there, slot-there, none-then}
 

@@ -1,12 +1,12 @@
 -- What a change that keeps all links does to a table, as a write of one node.
-use Rattle.std.proofs.Common.{◌≡◌, ◌≢◌, ◌⊎◌, ℕ, ◌+◌, ◌==◌, Bool, true, false, List, map, Option, Some, None, is_some, IsSome, IfSome, cond, count_by, option_map, arith, refl, ap, sym, ◌∙◌, slice_index_or, slice_set, inl, inr, subst}
+use Rattle.std.proofs.Common.{◌≡◌, ◌≢◌, ℕ, ◌+◌, ◌==◌, Bool, true, false, List, map, Option, Some, None, is_some, IsSome, IfSome, cond, option_map, arith, refl, ap, sym, ◌∙◌, slice_index_or, slice_set, inl, inr}
 use Rattle.std.proofs.lemmas.Bool.{cases_eq}
 use Rattle.slab.specs.Slab.{Slab, get, with_value}
 use Rattle.sm_names.specs.declared.keys.NodeKey.{NodeKey}
-use Rattle.node_table.specs.Table.{Row, Table, row_at, node_at, parent_at, parent_in, children_at, children_in, next_at, table_len}
+use Rattle.node_table.specs.Table.{Row, Table, row_at, node_at, parent_in, children_in, next_at}
 use Rattle.node_table.specs.Changes.{Writes, at_parent, with_node}
 use Rattle.node_table.specs.Lending.{table_with_node}
-use Rattle.node_table.specs.Sound.{row_in, row_of, table_of, IsSound, EditsParent, Edits, at_slot}
+use Rattle.node_table.specs.Sound.{row_in, table_of, IsSound, EditsParent, Edits, at_slot}
 use Rattle.node_table.specs.declared.slot.Entry.{Entry}
 use Rattle.node_table.specs.declared.slot.Slot.{Slot}
 use Rattle.node_table.specs.declared.slot.Slot.TheVariants.{Taken}

@@ -1,5 +1,5 @@
 -- How the nodes of a table hang together: links agree both ways, no child stands twice, and every climb ends.
-use Rattle.std.specs.Prelude.{◌≡◌, ◌≢◌, ◌↔◌, ℕ, zero, suc, ◌+◌, ◌<◌, true, Option, Some, IsSome, Contains, AllPairs, length}
+use Rattle.std.specs.Prelude.{◌≡◌, ◌≢◌, ◌↔◌, ℕ, zero, suc, ◌+◌, ◌<◌, true, Some, IsSome, Contains, AllPairs, length}
 use Rattle.std.specs.Option.{option_map_or}
 use Rattle.sm_names.specs.declared.keys.NodeKey.{NodeKey}
 use Rattle.node_table.specs.Table.{Table, row_at, parent_at, children_at, was_given, table_len}

@@ -1,5 +1,5 @@
 -- What a table ends as, where a `&mut` to one of its nodes is returned.
-use Rattle.std.specs.Prelude.{ℕ, Option, None, option_map, slice_index_or, slice_set}
+use Rattle.std.specs.Prelude.{Option, None, option_map, slice_index_or, slice_set}
 use Rattle.std.specs.Borrow.{Lends, LendsIf, Fml, RattleType, MutBor}
 use Rattle.sm_names.specs.declared.keys.NodeKey.{NodeKey}
 use Rattle.node_table.specs.Table.{Table}

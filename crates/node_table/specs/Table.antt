@@ -1,8 +1,7 @@
 -- What a contract sees of a node table.
 -- Clauses speak through `row_at`, `node_at`, `parent_at`, `children_at`, `was_given`, `next_at` and
 -- `table_len`.
-use Rattle.std.specs.Prelude.{◌≡◌, ℕ, ◌+◌, ◌<◌, ◌==◌, Bool, ◌&&◌, nat_lt, nat_le, List, [], Option, Some, None, is_some, count_by, option_map, if◌then◌else◌, slice_index_or, refl}
-use Rattle.std.specs.Option.{option_and_then, option_map_or}
+use Rattle.std.specs.Prelude.{ℕ, ◌+◌, ◌==◌, Bool, ◌&&◌, nat_lt, nat_le, List, [], Option, Some, None, is_some, count_by, option_map, if◌then◌else◌, slice_index_or, refl}
 use Rattle.std.specs.Coded.{Coded, code_by, coded×, coded_ℕ, coded_list, coded_option}
 use Rattle.sm_names.specs.declared.keys.NodeKey.{NodeKey}
 

@@ -1,13 +1,13 @@
 //! What lies in a slot of the slab, and the links between slots.
-ghost use Rattle.std.specs.Prelude.{◌≡◌, ◌≢◌, ◌+◌, ◌<◌, ◌==◌, ℕ, IsSome, IfSome, OnOk, OnErr, Some, None, is_some, true, map, not, filter, AllPairs};
-ghost use Rattle.std.specs.Borrow.{Lends, sem};
+ghost use Rattle.std.specs.Prelude.{◌≡◌, ◌≢◌, ℕ, IsSome, IfSome, OnOk, OnErr, Some, None, is_some, true, map, not, filter, AllPairs};
+ghost use Rattle.std.specs.Borrow.{sem};
 ghost use Rattle.sm_names.specs.declared.keys.NodeKey.{NodeKey as Key};
 ghost use Rattle.sm_names.specs.Sameness.{same_key};
 ghost use Rattle.slab.specs.Slab.{get};
 ghost use Rattle.node_table.specs.Table.{parent_in, children_in};
 ghost use Rattle.node_table.specs.declared.slot.Slot.TheVariants.{Taken};
 ghost use Rattle.node_table.specs.Changes.{with_child, without_child, without_parent};
-ghost use Rattle.node_table.specs.Sound.{HasEntry, Edits, EditsParent, row_in, row_of};
+ghost use Rattle.node_table.specs.Sound.{HasEntry, Edits, EditsParent, row_in};
 
 use slab::Slab;
 use sm_names::NodeKey;

@@ -1,4 +1,4 @@
-use Rattle.std.proofs.Common.{refl, None}
+use Rattle.std.proofs.Common.{refl}
 use Rattle.node_table.proofs.slot.take_parent.Goals as goal
 
 -- the entry has no parent, and is else as it was

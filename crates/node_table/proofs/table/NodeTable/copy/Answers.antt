@@ -1,6 +1,4 @@
-use Rattle.std.proofs.Common.{◌≡◌, ◌∙◌, ap, List, ℕ}
 use Rattle.std.specs.List.{each_same}
-use Rattle.node_table.specs.Sound.{IsSound, table_of}
 use Rattle.node_table.proofs.Copies.{sound-copied, copied-rows, copied-vacant}
 use Rattle.node_table.proofs.table.NodeTable.copy.Goals as goal
 

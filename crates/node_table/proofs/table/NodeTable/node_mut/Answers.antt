@@ -1,8 +1,6 @@
-use Rattle.std.proofs.Common.{◌≡◌, ◌∙◌, Some, refl, sym, ap, subst, IsSome, option_map}
-use Rattle.slab.specs.Slab.{get}
-use Rattle.node_table.specs.Table.{row_at, node_at, next_at}
+use Rattle.std.proofs.Common.{◌≡◌, ◌∙◌, Some, refl, sym, ap, subst, IsSome}
+use Rattle.node_table.specs.Table.{row_at, node_at}
 use Rattle.node_table.specs.Lending.{table_with_node}
-use Rattle.node_table.specs.Sound.{table_of}
 use Rattle.node_table.proofs.Slots.{taken-by}
 use Rattle.node_table.proofs.Writes.{sound-written, table-written, node-there}
 use Rattle.node_table.proofs.table.NodeTable.node_mut.Goals as goal

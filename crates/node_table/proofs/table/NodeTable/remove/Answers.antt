@@ -1,4 +1,4 @@
-use Rattle.std.proofs.Common.{◌≡◌, ◌∙◌, sym, ap, subst, rules, is_some, IsSome}
+use Rattle.std.proofs.Common.{◌∙◌, sym, ap, subst, rules, is_some, IsSome}
 use Rattle.node_table.specs.Table.{row_at}
 use Rattle.node_table.specs.Changes.{Cuts, without_parent}
 use Rattle.node_table.proofs.Slots.{entry-there, is_some-option_map}
