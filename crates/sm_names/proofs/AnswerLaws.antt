@@ -18,29 +18,36 @@ use Rattle.sm_names.specs.declared.outcomes.Fault.{Fault}
 abbrev pub Refuses : Option Reply → Type 0
 Refuses o = (reply : Reply) → o ≡ Some reply → took_effect reply ≡ false
 
+-- where there is no answer, none took effect
 refuses_none : Refuses None
 refuses_none reply h = cc
 
+-- a refusal is no answer of a call that took effect
 refuses_if : (b : Bool) (refusal : Refusal) → Refuses (refused_if b refusal)
 refuses_if true refusal reply h = let is : Reply.Refused refusal ≡ reply = cc in rw (← is) refl
 refuses_if false refusal reply h = cc
 
+-- nor is a misuse
 misuses_if : (b : Bool) (m : Misuse) → Refuses (misused_if b m)
 misuses_if true m reply h = let is : Reply.Misused m ≡ reply = cc in rw (← is) refl
 misuses_if false m reply h = cc
 
+-- nor is what a test tells of a key or an end, if that is so of each
 refuses_then : {A : Type 0} (f : A → Option Reply) → ((x : A) → Refuses (f x)) → (o : Option A) → Refuses (option_and_then f o)
 refuses_then f each None = refuses_none
 refuses_then f each (Some x) = each x
 
+-- nor is the fault that is told of a node that is gone
 closes : (o : Option Fault) → Refuses (option_map (λ (f : Fault). Reply.PeerClosed f.cause f.origin) o)
 closes None reply h = cc
 closes (Some f) reply h = let is : Reply.PeerClosed f.cause f.origin ≡ reply = cc in rw (← is) refl
 
+-- nor is what is answered to an unknown client
 unknown_refuses : (r : Readings) (client : ℕ) (call : Call) → Refuses (unknown_client r client call)
 unknown_refuses r client Call.Join = refuses_if _ _
 unknown_refuses r client _ = refuses_if _ _
 
+-- nor is what is answered to a misuse of an end
 misuse_refuses : (e : OpenEnd) (call : Call) → Refuses (misuse_of e call)
 misuse_refuses e (Call.SetConstraints key demand) = misuses_if _ _
 misuse_refuses e (Call.SetWeak key) = misuses_if _ _
@@ -49,6 +56,7 @@ misuse_refuses e (Call.Take key) = misuses_if _ _
 misuse_refuses e (Call.TrackNode key) = misuses_if _ _
 misuse_refuses e _ = refuses_none
 
+-- nor is what is answered where the caller has no such handle
 handle_refuses : (r : Readings) (client : ℕ) (call : Call) → Refuses (no_handle r client call)
 handle_refuses r client (Call.DupHandle buffer strength) = refuses_if _ _
 handle_refuses r client (Call.DropHandle buffer strength) = refuses_if _ _
@@ -72,10 +80,12 @@ pub record TookEffect (limits : Bound) (r : Readings) (client : ℕ) (new : Node
   pub handles_fit : refused_if (too_many_handles limits r call) Refusal.TooManyHandles ≡ None
   pub answered : reply ≡ effect r client new call
 
+-- each of these answers that there is, is of a call that did not take effect
 abbrev AllRefuse : List (Option Reply) → Type 0
 AllRefuse [] = Unit {0}
 AllRefuse (o ∷ os) = Refuses o × AllRefuse os
 
+-- there is none of these answers
 abbrev AreNone : List (Option Reply) → Type 0
 AreNone [] = Unit {0}
 AreNone (o ∷ os) = (o ≡ None) × AreNone os
@@ -86,9 +96,11 @@ all_none [] e reply refuse effective is = (tt, is)
 all_none (None ∷ os) e reply refuse effective is = let rest = all_none os e reply refuse.1 effective is in ((refl, rest.0), rest.1)
 all_none (Some x ∷ os) e reply refuse effective is = both_ways (took_effect reply) effective (ap took_effect is ∙ refuse.0 x refl)
 
+-- but for a Close, closing answers nothing
 closing_refuses : (call : Call) → closing call ≡ None → Refuses (closing call)
 closing_refuses call no_close reply h = let x : None ≡ Some reply = sym no_close ∙ h in cc
 
+-- but for a Close, all answers before that of the effect are of calls that did not take effect
 all_refuse : (limits : Bound) (r : Readings) (client : ℕ) (call : Call) → closing call ≡ None → AllRefuse (answers_first limits r client call)
 all_refuse limits r client call no_close = (
   unknown_refuses r client call,
@@ -119,6 +131,7 @@ all_refuse limits r client call no_close = (
   ),
 )
 
+-- a call that took effect, and is no Close, passed every test and is answered by its effect
 pub took_effect_all : (limits : Bound) (r : Readings) (client : ℕ) (new : NodeKey) (call : Call) (reply : Reply) → took_effect reply ≡ true → closing call ≡ None →
     reply ≡ answer limits r client new call → TookEffect limits r client new call reply
 took_effect_all limits r client new call reply effective no_close is =

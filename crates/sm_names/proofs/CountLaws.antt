@@ -27,14 +27,17 @@ use Rattle.sm_names.proofs.SumLaws.{In-le-sum_by, one, one_of, AreOnce, times-co
 
 -- ---- whose a mark is
 
+-- the client whose event the mark is, and 0 where it is none
 abbrev pub caller : Mark → ℕ
 caller (Called client reply call) = client
 caller _ = 0
 
+-- the client that a GiveHandle names, and 0 at any other mark
 abbrev pub receiver : Mark → ℕ
 receiver (Called client reply (Call.GiveHandle name strength to)) = to
 receiver _ = 0
 
+-- each client passes
 abbrev pub anyone : ℕ → Bool
 anyone c = true
 
@@ -55,21 +58,25 @@ module _ (buffer : BufferName) (strength : Strength) where
   opens-who c (Called client _ _) = neither (client == c)
   opens-who c _ = neither (0 == c)
 
+  -- a client drops by its own calls
   drops-who : (c : ℕ) (mark : Mark) → drops (λ k. k == c) buffer strength mark ≡ (caller mark == c && drops anyone buffer strength mark)
   drops-who c (Called client Reply.Done (Call.DropHandle name dropped)) = refl
   drops-who c (Called client _ _) = neither (client == c)
   drops-who c _ = neither (0 == c)
 
+  -- and gives by its own calls
   lifts-who : (c : ℕ) (mark : Mark) → lifts (λ k. k == c) buffer strength mark ≡ (caller mark == c && lifts anyone buffer strength mark)
   lifts-who c (Called client Reply.Done (Call.GiveHandle name given to)) = refl
   lifts-who c (Called client _ _) = neither (client == c)
   lifts-who c _ = neither (0 == c)
 
+  -- and collects by its own calls
   lands-who : (c : ℕ) (mark : Mark) → lands (λ k. k == c) buffer strength mark ≡ (caller mark == c && lands anyone buffer strength mark)
   lands-who c (Called client (Reply.CollectedHandle name given) Call.Collect) = refl
   lands-who c (Called client _ _) = neither (client == c)
   lands-who c _ = neither (0 == c)
 
+  -- what is given to a client is given by a GiveHandle that names it
   sends-who : (c : ℕ) (mark : Mark) → sends buffer strength c mark ≡ (receiver mark == c && lifts anyone buffer strength mark)
   sends-who c (Called client Reply.Done (Call.GiveHandle name given to)) =
       elim (to == c) as (λ (b : Bool). option_map_or (is_handle_of buffer strength) (cond b (Some (Parcel.Handle name given)) None) false ≡ (b && (same_buffer name buffer && same_strength given strength))) [ true ↦ refl | false ↦ refl ]
@@ -81,6 +88,7 @@ module _ (buffer : BufferName) (strength : Strength) where
 -- ---- what waits in parcels was given and not collected
 
 module _ (buffer : BufferName) (strength : Strength) where
+  -- how many such handles wait for the client in parcels
   abbrev pub waiting : Timeline → ℕ → ℕ
   waiting marks client = times (is_handle_of buffer strength) (parcels marks client)
 
@@ -233,6 +241,7 @@ abbrev gives : Mark → Bool
 gives (Called client Reply.Done (Call.GiveHandle name strength to)) = true
 gives _ = false
 
+-- who moved a handle has joined, and so has who was given one
 pub record HaveJoined (marks : Timeline) : Type 0 where
   pub callers : (m : Mark) → In m marks → moves m ≡ true → has_joined marks (caller m) ≡ true
   pub receivers : (m : Mark) → In m marks → gives m ≡ true → has_joined marks (receiver m) ≡ true
@@ -243,6 +252,7 @@ known_of true true h = cc
 known_of true false h = (refl, refl)
 known_of false c h = cc
 
+-- a test whose opposite fails holds
 not_false : (b : Bool) → not b ≡ false → b ≡ true
 not_false true h = refl
 not_false false h = cc
@@ -291,6 +301,7 @@ joined-called limits marks client reply call answer old =
 
 -- ---- all of it holds while a timeline grows
 
+-- all that the counts rest on
 pub record IsCounted (marks : Timeline) : Type 0 where
   pub paid : IsPaid marks
   pub drawn : IsDrawn marks
@@ -370,18 +381,22 @@ module _ (buffer : BufferName) (strength : Strength) where
   opens_moves (Called client Reply.Done (Call.DupHandle name dup)) h = refl
   opens_moves _ h = cc
 
+  -- a drop moves a handle
   drops_moves : (m : Mark) → drops anyone buffer strength m ≡ true → moves m ≡ true
   drops_moves (Called client Reply.Done (Call.DropHandle name dropped)) h = refl
   drops_moves _ h = cc
 
+  -- so does a gift
   lifts_moves : (m : Mark) → lifts anyone buffer strength m ≡ true → moves m ≡ true
   lifts_moves (Called client Reply.Done (Call.GiveHandle name given to)) h = refl
   lifts_moves _ h = cc
 
+  -- which gives one
   lifts_gives : (m : Mark) → lifts anyone buffer strength m ≡ true → gives m ≡ true
   lifts_gives (Called client Reply.Done (Call.GiveHandle name given to)) h = refl
   lifts_gives _ h = cc
 
+  -- and what takes a handle out of a parcel moves it
   lands_moves : (m : Mark) → lands anyone buffer strength m ≡ true → moves m ≡ true
   lands_moves (Called client (Reply.CollectedHandle name given) Call.Collect) h = refl
   lands_moves _ h = cc
@@ -390,9 +405,11 @@ module _ (buffer : BufferName) (strength : Strength) where
 abbrev pub clients_have : Timeline → BufferName → Strength → ℕ
 clients_have marks buffer strength = sum_by (λ client. open_of marks client buffer strength) (clients marks)
 
+-- how many wait for the clients in parcels
 abbrev pub clients_await : Timeline → BufferName → Strength → ℕ
 clients_await marks buffer strength = sum_by (λ client. times (is_handle_of buffer strength) (parcels marks client)) (clients marks)
 
+-- how the counts of all come of those of the clients
 pub record AddUp (marks : Timeline) (buffer : BufferName) (strength : Strength) : Type 0 where
   -- what was opened was dropped, or is a client's, or waits
   pub opened : times (opens anyone buffer strength) marks ≡ times (drops anyone buffer strength) marks + (clients_have marks buffer strength + clients_await marks buffer strength)
@@ -435,6 +452,7 @@ add_up marks c buffer strength =
 pub drops-le-opens : (marks : Timeline) → IsCounted marks → (buffer : BufferName) (strength : Strength) → times (drops anyone buffer strength) marks ≤ times (opens anyone buffer strength) marks
 drops-le-opens marks c buffer strength = let a : AddUp marks buffer strength = add_up marks c buffer strength in omega (arith, a.opened)
 
+-- no more handles are collected than were given
 pub lands-le-lifts : (marks : Timeline) → IsCounted marks → (buffer : BufferName) (strength : Strength) → times (lands anyone buffer strength) marks ≤ times (lifts anyone buffer strength) marks
 lands-le-lifts marks c buffer strength = let a : AddUp marks buffer strength = add_up marks c buffer strength in omega (arith, a.given)
 

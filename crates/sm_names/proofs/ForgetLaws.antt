@@ -19,6 +19,7 @@ use Rattle.sm_names.specs.declared.outcomes.Buffers.{Buffers}
 
 -- ---- lists of which some elements are left out
 
+-- the first kept element to pass is the first of all to be kept and pass
 find-left : {A : Type 0} (p kept r : A → Bool) (xs : List A) → ((x : A) → In x xs → (kept x && p x) ≡ r x) → find p (filter kept xs) ≡ find r xs
 find-left p kept r [] same = refl
 find-left p kept r (x ∷ xs) same =
@@ -29,6 +30,7 @@ find-left p kept r (x ∷ xs) same =
       | inr e ↦ let test : false ≡ r x = rw e at here in rw (e, sym test) on
     ]
 
+-- where only kept elements pass, some of them pass exactly if some of all do
 any-left : {A : Type 0} (p kept : A → Bool) (xs : List A) → ((x : A) → In x xs → kept x ≡ false → p x ≡ false) → list_any p (filter kept xs) ≡ list_any p xs
 any-left p kept [] less = refl
 any-left p kept (x ∷ xs) less =
@@ -48,6 +50,7 @@ any-asked p asked kept (x ∷ xs) less =
       | inr e ↦ elim (either_way (asked x)) [ inl f ↦ rw (e, f, less x e) on | inr f ↦ rw (e, f) on ]
     ]
 
+-- where all that are left out pass, those asked for pass exactly if the kept ones of them do
 all-asked : {A : Type 0} (p asked kept : A → Bool) (xs : List A) → ((x : A) → kept x ≡ false → p x ≡ true) → list_all p (filter asked (filter kept xs)) ≡ list_all p (filter asked xs)
 all-asked p asked kept [] less = refl
 all-asked p asked kept (x ∷ xs) less =
@@ -57,6 +60,7 @@ all-asked p asked kept (x ∷ xs) less =
       | inr e ↦ elim (either_way (asked x)) [ inl f ↦ rw (e, f, less x e) on | inr f ↦ rw (e, f) on ]
     ]
 
+-- where those left out give nothing, those asked for give the same without them
 map-asked : {A B : Type 0} (f : A → Option B) (asked kept : A → Bool) (xs : List A) → ((x : A) → kept x ≡ false → f x ≡ None) → filter_map f (filter asked (filter kept xs)) ≡ filter_map f (filter asked xs)
 map-asked f asked kept [] less = refl
 map-asked f asked kept (x ∷ xs) less =
@@ -66,6 +70,7 @@ map-asked f asked kept (x ∷ xs) less =
       | inr e ↦ elim (either_way (asked x)) [ inl g ↦ rw (e, g, less x e) on | inr g ↦ rw (e, g) on ]
     ]
 
+-- steps that agree lead from one value to the same
 and_then-same : {A B : Type 0} (f g : A → Option B) (o p : Option A) → o ≡ p → ((x : A) → f x ≡ g x) → option_and_then f o ≡ option_and_then g p
 and_then-same {A = A} f g o p is same = ap (option_and_then f) is ∙ at p
   where
@@ -73,6 +78,7 @@ and_then-same {A = A} f g o p is same = ap (option_and_then f) is ∙ at p
     at None = refl
     at (Some x) = same x
 
+-- so do maps that agree
 map-same : {A B : Type 0} (f g : A → B) (o p : Option A) → ((x : A) → f x ≡ g x) → o ≡ p → option_map f o ≡ option_map g p
 map-same {A = A} f g o p same is = ap (option_map f) is ∙ at p
   where
@@ -80,46 +86,59 @@ map-same {A = A} f g o p same is = ap (option_map f) is ∙ at p
     at None = refl
     at (Some x) = ap Some (same x)
 
+-- no test holds together with one that fails
 and_false : (a : Bool) → (a && false) ≡ false
 and_false true = refl
 and_false false = refl
 
 -- ---- the nodes that are left
 
+-- the node is not gone
 abbrev pub is_left : Member → Bool
 is_left m = not m.gone
 
+-- the nodes that are not gone
 abbrev pub left_of : List Member → List Member
 left_of ms = filter is_left ms
 
+-- a node that is gone is not live
 gone_not_live : (m : Member) → is_left m ≡ false → is_live m ≡ false
 gone_not_live m h = rw h refl
 
+-- nor is it live and strong
 gone_not_strong : (m : Member) → is_left m ≡ false → (is_live m && not m.weak) ≡ false
 gone_not_strong m h = rw h refl
 
+-- what is not left is gone
 is_gone : (b : Bool) → not b ≡ false → b ≡ true
 is_gone true h = refl
 is_gone false h = cc
 
+-- a node that is gone waits for nothing more
 gone_settled : (m : Member) → is_left m ≡ false → is_settled m ≡ true
 gone_settled m h = rw (is_gone m.gone h) refl
 
+-- nor does it ask for any buffers
 gone_asks_nothing : (m : Member) → is_left m ≡ false → cond m.gone None m.constraints ≡ None
 gone_asks_nothing m h = rw (is_gone m.gone h) refl
 
+-- so the nodes that are left tell whether some strong node is live
 pub strong-left : (ms : List Member) → some_strong_live (left_of ms) ≡ some_strong_live ms
 strong-left ms = any-left (λ (m : Member). is_live m && not m.weak) is_left ms (λ m on. gone_not_strong m)
 
+-- whether some node at or below another is live
 live-left : (key : NodeKey) (ms : List Member) → some_live (subtree key (left_of ms)) ≡ some_live (subtree key ms)
 live-left key ms = any-asked is_live (is_under key) is_left ms gone_not_live
 
+-- whether a unit is ready
 ready-left : (key : NodeKey) (ms : List Member) → is_ready key (left_of ms) ≡ is_ready key ms
 ready-left key ms = all-asked is_settled (λ (m : Member). same_key m.head key) is_left ms gone_settled
 
+-- what the nodes ask for
 demands-left : (asked : Member → Bool) (ms : List Member) → demands (filter asked (left_of ms)) ≡ demands (filter asked ms)
 demands-left asked ms = map-asked (λ (m : Member). cond m.gone None m.constraints) asked is_left ms gone_asks_nothing
 
+-- what the root is, unless it is gone
 root-left : (ms : List Member) → root_left (left_of ms) ≡ root_left ms
 root-left ms = find-left (λ m. is_root m && not m.gone) is_left (λ m. is_root m && not m.gone) ms (λ m on. twice (is_root m) m.gone)
   where
@@ -129,6 +148,7 @@ root-left ms = find-left (λ m. is_root m && not m.gone) is_left (λ m. is_root 
     twice true false = refl
     twice false false = refl
 
+-- and what the root unit asks for
 asked-left : (ms : List Member) → asked (left_of ms) ≡ asked ms
 asked-left ms = ap (λ (o : Option Member). wanted (option_map_or (λ (root : Member). unit root.key (left_of ms)) o [])) (root-left ms) ∙ of_root (root_left ms)
   where
@@ -142,12 +162,15 @@ abbrev pub AreClosed : List Member → Type 0
 AreClosed ms = (m n : Member) → In m ms → In n ms → m.gone ≡ false → m.parent ≡ Some n.key → n.gone ≡ false
 
 module _ (pool : ℕ) (s : Standing) where
+  -- the nodes of the collection
   abbrev ms : List Member
   ms = s.members
 
+  -- those of them that are not gone
   abbrev ns : List Member
   ns = left_of s.members
 
+  -- the same node ends
   ending-left : ending (without_gone s) ≡ ending s
   ending-left = ap (option_map (λ (m : Member). Ended m.key)) (find-left (is_deserted ns) is_left (is_deserted ms) ms (λ m on. deserted m))
     where
@@ -159,9 +182,11 @@ module _ (pool : ℕ) (s : Standing) where
       deserted : (m : Member) → (is_left m && is_deserted (left_of s.members) m) ≡ is_deserted s.members m
       deserted m = rw (live-left m.key s.members) (twice m.gone (is_root m || m.attached) (not (some_live (subtree m.key s.members))))
 
+  -- the same root is lost for want of anything strong
   abandoned-left : abandoned (without_gone s) ≡ abandoned s
   abandoned-left = rw (root-left s.members, strong-left s.members) refl
 
+  -- the root unit is allocated or fails as before
   initial-left : initial_allocation pool (without_gone s) ≡ initial_allocation pool s
   initial-left = and_then-same _ _ _ _ (root-left s.members) (λ root. same_root root)
     where
@@ -172,6 +197,7 @@ module _ (pool : ℕ) (s : Standing) where
           ap (λ (b : Buffers). when (not root.allocated && is_ready root.key (left_of s.members)) (outcome root.key (initial_failure pool (without_gone s) b))) (asked-left s.members)
           ∙ rw (ready-left root.key s.members, strong-left s.members) refl
 
+  -- so does the next attached unit, where the nodes are closed
   logical-left : AreClosed s.members → logical_allocation (without_gone s) ≡ logical_allocation s
   logical-left closed = and_then-same _ _ s.buffers s.buffers refl (λ buffers. map-same _ _ _ _ (same_head buffers) (find-left (is_next_head (left_of s.members)) is_left (is_next_head s.members) s.members next))
     where
@@ -197,6 +223,7 @@ module _ (pool : ℕ) (s : Standing) where
             | inr e ↦ rw (e, above_left m on e m.parent refl, ready-left m.key s.members) refl
           ]
 
+  -- so the same mark is forced without the nodes that are gone
   pub forced-left : AreClosed s.members → forced pool (without_gone s) ≡ forced pool s
   forced-left closed = rw (ending-left, abandoned-left, initial-left, logical-left closed) refl
 

@@ -21,18 +21,21 @@ use Rattle.sm_names.proofs.KeptLaws.{kept-after}
 use Rattle.sm_names.proofs.SamenessLaws.{either_way, and_left, and_right}
 use Rattle.sm_names.specs.Words.{times}
 
+-- buffers that pass the test are one
 pub same_buffer-true : (a b : BufferName) → same_buffer a b ≡ true → a ≡ b
 same_buffer-true a b h =
     let collections : a.collection ≡ b.collection = eqb-true a.collection b.collection (and_left _ _ h) in
     let indices : a.index ≡ b.index = eqb-true a.index b.index (and_right _ _ h) in
     λ i. record { collection = collections i; index = indices i }
 
+-- so are strengths
 pub same_strength-true : (a b : Strength) → same_strength a b ≡ true → a ≡ b
 same_strength-true Strong Strong h = refl
 same_strength-true Weak Weak h = refl
 same_strength-true Strong Weak h = cc
 same_strength-true Weak Strong h = cc
 
+-- who is not refused for want of a handle has one open
 pub some_open : (n : ℕ) → refused_if (n == 0) Refusal.NoSuchHandle ≡ None → 0 < n
 some_open zero h = cc
 some_open (suc n) h = omega arith
@@ -45,6 +48,7 @@ dup_was_open limits marks client name strength answer =
     (took_effect_all limits (readings marks) client (record { slot = 0; generation = 0 }) (Call.DupHandle name strength) Reply.Done refl refl answer.told).has_handle
 
 module _ (client : ℕ) (buffer : BufferName) (strength : Strength) where
+  -- the client alone
   abbrev it : ℕ → Bool
   it = λ c. c == client
 
@@ -52,6 +56,7 @@ module _ (client : ℕ) (buffer : BufferName) (strength : Strength) where
   abbrev pub got : Timeline → ℕ
   got marks = times (opens it buffer strength) marks + times (lands it buffer strength) marks
 
+  -- those that it let go, it dropped or put into parcels
   abbrev pub let_go : Timeline → ℕ
   let_go marks = times (drops it buffer strength) marks + times (lifts it buffer strength) marks
 
@@ -67,6 +72,7 @@ module _ (client : ℕ) (buffer : BufferName) (strength : Strength) where
       let here : 0 < open_of marks client buffer strength = subst (λ (n : ℕ). 0 < n) (λ i. open_of marks (who i) (what i) (how i)) there in
       omega (arith, here)
 
+  -- so who drops a handle had one, and gives none by that call
   drop_had_one : (limits : Bound) (marks : Timeline) (caller : ℕ) (reply : Reply) (call : Call) → IsAnswer limits (readings marks) caller call reply → drops it buffer strength (Called caller reply call) ≡ true →
       (lifts it buffer strength (Called caller reply call) ≡ false) × (let_go marks < got marks)
   drop_had_one limits marks caller Reply.Done (Call.DropHandle name dropped) answer is =
@@ -74,16 +80,19 @@ module _ (client : ℕ) (buffer : BufferName) (strength : Strength) where
       (refl, had_one marks caller name dropped t.has_handle is)
   drop_had_one limits marks caller _ _ answer is = cc
 
+  -- and who gives a handle had one
   lift_had_one : (limits : Bound) (marks : Timeline) (caller : ℕ) (reply : Reply) (call : Call) → IsAnswer limits (readings marks) caller call reply → lifts it buffer strength (Called caller reply call) ≡ true → let_go marks < got marks
   lift_had_one limits marks caller Reply.Done (Call.GiveHandle name given to) answer is =
       let t = took_effect_all limits (readings marks) caller (record { slot = 0; generation = 0 }) (Call.GiveHandle name given to) Reply.Done refl refl answer.told in
       had_one marks caller name given t.has_handle is
   lift_had_one limits marks caller _ _ answer is = cc
 
+  -- a count gets no less by one more mark
   once_more : (b : Bool) (n : ℕ) → n ≤ cond b (n + 1) n
   once_more true n = omega arith
   once_more false n = omega arith
 
+  -- an answer lets no client let go more than it got
   pub paid-called : (limits : Bound) (marks : Timeline) (entry : Entry) → IsAnswer limits (readings marks) entry.0 entry.1 entry.2 → let_go marks ≤ got marks →
       let_go (Called entry.0 entry.2 entry.1 ∷ marks) ≤ got (Called entry.0 entry.2 entry.1 ∷ marks)
   paid-called limits marks entry answer paid =
@@ -101,20 +110,24 @@ module _ (client : ℕ) (buffer : BufferName) (strength : Strength) where
         ]
       ]
 
+-- no client let go more handles than it got
 abbrev pub IsPaid : Timeline → Type 0
 IsPaid marks = (client : ℕ) (buffer : BufferName) (strength : Strength) → let_go client buffer strength marks ≤ got client buffer strength marks
 
+-- a mark that is no event keeps it so
 paid-mark : (marks : Timeline) (mark : Mark) → is_event mark ≡ false → IsPaid marks → IsPaid (mark ∷ marks)
 paid-mark marks (Called client reply call) h paid = cc
 paid-mark marks (Loss origin cause) h paid = paid
 paid-mark marks (Allocated head) h paid = paid
 paid-mark marks (Ended head) h paid = paid
 
+-- so does a history of answers
 pub paid_history : (pool : ℕ) (limits : Bound) (marks : Timeline) (history : List Entry) → AreAnswers pool limits marks history → IsPaid marks → IsPaid (fold (after pool) marks history)
 paid_history pool limits marks [] answers paid = paid
 paid_history pool limits marks (entry ∷ entries) answers paid =
     paid_history pool limits (after pool marks entry) entries answers.1
     (kept-after IsPaid paid-mark pool marks entry (λ client buffer strength. paid-called client buffer strength limits marks entry answers.0 (paid client buffer strength)))
 
+-- it is so where nothing has happened
 pub paid_nothing : IsPaid []
 paid_nothing client buffer strength = omega arith
