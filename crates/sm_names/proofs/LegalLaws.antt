@@ -34,10 +34,12 @@ births-settled_within pool collection (suc most) marks sound =
           rw some.1 (births-settled_within pool collection most (some.0 ∷ marks) (subst AreSound (sym same) sound) ∙ same)
     ]
 
+-- a mark that is no event is none under a test either
 is_no_event : (b : Bool) (mark other : Mark) → is_event other ≡ false → when b other ≡ Some mark → is_event mark ≡ false
 is_no_event true mark other h e = let is : other ≡ mark = cc in rw (← is) h
 is_no_event false mark other h e = cc
 
+-- the loss by a misuse is no event
 misused_no_event : (o : Option NodeKey) (misuse : Misuse) (mark : Mark) → option_map (λ key. Loss key (Cause.Misused misuse)) o ≡ Some mark → is_event mark ≡ false
 misused_no_event None misuse mark e = cc
 misused_no_event (Some key) misuse mark e = let is : Loss key (Cause.Misused misuse) ≡ mark = cc in rw (← is) refl
@@ -48,6 +50,7 @@ own_loss_no_event before (Call.Close key) Reply.Done mark e = is_no_event _ mark
 own_loss_no_event before call (Reply.Misused misuse) mark e = misused_no_event (key_of call) misuse mark e
 own_loss_no_event before _ _ mark e = cc
 
+-- so it leaves the births as they were
 own_loss_same : (before marks : Timeline) (call : Call) (reply : Reply) → births (cons_option (own_loss before call reply) marks) ≡ births marks
 own_loss_same before marks call reply = from (own_loss before call reply) (λ mark e. own_loss_no_event before call reply mark e)
   where

@@ -11,6 +11,7 @@ abbrev pub In : {A : Type 0} → A → List A → Type 0
 In x [] = ⊥
 In x (y ∷ ys) = (x ≡ y) ⊎ In x ys
 
+-- what a filter keeps is an element that passes
 pub In-filter : {A : Type 0} (test : A → Bool) (xs : List A) (x : A) → In x (filter test xs) → In x xs × (test x ≡ true)
 In-filter test [] x h = absurd h
 In-filter test (y ∷ ys) x h =
@@ -25,6 +26,7 @@ In-filter test (y ∷ ys) x h =
     at_true : (x ≡ y) ⊎ In x (filter test ys) → (x ≡ y) ⊎ In x (filter test ys)
     at_true h = h
 
+-- what a map gives comes of an element
 pub In-map : {A B : Type 0} (f : A → B) (xs : List A) (y : B) → In y (map f xs) → (x : A) × In x xs × (y ≡ f x)
 In-map f [] y h = absurd h
 In-map f (x ∷ xs) y (inl is) = (x, inl refl, is)
@@ -35,6 +37,7 @@ pub map-In : {A B : Type 0} (f g : A → B) (xs : List A) → ((x : A) → In x 
 map-In f g [] same = refl
 map-In f g (x ∷ xs) same = λ i. same x (inl refl) i ∷ map-In f g xs (λ y on. same y (inr on)) i
 
+-- an element of a list that is turned round onto another is one of either
 In-reverse_aux : {A : Type 0} (xs ys : List A) (x : A) → In x (reverse_aux xs ys) → In x xs ⊎ In x ys
 In-reverse_aux [] ys x h = inr h
 In-reverse_aux (y ∷ xs) ys x h = elim (In-reverse_aux xs (y ∷ ys) x h) [
@@ -42,9 +45,11 @@ In-reverse_aux (y ∷ xs) ys x h = elim (In-reverse_aux xs (y ∷ ys) x h) [
   | inr there ↦ elim there [ inl is ↦ inl (inl is) | inr on ↦ inr on ]
 ]
 
+-- an element of the list turned round is one of the list
 pub In-reverse : {A : Type 0} (xs : List A) (x : A) → In x (reverse xs) → In x xs
 In-reverse xs x h = elim (In-reverse_aux xs [] x h) [ inl on ↦ on | inr none ↦ absurd none ]
 
+-- what is found is an element that passes
 pub In-find : {A : Type 0} (test : A → Bool) (xs : List A) (x : A) → find test xs ≡ Some x → In x xs × (test x ≡ true)
 In-find test [] x h = cc
 In-find test (y ∷ ys) x h =
@@ -71,6 +76,7 @@ none-In asked test (y ∷ ys) x none (inr on) is =
       | inr e ↦ none-In asked test ys x (rw e at none) on is
     ]
 
+-- an element that passes is kept
 pub In-filter-back : {A : Type 0} (test : A → Bool) (xs : List A) (x : A) → In x xs → test x ≡ true → In x (filter test xs)
 In-filter-back test [] x on is = absurd on
 In-filter-back test (y ∷ ys) x (inl here) is = let e : test y ≡ true = ap test (sym here) ∙ is in rw e (inl here)
@@ -80,11 +86,13 @@ In-filter-back test (y ∷ ys) x (inr on) is =
       | inr e ↦ rw e (In-filter-back test ys x on is)
     ]
 
+-- what a map makes of an element is in the mapped list
 pub In-map-back : {A B : Type 0} (f : A → B) (xs : List A) (x : A) → In x xs → In (f x) (map f xs)
 In-map-back f [] x on = absurd on
 In-map-back f (y ∷ ys) x (inl here) = inl (ap f here)
 In-map-back f (y ∷ ys) x (inr on) = inr (In-map-back f ys x on)
 
+-- an element of either list is in the one turned round onto the other
 In-reverse_aux-back : {A : Type 0} (xs ys : List A) (x : A) → In x xs ⊎ In x ys → In x (reverse_aux xs ys)
 In-reverse_aux-back [] ys x (inl on) = absurd on
 In-reverse_aux-back [] ys x (inr on) = on
@@ -94,6 +102,7 @@ In-reverse_aux-back (y ∷ xs) ys x (inl on) = elim on [
 ]
 In-reverse_aux-back (y ∷ xs) ys x (inr on) = In-reverse_aux-back xs (y ∷ ys) x (inr (inr on))
 
+-- an element of the list is one of the list turned round
 pub In-reverse-back : {A : Type 0} (xs : List A) (x : A) → In x xs → In x (reverse xs)
 In-reverse-back xs x on = In-reverse_aux-back xs [] x (inl on)
 
@@ -103,6 +112,7 @@ In-append [] ys x on = inr on
 In-append (y ∷ xs) ys x (inl is) = inl (inl is)
 In-append (y ∷ xs) ys x (inr on) = elim (In-append xs ys x on) [ inl here ↦ inl (inr here) | inr there ↦ inr there ]
 
+-- where some pass, there is an element that does
 pub In-list_any : {A : Type 0} (test : A → Bool) (xs : List A) → list_any test xs ≡ true → (x : A) × In x xs × (test x ≡ true)
 In-list_any test [] h = cc
 In-list_any test (y ∷ ys) h =
@@ -111,11 +121,13 @@ In-list_any test (y ∷ ys) h =
       | inr e ↦ let r = In-list_any test ys (rw e at h) in (r.0, inr r.1, r.2)
     ]
 
+-- the first value that is there is in the list
 pub In-first_some : {A : Type 0} (os : List (Option A)) (x : A) → first_some os ≡ Some x → In (Some x) os
 In-first_some [] x h = cc
 In-first_some (None ∷ os) x h = inr (In-first_some os x h)
 In-first_some (Some y ∷ os) x h = inl (sym h)
 
+-- where there is a value, its test holds
 pub when-Some : {A : Type 0} (b : Bool) (x y : A) → when b x ≡ Some y → (b ≡ true) × (x ≡ y)
 when-Some true x y h = (refl, cc)
 when-Some false x y h = cc
@@ -158,6 +170,7 @@ is_some-find test (x ∷ xs) = elim (test x) as (λ (b : Bool). is_some (cond b 
 
 -- ---- how many
 
+-- no more pass than there are
 pub times-le-length : {A : Type 0} (test : A → Bool) (xs : List A) → times test xs ≤ length xs
 times-le-length test [] = omega arith
 times-le-length test (x ∷ xs) =

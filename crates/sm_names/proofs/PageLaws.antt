@@ -25,6 +25,7 @@ pub record ArePlaced (pool pages count : ℕ) (held : List Interval) (starts : L
   pub apart : AreApart held → AreApart (map (at_pages pages) starts ++ held)
   pub inside : are_in pool held ≡ true → are_in pool (map (at_pages pages) starts ++ held) ≡ true
 
+-- of three tests that all fail, the first two may change places
 or_flip : (a b c : Bool) → (a || (b || c)) ≡ false → (b || (a || c)) ≡ false
 or_flip true b c h = cc
 or_flip false true c h = cc
@@ -81,6 +82,7 @@ placed_apart pool pages (suc count) held starts h =
 
 -- ---- how many pages
 
+-- the page is one of the interval
 abbrev pub in_page : ℕ → Interval → Bool
 in_page page i = nat_le i.start page && nat_lt page (i.start + i.pages)
 

@@ -22,12 +22,15 @@ use Rattle.sm_names.specs.declared.messages.Parcel.{Parcel}
 
 -- ---- no client collects more than it was given
 
+-- the parcels that were given to the client, the newest first
 abbrev pub given : Timeline → ℕ → List Parcel
 given marks client = filter_map (given_at client) marks
 
+-- no client collected more parcels than it was given
 abbrev pub IsDrawn : Timeline → Type 0
 IsDrawn marks = (client : ℕ) → times (collects client) marks ≤ length (given marks client)
 
+-- a mark that is no event keeps it so
 drawn-mark : (marks : Timeline) (mark : Mark) → is_event mark ≡ false → IsDrawn marks → IsDrawn (mark ∷ marks)
 drawn-mark marks (Called client reply call) h drawn = cc
 drawn-mark marks (Loss origin cause) h drawn = drawn
@@ -57,10 +60,12 @@ strict limits marks client caller (Reply.CollectedHandle buffer strength) Call.C
     waits marks client drawn (λ none. let no : Reply.CollectedHandle buffer strength ≡ Reply.Empty = t.answered ∙ ap (collected (readings marks)) (ap (parcels marks) is ∙ none) in cc)
 strict limits marks client caller _ _ drawn answer e = cc
 
+-- with one more parcel, or none, there are no fewer
 more_given : (o : Option Parcel) (ps : List Parcel) → length ps ≤ length (cons_option o ps)
 more_given None ps = omega arith
 more_given (Some p) ps = omega arith
 
+-- each answer keeps it so
 pub drawn-called : (limits : Bound) (marks : Timeline) (entry : Entry) → IsAnswer limits (readings marks) entry.0 entry.1 entry.2 → IsDrawn marks → IsDrawn (Called entry.0 entry.2 entry.1 ∷ marks)
 drawn-called limits marks entry answer drawn client =
     let mark : Mark = Called entry.0 entry.2 entry.1 in
@@ -72,6 +77,7 @@ drawn-called limits marks entry answer drawn client =
       | inr e ↦ let few : times (collects client) marks ≤ length (given marks client) = drawn client in rw e (omega arith)
     ]
 
+-- so does a history of answers
 pub drawn_history : (pool : ℕ) (limits : Bound) (marks : Timeline) (history : List Entry) → AreAnswers pool limits marks history → IsDrawn marks → IsDrawn (fold (after pool) marks history)
 drawn_history pool limits marks [] answers drawn = drawn
 drawn_history pool limits marks (entry ∷ entries) answers drawn =
@@ -94,5 +100,6 @@ parcels-collected marks mark client takes none = rw (takes, none) (sym (drop-dro
 pub parcels-kept : (marks : Timeline) (mark : Mark) (client : ℕ) → collects client mark ≡ false → given_at client mark ≡ None → parcels (mark ∷ marks) client ≡ parcels marks client
 parcels-kept marks mark client idle none = rw (idle, none) refl
 
+-- where nothing has happened, no client collected any
 pub drawn_nothing : IsDrawn []
 drawn_nothing client = omega arith
