@@ -63,16 +63,19 @@ pub record Changes (marks : Timeline) (mark : Mark) : Type 0 where
   pub there : In birth (births marks)
   pub new : ((gone marks birth.node ≡ false) × (gone (mark ∷ marks) birth.node ≡ true)) ⊎ ((allocated marks birth.node ≡ false) × (allocated (mark ∷ marks) birth.node ≡ true))
 
+-- a mark that is no event is no birth
 pub same_births : (marks : Timeline) (mark : Mark) → is_event mark ≡ false → births (mark ∷ marks) ≡ births marks
 same_births marks (Called client reply call) h = cc
 same_births marks (Loss node cause) h = refl
 same_births marks (Allocated node) h = refl
 same_births marks (Ended top) h = refl
 
+-- a test whose opposite holds fails
 pub not_back : (b : Bool) → not b ≡ true → b ≡ false
 not_back true h = cc
 not_back false h = refl
 
+-- where neither test holds, the second does not
 not_or : (a b : Bool) → not (a || b) ≡ true → not b ≡ true
 not_or true b h = cc
 not_or false b h = h
@@ -114,6 +117,7 @@ member_birth marks collection m on =
     let f = In-filter (λ (b : Birth). b.collection == collection) (births marks) r.0 (In-reverse (filter (λ (b : Birth). b.collection == collection) (births marks)) r.0 r.1) in
     (r.0, f.0, r.2, f.1)
 
+-- a parent that is said to be missing is not there
 pub none_if : (o : Option NodeKey) → is_none o ≡ true → o ≡ None
 none_if None h = refl
 none_if (Some x) h = cc
@@ -327,10 +331,12 @@ settled_rests pool collection marks sound =
     omega (arith, times-le-length (λ (b : Birth). not (gone marks b.node)) (births marks), times-le-length (λ (b : Birth). not (allocated marks b.node)) (births marks)) in
     settled_within_rests pool collection (2 * length (births marks)) marks sound few
 
+-- marks that force nothing settle as they are
 at_rest : (pool collection : ℕ) (marks after : Timeline) → next_forced pool collection marks ≡ None → Settles pool collection marks after → marks ≡ after
 at_rest pool collection _ _ none (Rests marks e) = refl
 at_rest pool collection _ _ none (Forces marks after mark some r) = let x : None ≡ Some mark = sym none ∙ some in cc
 
+-- marks that force one more settle by way of it
 when_forced : (pool collection : ℕ) (marks after : Timeline) (mark : Mark) → next_forced pool collection marks ≡ Some mark → Settles pool collection marks after → Settles pool collection (mark ∷ marks) after
 when_forced pool collection _ _ mark some (Rests marks e) = let x : None ≡ Some mark = sym e ∙ some in cc
 when_forced pool collection _ _ mark some (Forces marks after other e r) =
