@@ -20,9 +20,11 @@ use Rattle.sm_names.proofs.SettledLaws.{forced_why}
 abbrev IsSized : Timeline → HeldPages → Type 0
 IsSized marks h = (b : Buffers) × (buffers_of marks h.buffer.collection ≡ Some b) × (h.pages.pages ≡ pages_of b.size)
 
+-- so it is of each buffer that was ever given pages
 abbrev AreSized : ℕ → Timeline → Type 0
 AreSized pool marks = (h : HeldPages) → In h (placed pool marks) → IsSized marks h
 
+-- an element of two lists is one of either
 In-append : {A : Type 0} (xs ys : List A) (x : A) → In x (xs ++ ys) → In x xs ⊎ In x ys
 In-append [] ys x on = inr on
 In-append (y ∷ xs) ys x (inl is) = inl (inl is)
@@ -60,6 +62,7 @@ sized_by pool before mark old (New collection buffers starts e there fresh given
         cc
     still was (inr e) = rw e was.1
 
+-- so it is in each timeline that grows from nothing
 are_sized : (pool : ℕ) (limits : Bound) (marks : Timeline) → Grows pool limits [] marks → AreSized pool marks
 are_sized pool limits _ Stays = λ h on. absurd on
 are_sized pool limits _ (Answers before client reply call g answer) = sized_by pool before (Called client reply call) (are_sized pool limits before g) (Nothing_new refl (λ c. refl))
@@ -68,6 +71,7 @@ are_sized pool limits _ (Ends before c top g e) = sized_by pool before (Ended to
 are_sized pool limits _ (Allocates before c head g e) =
     sized_by pool before (Allocated head) (are_sized pool limits before g) (allocation_lays pool limits before c g head (forced_why pool c before (Allocated head) e))
 
+-- where each element passes, all do
 all_on : {A : Type 0} (test : A → Bool) (xs : List A) → ((x : A) → In x xs → test x ≡ true) → list_all test xs ≡ true
 all_on test [] passes = refl
 all_on test (x ∷ xs) passes = rw (passes x (inl refl)) (all_on test xs (λ y on. passes y (inr on)))

@@ -27,6 +27,7 @@ both_tests true b h k = sym (h refl)
 both_tests false true h k = k refl
 both_tests false false h k = refl
 
+-- where an element passes, some do
 pub In-any : {A : Type 0} (test : A → Bool) (xs : List A) (x : A) → In x xs → test x ≡ true → list_any test xs ≡ true
 In-any test [] x on is = absurd on
 In-any test (y ∷ ys) x (inl here) is = or_left _ _ (ap test (sym here) ∙ is)
@@ -42,6 +43,7 @@ top-same f g node (p ∷ above) same =
     let here : f node ≡ g node = same node (inl refl) in
     rw (here, on) refl
 
+-- where each test holds, both do
 pub and_both : {a b : Bool} → a ≡ true → b ≡ true → (a && b) ≡ true
 and_both h k = rw (h, k) refl
 
@@ -81,6 +83,7 @@ members-lost marks b cause sound together found =
 
 -- ---- what losses and ends give back
 
+-- what passes the narrower test may first be kept by the wider one
 filter-less : {A : Type 0} (p q : A → Bool) (xs : List A) → ((x : A) → p x ≡ true → q x ≡ true) → filter p xs ≡ filter p (filter q xs)
 filter-less p q [] less = refl
 filter-less p q (x ∷ xs) less =
@@ -93,6 +96,7 @@ filter-less p q (x ∷ xs) less =
       ]
     ]
 
+-- where a map makes no element pass that did not, some passed before it if some do after
 any-map : {A : Type 0} (test : A → Bool) (f : A → A) (xs : List A) → ((x : A) → test (f x) ≡ true → test x ≡ true) → list_any test (map f xs) ≡ true → list_any test xs ≡ true
 any-map test f [] less h = cc
 any-map test f (x ∷ xs) less h =
@@ -101,10 +105,12 @@ any-map test f (x ∷ xs) less h =
       | inr e ↦ or_right (test x) _ (any-map test f xs less (rw e at h))
     ]
 
+-- a strong node that is live after a loss or an end was so before
 live_before : (taken g r w : Bool) → ((not (taken || g) && not r) && not w) ≡ true → ((not g && not r) && not w) ≡ true
 live_before true g r w h = cc
 live_before false g r w h = h
 
+-- a buffer that is home stays so, where no strong node comes to live
 home_still : (a b s t w : Bool) → (t ≡ true → s ≡ true) → ((a && (b && not s)) && w) ≡ true → ((a && (b && not t)) && w) ≡ true
 home_still false b s t w less h = cc
 home_still true false s t w less h = cc
@@ -112,6 +118,7 @@ home_still true true true t w less h = cc
 home_still true true false true w less h = let no : false ≡ true = less refl in cc
 home_still true true false false w less h = h
 
+-- a buffer that is not home was not home before, where those at home stay so
 not_home : (now before : Bool) → (before ≡ true → now ≡ true) → not now ≡ true → not before ≡ true
 not_home true before less h = cc
 not_home false true less h = less refl
@@ -124,6 +131,7 @@ home-lost marks origin cause buffer h =
     (λ live. any-map (λ (m : Member). is_live m && not m.weak) (after_loss (reaches marks origin)) (members marks buffer.collection)
     (λ m. live_before (reaches marks origin m.key) m.gone m.released m.weak) (ap some_strong_live (sym (members-Loss marks buffer.collection origin cause)) ∙ live)) h
 
+-- so it does at an end
 pub home-ended : (marks : Timeline) (head : NodeKey) (buffer : BufferName) → home marks buffer ≡ true → home (Ended head ∷ marks) buffer ≡ true
 home-ended marks head buffer h =
     home_still _ _ (some_strong_live (members marks buffer.collection)) _ _
@@ -144,6 +152,7 @@ held-ended pool marks head =
 
 -- ---- what the forced steps read of them
 
+-- of a loss they read which nodes are gone and which pages are left
 pub standing-lost : (pool collection : ℕ) (marks : Timeline) (origin : NodeKey) (cause : Cause) →
     standing pool (Loss origin cause ∷ marks) collection ≡
     record (standing pool marks collection) {
@@ -155,6 +164,7 @@ standing-lost pool collection marks origin cause = λ i. record (standing pool m
   held = map (λ (h : HeldPages). h.pages) (held-lost pool marks origin cause i);
 }
 
+-- of an end they read the same
 pub standing-ended : (pool collection : ℕ) (marks : Timeline) (head : NodeKey) →
     standing pool (Ended head ∷ marks) collection ≡
     record (standing pool marks collection) {
@@ -168,12 +178,14 @@ standing-ended pool collection marks head = λ i. record (standing pool marks co
 
 -- ---- an allocation of an attached unit
 
+-- filters whose tests agree keep the same
 filter-same : {A : Type 0} (p q : A → Bool) (xs : List A) → ((x : A) → p x ≡ q x) → filter p xs ≡ filter q xs
 filter-same p q [] same = refl
 filter-same p q (x ∷ xs) same =
     let on : filter p xs ≡ filter q xs = filter-same p q xs same in
     rw (same x, on) refl
 
+-- where a map changes no test, some pass after it exactly if some did before
 any-map_same : {A : Type 0} (test : A → Bool) (f : A → A) (xs : List A) → ((x : A) → test (f x) ≡ test x) → list_any test (map f xs) ≡ list_any test xs
 any-map_same test f [] same = refl
 any-map_same test f (x ∷ xs) same =
@@ -186,9 +198,11 @@ strong-allocated marks collection head =
     ap some_strong_live (members-Allocated marks collection head) ∙ any-map_same (λ (m : Member). is_live m && not m.weak) (after_allocation head) (members marks collection) (λ m. refl)
 
 module _ (marks : Timeline) (head : NodeKey) (b : Birth) (parent : NodeKey) (found : birth_of marks head ≡ Some b) (below : b.parent ≡ Some parent) where
+  -- the allocation of a unit below another gives the collection no buffers
   buffers-attached : (collection : ℕ) → buffers_of (Allocated head ∷ marks) collection ≡ buffers_of marks collection
   buffers-attached collection = rw (found, below) refl
 
+  -- and sends none home
   home-attached : (buffer : BufferName) → home (Allocated head ∷ marks) buffer ≡ home marks buffer
   home-attached buffer = rw (buffers-attached buffer.collection, strong-allocated marks buffer.collection head) refl
 
@@ -199,6 +213,7 @@ module _ (marks : Timeline) (head : NodeKey) (b : Birth) (parent : NodeKey) (fou
       ap (still_out (Allocated head ∷ marks)) none ∙ filter-same (λ (h : HeldPages). not (home (Allocated head ∷ marks) h.buffer)) (λ (h : HeldPages). not (home marks h.buffer)) (placed pool marks)
       (λ h. ap not (home-attached h.buffer))
 
+  -- so the forced steps read the same, but for the nodes
   pub standing-attached : (pool collection : ℕ) →
       standing pool (Allocated head ∷ marks) collection ≡ record (standing pool marks collection) { members = map (after_allocation head) (members marks collection) }
   standing-attached pool collection = λ i. record {

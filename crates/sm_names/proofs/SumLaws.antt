@@ -9,6 +9,7 @@ use Rattle.sm_names.proofs.SamenessLaws.{either_way, both_ways, or_none_left, or
 
 -- ---- counts
 
+-- 1 where the test holds, else 0
 abbrev pub one : Bool → ℕ
 one b = cond b 1 0
 

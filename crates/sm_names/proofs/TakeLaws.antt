@@ -35,6 +35,7 @@ use Rattle.sm_names.proofs.RejectLaws.{is_refusal, strip, rejects_if, rejects_th
 
 -- ---- what Take answers
 
+-- the reply is Taken
 abbrev is_taken : Reply → Bool
 is_taken (Reply.Taken collection strength set) = true
 is_taken _ = false
@@ -59,6 +60,7 @@ not_taken_collect r (Parcel.End key ∷ more) = from (r.end_of key)
     from None = refl
     from (Some e) = refl
 
+-- any key, for calls that make no node
 abbrev pub none_key : NodeKey
 none_key = record { slot = 0; generation = 0 }
 
@@ -88,11 +90,13 @@ from_closing limits before client new call reply stands told =
     d.1
 
 module _ (limits : Bound) (before : Timeline) (client collection : ℕ) (taken : Strength) (set : ℕ) where
+  -- a call that is no Close, and has another effect, is not answered Taken
   not_it : (call : Call) → closing call ≡ None → is_taken (effect (readings before) client none_key call) ≡ false → IsAnswer limits (readings before) client call (Reply.Taken collection taken set) → Took before collection taken set call
   not_it call open_call none answer =
       let t = took_effect_all limits (readings before) client none_key call (Reply.Taken collection taken set) refl open_call answer.told in
       both_ways (is_taken (effect (readings before) client none_key call)) (ap is_taken (sym t.answered)) none
 
+  -- a Take that was answered Taken took the buffers of the collection that are not doomed
   from_buffers : (call : Call) (b : Birth) → In b (births before) → key_of call ≡ Some b.node → ((key : NodeKey) × (call ≡ Call.Take key)) → (a : Bool) → (o : Option Buffers) →
       Reply.Taken collection taken set ≡
       option_map_or (λ x. Reply.Taken b.collection (strength_of (weak before b.node)) (set_of (cond a (filter (λ name. not (doomed before name)) (buffer_names before b.collection)) []))) (cond a o None) Reply.Pending →
@@ -106,6 +110,7 @@ module _ (limits : Bound) (before : Timeline) (client collection : ℕ) (taken :
   from_buffers call b on is take false None e = cc
   from_buffers call b on is take false (Some x) e = cc
 
+  -- of all calls a Take alone is answered Taken
   took_by_call : (call : Call) → IsAnswer limits (readings before) client call (Reply.Taken collection taken set) → Took before collection taken set call
   took_by_call (Call.Take key) answer =
       let t = took_effect_all limits (readings before) client none_key (Call.Take key) (Reply.Taken collection taken set) refl refl answer.told in
@@ -130,6 +135,7 @@ took = took_by_call
 
 -- ---- what Take opens
 
+-- a strength passes the test with itself
 same_strength-refl : (s : Strength) → same_strength s s ≡ true
 same_strength-refl Strong = refl
 same_strength-refl Weak = refl

@@ -48,6 +48,7 @@ parent_collection (b ∷ older) sound together node p h =
           rw (e, other) (parent_collection older sound.2 together.1 node p up)
     ]
 
+-- so is each node at or below another
 pub line_collection : (bs : List Birth) → AreSound bs → AreTogether bs → (top node : NodeKey) → is_at_or_below bs top node ≡ true → collection_in bs node ≡ collection_in bs top
 line_collection bs sound together top node h = along node (ancestors bs node) (ancestors_chain (parent_in bs) bs (λ k _. refl) sound node refl) h
   where
@@ -69,6 +70,7 @@ child_below bs sound top child parent up h = rw (ancestors_on bs child parent so
 
 -- ---- the invariant
 
+-- births hang together, a node is gone if its parent is, and it failed if it is gone with its end not spent
 pub record IsWhole (marks : Timeline) : Type 0 where
   pub sound : AreSound (births marks)
   pub together : AreTogether (births marks)
@@ -80,11 +82,13 @@ abbrev pub Leaves : Timeline → Mark → Type 0
 Leaves marks (Ended top) = (node : NodeKey) → is_at_or_below (births marks) top node ≡ true → gone marks node ≡ false → spent marks node ≡ true
 Leaves marks _ = Unit {0}
 
+-- a node that is gone was so before, or was taken now
 either_gone : (taken before : Bool) {A : Type 0} → (taken || before) ≡ true → (before ≡ true → A) → (taken ≡ true → A) → A
 either_gone true before h old new = new refl
 either_gone false true h old new = old refl
 either_gone false false h old new = cc
 
+-- a node that was gone keeps its fault, and one that is taken gets one
 fails : (taken before : Bool) (f : Fault) (o : Option Fault) → (taken || before) ≡ true → (before ≡ true → is_some o ≡ true) → is_some (option_map_or Some (cond (taken && not before) (Some f) None) o) ≡ true
 fails true true f o h old = old refl
 fails true false f o h old = refl
@@ -235,10 +239,12 @@ whole-called limits marks entry answer w = record {
 
 -- ---- one more event, and so a history
 
+-- a loss under a test is no end
 is_no_end : (marks : Timeline) (b : Bool) (node : NodeKey) (cause : Cause) (mark : Mark) → when b (Loss node cause) ≡ Some mark → Leaves marks mark
 is_no_end marks true node cause mark e = let is : Loss node cause ≡ mark = cc in subst (Leaves marks) is tt
 is_no_end marks false node cause mark e = cc
 
+-- the loss by a misuse is no end
 misused_no_end : (marks : Timeline) (o : Option NodeKey) (misuse : Misuse) (mark : Mark) → option_map (λ key. Loss key (Cause.Misused misuse)) o ≡ Some mark → Leaves marks mark
 misused_no_end marks None misuse mark e = cc
 misused_no_end marks (Some key) misuse mark e = let is : Loss key (Cause.Misused misuse) ≡ mark = cc in subst (Leaves marks) is tt
@@ -249,6 +255,7 @@ own_loss_leaves before marks (Call.Close key) Reply.Done mark e = is_no_end mark
 own_loss_leaves before marks call (Reply.Misused misuse) mark e = misused_no_end marks (key_of call) misuse mark e
 own_loss_leaves before marks _ _ mark e = cc
 
+-- one more event and all that it forces keep it
 pub whole-after : (pool : ℕ) (limits : Bound) (marks : Timeline) (entry : Entry) → IsAnswer limits (readings marks) entry.0 entry.1 entry.2 → IsWhole marks → IsWhole (after pool marks entry)
 whole-after pool limits marks entry answer w = settles (collection_of (Called entry.0 entry.2 entry.1 ∷ marks) entry.1 entry.2)
   where
@@ -274,5 +281,6 @@ pub whole_history : (pool : ℕ) (limits : Bound) (marks : Timeline) (history : 
 whole_history pool limits marks [] answers w = w
 whole_history pool limits marks (entry ∷ entries) answers w = whole_history pool limits (after pool marks entry) entries answers.1 (whole-after pool limits marks entry answers.0 w)
 
+-- it holds where nothing has happened
 pub whole_nothing : IsWhole []
 whole_nothing = record { sound = tt; together = tt; below = λ child parent up g. cc; failed = λ node g s. cc }
