@@ -62,7 +62,8 @@ fn keep_waiting(pile: &mut Vec<usize>, rows: &[Row])
 /// Takes the rows that no longer wait out of the collection's pile, and an empty pile away.
 pub(crate) fn unfile(piles: &mut Piles, collection: CollectionId, rows: &[Row])
     ensures { (c : ℕ) → pile_of piles.new c
-        ≡ (if c == collection then filter (waits_at rows.now) (pile_of piles.old c) else pile_of piles.old c) }
+        ≡ (if c == collection then filter (waits_at rows.now) (pile_of piles.old c)
+            else pile_of piles.old c) }
 {
     if let Some(pile) = piles.get_mut(&collection) {
         keep_waiting(pile, rows);

@@ -59,7 +59,8 @@ impl Row {
         place: CollectionId,
         condition: Condition,
     ) -> Result<Row, AllocError>
-        ensures { IfOk result (λ r. (r.id ≡ id) × (r.stage ≡ Waits place condition) × (r.has_reader ≡ true)) }
+        ensures { IfOk result (λ r.
+            (r.id ≡ id) × (r.stage ≡ Waits place condition) × (r.has_reader ≡ true)) }
     {
         let cell = Arc::new(alloc, OnceBox::new(alloc))?;
         let room = Box::new(
@@ -157,7 +158,8 @@ impl Row {
         requires { reader.old.cell ≡ self.old.cell }
         ensures kept { self.new ≡ self.old }
         ensures reader_kept { reader.new ≡ reader.old }
-        ensures same { OnTrue result (IfSome reader.old.known (λ f. firing_of_row self.old ≡ Some f)) }
+        ensures same { OnTrue result (IfSome reader.old.known
+            (λ f. firing_of_row self.old ≡ Some f)) }
     {
         match self.stage {
             Stage::Over { was_set: true, .. } => reader.compare(&mut self.note),

@@ -44,7 +44,8 @@ impl Model for Trackers {
 
     ghost view = { λ t. table_of t.limit t.rows.items t.fired.items };
 
-    ghost invariant = { λ t. IsKeptUp t.limit t.rows.items t.fired.items (vec_capacity t.fired) t.piles };
+    ghost invariant = { λ t.
+        IsKeptUp t.limit t.rows.items t.fired.items (vec_capacity t.fired) t.piles };
 }
 
 impl Trackers {
@@ -61,8 +62,8 @@ impl Trackers {
     }
 
     /// Attaches a tracker under the number of this event, filed under the collection that its
-    /// condition concerns. It is `Full` exactly where as many wait as may, whatever memory there is;
-    /// a fault changes nothing. All memory that the firing and the taking will need is taken here:
+    /// condition concerns. It is `Full` exactly where as many wait as may, whatever memory there
+    /// is; a fault changes nothing. All memory that the firing and the taking will need is taken here:
     /// a cell, the room for its value, and a place in each table. The time is constant, but for the
     /// growth of the tables.
     pub fn attach(
@@ -98,8 +99,8 @@ impl Trackers {
 
     /// Fires the trackers that wait and whose condition holds, by rising id, at this event, which
     /// concerned one collection: under another none holds. It takes no memory. It looks up that
-    /// collection, and tests each tracker that waits under it once; where one fires, it goes through
-    /// them once more. Those of other collections, and those that fired, cost nothing.
+    /// collection, and tests each tracker that waits under it once; where one fires, it goes
+    /// through them once more. Those of other collections, and those that fired, cost nothing.
     pub fn sweep<W: World>(&mut self, event: u64, collection: CollectionId, world: &W)
         requires elsewhere { All (λ (t : Waiting). t.place ≢ collection
             → is_due (W.seen world.now) t ≡ false) self.old.unfired }
@@ -147,10 +148,10 @@ impl Trackers {
         }
     }
 
-    /// Shows that what a reader of one of these cells knows is the firing of its tracker. The answer
-    /// is true where that firing set the cell, which is wherever there was one: nothing else sets a
-    /// cell, but no contract of a cell says so. Both sides are `&mut`, since what is known of a cell
-    /// is read through one; neither changes. It takes no memory, and a binary search.
+    /// Shows that what a reader of one of these cells knows is the firing of its tracker. The
+    /// answer is true where that firing set the cell, which is wherever there was one: nothing else sets a
+    /// cell, but no contract of a cell says so. Both sides are `&mut`, since what is known of a
+    /// cell is read through one; neither changes. It takes no memory, and a binary search.
     pub fn agree(&mut self, tracker: &mut Tracker) -> bool
         requires own { cell_of self.old.cells tracker.old.tracker ≡ Some tracker.old.cell }
         ensures same { OnTrue result (IfSome tracker.old.known
@@ -180,7 +181,8 @@ fn add(
         ≡ rows.old.items ++ attached id cell collection condition ∷ [])) }
     ensures room { OnOk result (vec_len fired.old + (waiting + 1) ≤ vec_capacity fired.new) }
     ensures filed { OnOk result ((c : ℕ) → pile_of piles.new c
-        ≡ (if c == collection then pile_of piles.old c ++ vec_len rows.old ∷ [] else pile_of piles.old c)) }
+        ≡ (if c == collection then pile_of piles.old c ++ vec_len rows.old ∷ []
+            else pile_of piles.old c)) }
     ensures fired { fired.new.items ≡ fired.old.items }
     ensures capacity { vec_capacity fired.old ≤ vec_capacity fired.new }
     ensures rows_kept { OnErr result (rows.new.items ≡ rows.old.items) }

@@ -29,7 +29,8 @@ impl Model for Tracker {
 
     ghost Value = { Reader };
 
-    ghost view = { λ t. record { tracker = t.id; cell = t.note.cell; known = first_known t.told t.note.known } };
+    ghost view = { λ t.
+        record { tracker = t.id; cell = t.note.cell; known = first_known t.told t.note.known } };
 
     ghost invariant = { λ t. t.note.cell ≡ cell_name (arc_value t.cell) };
 }

@@ -4,8 +4,8 @@ ghost use Rattle.sm_names.specs.Trackers.{World as Seen, holds};
 
 use sm_names::{BufferName, CollectionId, Condition, NodeKey};
 
-/// What trackers look at. It must still know a node when the event at which it left is swept; of one
-/// that was forgotten since, `gone` and `allocated` are true.
+/// What trackers look at. It must still know a node when the event at which it left is swept; of
+/// one that was forgotten since, `gone` and `allocated` are true.
 pub trait World {
     ghost seen: { Self → Seen };
 
