@@ -63,7 +63,7 @@ fn keep_waiting(pile: &mut Vec<usize>, rows: &[Row])
 pub(crate) fn unfile(piles: &mut Piles, collection: CollectionId, rows: &[Row])
     ensures { (c : ℕ) → pile_of piles.new c
         ≡ (if c == collection then filter (waits_at rows.now) (pile_of piles.old c)
-            else pile_of piles.old c) }
+        else pile_of piles.old c) }
 {
     if let Some(pile) = piles.get_mut(&collection) {
         keep_waiting(pile, rows);

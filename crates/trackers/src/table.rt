@@ -182,7 +182,7 @@ fn add(
     ensures room { OnOk result (vec_len fired.old + (waiting + 1) ≤ vec_capacity fired.new) }
     ensures filed { OnOk result ((c : ℕ) → pile_of piles.new c
         ≡ (if c == collection then pile_of piles.old c ++ vec_len rows.old ∷ []
-            else pile_of piles.old c)) }
+        else pile_of piles.old c)) }
     ensures fired { fired.new.items ≡ fired.old.items }
     ensures capacity { vec_capacity fired.old ≤ vec_capacity fired.new }
     ensures rows_kept { OnErr result (rows.new.items ≡ rows.old.items) }
