@@ -31,17 +31,20 @@ module _ {N : Type 0} (t : Table N) (top : NodeKey) where
 
   module _ (forest : IsForest t) where
     -- a child lies one layer below its parent
-    child_depth : (parent child : NodeKey) → Contains (children_at t parent) child → depth_at t child ≡ depth_at t parent + 1
+    child_depth : (parent child : NodeKey) → Contains (children_at t parent) child →
+        depth_at t child ≡ depth_at t parent + 1
     child_depth parent child there = forest.deeper parent child ((forest.linked parent child).1 there)
 
     -- two parents of one child are one
-    same_parent : (one other child : NodeKey) → Contains (children_at t one) child → Contains (children_at t other) child → one ≡ other
+    same_parent : (one other child : NodeKey) → Contains (children_at t one) child →
+        Contains (children_at t other) child → one ≡ other
     same_parent one other child there elsewhere =
         let first : parent_at t child ≡ Some one = (forest.linked one child).1 there in
         let second : parent_at t child ≡ Some other = (forest.linked other child).1 elsewhere in
         cc
 
-    module _ (taken : ℕ) (keys : List NodeKey) (walk : Walk taken keys) (more : taken < length keys) (key : NodeKey) (is : get_or keys taken key ≡ key) where
+    module _ (taken : ℕ) (keys : List NodeKey) (walk : Walk taken keys) (more : taken < length keys) (key : NodeKey)
+        (is : get_or keys taken key ≡ key) where
       abbrev children : List NodeKey
       children = children_at t key
 
@@ -55,18 +58,21 @@ module _ {N : Type 0} (t : Table N) (top : NodeKey) where
       -- a child of the key is not in the list: only the key itself could have brought it
       child_is_new : (child : NodeKey) → Contains children child → Contains keys child → ⊥
       child_is_new child below there =
-          elim (Contains-cases top child (flat_map (children_at t) (take taken keys)) (subst (λ ks. Contains ks child) walk.layers there)) [
+          elim (Contains-cases top child (flat_map (children_at t) (take taken keys))
+          (subst (λ ks. Contains ks child) walk.layers there)) [
             | inl first ↦
                 let deeper : depth_at t child ≡ depth_at t key + 1 = child_depth key child below in
                 let same : depth_at t top ≡ depth_at t child = ap (depth_at t) first in
                 let low : depth_at t top ≤ depth_at t key = above_low in
                 absurd (omega arith)
             | inr brought ↦
-                let source : (x : NodeKey) × Contains (take taken keys) x × Contains (children_at t x) child = flat_map_source (children_at t) (take taken keys) child brought in
+                let source : (x : NodeKey) × Contains (take taken keys) x × Contains (children_at t x) child =
+                flat_map_source (children_at t) (take taken keys) child brought in
                 earlier source.0 source.1.0 source.1.1 source.1.2 (same_parent source.0 key child source.2 below)
           ]
         where
-          earlier : (other : NodeKey) (place : ℕ) → place < length (take taken keys) → get_or (take taken keys) place other ≡ other → other ≡ key → ⊥
+          earlier : (other : NodeKey) (place : ℕ) → place < length (take taken keys) →
+              get_or (take taken keys) place other ≡ other → other ≡ key → ⊥
           earlier other place within found same =
               let size : length (take taken keys) ≡ taken = length-take-le taken keys walk.within in
               let before : place < taken = omega arith in
@@ -74,25 +80,45 @@ module _ {N : Type 0} (t : Table N) (top : NodeKey) where
               let now : get_or keys taken other ≡ key = get_or_default keys taken other key more ∙ is in
               walk.once place taken other before more (here ∙ (same ∙ sym now))
 
+      -- they follow the children of the keys before
       step_layers : keys ++ children ≡ top ∷ flat_map (children_at t) (take (taken + 1) (keys ++ children))
       step_layers =
-          let first : take (taken + 1) (keys ++ children) ≡ take (taken + 1) keys = take-append-le (taken + 1) keys children (omega arith) in
-          let last : take (taken + 1) keys ≡ take taken keys ++ get_or keys taken key ∷ [] = take_more keys taken key more in
-          let so_far : keys ++ children ≡ (top ∷ flat_map (children_at t) (take taken keys)) ++ children = ap (λ ks. ks ++ children) walk.layers in
-          let on : (top ∷ flat_map (children_at t) (take taken keys)) ++ children ≡ top ∷ flat_map (children_at t) (take taken keys ++ key ∷ []) = flat_map_more (children_at t) (top ∷ []) (take taken keys) key in
-          so_far ∙ (on ∙ ap (λ ks. top ∷ flat_map (children_at t) ks) (sym (first ∙ (last ∙ ap (λ k. take taken keys ++ k ∷ []) is))))
+          let first : take (taken + 1) (keys ++ children) ≡ take (taken + 1) keys =
+          take-append-le (taken + 1) keys children (omega arith) in
+          let last : take (taken + 1) keys ≡ take taken keys ++ get_or keys taken key ∷ [] =
+          take_more keys taken key more in
+          let so_far : keys ++ children ≡ (top ∷ flat_map (children_at t) (take taken keys)) ++ children =
+          ap (λ ks. ks ++ children) walk.layers in
+          let on : (top ∷ flat_map (children_at t) (take taken keys)) ++ children
+          ≡ top ∷ flat_map (children_at t) (take taken keys ++ key ∷ []) =
+          flat_map_more (children_at t) (top ∷ []) (take taken keys) key in
+          so_far ∙ (on ∙ ap (λ ks. top ∷ flat_map (children_at t) ks)
+          (sym (first ∙ (last ∙ ap (λ k. take taken keys ++ k ∷ []) is))))
 
-      step_high : (place : ℕ) (d : NodeKey) → place < length (keys ++ children) → depth_at t (get_or (keys ++ children) place d) ≤ depth_at t top + place
+      -- and each lies at most one layer below the place before
+      step_high : (place : ℕ) (d : NodeKey) → place < length (keys ++ children) →
+          depth_at t (get_or (keys ++ children) place d) ≤ depth_at t top + place
       step_high place d within =
           elim (cases_lt place (length keys)) [
             | inl old ↦ rw (get_or_append_left keys children d place old) (walk.high place d old)
             | inr new ↦
                 let size : length (keys ++ children) ≡ length keys + length children = length-append keys children in
-                let at : get_or (keys ++ children) place d ≡ get_or children (place - length keys) d = get_or-append_right keys children (length keys) place d refl new in
-                let deeper : depth_at t (get_or children (place - length keys) d) ≡ depth_at t key + 1 = child_depth key (get_or children (place - length keys) d) (Contains-get_or children (place - length keys) d (omega arith)) in
+                let at : get_or (keys ++ children) place d ≡ get_or children (place - length keys) d =
+                get_or-append_right keys children (length keys) place d refl new in
+                let deeper : depth_at t (get_or children (place - length keys) d) ≡ depth_at t key + 1 =
+                child_depth key (get_or children (place - length keys) d)
+                (Contains-get_or children (place - length keys) d (omega arith)) in
                 let high : depth_at t key ≤ depth_at t top + taken = above_high in
                 rw at (omega arith)
           ]
+
+      -- nor does a child of the key lie above the top
+      children_low : All (λ k. depth_at t top ≤ depth_at t k) children
+      children_low k d within =
+          let low : depth_at t top ≤ depth_at t key = above_low in
+          let deeper : depth_at t (get_or children k d) ≡ depth_at t key + 1 =
+          child_depth key (get_or children k d) (Contains-get_or children k d within) in
+          omega arith
 
       -- the children of the next key are appended
       pub walk_steps : Walk (taken + 1) (keys ++ children)
@@ -100,11 +126,13 @@ module _ {N : Type 0} (t : Table N) (top : NodeKey) where
           record {
             layers = step_layers;
             within = omega (arith, length-append keys children);
-            once = AllPairs-append (λ (a b : NodeKey). a ≢ b) keys children walk.once (forest.once key) (λ a b in_keys below same. child_is_new b below (subst (λ k. Contains keys k) same in_keys));
-            low = All-append (λ k. depth_at t top ≤ depth_at t k) keys children walk.low (λ k d within. let deeper : depth_at t (get_or children k d) ≡ depth_at t key + 1 = child_depth key (get_or children k d) (Contains-get_or children k d within) in let low : depth_at t top ≤ depth_at t key = above_low in omega arith);
+            once = AllPairs-append (λ (a b : NodeKey). a ≢ b) keys children walk.once (forest.once key)
+                (λ a b in_keys below same. child_is_new b below (subst (λ k. Contains keys k) same in_keys));
+            low = All-append (λ k. depth_at t top ≤ depth_at t k) keys children walk.low children_low;
             high = step_high;
           }
 
     -- a walk that took all of its keys has the children of each
-    pub walk_ends : (taken : ℕ) (keys : List NodeKey) → Walk taken keys → length keys ≤ taken → keys ≡ top ∷ flat_map (children_at t) keys
+    pub walk_ends : (taken : ℕ) (keys : List NodeKey) → Walk taken keys → length keys ≤ taken →
+        keys ≡ top ∷ flat_map (children_at t) keys
     walk_ends taken keys walk all = walk.layers ∙ ap (λ ks. top ∷ flat_map (children_at t) ks) (take_all taken keys all)

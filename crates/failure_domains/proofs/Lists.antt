@@ -18,7 +18,8 @@ module _ {X : Type 0} where
   Contains-cases x y rest (suc k, within, found) = inr (k, omega arith, found)
 
   -- what stands apart in two lists and across them stands apart in both together
-  pub AllPairs-append : (R : X → X → Type 0) (xs ys : List X) → AllPairs R xs → AllPairs R ys → ((x y : X) → Contains xs x → Contains ys y → R x y) → AllPairs R (xs ++ ys)
+  pub AllPairs-append : (R : X → X → Type 0) (xs ys : List X) → AllPairs R xs → AllPairs R ys →
+      ((x y : X) → Contains xs x → Contains ys y → R x y) → AllPairs R (xs ++ ys)
   AllPairs-append R [] ys first second across = second
   AllPairs-append R (x ∷ xs) ys first second across =
       AllPairs-cons R x (xs ++ ys)
@@ -32,7 +33,8 @@ module _ {X : Type 0} where
 
   module _ {Y : Type 0} (f : X → List Y) where
     -- what f gives of an element is in the flat_map
-    pub Contains-flat_map : (xs : List X) (x : X) (y : Y) → Contains xs x → Contains (f x) y → Contains (flat_map f xs) y
+    pub Contains-flat_map : (xs : List X) (x : X) (y : Y) → Contains xs x → Contains (f x) y →
+        Contains (flat_map f xs) y
     Contains-flat_map [] x y there given = absurd (omega (arith, there.1))
     Contains-flat_map (head ∷ rest) x y there given =
         elim (Contains-cases head x rest there) [
@@ -41,7 +43,8 @@ module _ {X : Type 0} where
         ]
 
     -- what is in the flat_map is what f gives of some element
-    pub flat_map_source : (xs : List X) (y : Y) → Contains (flat_map f xs) y → (x : X) × Contains xs x × Contains (f x) y
+    pub flat_map_source : (xs : List X) (y : Y) → Contains (flat_map f xs) y →
+        (x : X) × Contains xs x × Contains (f x) y
     flat_map_source [] y there = absurd (omega (arith, there.1))
     flat_map_source (head ∷ rest) y there =
         elim (Contains-append_cases (f head) (flat_map f rest) y there) [

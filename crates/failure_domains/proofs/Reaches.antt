@@ -11,11 +11,14 @@ use Rattle.failure_domains.proofs.Lists.{Contains-head, Contains-tail, Contains-
 use Rattle.failure_domains.proofs.Climbs.{climb_depth, climb_reaches, climb_descends, way_up-open}
 use Rattle.failure_domains.proofs.Descents.{walk_ends}
 
-module _ {N : Type 0} (blocks : N → Bool) (t : Table N) (forest : IsForest t) (origin top : NodeKey) (steps : ℕ) (climb : Climb (parent_at t) (blocked_at blocks t) origin top steps) (keys : List NodeKey) (walk : IsWalk (children_at t) (depth_at t) top (length keys) keys) where
+module _ {N : Type 0} (blocks : N → Bool) (t : Table N) (forest : IsForest t)
+    (origin top : NodeKey) (steps : ℕ) (climb : Climb (parent_at t) (blocked_at blocks t) origin top steps)
+    (keys : List NodeKey) (walk : IsWalk (children_at t) (depth_at t) top (length keys) keys) where
   -- the keys are the top and the children of each
   whole : keys ≡ top ∷ flat_map (children_at t) keys
   whole = walk_ends t top forest (length keys) keys walk (omega arith)
 
+  -- the top is a key
   has_top : Contains keys top
   has_top = subst (λ ks. Contains ks top) (sym whole) (Contains-head top (flat_map (children_at t) keys))
 
@@ -26,25 +29,30 @@ module _ {N : Type 0} (blocks : N → Bool) (t : Table N) (forest : IsForest t) 
       (Contains-tail top child (flat_map (children_at t) keys)
       (Contains-flat_map (children_at t) keys above child there ((forest.linked above child).0 parent)))
 
-  pub has_origin : Contains keys origin
+  -- so is the origin, which lies below the top
+  has_origin : Contains keys origin
   has_origin = climb_descends blocks t forest origin (Contains keys) has_child top steps climb has_top
 
   -- a key is the top, or a child of a key
-  key_source : (key : NodeKey) → Contains keys key → (top ≡ key) ⊎ ((above : NodeKey) × Contains keys above × (parent_at t key ≡ Some above))
+  key_source : (key : NodeKey) → Contains keys key →
+      (top ≡ key) ⊎ ((above : NodeKey) × Contains keys above × (parent_at t key ≡ Some above))
   key_source key there =
       elim (Contains-cases top key (flat_map (children_at t) keys) (subst (λ ks. Contains ks key) whole there)) [
         | inl first ↦ inl first
         | inr brought ↦
-            let source : (x : NodeKey) × Contains keys x × Contains (children_at t x) key = flat_map_source (children_at t) keys key brought in
+            let source : (x : NodeKey) × Contains keys x × Contains (children_at t x) key =
+            flat_map_source (children_at t) keys key brought in
             inr (source.0, source.1, (forest.linked source.0 key).1 source.2)
       ]
 
   -- each key is taken: the top by the climb, and the others with their parents
-  key_is_taken : (most : ℕ) (key : NodeKey) → depth_at t key < most → Contains keys key → Reach (parent_at t) (blocked_at blocks t) origin key
+  key_is_taken : (most : ℕ) (key : NodeKey) → depth_at t key < most → Contains keys key →
+      Reach (parent_at t) (blocked_at blocks t) origin key
   key_is_taken zero key deep there = absurd (omega arith)
   key_is_taken (suc most) key deep there =
       elim (key_source key there) [
-        | inl first ↦ subst (λ k. Reach (parent_at t) (blocked_at blocks t) origin k) first (climb_reaches blocks t forest origin top steps climb)
+        | inl first ↦ subst (λ k. Reach (parent_at t) (blocked_at blocks t) origin k) first
+            (climb_reaches blocks t forest origin top steps climb)
         | inr source ↦
             let deeper : depth_at t key ≡ depth_at t source.0 + 1 = forest.deeper source.0 key source.2 in
             Down source.0 key (key_is_taken most source.0 (omega arith) source.1) source.2
@@ -55,7 +63,8 @@ module _ {N : Type 0} (blocks : N → Bool) (t : Table N) (forest : IsForest t) 
   climb_is_short =
       let there : Contains keys origin = has_origin in
       let deep : depth_at t origin ≡ steps + depth_at t top = climb_depth blocks t forest origin top steps climb in
-      let high : depth_at t (get_or keys there.0 origin) ≤ depth_at t top + there.0 = walk.high there.0 origin there.1 in
+      let high : depth_at t (get_or keys there.0 origin) ≤ depth_at t top + there.0 =
+      walk.high there.0 origin there.1 in
       let here : depth_at t (get_or keys there.0 origin) ≡ depth_at t origin = ap (depth_at t) there.2 in
       let within : there.0 < length keys = there.1 in
       omega arith
@@ -67,7 +76,8 @@ module _ {N : Type 0} (blocks : N → Bool) (t : Table N) (forest : IsForest t) 
     taken_is_key _ (Up child above reach open_link parent) =
         elim (key_source child (taken_is_key child reach)) [
           | inl first ↦
-              let goes : way_up blocks t child ≡ Some above = way_up-open blocks t forest child above open_link parent in
+              let goes : way_up blocks t child ≡ Some above =
+              way_up-open blocks t forest child above open_link parent in
               let stays : way_up blocks t child ≡ None = subst (λ k. way_up blocks t k ≡ None) first ends in
               absurd (let no : None ≡ Some above = sym stays ∙ goes in cc)
           | inr source ↦

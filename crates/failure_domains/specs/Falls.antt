@@ -21,7 +21,7 @@ module _ {N : Type 0} (blocks : N → Bool) (t : Table N) where
   links_within zero key = 0
   links_within (suc most) key = option_map_or (λ above. suc (links_within most above)) (way_up key) 0
 
-  -- how many links a failure of the origin goes up, one after the other
+  -- how many links a failure of the origin goes up, one after the other: no more than lie above it
   abbrev pub links_climbed : NodeKey → ℕ
   links_climbed origin = links_within (depth_at t origin) origin
 

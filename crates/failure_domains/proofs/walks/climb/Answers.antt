@@ -12,7 +12,8 @@ up-init g c = record { path = Start; forest = λ more. absurd (omega arith) }
 pub up-preserved : goal.up-preserved
 up-preserved g c =
     let forest : IsForest c.args.table.now = c.in-Some.ensures.forest in
-    let open_link = way_up-Some g.N.Link.blocks c.args.table.now forest c.up.top c.in-Some.above (sym c.in-Some.ensures.value) in
+    let open_link =
+    way_up-Some g.N.Link.blocks c.args.table.now forest c.up.top c.in-Some.above (sym c.in-Some.ensures.value) in
     record {
       path = rw add-one (Step c.up.top c.in-Some.above c.up.steps c.up.invariant.path open_link.0 open_link.1);
       forest = λ _. forest;
@@ -25,5 +26,6 @@ unreachable-requires g c =
     let forest : IsForest c.args.table.now = c.up.invariant.forest (omega arith) in
     let deep : depth_at c.args.table.now c.args.origin ≡ c.up.steps + depth_at c.args.table.now c.up.top =
     climb_depth g.N.Link.blocks c.args.table.now forest c.args.origin c.up.top c.up.steps c.up.invariant.path in
-    let shallow : depth_at c.args.table.now c.args.origin < table_len c.args.table.now = forest.shallow c.args.origin c.requires in
+    let shallow : depth_at c.args.table.now c.args.origin < table_len c.args.table.now =
+    forest.shallow c.args.origin c.requires in
     omega arith

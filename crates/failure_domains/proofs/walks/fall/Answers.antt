@@ -8,26 +8,39 @@ use Rattle.failure_domains.proofs.walks.fall.Goals as goal
 -- the climb is shorter than the list, and a list is short
 pub overflow_add-result : goal.overflow_add-result
 overflow_add-result g c =
-    let short : c.climb-steps.result.1 < length c.in-Ok.below.keys.items =
-    climb_is_short g.N.Link.blocks c.args.table.now c.in-Ok.ensures.forest c.args.origin c.climb-steps.result.0 c.climb-steps.result.1 c.climb-steps.ensures.path c.in-Ok.below.keys.items c.in-Ok.ensures.keys in
-    omega (arith, c.in-Ok.ensures.visits, c.in-Ok.ensures.few)
+    let climb = c.climb-steps in
+    let walk = c.in-Ok in
+    let short : climb.result.1 < length walk.below.keys.items =
+    climb_is_short g.N.Link.blocks c.args.table.now walk.ensures.forest c.args.origin
+    climb.result.0 climb.result.1 climb.ensures.path walk.below.keys.items walk.ensures.keys in
+    omega (arith, walk.ensures.visits, walk.ensures.few)
 
+-- the climb and the walk find what the failure takes
 pub returns-clause-keys : goal.returns-clause-keys
 returns-clause-keys g c =
-    keys_are_taken g.N.Link.blocks c.args.table.now c.in-Ok.ensures.forest c.args.origin c.climb-steps.result.0 c.climb-steps.result.1 c.climb-steps.ensures.path c.in-Ok.below.keys.items c.in-Ok.ensures.keys c.climb-steps.ensures.top
+    let climb = c.climb-steps in
+    let walk = c.in-Ok in
+    keys_are_taken g.N.Link.blocks c.args.table.now walk.ensures.forest c.args.origin
+    climb.result.0 climb.result.1 climb.ensures.path walk.below.keys.items walk.ensures.keys climb.ensures.top
 
+-- the climb counts its links, and none is left above its top
 pub returns-clause-visits : goal.returns-clause-visits
 returns-clause-visits g c =
-    let links : links_climbed g.N.Link.blocks c.args.table.now c.args.origin ≡ c.climb-steps.result.1 + links_climbed g.N.Link.blocks c.args.table.now c.climb-steps.result.0 =
-    climb_links g.N.Link.blocks c.args.table.now c.in-Ok.ensures.forest c.args.origin c.climb-steps.result.0 c.climb-steps.result.1 c.climb-steps.ensures.path in
-    let none : links_climbed g.N.Link.blocks c.args.table.now c.climb-steps.result.0 ≡ 0 =
-    links_climbed-top g.N.Link.blocks c.args.table.now c.in-Ok.ensures.forest c.climb-steps.result.0 c.climb-steps.ensures.top in
-    omega (arith, c.in-Ok.ensures.visits, c.in-Ok.below.keys.ok)
+    let t = c.args.table.now in
+    let climb = c.climb-steps in
+    let walk = c.in-Ok in
+    let links : links_climbed g.N.Link.blocks t c.args.origin
+    ≡ climb.result.1 + links_climbed g.N.Link.blocks t climb.result.0 =
+    climb_links g.N.Link.blocks t walk.ensures.forest c.args.origin climb.result.0 climb.result.1 climb.ensures.path in
+    let none : links_climbed g.N.Link.blocks t climb.result.0 ≡ 0 =
+    links_climbed-top g.N.Link.blocks t walk.ensures.forest climb.result.0 climb.ensures.top in
+    omega (arith, walk.ensures.visits, walk.below.keys.ok)
 
 -- no more links are climbed than there are above the origin
 pub returns-clause-few_visits : goal.returns-clause-few_visits
 returns-clause-few_visits g c =
+    let t = c.args.table.now in
     let visits = returns-clause-visits g c in
-    let few : links_climbed g.N.Link.blocks c.args.table.now c.args.origin ≤ depth_at c.args.table.now c.args.origin =
-    links_within-most g.N.Link.blocks c.args.table.now c.in-Ok.ensures.forest (depth_at c.args.table.now c.args.origin) c.args.origin in
+    let few : links_climbed g.N.Link.blocks t c.args.origin ≤ depth_at t c.args.origin =
+    links_within-most g.N.Link.blocks t c.in-Ok.ensures.forest (depth_at t c.args.origin) c.args.origin in
     omega (arith, visits)

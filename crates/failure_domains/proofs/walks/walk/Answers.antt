@@ -9,11 +9,14 @@ use Rattle.failure_domains.proofs.walks.walk.Goals as goal
 pub down-preserved : goal.down-preserved
 down-preserved g c =
     let forest : IsForest c.args.table.now = c.child_list.ensures.forest in
-    let appended : c.extend_from_slice.new.self.items ≡ c.down.keys.items ++ children_at c.args.table.now c.index.result.now =
-    c.in_ok-extend_from_slice.ensures.items ∙ ap (λ children. c.down.keys.items ++ children) c.child_list.ensures.value in
-    let more : c.down.visits < length c.down.keys.items = omega arith in
+    let t = c.args.table.now in
+    let keys = c.down.keys.items in
+    let key = c.index.result.now in
+    let appended : c.extend_from_slice.new.self.items ≡ keys ++ children_at t key =
+    c.in_ok-extend_from_slice.ensures.items ∙ ap (λ children. keys ++ children) c.child_list.ensures.value in
+    let more : c.down.visits < length keys = omega arith in
     record {
-      walk = subst (λ keys. IsWalk (children_at c.args.table.now) (depth_at c.args.table.now) c.args.top (c.down.visits + 1) keys) (sym appended)
-          (walk_steps c.args.table.now c.args.top forest c.down.visits c.down.keys.items c.down.invariant.walk more c.index.result.now (sym c.index.ensures));
+      walk = subst (λ ks. IsWalk (children_at t) (depth_at t) c.args.top (c.down.visits + 1) ks) (sym appended)
+          (walk_steps t c.args.top forest c.down.visits keys c.down.invariant.walk more key (sym c.index.ensures));
       forest = λ _. forest;
     }
