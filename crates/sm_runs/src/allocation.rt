@@ -32,7 +32,7 @@ pub fn buffers_are_allocated()
         (answered_instead (Reply.PeerClosed (Cause.Failed Failure.NoBuffers) (key 0)) two_buffers) → ⊥ }
 {}
 
-/// Camping counts add up: 64 buffers are allocated and 65 fail the collection, and that before the
+/// What two participants camp on is summed: 64 buffers are allocated and 65 fail the collection, and that before the
 /// pool is looked at.
 pub fn no_more_than_64_buffers_are_allocated()
     ensures most_buffers { IsLegal 64 full most_buffers }
