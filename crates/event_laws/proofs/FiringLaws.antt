@@ -1,0 +1,138 @@
+-- When a tracker fires, as one more event comes.
+use Rattle.std.proofs.Common.{ℕ, ◌≡◌, ◌≤◌, ◌+◌, refl, ap, sym, ◌∙◌, Bool, true, false, cond, not, ◌&&◌, ◌==◌, List, [], ◌∷◌, Option, Some, None, is_none, arith}
+use Rattle.std.proofs.lemmas.Bool.{eqb-true, eq-eqb}
+use Rattle.std.specs.List.{list_any}
+use Rattle.std.specs.Option.{option_map, option_map_or}
+use Rattle.sm_names.specs.Answers.{IsAnswer}
+use Rattle.sm_names.specs.Bounds.{Bound}
+use Rattle.sm_names.specs.Marks.{Entry, Timeline, Called, events}
+use Rattle.sm_names.specs.Reading.{readings}
+use Rattle.sm_names.specs.Timelines.{after}
+use Rattle.sm_names.specs.Trackers.{Tracked, tracked, tracked_at, earlier_moments, moments, fires_at, fired_at, holds, world}
+use Rattle.event_laws.specs.Waiting.{is_due}
+use Rattle.sm_names.specs.Words.{last_match}
+use Rattle.sm_names.proofs.GoneLaws.{earlier_after}
+use Rattle.sm_names.proofs.GrowthLaws.{Grows}
+use Rattle.sm_names.proofs.ListLaws.{In, In-list_any}
+use Rattle.event_laws.proofs.MomentLaws.{moment_earlier, last_match-kept, events_after}
+use Rattle.event_laws.proofs.NumberLaws.{numbered, made_id}
+use Rattle.sm_names.proofs.SamenessLaws.{and_left, false_if}
+use Rattle.sm_names.proofs.StandingLaws.{In-any}
+
+-- ---- after any marks
+
+-- a tracker fired at an event that was
+pub fired_by : (marks : Timeline) (t : Tracked) (event : ℕ) → fired_at marks t ≡ Some event → event ≤ events marks
+fired_by marks t event h = from (last_match (fires_at t) (moments marks)) refl h
+  where
+    from : (o : Option Timeline) → last_match (fires_at t) (moments marks) ≡ o → option_map events o ≡ Some event → event ≤ events marks
+    from None e h = cc
+    from (Some moment) e h =
+        let is : events moment ≡ event = cc in
+        let few : events moment ≤ events marks = last_match-kept (λ m. events m ≤ events marks) (fires_at t) (moments marks) (λ m on _. (moment_earlier marks m on).few) moment e in
+        omega (arith, is, few)
+
+-- a tracker with an id that none has has not fired
+pub none_fired : (marks : Timeline) (t : Tracked) → ((u : Tracked) → In u (tracked marks) → u.id == t.id ≡ false) → fired_at marks t ≡ None
+none_fired marks t other = from (last_match (fires_at t) (moments marks)) refl
+  where
+    never : (m : Timeline) → In m (moments marks) → fires_at t m ≡ true → ⊥
+    never m on h =
+        let attached : list_any (λ (u : Tracked). u.id == t.id) (tracked m) ≡ true = and_left _ (holds (world m) t.condition) h in
+        let u = In-list_any (λ (u : Tracked). u.id == t.id) (tracked m) attached in
+        let no : true ≡ false = sym u.2 ∙ other u.0 ((moment_earlier marks m on).among u.0 u.1) in
+        cc
+
+    from : (o : Option Timeline) → last_match (fires_at t) (moments marks) ≡ o → option_map events o ≡ None
+    from None e = refl
+    from (Some moment) e = absurd (last_match-kept (λ m. ⊥) (fires_at t) (moments marks) never moment e)
+
+-- a tracker that was attached passes where what it waits for holds
+passes : (marks : Timeline) (t : Tracked) → In t (tracked marks) → fires_at t marks ≡ is_due (world marks) t
+passes marks t on =
+    let attached : list_any (λ (u : Tracked). u.id == t.id) (tracked marks) ≡ true = In-any (λ (u : Tracked). u.id == t.id) (tracked marks) t on (eq-eqb t.id t.id refl) in
+    rw attached refl
+
+-- so what a tracker that has not fired waits for does not hold
+pub not_due : (marks : Timeline) (t : Tracked) → In t (tracked marks) → fired_at marks t ≡ None → is_due (world marks) t ≡ false
+not_due marks t on h = sym (passes marks t on) ∙ from (last_match (fires_at t) (earlier_moments marks)) (fires_at t marks) h
+  where
+    from : (o : Option Timeline) (b : Bool) → option_map events (option_map_or Some o (cond b (Some marks) None)) ≡ None → b ≡ false
+    from None true h = cc
+    from None false h = refl
+    from (Some m) b h = cc
+
+-- ---- one more event
+
+-- it fired before, or fires now if what it waits for holds
+pub fired_next : (pool : ℕ) (marks : Timeline) (entry : Entry) (t : Tracked) → In t (tracked (after pool marks entry)) →
+    fired_at (after pool marks entry) t ≡ option_map_or Some (fired_at marks t) (cond (is_due (world (after pool marks entry)) t) (Some (events (after pool marks entry))) None)
+fired_next pool marks entry t on =
+    ap (λ (ms : List Timeline). option_map events (last_match (fires_at t) (after pool marks entry ∷ ms))) (earlier_after pool marks entry)
+    ∙ (from (last_match (fires_at t) (moments marks)) (fires_at t (after pool marks entry))
+    ∙ ap (λ (b : Bool). option_map_or Some (fired_at marks t) (cond b (Some (events (after pool marks entry))) None)) (passes (after pool marks entry) t on))
+  where
+    from : (o : Option Timeline) (b : Bool) →
+        option_map events (option_map_or Some o (cond b (Some (after pool marks entry)) None)) ≡ option_map_or Some (option_map events o) (cond b (Some (events (after pool marks entry))) None)
+    from (Some m) b = refl
+    from None true = refl
+    from None false = refl
+
+-- it waits on if it waited, and is not due
+pub waits_next : (pool : ℕ) (marks : Timeline) (entry : Entry) (t : Tracked) → In t (tracked (after pool marks entry)) →
+    is_none (fired_at (after pool marks entry) t) ≡ (is_none (fired_at marks t) && not (is_due (world (after pool marks entry)) t))
+waits_next pool marks entry t on = ap is_none (fired_next pool marks entry t on) ∙ from (fired_at marks t) (is_due (world (after pool marks entry)) t)
+  where
+    from : (o : Option ℕ) (b : Bool) → is_none (option_map_or Some o (cond b (Some (events (after pool marks entry))) None)) ≡ (is_none o && not b)
+    from (Some event) b = refl
+    from None true = refl
+    from None false = refl
+
+-- it fires at this event if it waited, and is due
+pub fires_now : (pool : ℕ) (marks : Timeline) (entry : Entry) (t : Tracked) → In t (tracked (after pool marks entry)) →
+    option_map_or (λ e. e == events (after pool marks entry)) (fired_at (after pool marks entry) t) false ≡ (is_none (fired_at marks t) && is_due (world (after pool marks entry)) t)
+fires_now pool marks entry t on =
+    ap (λ (o : Option ℕ). option_map_or (λ e. e == events (after pool marks entry)) o false) (fired_next pool marks entry t on)
+    ∙ from (fired_at marks t) refl (is_due (world (after pool marks entry)) t)
+  where
+    now : ℕ
+    now = events (after pool marks entry)
+
+    from : (o : Option ℕ) → fired_at marks t ≡ o → (b : Bool) → option_map_or (λ e. e == now) (option_map_or Some o (cond b (Some now) None)) false ≡ (is_none o && b)
+    from (Some event) e b = false_if (event == now) (λ h.
+        (let is : event ≡ now = eqb-true event now h in
+        let early : event ≤ events marks = fired_by marks t event e in
+        let next : now ≡ events marks + 1 = events_after pool marks entry in
+        omega (arith, is, early, next)))
+    from None e true = eq-eqb now now refl
+    from None e false = refl
+
+-- and it fired at an earlier event if it did
+pub fired_then : (pool : ℕ) (marks : Timeline) (entry : Entry) (event : ℕ) → event ≤ events marks → (t : Tracked) → In t (tracked (after pool marks entry)) →
+    option_map_or (λ e. e == event) (fired_at (after pool marks entry) t) false ≡ option_map_or (λ e. e == event) (fired_at marks t) false
+fired_then pool marks entry event early t on =
+    ap (λ (o : Option ℕ). option_map_or (λ e. e == event) o false) (fired_next pool marks entry t on)
+    ∙ from (fired_at marks t) (is_due (world (after pool marks entry)) t)
+  where
+    now : ℕ
+    now = events (after pool marks entry)
+
+    from : (o : Option ℕ) (b : Bool) → option_map_or (λ e. e == event) (option_map_or Some o (cond b (Some now) None)) false ≡ option_map_or (λ e. e == event) o false
+    from (Some e) b = refl
+    from None true = false_if (now == event) (λ h.
+        (let is : now ≡ event = eqb-true now event h in
+        let next : now ≡ events marks + 1 = events_after pool marks entry in
+        omega (arith, is, early, next)))
+    from None false = refl
+
+-- ---- the tracker that the event attaches
+
+-- it has not fired before
+pub made_waits : (pool : ℕ) (limits : Bound) (marks : Timeline) (entry : Entry) (t : Tracked) → Grows pool limits [] marks → IsAnswer limits (readings marks) entry.0 entry.1 entry.2 →
+    tracked_at marks (Called entry.0 entry.2 entry.1) ≡ Some t → fired_at marks t ≡ None
+made_waits pool limits marks entry t g answer h =
+    let is : t.id ≡ events marks + 1 = made_id limits marks entry.0 entry.2 entry.1 t answer h in
+    none_fired marks t (λ u on. false_if (u.id == t.id) (λ e.
+    (let same : u.id ≡ t.id = eqb-true u.id t.id e in
+    let early : u.id ≤ events marks = (numbered pool limits marks g).early u on in
+    omega (arith, is, same, early))))

@@ -1,0 +1,15 @@
+pub mod AllocatedLaws
+pub mod ConcernLaws
+pub mod EndEventLaws
+pub mod FiringLaws
+pub mod FreeEndLaws
+pub mod HandLaws
+pub mod HandleBufferLaws
+pub mod HandleCaseLaws
+pub mod HandleEventLaws
+pub mod MomentLaws
+pub mod NumberLaws
+pub mod ParcelEventLaws
+pub mod RecallLaws
+pub mod TransitLaws
+pub mod WaitingLaws

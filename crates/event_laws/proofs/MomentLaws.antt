@@ -1,0 +1,84 @@
+-- What an event adds to the moments, and what was so at an earlier one.
+use Rattle.std.proofs.Common.{ℕ, ◌≡◌, ◌≤◌, ◌+◌, refl, ◌∙◌, Bool, true, false, cond, inl, inr, List, [], ◌∷◌, Option, Some, None, arith}
+use Rattle.std.specs.Option.{option_map_or}
+use Rattle.sm_names.specs.Marks.{Entry, Mark, Timeline, Called, Loss, Allocated, Ended, events, is_event}
+use Rattle.sm_names.specs.Timelines.{after}
+use Rattle.sm_names.specs.Trackers.{Tracked, tracked, tracked_at, earlier_moments, moments}
+use Rattle.sm_names.specs.Words.{last_match}
+use Rattle.sm_names.proofs.KeptLaws.{kept-after}
+use Rattle.sm_names.proofs.LifeLaws.{In_old}
+use Rattle.sm_names.proofs.ListLaws.{In}
+use Rattle.sm_names.proofs.SamenessLaws.{either_way}
+use Rattle.sm_names.proofs.SumLaws.{times-cons}
+
+-- what holds of each element that passes, holds of the last one
+pub last_match-kept : {A : Type 0} (P : A → Type 0) (test : A → Bool) (xs : List A) → ((x : A) → In x xs → test x ≡ true → P x) → (y : A) → last_match test xs ≡ Some y → P y
+last_match-kept P test [] each y h = cc
+last_match-kept {A} P test (x ∷ xs) each y h =
+    from (last_match test xs) (last_match-kept P test xs (λ z on. each z (inr on)) y) (test x) (each x (inl refl)) h
+  where
+    from : (o : Option A) → (o ≡ Some y → P y) → (b : Bool) → (b ≡ true → P x) → option_map_or Some o (cond b (Some x) None) ≡ Some y → P y
+    from (Some z) later b here h = later h
+    from None later true here h = let is : x ≡ y = cc in rw (← is) (here refl)
+    from None later false here h = cc
+
+-- ---- earlier moments
+
+-- at the moment there were no more events, and no other trackers
+pub record IsEarlier (marks moment : Timeline) : Type 0 where
+  pub few : events moment ≤ events marks
+  pub among : (t : Tracked) → In t (tracked moment) → In t (tracked marks)
+
+-- so it is as the marks go on
+earlier_on : (marks moment : Timeline) (mark : Mark) → IsEarlier marks moment → IsEarlier (mark ∷ marks) moment
+earlier_on marks moment mark e =
+    record {
+      few = (let x : events moment ≤ events marks = e.few in omega (arith, times-cons is_event mark marks));
+      among = λ t on. In_old (tracked_at marks mark) (tracked marks) t (e.among t on);
+    }
+
+-- the marks are no later than themselves
+earlier_here : (marks moment : Timeline) → moment ≡ marks → IsEarlier marks moment
+earlier_here marks moment is = rw is (record { few = omega arith; among = λ t on. on })
+
+-- each moment before the last event is an earlier one
+earlier_moment : (marks moment : Timeline) → In moment (earlier_moments marks) → IsEarlier marks moment
+earlier_moment [] moment on = absurd on
+earlier_moment (mark ∷ before) moment on =
+    elim (either_way (is_event mark)) [
+      | inl e ↦ elim (at_event (rw e at on)) [
+        | inl is ↦ earlier_on before moment mark (earlier_here before moment is)
+        | inr there ↦ earlier_on before moment mark (earlier_moment before moment there)
+      ]
+      | inr e ↦ earlier_on before moment mark (earlier_moment before moment (rw e at on))
+    ]
+  where
+    at_event : In moment (before ∷ earlier_moments before) → In moment (before ∷ earlier_moments before)
+    at_event h = h
+
+-- so is each moment
+pub moment_earlier : (marks moment : Timeline) → In moment (moments marks) → IsEarlier marks moment
+moment_earlier marks moment (inl is) = earlier_here marks moment is
+moment_earlier marks moment (inr there) = earlier_moment marks moment there
+
+-- ---- one more event
+
+-- only an event attaches a tracker
+pub only_events : (marks : Timeline) (mark : Mark) → is_event mark ≡ false → tracked (mark ∷ marks) ≡ tracked marks
+only_events marks (Called client reply call) h = cc
+only_events marks (Loss origin cause) h = refl
+only_events marks (Allocated head) h = refl
+only_events marks (Ended top) h = refl
+
+-- what an event forces attaches no tracker
+pub tracked_after : (pool : ℕ) (marks : Timeline) (entry : Entry) → tracked (after pool marks entry) ≡ tracked (Called entry.0 entry.2 entry.1 ∷ marks)
+tracked_after pool marks entry =
+    kept-after (λ m. tracked m ≡ tracked (Called entry.0 entry.2 entry.1 ∷ marks)) (λ m mark quiet e. only_events m mark quiet ∙ e) pool marks entry refl
+
+-- only events are counted
+uncounted : (marks : Timeline) (mark : Mark) → is_event mark ≡ false → events (mark ∷ marks) ≡ events marks
+uncounted marks mark h = rw h refl
+
+-- an event counts once
+pub events_after : (pool : ℕ) (marks : Timeline) (entry : Entry) → events (after pool marks entry) ≡ events marks + 1
+events_after pool marks entry = kept-after (λ m. events m ≡ events marks + 1) (λ m mark quiet e. uncounted m mark quiet ∙ e) pool marks entry refl

@@ -1,0 +1,13 @@
+use Rattle.std.proofs.Common.{subst, sym, ◌∷◌}
+use Rattle.event_laws.specs.ByEvent.{SameHands, mark_of}
+use Rattle.sm_names.specs.Timelines.{timeline}
+use Rattle.event_laws.proofs.HandLaws.{same_hands, same_after}
+use Rattle.sm_names.proofs.HistoryLaws.{timeline-push}
+use Rattle.event_laws.proofs.handles.only_calls_move_things.Goals as goal
+
+pub returns-clause-mark : goal.returns-clause-mark
+returns-clause-mark c = same_hands
+
+pub returns-clause-event : goal.returns-clause-event
+returns-clause-event c pool history entry =
+    subst (SameHands (mark_of entry ∷ timeline pool history)) (sym (timeline-push pool history entry)) (same_after pool (timeline pool history) entry)

@@ -1,0 +1,9 @@
+use Rattle.std.proofs.Common.{◌++◌}
+use Rattle.sm_names.specs.Timelines.{timeline}
+use Rattle.event_laws.proofs.AllocatedLaws.{allocated_on}
+use Rattle.sm_names.proofs.GrowthLaws.{legal_grows_on}
+use Rattle.event_laws.proofs.trackers.allocated_is_for_good.Goals as goal
+
+pub returns : goal.returns
+returns c pool limits history more legal node born h =
+    allocated_on pool limits (timeline pool history) node born h (timeline pool (history ++ more)) (legal_grows_on pool limits history more legal).then

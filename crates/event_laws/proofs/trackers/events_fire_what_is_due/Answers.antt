@@ -1,0 +1,25 @@
+use Rattle.std.proofs.Common.{◌≡◌, ◌∷◌, ◌++◌, [], map, not, refl, sym, subst}
+use Rattle.std.specs.List.{filter}
+use Rattle.sm_names.specs.Marks.{Timeline, events}
+use Rattle.sm_names.specs.Timelines.{timeline}
+use Rattle.sm_names.specs.Trackers.{fired, world}
+use Rattle.event_laws.specs.Waiting.{asked, firing, is_due, waiting}
+use Rattle.sm_names.proofs.GrowthLaws.{legal_grows_on}
+use Rattle.sm_names.proofs.HistoryLaws.{AreAnswers-last, timeline-push}
+use Rattle.event_laws.proofs.WaitingLaws.{fired_next, waiting_next}
+use Rattle.event_laws.proofs.trackers.events_fire_what_is_due.Goals as goal
+
+pub returns-clause-fired : goal.returns-clause-fired
+returns-clause-fired c pool limits history entry legal =
+    let before : Timeline = timeline pool history in
+    subst (λ (m : Timeline). fired m ≡ fired before ++ map (firing (events m)) (filter (is_due (world m)) (asked before entry))) (sym (timeline-push pool history entry))
+    (fired_next pool limits before entry (legal_grows_on pool limits history (entry ∷ []) legal).first (AreAnswers-last pool limits [] history entry legal.answers).1)
+
+pub returns-clause-waiting : goal.returns-clause-waiting
+returns-clause-waiting c pool limits history entry legal =
+    let before : Timeline = timeline pool history in
+    subst (λ (m : Timeline). waiting m ≡ filter (λ t. not (is_due (world m) t)) (asked before entry)) (sym (timeline-push pool history entry))
+    (waiting_next pool limits before entry (legal_grows_on pool limits history (entry ∷ []) legal).first (AreAnswers-last pool limits [] history entry legal.answers).1)
+
+pub returns-clause-nothing : goal.returns-clause-nothing
+returns-clause-nothing c = refl

@@ -1,0 +1,27 @@
+use Rattle.std.proofs.Common.{ℕ, ◌≡◌, [], Some, sym, subst}
+use Rattle.sm_names.specs.Isolation.{IsOf, collection_at}
+use Rattle.sm_names.specs.Marks.{Timeline}
+use Rattle.sm_names.specs.Timelines.{timeline}
+use Rattle.sm_names.specs.Trackers.{Tracked, tracked}
+use Rattle.event_laws.specs.Waiting.{made}
+use Rattle.event_laws.proofs.ConcernLaws.{concerned, made_together, of_after}
+use Rattle.sm_names.proofs.GrowthLaws.{legal_grows}
+use Rattle.sm_names.proofs.HistoryLaws.{AreAnswers-last, timeline-push}
+use Rattle.event_laws.proofs.NumberLaws.{all-In}
+use Rattle.event_laws.proofs.trackers.trackers_concern_a_collection.Goals as goal
+
+pub returns-clause-each : goal.returns-clause-each
+returns-clause-each c pool limits history legal =
+    let marks : Timeline = timeline pool history in
+    all-In (λ (t : Tracked). (collection : ℕ) × IsOf marks collection t.condition) (tracked marks) (concerned pool limits marks (legal_grows pool limits history legal))
+
+pub returns-clause-made : goal.returns-clause-made
+returns-clause-made c pool limits history entry legal =
+    let marks : Timeline = timeline pool history in
+    all-In (λ (t : Tracked). (collection : ℕ) × (collection_at marks entry ≡ Some collection) × IsOf marks collection t.condition) (made marks entry)
+    (λ t on. made_together limits marks entry t (AreAnswers-last pool limits [] history entry legal.answers).1 on)
+
+pub returns-clause-kept : goal.returns-clause-kept
+returns-clause-kept c pool limits history entry legal collection condition here =
+    subst (λ (m : Timeline). IsOf m collection condition) (sym (timeline-push pool history entry))
+    (of_after pool limits (timeline pool history) entry collection condition (AreAnswers-last pool limits [] history entry legal.answers).1 here)

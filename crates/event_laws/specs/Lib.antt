@@ -1,0 +1,2 @@
+pub mod ByEvent
+pub mod Waiting

@@ -1,0 +1,181 @@
+//! What one event does to handles.
+ghost use Rattle.std.specs.Prelude.{◌≡◌, ◌<◌, ◌+◌, ◌-◌, ◌&&◌, ◌==◌, ◌∷◌, ◌++◌, ℕ, List, [], false, true};
+ghost use Rattle.std.specs.Int.{bit_at};
+ghost use Rattle.std.specs.List.{list_any};
+ghost use Rattle.sm_names.specs.declared.keys.BufferName.{BufferName};
+ghost use Rattle.sm_names.specs.declared.keys.NodeKey.{NodeKey};
+ghost use Rattle.sm_names.specs.declared.keys.Strength.{Strength};
+ghost use Rattle.sm_names.specs.declared.messages.Call.{Call};
+ghost use Rattle.sm_names.specs.declared.messages.Reply.{Reply};
+ghost use Rattle.sm_names.specs.Bounds.{Bound};
+ghost use Rattle.event_laws.specs.ByEvent.{GoesBy, SameHands, SetsHandles, anyone, gains, is_about_handles, loses, mark_of, one_if, only};
+ghost use Rattle.sm_names.specs.Ends.{has_joined};
+ghost use Rattle.sm_names.specs.Handles.{opens, drops, lifts, lands, open_of, open_total, moving, buffer_names};
+ghost use Rattle.sm_names.specs.Legality.{IsLegal};
+ghost use Rattle.sm_names.specs.Marks.{Entry, Mark, Timeline, is_event};
+ghost use Rattle.sm_names.specs.Sameness.{same_buffer, same_strength};
+ghost use Rattle.sm_names.specs.Timelines.{timeline};
+
+/// Marks that are no event leave everyone's handles, parcels and ends as they are, and make no
+/// client and no node: so after an event these read as after its own mark.
+pub fn only_calls_move_things()
+    ensures mark { (marks : Timeline) (mark : Mark) → is_event mark ≡ false →
+        SameHands marks (mark ∷ marks) }
+    ensures event { (pool : ℕ) (history : List Entry) (entry : Entry) →
+        SameHands (mark_of entry ∷ timeline pool history) (timeline pool (history ++ entry ∷ [])) }
+{}
+
+/// Each event changes what a client has open, what is open in all and what is in parcels by what
+/// its mark opens, drops, gives and collects, one handle at most of each buffer and strength. What
+/// is dropped or given was open, and what is collected was in a parcel.
+pub fn handles_go_by_event()
+    ensures each { (pool : ℕ) (limits : Bound) (history : List Entry) (entry : Entry) →
+        IsLegal pool limits (history ++ entry ∷ []) →
+        (client : ℕ) (buffer : BufferName) (strength : Strength) →
+        GoesBy (open_of (timeline pool history) client buffer strength)
+        (open_of (timeline pool (history ++ entry ∷ [])) client buffer strength)
+        (gains (only client) buffer strength (mark_of entry))
+        (loses (only client) buffer strength (mark_of entry)) }
+    ensures in_all { (pool : ℕ) (limits : Bound) (history : List Entry) (entry : Entry) →
+        IsLegal pool limits (history ++ entry ∷ []) → (buffer : BufferName) (strength : Strength) →
+        GoesBy (open_total (timeline pool history) buffer strength)
+        (open_total (timeline pool (history ++ entry ∷ [])) buffer strength)
+        (opens anyone buffer strength (mark_of entry))
+        (drops anyone buffer strength (mark_of entry)) }
+    ensures in_parcels { (pool : ℕ) (limits : Bound) (history : List Entry) (entry : Entry) →
+        IsLegal pool limits (history ++ entry ∷ []) → (buffer : BufferName) (strength : Strength) →
+        GoesBy (moving (timeline pool history) buffer strength)
+        (moving (timeline pool (history ++ entry ∷ [])) buffer strength)
+        (lifts anyone buffer strength (mark_of entry))
+        (lands anyone buffer strength (mark_of entry)) }
+{}
+
+/// A DupHandle opens one handle, a DropHandle drops one, a GiveHandle puts one into a parcel and a
+/// Collect takes one out: no other count changes. Who drops or gives a handle had it open, and one
+/// that is collected was in a parcel.
+pub fn one_handle_is_moved()
+    ensures doubled { (pool : ℕ) (limits : Bound) (history : List Entry) (client : ℕ)
+        (buffer : BufferName) (strength : Strength) →
+        IsLegal pool limits (history ++ (client, Call.DupHandle buffer strength, Reply.Done) ∷ []) →
+        SetsHandles (timeline pool history)
+        (timeline pool (history ++ (client, Call.DupHandle buffer strength, Reply.Done) ∷ []))
+        client buffer strength
+        (open_of (timeline pool history) client buffer strength + 1)
+        (moving (timeline pool history) buffer strength)
+        (open_total (timeline pool history) buffer strength + 1) }
+    ensures dropped { (pool : ℕ) (limits : Bound) (history : List Entry) (client : ℕ)
+        (buffer : BufferName) (strength : Strength) →
+        IsLegal pool limits
+        (history ++ (client, Call.DropHandle buffer strength, Reply.Done) ∷ []) →
+        (0 < open_of (timeline pool history) client buffer strength)
+        × (0 < open_total (timeline pool history) buffer strength)
+        × SetsHandles (timeline pool history)
+        (timeline pool (history ++ (client, Call.DropHandle buffer strength, Reply.Done) ∷ []))
+        client buffer strength
+        (open_of (timeline pool history) client buffer strength - 1)
+        (moving (timeline pool history) buffer strength)
+        (open_total (timeline pool history) buffer strength - 1) }
+    ensures given { (pool : ℕ) (limits : Bound) (history : List Entry) (client : ℕ)
+        (buffer : BufferName) (strength : Strength) (to : ℕ) →
+        IsLegal pool limits
+        (history ++ (client, Call.GiveHandle buffer strength to, Reply.Done) ∷ []) →
+        (0 < open_of (timeline pool history) client buffer strength)
+        × SetsHandles (timeline pool history)
+        (timeline pool (history ++ (client, Call.GiveHandle buffer strength to, Reply.Done) ∷ []))
+        client buffer strength
+        (open_of (timeline pool history) client buffer strength - 1)
+        (moving (timeline pool history) buffer strength + 1)
+        (open_total (timeline pool history) buffer strength) }
+    ensures collected { (pool : ℕ) (limits : Bound) (history : List Entry) (client : ℕ)
+        (buffer : BufferName) (strength : Strength) →
+        IsLegal pool limits
+        (history ++ (client, Call.Collect, Reply.CollectedHandle buffer strength) ∷ []) →
+        (0 < moving (timeline pool history) buffer strength)
+        × SetsHandles (timeline pool history)
+        (timeline pool
+        (history ++ (client, Call.Collect, Reply.CollectedHandle buffer strength) ∷ []))
+        client buffer strength
+        (open_of (timeline pool history) client buffer strength + 1)
+        (moving (timeline pool history) buffer strength - 1)
+        (open_total (timeline pool history) buffer strength) }
+{}
+
+/// A Take that is answered Taken opens one handle of its strength on each buffer of the set.
+pub fn a_take_opens_its_set()
+    ensures each { (pool : ℕ) (limits : Bound) (history : List Entry) (client collection : ℕ)
+        (taken : Strength) (set : ℕ) (key : NodeKey) →
+        IsLegal pool limits
+        (history ++ (client, Call.Take key, Reply.Taken collection taken set) ∷ []) →
+        (c : ℕ) (b : BufferName) (s : Strength) →
+        open_of
+        (timeline pool (history ++ (client, Call.Take key, Reply.Taken collection taken set) ∷ []))
+        c b s
+        ≡ open_of (timeline pool history) c b s + one_if (client == c && (collection == b.collection
+        && (same_strength taken s && bit_at set b.index == 1))) }
+    ensures in_all { (pool : ℕ) (limits : Bound) (history : List Entry) (client collection : ℕ)
+        (taken : Strength) (set : ℕ) (key : NodeKey) →
+        IsLegal pool limits
+        (history ++ (client, Call.Take key, Reply.Taken collection taken set) ∷ []) →
+        (b : BufferName) (s : Strength) →
+        open_total
+        (timeline pool
+        (history ++ (client, Call.Take key, Reply.Taken collection taken set) ∷ [])) b s
+        ≡ open_total (timeline pool history) b s + one_if (collection == b.collection
+        && (same_strength taken s && bit_at set b.index == 1)) }
+    ensures in_parcels { (pool : ℕ) (limits : Bound) (history : List Entry) (client collection : ℕ)
+        (taken : Strength) (set : ℕ) (key : NodeKey) →
+        IsLegal pool limits
+        (history ++ (client, Call.Take key, Reply.Taken collection taken set) ∷ []) →
+        (b : BufferName) (s : Strength) →
+        moving
+        (timeline pool (history ++ (client, Call.Take key, Reply.Taken collection taken set) ∷ []))
+        b s
+        ≡ moving (timeline pool history) b s }
+{}
+
+/// Every other event leaves all counts of handles.
+pub fn other_events_leave_handles()
+    ensures each { (pool : ℕ) (limits : Bound) (history : List Entry) (entry : Entry) →
+        IsLegal pool limits (history ++ entry ∷ []) → is_about_handles (mark_of entry) ≡ false →
+        (client : ℕ) (buffer : BufferName) (strength : Strength) →
+        open_of (timeline pool (history ++ entry ∷ [])) client buffer strength
+        ≡ open_of (timeline pool history) client buffer strength }
+    ensures in_all { (pool : ℕ) (limits : Bound) (history : List Entry) (entry : Entry) →
+        IsLegal pool limits (history ++ entry ∷ []) → is_about_handles (mark_of entry) ≡ false →
+        (buffer : BufferName) (strength : Strength) →
+        open_total (timeline pool (history ++ entry ∷ [])) buffer strength
+        ≡ open_total (timeline pool history) buffer strength }
+    ensures in_parcels { (pool : ℕ) (limits : Bound) (history : List Entry) (entry : Entry) →
+        IsLegal pool limits (history ++ entry ∷ []) → is_about_handles (mark_of entry) ≡ false →
+        (buffer : BufferName) (strength : Strength) →
+        moving (timeline pool (history ++ entry ∷ [])) buffer strength
+        ≡ moving (timeline pool history) buffer strength }
+{}
+
+/// In a legal history each handle that is open, or in a parcel, is on a buffer of an allocated
+/// collection, and who has not joined has none open.
+pub fn handles_are_on_buffers()
+    ensures each { (pool : ℕ) (limits : Bound) (history : List Entry) →
+        IsLegal pool limits history →
+        (client : ℕ) (buffer : BufferName) (strength : Strength) →
+        0 < open_of (timeline pool history) client buffer strength →
+        list_any (λ name. same_buffer name buffer)
+        (buffer_names (timeline pool history) buffer.collection) ≡ true }
+    ensures in_all { (pool : ℕ) (limits : Bound) (history : List Entry) →
+        IsLegal pool limits history →
+        (buffer : BufferName) (strength : Strength) →
+        0 < open_total (timeline pool history) buffer strength →
+        list_any (λ name. same_buffer name buffer)
+        (buffer_names (timeline pool history) buffer.collection) ≡ true }
+    ensures in_parcels { (pool : ℕ) (limits : Bound) (history : List Entry) →
+        IsLegal pool limits history →
+        (buffer : BufferName) (strength : Strength) →
+        0 < moving (timeline pool history) buffer strength →
+        list_any (λ name. same_buffer name buffer)
+        (buffer_names (timeline pool history) buffer.collection) ≡ true }
+    ensures strangers { (pool : ℕ) (limits : Bound) (history : List Entry) →
+        IsLegal pool limits history →
+        (client : ℕ) (buffer : BufferName) (strength : Strength) →
+        has_joined (timeline pool history) client ≡ false →
+        open_of (timeline pool history) client buffer strength ≡ 0 }
+{}
