@@ -1,0 +1,92 @@
+-- A scene that was worked on, and what holds once it is put back.
+use Rattle.std.proofs.Common.{◌≡◌, true, List, ◌++◌, map, sym, ap, subst, ◌∙◌}
+use Rattle.std.specs.List.{list_all, AllByRecursion}
+use Rattle.sm_names.specs.declared.keys.Interval.{Interval}
+use Rattle.sm_names.specs.declared.keys.NodeKey.{NodeKey}
+use Rattle.sm_names.specs.Timelines.{HeldPages}
+use Rattle.sm_names.specs.Words.{sorted_by}
+use Rattle.node_table.specs.Table.{Table}
+use Rattle.alloc_event.specs.declared.node.Node.{Node}
+use Rattle.alloc_event.specs.declared.scene.Scene.{Scene}
+use Rattle.alloc_event.specs.Forest.{Collection, all_held, pages_in, beside}
+use Rattle.alloc_event.specs.Kept.{Shelf, AreRising, IsKept, Stores, put_shelf, shelf_in, collection_in, forest_of, is_filed, all_of, have_places}
+use Rattle.alloc_event.specs.Parted.{are_parted}
+use Rattle.alloc_event.specs.Scenes.{IsSound, collection_of, held_pages, frame_of}
+use Rattle.alloc_event.specs.Settling.{Handles, put, given_back}
+use Rattle.alloc_event.proofs.Alike.{start_of}
+use Rattle.alloc_event.proofs.Finishing.{keys_in, frames-keys, frames-of, places-filed, nodes-stored, collections-put, kept-put, sound-map, sound-unmap, sound-put}
+use Rattle.alloc_event.proofs.Pools.{pool_back}
+use Rattle.alloc_event.proofs.Putting.{filed-own, put-map}
+
+-- without the pages that went back it is sound
+sound-given_back : (handles : Handles) (c : Collection) → IsSound c → IsSound (given_back handles c)
+sound-given_back handles c ok = record { distinct = ok.distinct; heads = ok.heads; one_root = ok.one_root; few = ok.few }
+
+module _ (handles : Handles) (t : Table Node) (ss : List Shelf) (start worked back : Scene)
+    (kept : IsKept t (put_shelf (shelf_in start) ss)) (rising : AreRising ss)
+    (own : all_of start.id start.nodes.items ≡ true) (sound : IsSound (collection_of worked))
+    (same_id : worked.id ≡ start.id) (frames : map frame_of worked.nodes.items ≡ map frame_of start.nodes.items)
+    (given : collection_of back ≡ given_back handles (collection_of worked)) where
+  -- the nodes, once pages went back
+  back_nodes : back.nodes.items ≡ worked.nodes.items
+  back_nodes = ap (λ (c : Collection). c.nodes) given
+
+  -- the collection is the same
+  back_id : back.id ≡ start.id
+  back_id = ap (λ (c : Collection). c.id) given ∙ same_id
+
+  -- the keys are the same
+  back_keys : keys_in back.nodes.items ≡ keys_in start.nodes.items
+  back_keys = ap keys_in back_nodes ∙ frames-keys worked.nodes.items start.nodes.items frames
+
+  -- they are filed
+  back_filed : list_all (is_filed t start.id) (keys_in back.nodes.items) ≡ true
+  back_filed = ap (list_all (is_filed t start.id)) back_keys ∙ filed-own t (shelf_in start) ss kept.filed
+
+  -- each node is of the collection
+  back_of : all_of start.id back.nodes.items ≡ true
+  back_of = ap (all_of start.id) back_nodes ∙ frames-of start.id worked.nodes.items start.nodes.items frames ∙ own
+
+  -- each node has a place
+  pub back_places : have_places t back.nodes.items ≡ true
+  back_places = places-filed t start.id back.nodes.items back_filed
+
+  module _ (now : Table Node) (stores : Stores t now back.nodes.items) (keys : List NodeKey) (keys_are : keys ≡ keys_in start.nodes.items) where
+    -- what is put back
+    abbrev pub shelf_back : Shelf
+    shelf_back = record { id = back.id; keys = keys; buffers = back.buffers; held = map held_pages back.held.items }
+
+    -- the nodes are found in the table
+    nodes_back : collection_in now shelf_back ≡ given_back handles (collection_of worked)
+    nodes_back = (λ i. record {
+      id = back.id;
+      nodes = nodes-stored t now start.id back.nodes.items keys stores.look kept.named
+          (ap (list_all (is_filed t start.id)) (keys_are ∙ sym back_keys) ∙ back_filed) (back_keys ∙ sym keys_are)
+          (subst (λ (c : Collection). IsSound c) (sym given) (sound-given_back handles (collection_of worked) sound)).distinct i;
+      buffers = back.buffers;
+      held = map held_pages back.held.items;
+    }) ∙ given
+
+    -- the collections are those with this one put among them
+    pub finished-collections : map (collection_in now) (put_shelf shelf_back ss) ≡ put (given_back handles (collection_of worked)) (map (collection_in t) ss)
+    finished-collections =
+        collections-put t now start.id back.nodes.items stores kept.named back_filed shelf_back (shelf_in start) ss back_id (sym back_id) rising kept.filed
+        ∙ ap (λ c. put c (map (collection_in t) ss)) nodes_back
+
+    -- all of them are sound
+    finished-sound : AllByRecursion (λ (s : Shelf). IsSound (collection_in now s)) (put_shelf shelf_back ss)
+    finished-sound =
+        let before = subst (AllByRecursion IsSound) (put-map t (shelf_in start) ss) (sound-map t (put_shelf (shelf_in start) ss) kept.sound) in
+        sound-unmap now (put_shelf shelf_back ss) (subst (AllByRecursion IsSound) (sym finished-collections)
+        (sound-put (given_back handles (collection_of worked)) (collection_in t (shelf_in start)) (map (collection_in t) ss) (sym same_id)
+        (sound-given_back handles (collection_of worked) sound) before))
+
+    -- all that holds of forests holds
+    pub finished-kept : IsKept now (put_shelf shelf_back ss)
+    finished-kept = kept-put t now start.id back.nodes.items stores kept.named back_filed back_of shelf_back (shelf_in start) ss (sym back_id) (sym keys_are) rising kept finished-sound
+
+    -- the pool is the forest's
+    pub finished-pool : (held : List Interval) → are_parted held ≡ true → held ≡ sorted_by start_of (pages_in (collection_of back) ++ beside (forest_of t ss) start.id) → held ≡ sorted_by start_of (map (λ (h : HeldPages). h.pages) (all_held (forest_of now (put_shelf shelf_back ss))))
+    finished-pool held parted is =
+        pool_back held t now (given_back handles (collection_of worked)) shelf_back ss rising finished-collections parted
+        (is ∙ λ i. sorted_by start_of (pages_in (given i) ++ beside (forest_of t ss) (sym same_id i)))

@@ -1,0 +1,47 @@
+mod Alike
+mod Altering
+mod Bearing
+mod Birthing
+mod Emptying
+mod Ends
+mod Entries
+mod Finished
+mod Finishing
+mod Leaving
+mod Lookups
+mod Newborn
+mod Ordered
+mod Pools
+mod Putting
+mod Showing
+mod Stable
+mod Storing
+mod Strong
+mod Tellings
+mod Writing
+pub mod Booleans
+pub mod Forcing
+pub mod BirthRest
+pub mod Chains
+pub mod FallTies
+pub mod InPlace
+pub mod KeptRoots
+pub mod Links
+pub mod Lists
+pub mod Movings
+pub mod Placings
+pub mod Ranges
+pub mod Returned
+pub mod Settlings
+pub mod Sorting
+pub mod Steps
+pub mod NewMembers
+pub mod Rooted
+pub mod Takings
+pub mod TakingOut
+pub mod Thinning
+pub mod Walking
+pub mod Tidying
+pub mod Dropping
+pub mod Forgotten
+pub mod Quiet

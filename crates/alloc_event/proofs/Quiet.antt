@@ -1,0 +1,150 @@
+-- A birth in a collection where nothing else changes with it.
+use Rattle.std.proofs.Common.{◌≡◌, ℕ, Bool, true, false, ◌||◌, ◌&&◌, ◌==◌, not, List, [], ◌∷◌, ◌++◌, map, Option, Some, None, refl, sym, ap, subst, ◌∙◌, inl, inr}
+use Rattle.std.specs.List.{filter, list_all, list_any}
+use Rattle.std.proofs.lemmas.List.{map-append}
+use Rattle.sm_names.specs.declared.keys.NodeKey.{NodeKey}
+use Rattle.sm_names.specs.declared.keys.Strength.{Strength}
+use Rattle.sm_names.specs.Forced.{forced}
+use Rattle.sm_names.specs.Handles.{is_home}
+use Rattle.sm_names.specs.Members.{is_live, some_strong_live, Member}
+use Rattle.sm_names.specs.Timelines.{HeldPages}
+use Rattle.sm_names.proofs.SamenessLaws.{and_left, and_right, either_way}
+use Rattle.node_table.specs.Table.{Table, node_at}
+use Rattle.alloc_event.specs.declared.node.Node.{Node}
+use Rattle.alloc_event.specs.Forest.{Collection, all_held, beside}
+use Rattle.alloc_event.specs.Kept.{Shelf, IsKept, Bears, Finishes, born, put_shelf, collection_in, forest_of}
+use Rattle.alloc_event.specs.Nodes.{is_of, member_of, members_of}
+use Rattle.alloc_event.specs.Settling.{Handles, collection_or_new, given_back, is_home_in, put, standing, with_birth}
+use Rattle.alloc_event.specs.Still.{hangs_in, IsStill, shelf_with}
+use Rattle.alloc_event.proofs.Altering.{any-append, shelf_by}
+use Rattle.alloc_event.proofs.BirthRest.{HaveOthers, births_force_nothing, birth_settles, members_more}
+use Rattle.alloc_event.proofs.Birthing.{still_collections}
+use Rattle.alloc_event.proofs.Finishing.{keys_in}
+use Rattle.alloc_event.proofs.Newborn.{Above, born_collection, born_fresh, born_held, born_is, born_kept, born_shown, key_is}
+use Rattle.alloc_event.proofs.Putting.{put-map}
+
+-- ---- parents
+
+-- a key that has no node is no parent
+no_parent : (t : Table Node) (key : NodeKey) → node_at t key ≡ None → (n : Node) → hangs_in t n ≡ true → n.gone ≡ false → n.parent ≡ Some key → ⊥
+no_parent t key none n hangs here up = let no : hangs_in t n ≡ false = rw (here, up, none) refl in absurd (cc)
+
+-- none of the nodes has such a parent
+pub no_parents : (t : Table Node) (key : NodeKey) → node_at t key ≡ None → (ns : List Node) → list_all (hangs_in t) ns ≡ true → HaveOthers ns key
+no_parents t key none [] hang n on here up = absurd on
+no_parents t key none (m ∷ ms) hang n (inl is) here up =
+    no_parent t key none n (ap (hangs_in t) is ∙ and_left (hangs_in t m) (list_all (hangs_in t) ms) hang) here up
+no_parents t key none (m ∷ ms) hang n (inr on) here up = no_parents t key none ms (and_right (hangs_in t m) (list_all (hangs_in t) ms) hang) n on here up
+
+-- ---- buffers
+
+-- what is not home is not home with one more node
+out_more : (strong weak : ℕ) (was more : Bool) → not (is_home strong weak was) ≡ true → not (is_home strong weak (was || more)) ≡ true
+out_more strong weak true more out = out
+out_more strong weak false false out = out
+out_more strong weak false true out = elim (either_way (strong == 0)) [
+  | inl e ↦ rw e refl
+  | inr e ↦ rw e refl
+]
+
+-- all stay, where all are kept
+keep_all : {A : Type 0} (keep : A → Bool) (xs : List A) → list_all keep xs ≡ true → filter keep xs ≡ xs
+keep_all keep [] all = refl
+keep_all keep (x ∷ xs) all = rw (and_left (keep x) (list_all keep xs) all) (ap (λ ys. x ∷ ys) (keep_all keep xs (and_right (keep x) (list_all keep xs) all)))
+
+-- a weaker test
+all_weaker : {A : Type 0} (p q : A → Bool) (xs : List A) → ((x : A) → p x ≡ true → q x ≡ true) → list_all p xs ≡ true → list_all q xs ≡ true
+all_weaker p q [] weaker all = refl
+all_weaker p q (x ∷ xs) weaker all = rw (weaker x (and_left (p x) (list_all p xs) all)) (all_weaker p q xs weaker (and_right (p x) (list_all p xs) all))
+
+-- with one more node no buffer goes home
+pub still_out : (handles : Handles) (c : Collection) (b : Node) → list_any (is_of b.key) c.nodes ≡ false → b.gone ≡ false →
+    list_all (λ (h : HeldPages). not (is_home_in handles c h.buffer)) c.held ≡ true →
+    given_back handles (record c { nodes = c.nodes ++ b ∷ [] }) ≡ record c { nodes = c.nodes ++ b ∷ [] }
+still_out handles c b fresh here out =
+    let strong : Member → Bool = λ m. is_live m && not m.weak in
+    let live : some_strong_live (members_of (c.nodes ++ b ∷ [])) ≡ (some_strong_live (members_of c.nodes) || some_strong_live (member_of (c.nodes ++ b ∷ []) b ∷ [])) =
+    ap some_strong_live (members_more c.nodes b fresh here) ∙ any-append strong (members_of c.nodes) (member_of (c.nodes ++ b ∷ []) b ∷ []) in
+    let out' = all_weaker (λ (h : HeldPages). not (is_home_in handles c h.buffer)) (λ (h : HeldPages). not (is_home_in handles (record c { nodes = c.nodes ++ b ∷ [] }) h.buffer)) c.held
+    (λ h e. ap (λ l. not (is_home (handles h.buffer Strength.Strong) (handles h.buffer Strength.Weak) l)) live
+    ∙ out_more (handles h.buffer Strength.Strong) (handles h.buffer Strength.Weak) (some_strong_live (members_of c.nodes)) (some_strong_live (member_of (c.nodes ++ b ∷ []) b ∷ [])) e) out in
+    λ i. record c { nodes = c.nodes ++ b ∷ []; held = keep_all (λ (h : HeldPages). not (is_home_in handles (record c { nodes = c.nodes ++ b ∷ [] }) h.buffer)) c.held out' i }
+
+-- a node that is born is not gone
+born_here : (above : Option Node) (attached : Bool) (id event client : ℕ) (key : NodeKey) → (born above attached id event client key).gone ≡ false
+born_here None attached id event client key = refl
+born_here (Some above) attached id event client key = refl
+
+-- ---- the birth
+
+module _ (t now : Table Node) (ss : List Shelf) (ok : IsKept t ss) (id : ℕ) (parent : Option NodeKey) (attached : Bool) (client event : ℕ) (above : Option Node) (at : Above t ss id parent above) (key : NodeKey) (bears : Bears t now (born above attached id event client key))
+    (handles : Handles) (still : IsStill t handles (collection_or_new (forest_of t ss) id)) where
+  abbrev c0 : Collection
+  c0 = collection_or_new (forest_of t ss) id
+
+  abbrev node : Node
+  node = born above attached id event client key
+
+  -- the collection then
+  abbrev after : Collection
+  after = with_birth parent attached client event key c0
+
+  grown_is : after ≡ record c0 { nodes = c0.nodes ++ node ∷ [] }
+  grown_is = born_is t now ss ok id parent attached client event above at key bears
+
+  own : node.key ≡ key
+  own = key_is t now ss ok id parent attached client event above at key bears
+
+  fresh : list_any (is_of key) c0.nodes ≡ false
+  fresh = subst (λ (k : NodeKey). list_any (is_of k) c0.nodes ≡ false) own (born_fresh t now ss ok id parent attached client event above at key bears)
+
+  others : HaveOthers c0.nodes key
+  others = no_parents t key (ap (node_at t) (sym own) ∙ bears.none) c0.nodes still.parents
+
+  -- no pages go back
+  stays : given_back handles after ≡ after
+  stays = ap (given_back handles) grown_is
+      ∙ still_out handles c0 node (born_fresh t now ss ok id parent attached client event above at key bears) (born_here above attached id event client key) still.out
+      ∙ sym grown_is
+
+  -- nothing is forced
+  pub quiet_finishes : (pool : ℕ) → Finishes pool handles t ss now (put_shelf (shelf_by (born_collection t now ss ok id parent attached client event above at key bears)) ss) after
+  quiet_finishes pool = record {
+    after = after;
+    settles = birth_settles pool handles (beside (forest_of t ss) after.id) c0 (still.rest pool (beside (forest_of t ss) after.id)) parent attached client event key fresh others;
+    collections = put-map now (shelf_by (born_collection t now ss ok id parent attached client event above at key bears)) ss
+        ∙ (λ i. put (born_shown t now ss ok id parent attached client event above at key bears i) (still_collections t now node bears ss ok.filed i))
+        ∙ ap (λ c. put c (map (collection_in t) ss)) (sym (stays ∙ grown_is));
+    rests =
+        let behind = beside (forest_of now (put_shelf (shelf_by (born_collection t now ss ok id parent attached client event above at key bears)) ss)) after.id in
+        ap (λ c. forced pool (standing handles behind c)) stays
+        ∙ births_force_nothing pool handles behind c0 (still.rest pool behind) parent attached client event key fresh others;
+  }
+
+  -- the shelf that showed the collection, with the key behind, shows it with the node
+  shelf_is : (d : Collection) → d ≡ c0 → shelf_with (shelf_by d) key ≡ shelf_by (born_collection t now ss ok id parent attached client event above at key bears)
+  shelf_is d is =
+      ap (λ (x : Collection). shelf_with (shelf_by x) key) is
+      ∙ λ i. record {
+        id = c0.id;
+        keys = sym (map-append (λ (n : Node). n.key) c0.nodes (node ∷ []) ∙ ap (λ (k : NodeKey). keys_in c0.nodes ++ k ∷ []) own) i;
+        buffers = c0.buffers;
+        held = c0.held;
+      }
+
+  module _ (d : Collection) (is : d ≡ c0) (behind : List Shelf) (placed : behind ≡ put_shelf (shelf_with (shelf_by d) key) ss) where
+    -- the shelves show the collection with the node
+    behind_is : behind ≡ put_shelf (shelf_by (born_collection t now ss ok id parent attached client event above at key bears)) ss
+    behind_is = placed ∙ ap (λ (s : Shelf). put_shelf s ss) (shelf_is d is)
+
+    -- nothing more is forced
+    pub quiet_ok : (pool : ℕ) → Finishes pool handles t ss now behind after
+    quiet_ok pool = subst (λ (b : List Shelf). Finishes pool handles t ss now b after) (sym behind_is) (quiet_finishes pool)
+
+    -- all that holds of forests holds
+    pub quiet_kept : IsKept now behind
+    quiet_kept = subst (IsKept now) (sym behind_is) (born_kept t now ss ok id parent attached client event above at key bears)
+
+    -- the pages stay
+    pub quiet_held : all_held (forest_of now behind) ≡ all_held (forest_of t ss)
+    quiet_held = ap (λ (b : List Shelf). all_held (forest_of now b)) behind_is ∙ born_held t now ss ok id parent attached client event above at key bears

@@ -1,0 +1,205 @@
+-- A node that is taken out of the table, with its children cut.
+use Rattle.std.proofs.Common.{◌≡◌, ℕ, suc, ◌+◌, ◌-◌, ◌<◌, ◌≤◌, nat_lt, slice_index_or, Bool, true, false, not, List, [], ◌∷◌, length, get_or, Option, Some, None, option_map, is_some, IsSome, Contains, cond, if◌then◌else◌, refl, sym, ap, subst, ◌∙◌, inl, inr, arith}
+use Rattle.std.specs.List.{slice_get}
+use Rattle.std.specs.Option.{MatchOption}
+use Rattle.std.proofs.lemmas.Option.{slice_get-get_or}
+use Rattle.std.proofs.lemmas.List.{get_or_past}
+use Rattle.sm_names.specs.declared.keys.NodeKey.{NodeKey}
+use Rattle.sm_names.specs.Sameness.{same_key}
+use Rattle.node_table.specs.Table.{Row, Table, row_at, node_at, parent_at, parent_in, children_at, children_in, table_len}
+use Rattle.node_table.specs.Changes.{Cuts, Removes, SameKeys, at_parent, without_child, without_parent}
+use Rattle.node_table.specs.Forest.{IsForest}
+use Rattle.node_table.proofs.Keys.{key_cases, same_key-true, same_key-false}
+use Rattle.node_table.proofs.Lists.{without, without_lacks}
+use Rattle.alloc_event.specs.declared.node.Node.{Node}
+use Rattle.alloc_event.specs.Forest.{SameKeys as SameForest}
+use Rattle.alloc_event.specs.Forgetting.{IsChild, Unlinks, TakesOut}
+use Rattle.alloc_event.specs.Kept.{Shelf, forest_of, TakesOut as Leaves}
+
+-- the node of a row
+abbrev node_in : Option (Row Node) → Option Node
+node_in o = option_map (λ (row : Row Node). row.node) o
+
+-- tables that gave the same keys begin at the same generation
+pub same_first : (t now : Table Node) → SameKeys t now → now.first ≡ t.first
+same_first t now keys =
+    let far = length t.nexts + length now.nexts in
+    sym (get_or_past now.nexts far now.first (omega arith)) ∙ keys.nexts far ∙ get_or_past t.nexts far t.first (omega arith)
+
+-- the keys that one table gave, and a second, and a third
+pub SameKeys-trans : (a b c : Table Node) → SameKeys a b → SameKeys b c → SameKeys a c
+SameKeys-trans a b c one two = record {
+  given = λ key. two.given key ∙ one.given key;
+  nexts = λ slot. two.nexts slot ∙ one.nexts slot;
+  limit = two.limit ∙ one.limit;
+}
+
+-- a table gave the same keys as itself
+pub SameKeys-refl : (t : Table Node) → SameKeys t t
+SameKeys-refl t = record { given = λ key. refl; nexts = λ slot. refl; limit = refl }
+
+-- a row keeps its node where its parent is taken
+unparented : (o : Option (Row Node)) → node_in (option_map without_parent o) ≡ node_in o
+unparented None = refl
+unparented (Some row) = refl
+
+-- and where it loses a child
+still_node : (parent : Option NodeKey) (key other : NodeKey) (o : Option (Row Node)) → node_in (option_map (at_parent parent (without_child key) other) o) ≡ node_in o
+still_node None key other None = refl
+still_node None key other (Some row) = refl
+still_node (Some above) key other None = refl
+still_node (Some above) key other (Some row) =
+    elim (same_key above other) as (λ b. Some (cond b (without_child key row) row).node ≡ Some row.node) [ true ↦ refl | false ↦ refl ]
+
+-- a cut changes no node
+pub cut_look : (t now : Table Node) (key : NodeKey) → Cuts t now key → (k : NodeKey) → node_at now k ≡ node_at t k
+cut_look t now key cuts k = elim (key_cases k key) [
+  | inl same ↦ subst (λ (x : NodeKey). node_at now x ≡ node_at t x) (sym same) (ap node_in cuts.loose ∙ unparented (row_at t key))
+  | inr other ↦ ap node_in (cuts.others k other) ∙ still_node (parent_at t key) key k (row_at t k)
+]
+
+-- the parent is in a row that is there
+row_of_parent : (o : Option (Row Node)) (parent : NodeKey) → parent_in o ≡ Some parent → IsSome o
+row_of_parent None parent is = absurd (cc)
+row_of_parent (Some row) parent is = refl
+
+-- a key that is told
+Some-inj : (a b : NodeKey) → Some a ≡ Some b → a ≡ b
+Some-inj a b e = cc
+
+-- a child is there
+pub child_there : (t : Table Node) (parent child : NodeKey) → IsChild t parent child → IsSome (row_at t child)
+child_there t parent child is = row_of_parent (row_at t child) parent is.parent_is
+
+-- the last-born child is a child
+pub is_child : (t : Table Node) (parent child : NodeKey) → IsForest t → Contains (children_at t parent) child → IsChild t parent child
+is_child t parent child forest listed =
+    let up : parent_at t child ≡ Some parent = (forest.linked parent child).1 listed in
+    record {
+      listed = listed;
+      parent_is = up;
+      other = λ same. let deep = subst (λ (x : NodeKey). parent_at t x ≡ Some parent) same up in
+          let low = forest.deeper parent parent deep in omega (arith, low);
+    }
+
+-- the last of the keys is one of them
+last_is : (xs : List NodeKey) (o : Option NodeKey) → o ≡ slice_get xs (length xs - 1) → MatchOption o (xs ≡ []) (λ k. Contains xs k)
+last_is [] None told = refl
+last_is (x ∷ xs) None told =
+    let some = told ∙ slice_get-get_or (x ∷ xs) (length (x ∷ xs) - 1) x (omega arith) in absurd (cc)
+last_is [] (Some k) told = absurd (cc)
+last_is (x ∷ xs) (Some k) told =
+    let at : ℕ = length (x ∷ xs) - 1 in
+    let same : k ≡ get_or (x ∷ xs) at k = Some-inj k (get_or (x ∷ xs) at k) (told ∙ slice_get-get_or (x ∷ xs) at k (omega arith)) in
+    (at, omega arith, sym same)
+
+-- the last of the children is one of them, if there are any
+pub last_child_is : (t : Table Node) (key : NodeKey) → IsForest t → (xs : List NodeKey) → xs ≡ children_at t key → (o : Option NodeKey) → o ≡ slice_get xs (length xs - 1) → MatchOption o (children_at t key ≡ []) (IsChild t key)
+last_child_is t key forest xs is None told = sym is ∙ last_is xs None told
+last_child_is t key forest xs is (Some k) told = is_child t key k forest (subst (λ (l : List NodeKey). Contains l k) is (last_is xs (Some k) told))
+
+-- the children of the row without one
+fewer : (key child : NodeKey) (o : Option (Row Node)) → children_in (option_map (at_parent (Some key) (without_child child) key) o) ≡ without child (children_in o)
+fewer key child None = refl
+fewer key child (Some row) = rw (same_key-true key key refl) refl
+
+-- a list is no longer without a key
+without-shorter : (key : NodeKey) (keys : List NodeKey) → length (without key keys) ≤ length keys
+without-shorter key [] = omega arith
+without-shorter key (k ∷ ks) = elim (same_key key k) as (λ b. length (cond (not b) (k ∷ without key ks) (without key ks)) ≤ suc (length ks)) [
+  | true ↦ omega (arith, without-shorter key ks)
+  | false ↦ omega (arith, without-shorter key ks)
+]
+
+-- by whether the first is the key
+without-fewer-by : (key k : NodeKey) (ks : List NodeKey) (same : Bool) → same_key key k ≡ same → (cond (not same) (k ∷ without key ks) (without key ks) ≡ k ∷ ks → ⊥) → ((without key ks ≡ ks → ⊥) → length (without key ks) < length ks) → length (cond (not same) (k ∷ without key ks) (without key ks)) < suc (length ks)
+without-fewer-by key k ks true is other on = omega (arith, without-shorter key ks)
+without-fewer-by key k ks false is other on =
+    let less = on (λ same. other (ap (λ (l : List NodeKey). k ∷ l) same)) in omega (arith, less)
+
+-- a list that is another without a key is shorter
+without-fewer : (key : NodeKey) (keys : List NodeKey) → (without key keys ≡ keys → ⊥) → length (without key keys) < length keys
+without-fewer key [] other = absurd (other refl)
+without-fewer key (k ∷ ks) other = without-fewer-by key k ks (same_key key k) refl other (without-fewer key ks)
+
+-- a cut leaves fewer children
+pub cut_fewer : (t now : Table Node) (key child : NodeKey) → IsChild t key child → Cuts t now child → length (children_at now key) < length (children_at t key)
+cut_fewer t now key child is cuts =
+    let parent : parent_at t child ≡ Some key = is.parent_is in
+    let left : children_at now key ≡ without child (children_at t key) =
+    ap children_in (cuts.others key (λ same. is.other (sym same)))
+    ∙ ap (λ p. children_in (option_map (at_parent p (without_child child) key) (row_at t key))) parent
+    ∙ fewer key child (row_at t key) in
+    let less = without-fewer child (children_at t key) (λ same. without_lacks child (children_at t key)
+    (subst (λ (l : List NodeKey). Contains l child) (sym same) is.listed)) in
+    omega (arith, ap length left, less)
+
+-- what was cut so far
+pub record CutsOff (old new : Table Node) : Type 0 where
+  pub look : (k : NodeKey) → node_at new k ≡ node_at old k
+  pub keys : SameKeys old new
+  pub len : table_len new ≡ table_len old
+
+-- nothing so far
+pub CutsOff-none : (t : Table Node) → CutsOff t t
+CutsOff-none t = record { look = λ k. refl; keys = SameKeys-refl t; len = refl }
+
+-- one more
+pub CutsOff-more : (t u now : Table Node) (key : NodeKey) → CutsOff t u → Cuts u now key → CutsOff t now
+CutsOff-more t u now key off cuts = record {
+  look = λ k. cut_look u now key cuts k ∙ off.look k;
+  keys = SameKeys-trans t u now off.keys cuts.keys;
+  len = cuts.len ∙ off.len;
+}
+
+-- all
+pub CutsOff-all : (t now : Table Node) (key : NodeKey) → CutsOff t now → children_at now key ≡ [] → Unlinks t now key
+CutsOff-all t now key off leaf = record { leaf = leaf; look = off.look; keys = off.keys; len = off.len }
+
+-- by the row
+row_there-by : (o : Option (Row Node)) → IsSome (node_in o) → IsSome o
+row_there-by None h = absurd (cc)
+row_there-by (Some row) h = refl
+
+-- a node that is there has its row still
+pub unlinked_there : (t now : Table Node) (key : NodeKey) → Unlinks t now key → IsSome (node_at t key) → IsSome (row_at now key)
+unlinked_there t now key un there = row_there-by (row_at now key) (ap is_some (un.look key) ∙ there)
+
+-- the look-up of a table from which a node was removed
+removed_look : (t now : Table Node) (key : NodeKey) (n : Node) → Removes t now key n → (k : NodeKey) → node_at now k ≡ (if same_key key k then None else node_at t k)
+removed_look t now key n removes k = elim (key_cases k key) [
+  | inl same ↦ rw (same_key-true key k (sym same)) (ap node_in (ap (row_at now) same ∙ removes.gone))
+  | inr other ↦ rw (same_key-false key k (λ same. other (sym same)))
+      (ap node_in (removes.others k other) ∙ still_node (parent_at t key) key k (row_at t k))
+]
+
+-- a node is taken out once it has no child
+pub takes_out : (t u now : Table Node) (key : NodeKey) (n : Node) → IsSome (node_at t key) → Unlinks t u key → Removes u now key n → TakesOut t now key
+takes_out t u now key n was un removes = record {
+  was = was;
+  look = λ k. removed_look u now key n removes k ∙ ap (λ (o : Option Node). if same_key key k then None else o) (un.look k);
+  keys = SameKeys-trans t u now un.keys removes.keys;
+  shorter = removes.shorter ∙ un.len;
+}
+
+-- forests of two tables that gave the same keys tell of the same keys
+pub SameKeys-shown : (t now : Table Node) (ss after : List Shelf) → t.first ≡ 0 → SameKeys t now → SameForest (forest_of t ss) (forest_of now after)
+SameKeys-shown t now ss after first keys = record {
+  limit = keys.limit;
+  keys = λ key.
+      let zero : now.first ≡ 0 = same_first t now keys ∙ first in
+      let same : slice_index_or now.nexts key.slot 0 ≡ slice_index_or t.nexts key.slot 0 =
+      ap (slice_index_or now.nexts key.slot) (sym zero) ∙ keys.nexts key.slot ∙ ap (slice_index_or t.nexts key.slot) first in
+      ap (nat_lt key.generation) same;
+}
+
+-- what was taken out, with the node that it was
+pub taken : (t now : Table Node) (key : NodeKey) (node : Node) → TakesOut t now key → node_at t key ≡ Some node → Leaves t now key node
+taken t now key node out was = record {
+  was = was;
+  look = out.look;
+  given = out.keys.given;
+  first = same_first t now out.keys;
+  limit = out.keys.limit;
+  shorter = out.shorter;
+}

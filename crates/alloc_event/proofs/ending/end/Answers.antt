@@ -1,0 +1,27 @@
+use Rattle.std.proofs.Common.{◌≡◌, ◌<◌, ◌∙◌, ◌||◌, ap, Bool, map, length, get_or, arith, refl}
+use Rattle.std.proofs.lemmas.List.{get_or_default}
+use Rattle.alloc_event.specs.declared.node.Node.{Node}
+use Rattle.alloc_event.specs.Nodes.{ended}
+use Rattle.alloc_event.specs.Questions.{is_below}
+use Rattle.alloc_event.proofs.InPlace.{map_step}
+use Rattle.alloc_event.proofs.Links.{below_by_links, link_of, map-kept_part}
+use Rattle.alloc_event.proofs.ending.end.Goals as goal
+
+-- the nodes so far have the links that they had
+pub loop-at-preserved : goal.loop-at-preserved
+loop-at-preserved c =
+    let first : Node = get_or c.loop-at.nodes c.loop-at.at c.index-nodes-at.result in
+    let x : Node = get_or c.loop-at.nodes c.loop-at.at c.index-nodes-at-in-loop-at.result in
+    let within : c.loop-at.at < length c.loop-at.nodes = omega arith in
+    let same : first ≡ x = get_or_default c.loop-at.nodes c.loop-at.at _ _ within in
+    let old = c.args.nodes.now in
+    let f : Node → Node = ended old c.args.top in
+    let links : map link_of c.loop-at.nodes ≡ map link_of old =
+    ap (map link_of) c.loop-at.invariant ∙ map-kept_part f link_of old c.loop-at.at (λ n. refl) in
+    let taken : c.is_under-taken.result ≡ is_below old c.args.top x.key =
+    c.is_under-taken.ensures
+    ∙ (below_by_links c.loop-at.nodes old c.args.top first.key links
+    ∙ ap (λ (n : Node). is_below old c.args.top n.key) same) in
+    map_step f old c.loop-at.nodes c.loop-at.at c.index-nodes-at-in-loop-at.result _
+    (omega arith) c.loop-at.invariant c.index-nodes-at-in-loop-at.is
+    (c.leave.ensures ∙ ap (λ (b : Bool). record x { gone = b || x.gone }) taken)

@@ -1,0 +1,48 @@
+-- The scene was worked on beside the pages of the others, and is put back.
+use Rattle.buffer_holds.specs.Counts.{total}
+use Rattle.alloc_event.specs.Forest.{beside}
+use Rattle.alloc_event.specs.Kept.{shelf_in, shelves_of, forest_of}
+use Rattle.alloc_event.specs.Scenes.{collection_of}
+use Rattle.alloc_event.proofs.Finished.{back_places, finished-collections, finished-kept, finished-pool}
+use Rattle.alloc_event.proofs.Pools.{pool_beside}
+use Rattle.alloc_event.proofs.finish.finish.Goals as goal
+
+pub give_back-requires : goal.give_back-requires
+give_back-requires c =
+    (beside (forest_of c.args.table.now (shelves_of c.args.entries.now.items)) c.args.scene.id, c.in_ok-settle_scene.ensures.pool _ (pool_beside c.args.pool.now.held c.args.table.now (shelf_in c.args.scene) (shelves_of c.args.entries.now.items) c.requires.rising c.part.ensures c.requires.pool))
+
+pub store-requires-clause-places : goal.store-requires-clause-places
+store-requires-clause-places c =
+    let s = c.in_ok-settle_scene.ensures in
+    rw c.deref-2.ensures.value (back_places (total c.args.holds.now) c.args.table.now (shelves_of c.args.entries.now.items) c.args.scene c.settle_scene.new.scene c.give_back.new.scene
+    c.requires.kept c.requires.rising c.requires.own s.sound s.id s.frames c.give_back.ensures.scene)
+
+pub returns-clause-ok : goal.returns-clause-ok
+returns-clause-ok c =
+    let s = c.in_ok-settle_scene.ensures in
+    let placed = rw c.reserve.ensures.items at c.put_entry.ensures in
+    let keys = rw c.deref.ensures.value at c.in-Ok.ensures in
+    record {
+      after = collection_of c.settle_scene.new.scene;
+      settles = s.settles _ (pool_beside c.args.pool.now.held c.args.table.now (shelf_in c.args.scene) (shelves_of c.args.entries.now.items) c.requires.rising c.part.ensures c.requires.pool);
+      collections = rw placed (finished-collections (total c.args.holds.now) c.args.table.now (shelves_of c.args.entries.now.items) c.args.scene c.settle_scene.new.scene c.give_back.new.scene
+          c.requires.kept c.requires.rising c.requires.own s.sound s.id s.frames c.give_back.ensures.scene c.store.new.table (rw c.deref-2.ensures.value at c.store.ensures) c.in-Ok.keys.items keys);
+      rests = s.rests _;
+    }
+
+pub returns-clause-kept : goal.returns-clause-kept
+returns-clause-kept c =
+    let s = c.in_ok-settle_scene.ensures in
+    let placed = rw c.reserve.ensures.items at c.put_entry.ensures in
+    let keys = rw c.deref.ensures.value at c.in-Ok.ensures in
+    rw placed (finished-kept (total c.args.holds.now) c.args.table.now (shelves_of c.args.entries.now.items) c.args.scene c.settle_scene.new.scene c.give_back.new.scene
+    c.requires.kept c.requires.rising c.requires.own s.sound s.id s.frames c.give_back.ensures.scene c.store.new.table (rw c.deref-2.ensures.value at c.store.ensures) c.in-Ok.keys.items keys)
+
+pub returns-clause-pool : goal.returns-clause-pool
+returns-clause-pool c =
+    let s = c.in_ok-settle_scene.ensures in
+    let placed = rw c.reserve.ensures.items at c.put_entry.ensures in
+    let keys = rw c.deref.ensures.value at c.in-Ok.ensures in
+    rw placed (finished-pool (total c.args.holds.now) c.args.table.now (shelves_of c.args.entries.now.items) c.args.scene c.settle_scene.new.scene c.give_back.new.scene
+    c.requires.kept c.requires.rising c.requires.own s.sound s.id s.frames c.give_back.ensures.scene c.store.new.table (rw c.deref-2.ensures.value at c.store.ensures) c.in-Ok.keys.items keys
+    c.give_back.new.pool.held c.part-2.ensures (c.give_back.ensures.pool _ (s.pool _ (pool_beside c.args.pool.now.held c.args.table.now (shelf_in c.args.scene) (shelves_of c.args.entries.now.items) c.requires.rising c.part.ensures c.requires.pool))))

@@ -1,0 +1,36 @@
+-- The entry has no node, and is removed.
+use Rattle.std.proofs.Common.{◌≡◌, Some, false, sym, ◌∙◌, ap, arith}
+use Rattle.std.specs.Option.{option_map_or}
+use Rattle.std.proofs.lemmas.Bool.{false≢true}
+use Rattle.alloc_event.specs.Forest.{Forest, collection_at, is_left}
+use Rattle.alloc_event.specs.Kept.{place_in, shelves_of}
+use Rattle.alloc_event.proofs.Emptying.{remove_shelf, collections_beside, kept-beside, left_none}
+use Rattle.alloc_event.proofs.Entries.{place_is, none_in}
+use Rattle.alloc_event.proofs.Showing.{collection_none}
+use Rattle.alloc_event.proofs.forest.Forest.forget_collection.Goals as goal
+
+pub remove-requires : goal.remove-requires
+remove-requires c =
+    let told : place_in c.args.id c.self.inside.entries.items ≡ Some c.in-Some.at = sym (rw c.deref.ensures.value at c.place_of.ensures) ∙ c.in-Some.is in
+    omega (arith, (place_is c.args.id c.self.inside.entries.items c.in-Some.at told).within)
+
+pub invariant_of-self : goal.invariant_of-self
+invariant_of-self c =
+    let told : place_in c.args.id c.self.inside.entries.items ≡ Some c.in-Some.at = sym (rw c.deref.ensures.value at c.place_of.ensures) ∙ c.in-Some.is in
+    let same = ap shelves_of c.remove.ensures.items ∙ remove_shelf c.args.id c.self.inside.entries.items c.in-Some.at c.self.invariant.rising told in
+    let left = ap (λ (f : Forest). option_map_or is_left (collection_at f c.args.id) false) c.self.view_is ∙ c.requires in
+    rw same (kept-beside c.self.inside.table c.args.id (shelves_of c.self.inside.entries.items) c.self.invariant
+    (left_none c.self.inside.table c.args.id (shelves_of c.self.inside.entries.items) c.self.invariant.filed left))
+
+pub returns-in-Some-clause-collections : goal.returns-in-Some-clause-collections
+returns-in-Some-clause-collections c =
+    let told : place_in c.args.id c.self.inside.entries.items ≡ Some c.in-Some.at = sym (rw c.deref.ensures.value at c.place_of.ensures) ∙ c.in-Some.is in
+    let same = ap shelves_of c.remove.ensures.items ∙ remove_shelf c.args.id c.self.inside.entries.items c.in-Some.at c.self.invariant.rising told in
+    rw (same, ← c.self.view_is) (collections_beside c.self.inside.table c.args.id (shelves_of c.self.inside.entries.items))
+
+pub returns-in_default-clause-collections : goal.returns-in_default-clause-collections
+returns-in_default-clause-collections c =
+    let none = none_in c.args.id c.self.inside.entries.items (sym (rw c.deref.ensures.value at c.place_of.ensures) ∙ c.in_default.is) in
+    let no = collection_none c.self.inside.table c.self.inside.entries.items c.args.id none in
+    let left = ap (λ (f : Forest). option_map_or is_left (collection_at f c.args.id) false) c.self.view_is ∙ c.requires in
+    absurd (false≢true (sym (ap (λ o. option_map_or is_left o false) no) ∙ left))

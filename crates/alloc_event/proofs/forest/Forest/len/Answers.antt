@@ -1,0 +1,11 @@
+-- The table has as many nodes as there are keys.
+use Rattle.std.proofs.Common.{sym, ◌∙◌}
+use Rattle.alloc_event.specs.Kept.{shelves_of}
+use Rattle.alloc_event.proofs.Showing.{all_filed-length}
+use Rattle.alloc_event.proofs.forest.Forest.len.Goals as goal
+
+pub returns : goal.returns
+returns c =
+    rw (← c.self.view_is)
+    (c.len.ensures ∙ sym c.self.invariant.counted
+    ∙ sym (all_filed-length c.self.inside.table (shelves_of c.self.inside.entries.items) c.self.invariant.filed))

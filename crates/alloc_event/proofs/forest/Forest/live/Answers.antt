@@ -1,0 +1,10 @@
+-- The nodes of all collections are those of all keys.
+use Rattle.std.proofs.Common.{sym, ◌∙◌}
+use Rattle.alloc_event.specs.Kept.{shelves_of}
+use Rattle.alloc_event.proofs.Ordered.{live_in_order}
+use Rattle.alloc_event.proofs.forest.Forest.live.Goals as goal
+
+pub returns-in-Ok : goal.returns-in-Ok
+returns-in-Ok c =
+    let listed = rw c.deref.ensures.value at c.in-Ok.ensures in
+    rw (← c.self.view_is) (listed ∙ sym (live_in_order c.self.inside.table (shelves_of c.self.inside.entries.items)))

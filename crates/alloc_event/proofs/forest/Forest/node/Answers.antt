@@ -1,0 +1,10 @@
+-- The table has each node of the forest.
+use Rattle.std.proofs.Common.{sym, ◌∙◌}
+use Rattle.alloc_event.specs.Kept.{shelves_of}
+use Rattle.alloc_event.proofs.Showing.{node_is}
+use Rattle.alloc_event.proofs.forest.Forest.node.Goals as goal
+
+pub returns : goal.returns
+returns c =
+    rw (← c.self.view_is)
+    (c.copied.ensures ∙ c.get.ensures ∙ sym (node_is c.self.inside.table (shelves_of c.self.inside.entries.items) c.self.invariant c.args.key))

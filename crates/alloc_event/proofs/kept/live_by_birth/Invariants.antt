@@ -1,0 +1,13 @@
+use Rattle.std.proofs.Common.{◌≡◌, map, take}
+use Rattle.std.specs.List.{filter}
+use Rattle.alloc_event.specs.declared.node.Node.{Node}
+use Rattle.alloc_event.specs.Kept.{all_keys, nodes_with, shelves_of, is_live}
+use Rattle.alloc_event.proofs.kept.live_by_birth.Given as goal
+
+-- so far the live nodes of these entries
+abbrev pub invariant-loop-entry : goal.invariant-loop-entry
+invariant-loop-entry l = l.nodes.items ≡ filter is_live (nodes_with l.table (all_keys (shelves_of (take l.entry-index l.entries))))
+
+-- so far the keys of these nodes
+abbrev pub invariant-loop-node : goal.invariant-loop-node
+invariant-loop-node l = l.keys.items ≡ map (λ (n : Node). n.key) (take l.node-index l.node-items)

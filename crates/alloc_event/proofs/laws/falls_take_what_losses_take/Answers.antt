@@ -1,0 +1,5 @@
+use Rattle.alloc_event.proofs.FallTies.{losses_by_fall}
+use Rattle.alloc_event.proofs.laws.falls_take_what_losses_take.Goals as goal
+
+pub returns : goal.returns
+returns c t nodes tied = losses_by_fall t nodes tied

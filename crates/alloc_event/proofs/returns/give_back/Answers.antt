@@ -1,0 +1,43 @@
+use Rattle.std.proofs.Common.{◌≡◌, ◌∙◌, ◌++◌, refl, sym, ap, Bool, not, inl, inr, List, [], ◌∷◌, map}
+use Rattle.std.specs.List.{filter}
+use Rattle.sm_names.specs.Members.{some_strong_live}
+use Rattle.sm_names.specs.Timelines.{HeldPages}
+use Rattle.sm_names.proofs.SamenessLaws.{either_way}
+use Rattle.buffer_holds.specs.Counts.{total}
+use Rattle.alloc_event.specs.declared.held.HeldBuffer.{HeldBuffer}
+use Rattle.alloc_event.specs.Decisions.{has_strong}
+use Rattle.alloc_event.specs.Forest.{Collection}
+use Rattle.alloc_event.specs.Nodes.{members_of}
+use Rattle.alloc_event.specs.Scenes.{by_page, collection_of, held_pages, is_out, pages_held}
+use Rattle.alloc_event.specs.Settling.{is_home_in}
+use Rattle.alloc_event.proofs.Forcing.{strong_tie}
+use Rattle.alloc_event.proofs.returns.give_back.Goals as goal
+
+-- a filter before a map or after it
+filter-map : {A B : Type 0} (keep : B → Bool) (f : A → B) (xs : List A) →
+    map f (filter (λ x. keep (f x)) xs) ≡ filter keep (map f xs)
+filter-map keep f [] = refl
+filter-map keep f (x ∷ xs) = elim (either_way (keep (f x))) [
+  | inl e ↦ rw e (ap (λ ys. f x ∷ ys) (filter-map keep f xs))
+  | inr e ↦ rw e (filter-map keep f xs)
+]
+
+pub returns-clause-scene : goal.returns-clause-scene
+returns-clause-scene c =
+    let it : Collection = collection_of c.args.scene.now in
+    let own : List HeldBuffer = c.args.scene.now.held.items in
+    let live : c.some_strong_live-strong_live.result ≡ some_strong_live (members_of it.nodes) =
+    c.some_strong_live-strong_live.ensures ∙ (ap has_strong c.deref.ensures.value ∙ sym (strong_tie it.nodes)) in
+    let held : map held_pages c.keep_out.new.held.items
+    ≡ filter (λ (h : HeldPages). not (is_home_in (total c.args.holds.now) it h.buffer)) it.held =
+    ap (map held_pages) (c.keep_out.ensures ∙ ap (λ (b : Bool). filter (is_out (total c.args.holds.now) b) own) live)
+    ∙ filter-map (λ (h : HeldPages). not (is_home_in (total c.args.holds.now) it h.buffer)) held_pages own in
+    λ i. record it { held = held i }
+
+pub returns-clause-pool : goal.returns-clause-pool
+returns-clause-pool c others beside =
+    let out : HeldBuffer → Bool = is_out (total c.args.holds.now) c.some_strong_live-strong_live.result in
+    c.return_pages.ensures.held others (beside
+    ∙ ap (λ (l : List HeldBuffer). by_page (pages_held l ++ others)) (sym c.deref-2.ensures.value))
+    ∙ (ap (λ (l : List HeldBuffer). by_page (pages_held (filter out l) ++ others)) c.deref-2.ensures.value
+    ∙ ap (λ (l : List HeldBuffer). by_page (pages_held l ++ others)) (sym c.keep_out.ensures))

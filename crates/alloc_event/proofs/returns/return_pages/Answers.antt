@@ -1,0 +1,49 @@
+use Rattle.std.proofs.Common.{ℕ, ◌≡◌, ◌<◌, ◌+◌, ◌∙◌, ◌++◌, ◌∷◌, refl, sym, ap, Bool, true, false, cond, List, length, take, drop, get_or, arith}
+use Rattle.std.specs.List.{filter}
+use Rattle.sm_names.specs.declared.keys.Interval.{Interval}
+use Rattle.buffer_holds.specs.Counts.{total}
+use Rattle.alloc_event.specs.declared.held.HeldBuffer.{HeldBuffer}
+use Rattle.alloc_event.specs.Scenes.{by_page, is_out, pages_held}
+use Rattle.alloc_event.proofs.Returned.{holds_one, kept_here, kept_past, one_returned}
+use Rattle.alloc_event.proofs.returns.return_pages.Goals as goal
+
+pub return_one-requires-clause-there : goal.return_one-requires-clause-there
+return_one-requires-clause-there c =
+    let i : ℕ = c.loop-buffer.buffer-index in
+    let all : List HeldBuffer = c.args.held.now in
+    let out : HeldBuffer → Bool = is_out (total c.args.holds.now) c.args.strong_live in
+    let d : HeldBuffer = record { buffer = record { collection = 0; index = 0 }; start = 0; pages = 0 } in
+    let within : i < length all = omega arith in
+    let others : List Interval = c.requires.0 in
+    holds_one c.loop-buffer.pool.held (filter out (take i all)) (drop (i + 1) all) (get_or all i d) others
+    (c.loop-buffer.invariant.held others c.requires.1
+    ∙ ap (λ (l : List HeldBuffer). by_page (pages_held l ++ others)) (kept_here out all i d within))
+
+pub loop-buffer-preserved : goal.loop-buffer-preserved
+loop-buffer-preserved c =
+    let i : ℕ = c.loop-buffer.buffer-index in
+    let all : List HeldBuffer = c.args.held.now in
+    let out : HeldBuffer → Bool = is_out (total c.args.holds.now) c.args.strong_live in
+    let d : HeldBuffer = record { buffer = record { collection = 0; index = 0 }; start = 0; pages = 0 } in
+    let within : i < length all = omega arith in
+    record {
+      sound = c.return_one.ensures.sound;
+      size = c.return_one.ensures.size ∙ c.loop-buffer.invariant.size;
+      held = λ others beside.
+          let holds : c.loop-buffer.pool.held
+          ≡ by_page (pages_held (filter out (take i all) ++ get_or all i d ∷ drop (i + 1) all) ++ others) =
+          c.loop-buffer.invariant.held others beside
+          ∙ ap (λ (l : List HeldBuffer). by_page (pages_held l ++ others)) (kept_here out all i d within) in
+          c.return_one.ensures.held
+          ∙ ((λ j. cond (out (get_or all i d)) (holds j)
+          (one_returned c.loop-buffer.pool (filter out (take i all)) (drop (i + 1) all) (get_or all i d)
+          others c.loop-buffer.invariant.sound holds j))
+          ∙ (from (out (get_or all i d)) (filter out (take i all)) (drop (i + 1) all) (get_or all i d) others
+          ∙ ap (λ (l : List HeldBuffer). by_page (pages_held l ++ others)) (sym (kept_past out all i d within))));
+    }
+  where
+    from : (b : Bool) (front rest : List HeldBuffer) (h : HeldBuffer) (others : List Interval) →
+        cond b (by_page (pages_held (front ++ h ∷ rest) ++ others)) (by_page (pages_held (front ++ rest) ++ others))
+        ≡ by_page (pages_held (cond b (front ++ h ∷ rest) (front ++ rest)) ++ others)
+    from true front rest h others = refl
+    from false front rest h others = refl

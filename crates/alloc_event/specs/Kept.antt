@@ -1,0 +1,178 @@
+-- How a forest lies in its table of nodes and its entries. No public clause cites this module.
+use Rattle.std.specs.Prelude.{◌≡◌, ℕ, ◌+◌, ◌<◌, Bool, true, false, ◌==◌, ◌&&◌, ◌||◌, not, nat_lt, ⊤, if◌then◌else◌, List, [], ◌∷◌, map, length, Option, Some, None, option_map, is_some}
+use Rattle.std.specs.List.{list_any, list_all, filter_map, flat_map, AllByRecursion}
+use Rattle.std.specs.Option.{option_map_or}
+use Rattle.sm_names.specs.declared.keys.NodeKey.{NodeKey}
+use Rattle.sm_names.specs.declared.outcomes.Buffers.{Buffers}
+use Rattle.sm_names.specs.Sameness.{same_key}
+use Rattle.sm_names.specs.Timelines.{HeldPages}
+use Rattle.node_table.specs.Table.{Table, node_at, was_given, table_len}
+use Rattle.alloc_event.specs.declared.change.Change.{Change}
+use Rattle.alloc_event.specs.declared.entry.Entry.{Entry}
+use Rattle.alloc_event.specs.declared.node.Node.{Node}
+use Rattle.alloc_event.specs.declared.scene.Scene.{Scene}
+use Rattle.sm_names.specs.Forced.{forced}
+use Rattle.alloc_event.specs.Forest.{Collection, Forest, beside}
+use Rattle.alloc_event.specs.Settling.{Handles, Settles, put, given_back, standing}
+use Rattle.alloc_event.specs.Nodes.{new_root, new_child}
+use Rattle.alloc_event.specs.Scenes.{held_pages, IsSound, has_tracker_room}
+
+-- a collection, with the keys of its nodes in their place
+pub record Shelf : Type 0 where
+  pub id : ℕ
+  pub keys : List NodeKey
+  pub buffers : Option Buffers
+  pub held : List HeldPages
+
+-- what an entry keeps
+abbrev pub shelf_of : Entry → Shelf
+shelf_of e = record { id = e.id; keys = e.keys.items; buffers = e.buffers; held = map held_pages e.held.items }
+
+-- what the entries keep
+abbrev pub shelves_of : List Entry → List Shelf
+shelves_of es = map shelf_of es
+
+-- what is to be kept of a scene
+abbrev pub shelf_in : Scene → Shelf
+shelf_in scene = record {
+  id = scene.id;
+  keys = map (λ (n : Node). n.key) scene.nodes.items;
+  buffers = scene.buffers;
+  held = map held_pages scene.held.items;
+}
+
+-- the place of the first entry with this id
+abbrev pub place_in : ℕ → List Entry → Option ℕ
+place_in id [] = None
+place_in id (e ∷ es) = if e.id == id then Some 0 else option_map (λ n. n + 1) (place_in id es)
+
+-- each id is smaller than those behind it
+abbrev pub AreRising : List Shelf → Type 0
+AreRising [] = ⊤
+AreRising (s ∷ ss) = AllByRecursion (λ (later : Shelf). s.id < later.id) ss × AreRising ss
+
+-- the shelves by id, with this one in place of the one with its id
+abbrev pub put_shelf : Shelf → List Shelf → List Shelf
+put_shelf new [] = new ∷ []
+put_shelf new (s ∷ ss) =
+    let on : List Shelf = put_shelf new ss in
+    if s.id == new.id then new ∷ ss else (if nat_lt new.id s.id then new ∷ s ∷ ss else s ∷ on)
+
+-- the nodes with these keys
+abbrev pub nodes_with : Table Node → List NodeKey → List Node
+nodes_with t keys = filter_map (node_at t) keys
+
+-- the collection of a shelf
+abbrev pub collection_in : Table Node → Shelf → Collection
+collection_in t s = record { id = s.id; nodes = nodes_with t s.keys; buffers = s.buffers; held = s.held }
+
+-- the forest that the table and the shelves make
+abbrev pub forest_of : Table Node → List Shelf → Forest
+forest_of t ss = record { limit = t.limit; collections = map (collection_in t) ss; nexts = t.nexts }
+
+-- the keys of all shelves
+abbrev pub all_keys : List Shelf → List NodeKey
+all_keys ss = flat_map (λ (s : Shelf). s.keys) ss
+
+-- neither gone nor released
+abbrev pub is_live : Node → Bool
+is_live n = not n.gone && not n.released
+
+-- live and strong
+abbrev pub is_strong : Node → Bool
+is_strong n = is_live n && not n.weak
+
+-- no key stands twice
+abbrev pub are_apart : List NodeKey → Bool
+are_apart [] = true
+are_apart (k ∷ ks) = not (list_any (same_key k) ks) && are_apart ks
+
+-- the key has a node, which is of this collection
+abbrev pub is_filed : Table Node → ℕ → NodeKey → Bool
+is_filed t id key = option_map_or (λ (n : Node). n.collection == id) (node_at t key) false
+
+-- each key of each shelf has a node of it
+abbrev pub are_filed : Table Node → List Shelf → Bool
+are_filed t ss = list_all (λ (s : Shelf). list_all (is_filed t s.id) s.keys) ss
+
+-- what holds of the table and the shelves of each forest
+pub record IsKept (t : Table Node) (ss : List Shelf) : Type 0 where
+  pub first : t.first ≡ 0
+  pub rising : AreRising ss
+  pub apart : are_apart (all_keys ss) ≡ true
+  pub named : (key : NodeKey) (n : Node) → node_at t key ≡ Some n → n.key ≡ key
+  pub filed : are_filed t ss ≡ true
+  pub there : (key : NodeKey) (n : Node) → node_at t key ≡ Some n → list_any (same_key key) (all_keys ss) ≡ true
+  pub counted : length (all_keys ss) ≡ table_len t
+  -- what the forced steps ask of each collection
+  pub sound : AllByRecursion (λ (s : Shelf). IsSound (collection_in t s)) ss
+
+-- this node, where it has the key of the other
+abbrev pub written : Node → Node → Node
+written m n = if same_key m.key n.key then m else n
+
+-- the node as it is written last, or as it was
+abbrev pub stored : List Node → Node → Node
+stored [] n = n
+stored (m ∷ ms) n = stored ms (written m n)
+
+-- the two have the same limit and the same length, and gave the same keys
+pub record SameTable (old new : Table Node) : Type 0 where
+  pub first : new.first ≡ old.first
+  pub nexts : new.nexts ≡ old.nexts
+  pub limit : new.limit ≡ old.limit
+  pub len : table_len new ≡ table_len old
+
+-- the nodes are in their places, and nothing else changed
+pub record Stores (old new : Table Node) (nodes : List Node) : Type 0 where
+  pub look : (key : NodeKey) → node_at new key ≡ option_map (stored nodes) (node_at old key)
+  pub same : SameTable old new
+
+-- each node has a place
+abbrev pub have_places : Table Node → List Node → Bool
+have_places t nodes = list_all (λ (n : Node). is_some (node_at t n.key)) nodes
+
+-- each node is of this collection
+abbrev pub all_of : ℕ → List Node → Bool
+all_of id nodes = list_all (λ (n : Node). n.collection == id) nodes
+
+-- the forced steps that follow on this collection were made, and it was put back
+pub record Finishes (pool : ℕ) (handles : Handles) (old : Table Node) (before : List Shelf)
+    (new : Table Node) (behind : List Shelf) (c : Collection) : Type 0 where
+  pub after : Collection
+  pub settles : Settles pool handles (beside (forest_of old before) c.id) c after
+  pub collections : map (collection_in new) behind ≡ put (given_back handles after) (map (collection_in old) before)
+  pub rests : forced pool (standing handles (beside (forest_of new behind) c.id) (given_back handles after)) ≡ None
+
+-- a tracker that the change makes has room on its node
+abbrev pub has_room : Change → List Node → Bool
+has_room (Change.Effect call) nodes = list_all (has_tracker_room call) nodes
+has_room _ nodes = true
+
+-- the node that is born with this key: a child, or a root of the collection
+abbrev pub born : Option Node → Bool → ℕ → ℕ → ℕ → NodeKey → Node
+born None attached id event client key = new_root key id event client
+born (Some above) attached id event client key = new_child attached key event client above
+
+-- the key was given to no node before, and to this one now
+pub record Gives (old new : Table Node) (key : NodeKey) : Type 0 where
+  pub fresh : was_given old key ≡ false
+  pub given : (other : NodeKey) → was_given new other ≡ (same_key key other || was_given old other)
+  pub first : new.first ≡ old.first
+  pub limit : new.limit ≡ old.limit
+
+-- there is one more node, under a key that was given to none before
+pub record Bears (old new : Table Node) (node : Node) : Type 0 where
+  pub look : (key : NodeKey) → node_at new key ≡ (if same_key node.key key then Some node else node_at old key)
+  pub none : node_at old node.key ≡ None
+  pub gives : Gives old new node.key
+  pub len : table_len new ≡ table_len old + 1
+
+-- the table has this node no more, and all else still
+pub record TakesOut (old new : Table Node) (key : NodeKey) (node : Node) : Type 0 where
+  pub was : node_at old key ≡ Some node
+  pub look : (other : NodeKey) → node_at new other ≡ (if same_key key other then None else node_at old other)
+  pub given : (other : NodeKey) → was_given new other ≡ was_given old other
+  pub first : new.first ≡ old.first
+  pub limit : new.limit ≡ old.limit
+  pub shorter : table_len new + 1 ≡ table_len old

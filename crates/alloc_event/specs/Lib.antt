@@ -1,0 +1,12 @@
+pub mod Decisions
+pub mod Forest
+pub mod Forgetting
+pub mod Kept
+pub mod Moves
+pub mod Nodes
+pub mod Parted
+pub mod Questions
+pub mod Scenes
+pub mod Settling
+pub mod Still
+pub mod Ties

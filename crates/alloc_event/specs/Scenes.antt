@@ -1,0 +1,94 @@
+-- A collection that is taken out to be worked on, and what the forced steps ask of it and keep.
+use Rattle.std.specs.Prelude.{ℕ, ◌+◌, Bool, true, false, ◌||◌, ◌&&◌, not, nat_lt, nat_le, List, [], ◌∷◌, ◌++◌, map, drop, Option, None, ◌≡◌, is_none, is_some}
+use Rattle.std.specs.List.{list_any, list_all}
+use Rattle.std.specs.Option.{option_map_or}
+use Rattle.sm_names.specs.declared.keys.BufferName.{BufferName}
+use Rattle.sm_names.specs.declared.keys.Interval.{Interval}
+use Rattle.sm_names.specs.declared.keys.Strength.{Strength}
+use Rattle.sm_names.specs.declared.messages.Call.{Call}
+use Rattle.sm_names.specs.declared.outcomes.Buffers.{Buffers}
+use Rattle.sm_names.specs.Handles.{is_home}
+use Rattle.sm_names.specs.Sameness.{same_key}
+use Rattle.sm_names.specs.Timelines.{HeldPages}
+use Rattle.sm_names.specs.Words.{sorted_by}
+use Rattle.buffer_pool.specs.Holdings.{Holdings}
+use Rattle.alloc_event.specs.declared.held.HeldBuffer.{HeldBuffer}
+use Rattle.alloc_event.specs.declared.node.Node.{Node}
+use Rattle.alloc_event.specs.declared.scene.Scene.{Scene}
+use Rattle.alloc_event.specs.Forest.{Collection, pages_in}
+use Rattle.alloc_event.specs.Nodes.{is_of}
+
+-- the buffer with its pages, as the definitions see it
+abbrev pub held_pages : HeldBuffer → HeldPages
+held_pages h = record { buffer = h.buffer; pages = record { start = h.start; pages = h.pages } }
+
+-- the collection of the scene
+abbrev pub collection_of : Scene → Collection
+collection_of scene = record {
+  id = scene.id;
+  nodes = scene.nodes.items;
+  buffers = scene.buffers;
+  held = map held_pages scene.held.items;
+}
+
+-- the collection's buffer with this index
+abbrev pub name_of : ℕ → ℕ → BufferName
+name_of collection index = record { collection = collection; index = index }
+
+-- the collection's buffers from this index on, of so many pages each, at these starts
+abbrev pub laid : ℕ → ℕ → ℕ → List ℕ → List HeldBuffer
+laid collection pages index [] = []
+laid collection pages index (start ∷ starts) =
+    record { buffer = record { collection = collection; index = index }; start = start; pages = pages }
+    ∷ laid collection pages (index + 1) starts
+
+-- their pages
+abbrev pub pages_held : List HeldBuffer → List Interval
+pages_held held = map (λ (h : HeldPages). h.pages) (map held_pages held)
+
+-- the intervals in order of page
+abbrev pub by_page : List Interval → List Interval
+by_page is = sorted_by (λ (i : Interval). i.start) is
+
+-- the buffer is not home, by the open handles, and whether a strong node is live
+abbrev pub is_out : (BufferName → Strength → ℕ) → Bool → HeldBuffer → Bool
+is_out handles strong_live h = not (is_home (handles h.buffer Strength.Strong) (handles h.buffer Strength.Weak) strong_live)
+
+-- the pool holds the pages of the collection, these others, and no more
+abbrev pub IsPoolBeside : Holdings → Collection → List Interval → Type 0
+IsPoolBeside pool c others = pool.held ≡ sorted_by (λ i. i.start) (pages_in c ++ others)
+
+-- the pool held the pages of the one collection and some others, and holds those of the other one and the same others
+abbrev pub PoolFollows : Holdings → Holdings → Collection → Collection → Type 0
+PoolFollows before after old new = (others : List Interval) → IsPoolBeside before old others → IsPoolBeside after new others
+
+-- what no forced step changes of a node: the node, but for its unit's allocation and its leaving
+abbrev pub frame_of : Node → Node
+frame_of n = record n { allocated = false; gone = false; fault = None }
+
+-- no two of the nodes have one key
+abbrev pub are_distinct : List Node → Bool
+are_distinct [] = true
+are_distinct (n ∷ ns) = not (list_any (is_of n.key) ns) && are_distinct ns
+
+-- a root, or an attached node, heads its unit itself
+abbrev pub heads_itself : Node → Bool
+heads_itself n = not (is_none n.parent || n.attached) || same_key n.head n.key
+
+-- at most 64 buffers, if any
+abbrev pub given_few : Option Buffers → Bool
+given_few buffers = option_map_or (λ (b : Buffers). nat_le b.count 64) buffers true
+
+-- what holds of every collection
+pub record IsSound (c : Collection) : Type 0 where
+  pub distinct : are_distinct c.nodes ≡ true
+  pub heads : list_all heads_itself c.nodes ≡ true
+  -- only the first node may be a root
+  pub one_root : list_all (λ (n : Node). is_some n.parent) (drop 1 c.nodes) ≡ true
+  -- it was given at most 64 buffers
+  pub few : given_few c.buffers ≡ true
+
+-- the call makes no tracker on the node beyond 64
+abbrev pub has_tracker_room : Call → Node → Bool
+has_tracker_room (Call.TrackNode key) n = not (same_key key n.key) || nat_lt n.trackers 64
+has_tracker_room _ n = true

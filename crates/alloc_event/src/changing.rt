@@ -1,0 +1,317 @@
+//! Changes to a collection that is there, and the births of nodes.
+ghost use Rattle.std.specs.Prelude.{◌≡◌, false, true, None, Some, IfOk, IfSome, IsSome, OnOk, OnErr, option_copied, [], ◌∷◌, ◌++◌};
+ghost use Rattle.std.specs.Option.{option_and_then};
+ghost use Rattle.sm_names.specs.declared.keys.NodeKey.{NodeKey as Key};
+ghost use Rattle.node_table.specs.Table.{row_at, node_at};
+ghost use Rattle.node_table.specs.Changes.{Births};
+ghost use Rattle.alloc_event.specs.declared.node.Node.{Node as Kept};
+ghost use Rattle.buffer_holds.specs.Counts.{total};
+ghost use Rattle.alloc_event.specs.Forest.{IsPoolOf};
+ghost use Rattle.alloc_event.specs.Kept.{AreRising, IsKept, Bears, Gives, Finishes, SameTable, born, put_shelf, shelf_in, shelves_of, forest_of, has_room};
+ghost use Rattle.alloc_event.specs.Scenes.{collection_of};
+ghost use Rattle.alloc_event.specs.Settling.{MayChange, changed, with_birth, collection_or_new, is_birth, no_key};
+ghost use Rattle.alloc_event.specs.Still.{shelf_with};
+
+use crate::births::{new_child, new_root};
+use crate::change::Change;
+use crate::effects::affect;
+use crate::entry::{Entry, entry_of};
+use crate::finish::finish;
+use crate::losses::lose;
+use crate::node::Node;
+use crate::scene::Scene;
+use crate::still::is_still;
+use crate::store::{keys_of, load, put_entry, write};
+use buffer_holds::Holds;
+use buffer_pool::Pool;
+use node_table::NodeTable;
+use sm_names::{ClientId, CollectionId, Fault, NoMemory, NodeKey};
+use std::alloc::{AllocError, Global};
+
+/// Makes the change to the scene, if it is no birth.
+fn change_scene(scene: &mut Scene, change: &Change)
+    requires birth { is_birth change.now ≡ false }
+    requires room { has_room change.now scene.old.nodes.items ≡ true }
+    ensures { collection_of scene.new ≡ changed change.now no_key (collection_of scene.old) }
+{
+    match *change {
+        Change::Effect(call) => affect(&mut scene.nodes, &call),
+        Change::Loss(origin, cause) => lose(&mut scene.nodes, Fault { cause, origin }),
+        Change::Nothing => {}
+        Change::Birth { .. } => unreachable!(),
+    }
+}
+
+/// Makes a change to a collection that is there, and all that it forces. `NoMemory` leaves the
+/// table, the entries and the pool as they were.
+pub(crate) fn settle_change(
+    table: &mut NodeTable<Node>,
+    entries: &mut Vec<Entry>,
+    pool: &mut Pool,
+    holds: &Holds,
+    id: CollectionId,
+    change: &Change,
+) -> Result<(), NoMemory>
+    requires kept { IsKept table.old (shelves_of entries.old.items) }
+    requires change { MayChange (forest_of table.old (shelves_of entries.old.items)) id change.now }
+    requires birth { is_birth change.now ≡ false }
+    requires pool { IsPoolOf pool.old (forest_of table.old (shelves_of entries.old.items)) }
+    ensures ok { OnOk result (Finishes pool.old.size (total holds.now) table.old (shelves_of entries.old.items)
+        table.new (shelves_of entries.new.items)
+        (changed change.now no_key (collection_or_new (forest_of table.old (shelves_of entries.old.items)) id))) }
+    ensures kept { OnOk result (IsKept table.new (shelves_of entries.new.items)) }
+    ensures pool { OnOk result (IsPoolOf pool.new (forest_of table.new (shelves_of entries.new.items))) }
+    ensures size { pool.new.size ≡ pool.old.size }
+    ensures same { SameTable table.old table.new }
+    ensures err_table { OnErr result (table.new ≡ table.old) }
+    ensures err_entries { OnErr result (entries.new.items ≡ entries.old.items) }
+    ensures err_pool { OnErr result (pool.new ≡ pool.old) }
+{
+    let alloc = *entries.allocator();
+    let Some(entry) = entry_of(entries, id) else {
+        unreachable!();
+    };
+    let Ok(mut scene) = load(alloc, table, entry) else {
+        return Err(NoMemory);
+    };
+    change_scene(&mut scene, change);
+    finish(table, entries, pool, holds, scene)
+}
+
+/// The node that is born with this key: a child of `above`, or a root of the collection.
+fn newborn(
+    above: Option<&Node>,
+    attached: bool,
+    id: CollectionId,
+    event: u64,
+    client: ClientId,
+    key: NodeKey,
+) -> Node
+    ensures { result ≡ born (option_copied above.entry) attached id event client key }
+{
+    match above {
+        Some(above) => new_child(attached, key, event, client, above),
+        None => new_root(key, id, event, client),
+    }
+}
+
+/// Stores the node under a key that was never given.
+fn insert<N: Drop>(
+    table: &mut NodeTable<N>,
+    parent: Option<NodeKey>,
+    node: N,
+) -> Result<NodeKey, NoMemory>
+    requires { IfSome parent (λ p. IsSome (row_at table.old p)) }
+    ensures ok { IfOk result (Births table.old table.new parent node) }
+    ensures err { OnErr result (table.new ≡ table.old) }
+{
+    match table.insert(parent, node) {
+        Ok(key) => Ok(key),
+        Err(_) => Err(NoMemory),
+    }
+}
+
+/// Stores a copy of the node so.
+fn insert_copy(
+    table: &mut NodeTable<Node>,
+    parent: Option<NodeKey>,
+    node: &Node,
+) -> Result<NodeKey, NoMemory>
+    requires { IfSome parent (λ p. IsSome (row_at table.old p)) }
+    ensures ok { IfOk result (Births table.old table.new parent node.now) }
+    ensures err { OnErr result (table.new ≡ table.old) }
+{
+    insert(table, parent, Node { ..*node })
+}
+
+/// Adds the node behind the others.
+fn add(nodes: &mut Vec<Node>, node: &Node) -> Result<(), AllocError>
+    ensures { OnOk result (nodes.new.items ≡ nodes.old.items ++ node.now ∷ []) }
+{
+    nodes.push(Node { ..*node })?;
+    Ok(())
+}
+
+/// The node with the key, if there is one.
+fn above_in(table: &NodeTable<Node>, parent: Option<NodeKey>) -> Option<&Node>
+    ensures { option_copied result ≡ option_and_then (node_at table.now) parent }
+{
+    match parent {
+        Some(parent) => table.get(parent),
+        None => None,
+    }
+}
+
+/// One more node in the table, a child of this parent, which is `above`, or a root of the
+/// collection.
+fn bear(
+    table: &mut NodeTable<Node>,
+    id: CollectionId,
+    parent: Option<NodeKey>,
+    above: Option<&Node>,
+    attached: bool,
+    client: ClientId,
+    event: u64,
+) -> Result<NodeKey, NoMemory>
+    requires first { table.old.first ≡ 0 }
+    requires parent { IfSome parent (λ p. IsSome (row_at table.old p)) }
+    ensures ok { IfOk result (λ key. Bears table.old table.new
+        (born (option_copied above.entry) attached id event client key)) }
+    ensures err { OnErr result (table.new ≡ table.old) }
+{
+    let any = NodeKey {
+        slot: 0,
+        generation: 0,
+    };
+    let draft = newborn(above, attached, id, event, client, any);
+    let key = insert_copy(table, parent, &draft)?;
+    write(table, newborn(above, attached, id, event, client, key));
+    Ok(key)
+}
+
+/// The collection with this id as the forced steps work on it, without nodes if it is not there.
+fn load_or_new(
+    alloc: Global,
+    table: &NodeTable<Node>,
+    entries: &[Entry],
+    id: CollectionId,
+) -> Result<Scene, AllocError>
+    requires { AreRising (shelves_of entries.now) }
+    ensures { IfOk result (λ scene. collection_of scene ≡ collection_or_new (forest_of table.now (shelves_of entries.now)) id) }
+{
+    match entry_of(entries, id) {
+        Some(entry) => load(alloc, table, entry),
+        None => Ok(Scene {
+            id,
+            nodes: Vec::new(alloc),
+            buffers: None,
+            held: Vec::new(alloc),
+        }),
+    }
+}
+
+/// The birth of a node in the collection of this scene, and all that it forces, on a copy of the
+/// table. `NoMemory` leaves the table, the entries and the pool as they were.
+fn settle_newborn(
+    table: &mut NodeTable<Node>,
+    entries: &mut Vec<Entry>,
+    pool: &mut Pool,
+    holds: &Holds,
+    id: CollectionId,
+    parent: Option<NodeKey>,
+    attached: bool,
+    client: ClientId,
+    event: u64,
+    mut scene: Scene,
+) -> Result<NodeKey, NoMemory>
+    requires kept { IsKept table.old (shelves_of entries.old.items) }
+    requires change { MayChange (forest_of table.old (shelves_of entries.old.items)) id (Change.Birth parent attached client event) }
+    requires pool { IsPoolOf pool.old (forest_of table.old (shelves_of entries.old.items)) }
+    requires scene { collection_of scene ≡ collection_or_new (forest_of table.old (shelves_of entries.old.items)) id }
+    ensures ok { IfOk result (λ key. Finishes pool.old.size (total holds.now) table.old (shelves_of entries.old.items)
+        table.new (shelves_of entries.new.items)
+        (with_birth parent attached client event key (collection_or_new (forest_of table.old (shelves_of entries.old.items)) id))) }
+    ensures keys { IfOk result (λ key. Gives table.old table.new key) }
+    ensures kept { OnOk result (IsKept table.new (shelves_of entries.new.items)) }
+    ensures pool { OnOk result (IsPoolOf pool.new (forest_of table.new (shelves_of entries.new.items))) }
+    ensures size { pool.new.size ≡ pool.old.size }
+    ensures err_table { OnErr result (table.new ≡ table.old) }
+    ensures err_entries { OnErr result (entries.new.items ≡ entries.old.items) }
+    ensures err_pool { OnErr result (pool.new ≡ pool.old) }
+{
+    let Ok(mut next) = table.copy() else {
+        return Err(NoMemory);
+    };
+    let above = above_in(table, parent);
+    let key = bear(&mut next, id, parent, above, attached, client, event)?;
+    let node = newborn(above, attached, id, event, client, key);
+    let Ok(()) = add(&mut scene.nodes, &node) else {
+        return Err(NoMemory);
+    };
+    finish(&mut next, entries, pool, holds, scene)?;
+    *table = next;
+    Ok(key)
+}
+
+/// The birth of a node in the collection of this scene, where nothing else changes with it.
+/// `NoMemory` leaves the table and the entries as they were.
+fn bear_still(
+    table: &mut NodeTable<Node>,
+    entries: &mut Vec<Entry>,
+    id: CollectionId,
+    parent: Option<NodeKey>,
+    attached: bool,
+    client: ClientId,
+    event: u64,
+    scene: Scene,
+) -> Result<NodeKey, NoMemory>
+    requires kept { IsKept table.old (shelves_of entries.old.items) }
+    requires change { MayChange (forest_of table.old (shelves_of entries.old.items)) id (Change.Birth parent attached client event) }
+    requires scene { collection_of scene ≡ collection_or_new (forest_of table.old (shelves_of entries.old.items)) id }
+    ensures bears { IfOk result (λ key. Bears table.old table.new
+        (born (option_and_then (node_at table.old) parent) attached id event client key)) }
+    ensures entries { IfOk result (λ key. shelves_of entries.new.items
+        ≡ put_shelf (shelf_with (shelf_in scene) key) (shelves_of entries.old.items)) }
+    ensures err_table { OnErr result (table.new ≡ table.old) }
+    ensures err_entries { OnErr result (entries.new.items ≡ entries.old.items) }
+{
+    let alloc = *entries.allocator();
+    let Ok(mut keys) = keys_of(alloc, &scene.nodes) else {
+        return Err(NoMemory);
+    };
+    if keys.reserve(1).is_err() || entries.reserve(1).is_err() {
+        return Err(NoMemory);
+    }
+    let above = above_in(table, parent).copied();
+    let key = bear(table, id, parent, above.as_ref(), attached, client, event)?;
+    keys.push(key).unwrap();
+    put_entry(
+        entries,
+        Entry {
+            id: scene.id,
+            keys,
+            buffers: scene.buffers,
+            held: scene.held,
+        },
+    );
+    Ok(key)
+}
+
+/// The birth of a node, and all that it forces. `NoMemory` leaves the table, the entries and the
+/// pool as they were.
+pub(crate) fn settle_birth(
+    table: &mut NodeTable<Node>,
+    entries: &mut Vec<Entry>,
+    pool: &mut Pool,
+    holds: &Holds,
+    id: CollectionId,
+    parent: Option<NodeKey>,
+    attached: bool,
+    client: ClientId,
+    event: u64,
+) -> Result<NodeKey, NoMemory>
+    requires kept { IsKept table.old (shelves_of entries.old.items) }
+    requires change { MayChange (forest_of table.old (shelves_of entries.old.items)) id (Change.Birth parent attached client event) }
+    requires pool { IsPoolOf pool.old (forest_of table.old (shelves_of entries.old.items)) }
+    ensures ok { IfOk result (λ key. Finishes pool.old.size (total holds.now) table.old (shelves_of entries.old.items)
+        table.new (shelves_of entries.new.items)
+        (with_birth parent attached client event key (collection_or_new (forest_of table.old (shelves_of entries.old.items)) id))) }
+    ensures keys { IfOk result (λ key. Gives table.old table.new key) }
+    ensures kept { OnOk result (IsKept table.new (shelves_of entries.new.items)) }
+    ensures pool { OnOk result (IsPoolOf pool.new (forest_of table.new (shelves_of entries.new.items))) }
+    ensures size { pool.new.size ≡ pool.old.size }
+    ensures err_table { OnErr result (table.new ≡ table.old) }
+    ensures err_entries { OnErr result (entries.new.items ≡ entries.old.items) }
+    ensures err_pool { OnErr result (pool.new ≡ pool.old) }
+{
+    let alloc = *entries.allocator();
+    let Ok(scene) = load_or_new(alloc, table, entries, id) else {
+        return Err(NoMemory);
+    };
+    if is_still(table, &scene, holds) {
+        return bear_still(table, entries, id, parent, attached, client, event, scene);
+    }
+    settle_newborn(
+        table, entries, pool, holds, id, parent, attached, client, event, scene,
+    )
+}

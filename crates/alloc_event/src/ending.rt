@@ -1,0 +1,48 @@
+//! A collection or an attached subtree that ends, since no node of it is live.
+ghost use Rattle.std.specs.Prelude.{◌≡◌, ◌||◌};
+ghost use Rattle.std.specs.List.{find};
+ghost use Rattle.std.specs.Option.{option_map};
+ghost use Rattle.alloc_event.specs.Nodes.{after_end};
+ghost use Rattle.alloc_event.specs.Questions.{is_deserted_node};
+
+use crate::node::Node;
+use crate::questions::{is_under, some_live_under};
+use sm_names::NodeKey;
+
+/// Of the roots and attached nodes that are not gone, with no live node at or below them, the one
+/// that was born first. It ends. For each head of a unit it takes a walk over the nodes for each
+/// live one.
+pub fn ending(nodes: &[Node]) -> Option<NodeKey>
+    ensures { result ≡ option_map (λ n. n.key) (find (is_deserted_node nodes.now) nodes.now) }
+{
+    for node in nodes {
+        if is_deserted(nodes, node) {
+            return Some(node.key);
+        }
+    }
+    None
+}
+
+/// Whether the node is a root or attached, not gone, and no live node is at or below it.
+fn is_deserted(nodes: &[Node], node: &Node) -> bool
+    ensures { result ≡ is_deserted_node nodes.now node.now }
+{
+    (node.parent.is_none() || node.attached) && !node.gone && !some_live_under(nodes, node.key)
+}
+
+/// The top node leaves without a fault, and all below it. A walk for each node.
+pub fn end(nodes: &mut [Node], top: NodeKey)
+    ensures { nodes.new ≡ after_end top nodes.old }
+{
+    for at in 0..nodes.len() {
+        let taken = is_under(nodes, top, nodes[at].key);
+        leave(&mut nodes[at], taken);
+    }
+}
+
+/// The node leaves, if it is taken.
+fn leave(node: &mut Node, taken: bool)
+    ensures { node.new ≡ record node.old { gone = taken || node.old.gone } }
+{
+    node.gone = taken || node.gone;
+}

@@ -1,0 +1,51 @@
+//! A collection as it is kept, and the collections by their ids.
+ghost use Rattle.std.specs.Prelude.{◌≡◌, ◌==◌, nat_lt, option_copied};
+ghost use Rattle.std.specs.List.{prefix_len, find};
+ghost use Rattle.alloc_event.specs.Kept.{AreRising, place_in, shelves_of};
+
+use crate::held::HeldBuffer;
+use sm_names::{Buffers, CollectionId, NodeKey};
+
+/// A collection, with the keys of its nodes.
+#[derive(Drop)]
+pub(crate) struct Entry {
+    pub(crate) id: CollectionId,
+    /// The keys of the kept nodes, by birth.
+    pub(crate) keys: Vec<NodeKey>,
+    /// What it was given.
+    pub(crate) buffers: Option<Buffers>,
+    /// The buffers whose pages were not given back, by index.
+    pub(crate) held: Vec<HeldBuffer>,
+}
+
+/// How many collections have a smaller id.
+pub(crate) fn entries_before(entries: &[Entry], id: CollectionId) -> usize
+    requires { AreRising (shelves_of entries.now) }
+    ensures { result ≡ prefix_len (λ e. nat_lt e.id id) entries.now }
+{
+    entries.partition_point(|entry| entry.id < id)
+}
+
+/// Where the collection with this id stands.
+pub(crate) fn place_of(entries: &[Entry], id: CollectionId) -> Option<usize>
+    requires { AreRising (shelves_of entries.now) }
+    ensures { result ≡ place_in id entries.now }
+{
+    let at = entries_before(entries, id);
+    if at < entries.len() && entries[at].id == id {
+        Some(at)
+    } else {
+        None
+    }
+}
+
+/// The collection with this id.
+pub(crate) fn entry_of(entries: &[Entry], id: CollectionId) -> Option<&Entry>
+    requires { AreRising (shelves_of entries.now) }
+    ensures { option_copied result ≡ find (λ e. e.id == id) entries.now }
+{
+    match place_of(entries, id) {
+        Some(at) => entries.get(at),
+        None => None,
+    }
+}

@@ -1,0 +1,217 @@
+//! The forest: the collections with their nodes and buffers.
+ghost use Rattle.std.specs.Prelude.{◌≡◌, ℕ, [], false, true, None, IfOk, OnErr, OnOk, map, length, not, is_some, ◌&&◌, ◌==◌};
+ghost use Rattle.std.specs.List.{filter};
+ghost use Rattle.sm_names.specs.declared.keys.BufferName.{BufferName};
+ghost use Rattle.sm_names.specs.declared.keys.NodeKey.{NodeKey as Key};
+ghost use Rattle.sm_names.specs.declared.keys.Strength.{Strength};
+ghost use Rattle.buffer_holds.specs.Counts.{total};
+ghost use Rattle.std.specs.Option.{option_map, option_map_or};
+ghost use Rattle.sm_names.specs.Members.{some_strong_live};
+ghost use Rattle.alloc_event.specs.Forest.{Collection, IsPoolOf, SameKeys, collection_at, node_at, kept, empty_forest, summary_of, live_keys, held_by_page, held_buffer, on_collections, with_nodes, is_left, without_over_in};
+ghost use Rattle.alloc_event.specs.Nodes.{members_of, with_end, is_of, is_over};
+ghost use Rattle.alloc_event.specs.Settling.{MayChange, Settled};
+
+use crate::change::Change;
+use crate::changing::{settle_birth, settle_change};
+use crate::entry::{Entry, entry_of, place_of};
+use crate::forgetting::{forget_key, forget_over, take_out};
+use crate::held::HeldBuffer;
+use crate::kept::{held_by_page, is_strong_live, live_by_birth};
+use crate::node::{End, Node};
+use crate::store::write;
+use crate::summary::Summary;
+use buffer_holds::Holds;
+use buffer_pool::Pool;
+use node_table::NodeTable;
+use sm_names::{CollectionId, NoMemory, NodeKey};
+use std::alloc::Global;
+use std::marker::Model;
+
+/// The collections with their nodes and buffers, and the keys that were given to nodes so far.
+#[derive(Drop)]
+pub struct Forest {
+    table: NodeTable<Node>,
+    // The collections, by rising id.
+    entries: Vec<Entry>,
+}
+
+impl Model for Forest {
+    ghost use Rattle.alloc_event.specs.Forest.{Forest};
+
+    ghost Value = { Forest };
+
+    ghost use Rattle.alloc_event.specs.Kept.{forest_of, shelves_of, IsKept};
+
+    ghost view = { λ f. forest_of f.table (shelves_of f.entries.items) };
+
+    ghost invariant = { λ f. IsKept f.table (shelves_of f.entries.items) };
+}
+
+impl Forest {
+    /// An empty forest for `limit` nodes at a time. It takes no memory.
+    pub fn new(alloc: Global, limit: usize) -> Forest
+        ensures { result ≡ empty_forest limit }
+    {
+        Forest {
+            table: NodeTable::new(alloc, limit),
+            entries: Vec::new(alloc),
+        }
+    }
+
+    /// Makes the change to the collection and then the steps that it forces, one after another,
+    /// until none applies, and gives back the pages of buffers that are home. A birth answers the
+    /// key of the new node, which no node had before.
+    ///
+    /// `NoMemory` where a growth is refused, or no slot has a number left. The forest and the pool
+    /// are then as they were.
+    ///
+    /// It costs a copy of the collection, and the question for the next step after each that is
+    /// made. A birth in a collection at rest, none of whose buffers is home, forces nothing, and
+    /// so does that of a root: it costs the copy and one question. Any other birth costs a copy of
+    /// the whole table besides.
+    pub fn settle(
+        &mut self,
+        pool: &mut Pool,
+        holds: &Holds,
+        collection: CollectionId,
+        change: Change,
+    ) -> Result<Option<NodeKey>, NoMemory>
+        requires change { MayChange self.old collection change }
+        requires pool { IsPoolOf pool.old self.old }
+        ensures ok { IfOk result (λ key. Settled pool.old.size (total holds.now) self.old self.new collection change key) }
+        ensures pool { IsPoolOf pool.new self.new }
+        ensures size { pool.new.size ≡ pool.old.size }
+        ensures kept { OnErr result ((self.new ≡ self.old) × (pool.new ≡ pool.old)) }
+    {
+        let (table, entries) = (&mut self.table, &mut self.entries);
+        if let Change::Birth {
+            parent,
+            attached,
+            client,
+            event,
+        } = change
+        {
+            let key = settle_birth(
+                table, entries, pool, holds, collection, parent, attached, client, event,
+            )?;
+            return Ok(Some(key));
+        }
+        settle_change(table, entries, pool, holds, collection, &change)?;
+        Ok(None)
+    }
+
+    /// The node with this key, unless it was never born or was forgotten. It costs a constant.
+    pub fn node(&self, key: NodeKey) -> Option<Node>
+        ensures { result ≡ node_at self.now key }
+    {
+        self.table.get(key).copied()
+    }
+
+    /// The collection with this id at a glance, if it is there. A binary search.
+    pub fn collection(&self, id: CollectionId) -> Option<Summary>
+        ensures { result ≡ option_map summary_of (collection_at self.now id) }
+    {
+        match entry_of(&self.entries, id) {
+            Some(entry) => Some(Summary {
+                nodes: entry.keys.len(),
+                buffers: entry.buffers,
+                held: entry.held.len(),
+            }),
+            None => None,
+        }
+    }
+
+    /// How many nodes are kept. It costs a constant.
+    pub fn len(&self) -> usize
+        ensures { result ≡ kept self.now }
+    {
+        self.table.len()
+    }
+
+    /// How many collections there are. It costs a constant.
+    pub fn collections(&self) -> usize
+        ensures { result ≡ length self.now.collections }
+    {
+        self.entries.len()
+    }
+
+    /// Whether a strong node of the collection is live; no, if there is no such collection. It
+    /// costs the number of its nodes.
+    pub fn strong_live(&self, id: CollectionId) -> bool
+        ensures { result ≡ option_map_or (λ (c : Collection). some_strong_live (members_of c.nodes)) (collection_at self.now id) false }
+    {
+        match entry_of(&self.entries, id) {
+            Some(entry) => is_strong_live(&self.table, &entry.keys),
+            None => false,
+        }
+    }
+
+    /// The keys of all live nodes, by birth. `NoMemory` where the list is refused room. It costs
+    /// the number of nodes, and a sort.
+    pub fn live(&self) -> Result<Vec<NodeKey>, NoMemory>
+        ensures { IfOk result (λ keys. keys.items ≡ live_keys self.now) }
+    {
+        match live_by_birth(*self.entries.allocator(), &self.table, &self.entries) {
+            Ok(keys) => Ok(keys),
+            Err(_) => Err(NoMemory),
+        }
+    }
+
+    /// All buffers whose pages were not given back, by page. `NoMemory` where the list is refused
+    /// room. It costs their number, and a sort.
+    pub fn held(&self) -> Result<Vec<HeldBuffer>, NoMemory>
+        ensures { IfOk result (λ held. held.items ≡ map held_buffer (held_by_page self.now)) }
+    {
+        match held_by_page(*self.entries.allocator(), &self.entries) {
+            Ok(held) => Ok(held),
+            Err(_) => Err(NoMemory),
+        }
+    }
+
+    /// Puts the end of a node that is kept elsewhere. It takes no memory, and costs a constant.
+    pub fn set_end(&mut self, key: NodeKey, end: End)
+        requires { is_some (node_at self.old key) ≡ true }
+        ensures { self.new ≡ on_collections (with_nodes (map (with_end key end))) self.old }
+    {
+        if let Some(node) = self.table.get(key).copied() {
+            write(&mut self.table, Node { end, ..node });
+        }
+    }
+
+    /// Forgets a node that is gone and whose end is spent. Its key is given to no other node. It
+    /// takes no memory, and costs the number of its collection's nodes.
+    pub fn forget(&mut self, key: NodeKey)
+        requires there { is_some (node_at self.old key) ≡ true }
+        requires over { option_map_or is_over (node_at self.old key) false ≡ true }
+        ensures nodes { self.new.collections
+            ≡ map (with_nodes (filter (λ n. not (is_of key n)))) self.old.collections }
+        ensures keys { SameKeys self.old self.new }
+    {
+        let node = take_out(&mut self.table, key);
+        if let Some(at) = place_of(&self.entries, node.collection) {
+            forget_key(&mut self.entries[at].keys, key);
+        }
+    }
+
+    /// Forgets a collection that has no node and holds no page. It takes no memory, and costs a
+    /// binary search and a shift.
+    pub fn forget_collection(&mut self, id: CollectionId)
+        requires { option_map_or is_left (collection_at self.old id) false ≡ true }
+        ensures collections { self.new.collections ≡ filter (λ (c : Collection). not (c.id == id)) self.old.collections }
+        ensures keys { SameKeys self.old self.new }
+    {
+        if let Some(at) = place_of(&self.entries, id) {
+            self.entries.remove(at);
+        }
+    }
+
+    /// Forgets the nodes of the collection that are over, and the collection where nothing is left
+    /// of it. Without such a collection nothing changes. It takes no memory, and costs one pass over
+    /// the nodes of the collection.
+    pub fn forget_over(&mut self, id: CollectionId)
+        ensures collections { self.new.collections ≡ without_over_in id self.old.collections }
+        ensures keys { SameKeys self.old self.new }
+    {
+        forget_over(&mut self.table, &mut self.entries, id);
+    }
+}

@@ -1,0 +1,88 @@
+//! What is kept of the nodes: reading them by their keys.
+ghost use Rattle.std.specs.Prelude.{◌≡◌, ◌++◌, IfOk, false, map};
+ghost use Rattle.std.specs.List.{list_any, filter, flat_map};
+ghost use Rattle.std.specs.Option.{option_map_or};
+ghost use Rattle.sm_names.specs.Words.{sorted_by};
+ghost use Rattle.node_table.specs.Table.{node_at};
+ghost use Rattle.alloc_event.specs.declared.entry.Entry.{Entry as Kept};
+ghost use Rattle.alloc_event.specs.Kept.{all_keys, nodes_with, shelves_of, is_live, is_strong};
+
+use crate::entry::Entry;
+use crate::held::HeldBuffer;
+use crate::node::Node;
+use node_table::NodeTable;
+use sm_names::NodeKey;
+use std::alloc::{AllocError, Global};
+
+/// Whether the node is neither gone nor released.
+fn is_live(node: &Node) -> bool
+    ensures { result ≡ is_live node.now }
+{
+    !node.gone && !node.released
+}
+
+/// Whether a node with one of these keys is live and strong.
+pub(crate) fn is_strong_live(table: &NodeTable<Node>, keys: &[NodeKey]) -> bool
+    ensures { result ≡ list_any (λ key. option_map_or is_strong (node_at table.now key) false) keys.now }
+{
+    for key in keys {
+        if let Some(node) = table.get(*key) {
+            if is_live(node) && !node.weak {
+                return true;
+            }
+        }
+    }
+    false
+}
+
+/// The live nodes with these keys, behind others.
+fn add_live(
+    nodes: &mut Vec<Node>,
+    table: &NodeTable<Node>,
+    keys: &[NodeKey],
+) -> Result<(), AllocError>
+    ensures { IfOk result (λ _. nodes.new.items ≡ nodes.old.items ++ filter is_live (nodes_with table.now keys.now)) }
+{
+    for key in keys {
+        if let Some(node) = table.get(*key) {
+            if is_live(node) {
+                nodes.push(*node)?;
+            }
+        }
+    }
+    Ok(())
+}
+
+/// The keys of the live nodes of all collections, by birth.
+pub(crate) fn live_by_birth(
+    alloc: Global,
+    table: &NodeTable<Node>,
+    entries: &[Entry],
+) -> Result<Vec<NodeKey>, AllocError>
+    ensures { IfOk result (λ keys. keys.items
+        ≡ map (λ n. n.key) (sorted_by (λ n. n.event) (filter is_live (nodes_with table.now (all_keys (shelves_of entries.now)))))) }
+{
+    let mut nodes = Vec::new(alloc);
+    for entry in entries {
+        add_live(&mut nodes, table, &entry.keys)?;
+    }
+    nodes.sort_by_key(|node| node.event)?;
+    let mut keys = Vec::with_capacity(alloc, nodes.len())?;
+    for node in &nodes {
+        keys.push(node.key)?;
+    }
+    Ok(keys)
+}
+
+/// The buffers of all collections, by page.
+pub(crate) fn held_by_page(alloc: Global, entries: &[Entry]) -> Result<Vec<HeldBuffer>, AllocError>
+    ensures { IfOk result (λ held. held.items
+        ≡ sorted_by (λ h. h.start) (flat_map (λ (e : Kept). e.held.items) entries.now)) }
+{
+    let mut held = Vec::new(alloc);
+    for entry in entries {
+        held.extend_from_slice(&entry.held)?;
+    }
+    held.sort_by_key(|buffer| buffer.start)?;
+    Ok(held)
+}

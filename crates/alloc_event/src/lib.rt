@@ -1,0 +1,41 @@
+//! One change to a collection, and all that it forces: the nodes with their ends, the collections
+//! with what they were given, and the forced steps, one after another, until none applies.
+#![tactic(auto)]
+
+pub mod abandoned;
+pub mod allocating;
+pub mod asks;
+pub mod births;
+pub mod change;
+mod changing;
+pub mod deciding;
+pub mod decision;
+pub mod effects;
+pub mod ending;
+mod entry;
+mod finish;
+pub mod forest;
+mod forgetting;
+pub mod held;
+pub mod initial;
+mod kept;
+pub mod laws;
+pub mod logical;
+pub mod losses;
+pub mod node;
+pub mod placing;
+pub mod questions;
+pub mod returns;
+pub mod scene;
+pub mod settling;
+mod still;
+mod store;
+pub mod summary;
+#[cfg(test)]
+mod tests;
+
+pub use change::Change;
+pub use forest::Forest;
+pub use held::HeldBuffer;
+pub use node::{End, Node};
+pub use summary::Summary;

@@ -1,0 +1,64 @@
+//! What a failure takes.
+ghost use Rattle.std.specs.Prelude.{◌≡◌, map, reverse};
+ghost use Rattle.std.specs.List.{list_any};
+ghost use Rattle.sm_names.specs.Losses.{top as topmost};
+ghost use Rattle.alloc_event.specs.Nodes.{above_among, after_loss, lost};
+ghost use Rattle.alloc_event.specs.Questions.{blocks_here, is_below};
+
+use crate::node::Node;
+use crate::questions::{blocks, has_node, is_under};
+use sm_names::{Fault, NodeKey};
+
+/// The node where the fault began fails, and with it the highest node that its failure goes up to
+/// and all below that one. Nodes that are gone keep their faults. It takes no memory,
+/// and a walk over the nodes for each.
+pub fn lose(nodes: &mut [Node], fault: Fault)
+    ensures { nodes.new ≡ after_loss fault nodes.old }
+{
+    if has_node(nodes, fault.origin) {
+        let top = highest(nodes, fault.origin);
+        fail_under(nodes, top, fault);
+    }
+}
+
+/// The highest node that a failure of the node with this key goes up to.
+fn highest(nodes: &[Node], key: NodeKey) -> NodeKey
+    ensures { result ≡ topmost (λ k. list_any (blocks_here k) nodes.now) key
+        (above_among (reverse nodes.now) key) }
+{
+    let mut at = key;
+    let mut rest = nodes;
+    'up: while let Some((node, older)) = rest.split_last() {
+        if node.key == at {
+            let Some(parent) = node.parent else {
+                return at;
+            };
+            if blocks(nodes, at) {
+                return at;
+            }
+            at = parent;
+        }
+        rest = older;
+    }
+    at
+}
+
+/// The top node and all below it fail.
+fn fail_under(nodes: &mut [Node], top: NodeKey, fault: Fault)
+    ensures { nodes.new ≡ map (lost (λ n. is_below nodes.old top n.key) fault) nodes.old }
+{
+    for at in 0..nodes.len() {
+        let taken = is_under(nodes, top, nodes[at].key);
+        fail(&mut nodes[at], taken, fault);
+    }
+}
+
+/// The node fails, if it is taken and is not gone yet.
+fn fail(node: &mut Node, taken: bool, fault: Fault)
+    ensures { node.new ≡ lost (λ _. taken) fault node.old }
+{
+    if taken && !node.gone {
+        node.gone = true;
+        node.fault = Some(fault);
+    }
+}

@@ -1,0 +1,73 @@
+//! Pages that go back to the pool.
+ghost use Rattle.std.specs.Prelude.{◌≡◌, ◌++◌, List, Contains, if◌then◌else◌};
+ghost use Rattle.std.specs.List.{filter};
+ghost use Rattle.sm_names.specs.declared.keys.Interval.{Interval};
+ghost use Rattle.buffer_holds.specs.Counts.{total};
+ghost use Rattle.buffer_pool.specs.Holdings.{without, IsSound as IsSoundPool};
+ghost use Rattle.alloc_event.specs.Scenes.{by_page, collection_of, held_pages, is_out, pages_held, IsPoolBeside, PoolFollows};
+ghost use Rattle.alloc_event.specs.Settling.{given_back};
+
+use crate::held::HeldBuffer;
+use crate::questions::some_strong_live;
+use crate::scene::Scene;
+use buffer_holds::Holds;
+use buffer_pool::Pool;
+
+/// The buffers that nothing keeps any longer give their pages back. It takes no memory, and costs
+/// two looks at the handles of each buffer and what the pool takes.
+pub fn give_back(scene: &mut Scene, pool: &mut Pool, holds: &Holds)
+    requires { (others : List Interval) × IsPoolBeside pool.old (collection_of scene.old) others }
+    ensures scene { collection_of scene.new
+        ≡ given_back (total holds.now) (collection_of scene.old) }
+    ensures pool { PoolFollows pool.old pool.new
+        (collection_of scene.old) (collection_of scene.new) }
+    ensures size { pool.new.size ≡ pool.old.size }
+{
+    let strong_live = some_strong_live(&scene.nodes);
+    return_pages(&scene.held, pool, holds, strong_live);
+    keep_out(&mut scene.held, holds, strong_live);
+}
+
+/// Each buffer that is home gives its pages back.
+fn return_pages(held: &[HeldBuffer], pool: &mut Pool, holds: &Holds, strong_live: bool)
+    requires { (others : List Interval)
+        × (pool.old.held ≡ by_page (pages_held held.now ++ others)) }
+    ensures held { (others : List Interval) →
+        pool.old.held ≡ by_page (pages_held held.now ++ others) →
+        let left = filter (is_out (total holds.now) strong_live) held.now in
+        pool.new.held ≡ by_page (pages_held left ++ others) }
+    ensures size { pool.new.size ≡ pool.old.size }
+{
+    look_at(pool);
+    for buffer in held {
+        return_one(*buffer, pool, holds, strong_live);
+    }
+}
+
+/// The buffer gives its pages back, if it is home.
+fn return_one(buffer: HeldBuffer, pool: &mut Pool, holds: &Holds, strong_live: bool)
+    requires sound { IsSoundPool pool.old }
+    requires there { Contains pool.old.held (held_pages buffer).pages }
+    ensures held { pool.new.held ≡ (if is_out (total holds.now) strong_live buffer
+        then pool.old.held else without buffer.start pool.old.held) }
+    ensures size { pool.new.size ≡ pool.old.size }
+    ensures sound { IsSoundPool pool.new }
+{
+    if holds.home(buffer.buffer, strong_live) {
+        pool.give_back(buffer.start, buffer.pages);
+    }
+}
+
+/// The pool's intervals lie apart.
+fn look_at(pool: &Pool)
+    ensures { IsSoundPool pool.now }
+{
+    let _free = pool.free_pages();
+}
+
+/// The buffers that are home are not held any longer.
+fn keep_out(held: &mut Vec<HeldBuffer>, holds: &Holds, strong_live: bool)
+    ensures { held.new.items ≡ filter (is_out (total holds.now) strong_live) held.old.items }
+{
+    held.retain(|buffer| !holds.home(buffer.buffer, strong_live));
+}

@@ -1,0 +1,72 @@
+//! The forced steps of one collection, until none applies.
+ghost use Rattle.std.specs.Prelude.{◌≡◌, OnErr, OnOk, map, true};
+ghost use Rattle.buffer_holds.specs.Counts.{total};
+ghost use Rattle.alloc_event.specs.Decisions.{is_unplaced, IsMadeBy, IsSized, IsStep, RestsIn, SettlesIn};
+ghost use Rattle.alloc_event.specs.Moves.{Moves};
+ghost use Rattle.alloc_event.specs.Scenes.{collection_of, frame_of, given_few, IsSound, PoolFollows};
+
+use crate::allocating::allocate;
+use crate::deciding::decide;
+use crate::decision::Decision;
+use crate::ending::end;
+use crate::losses::lose;
+use crate::placing::place_first;
+use crate::scene::Scene;
+use buffer_holds::Holds;
+use buffer_pool::Pool;
+use sm_names::{Fault, NoMemory};
+
+/// Makes the forced steps of the collection, one after another, until none applies.
+///
+/// `NoMemory` where a growth is refused: the pool is then as it was, and the scene may be thrown
+/// away. Only the allocation of a root unit takes memory.
+///
+/// There are at most two steps a node. Each looks, for each head of a unit, over the nodes for each
+/// live one.
+pub fn settle_scene(scene: &mut Scene, pool: &mut Pool, holds: &Holds) -> Result<(), NoMemory>
+    requires { IsSound (collection_of scene.old) }
+    ensures settles { OnOk result (SettlesIn pool.old (total holds.now)
+        (collection_of scene.old) (collection_of scene.new)) }
+    ensures pool { OnOk result (PoolFollows pool.old pool.new
+        (collection_of scene.old) (collection_of scene.new)) }
+    ensures size { pool.new.size ≡ pool.old.size }
+    ensures err { OnErr result (pool.new ≡ pool.old) }
+    ensures rests { OnOk result (RestsIn pool.old (total holds.now) (collection_of scene.new)) }
+    ensures sound { OnOk result (IsSound (collection_of scene.new)) }
+    ensures id { OnOk result (scene.new.id ≡ scene.old.id) }
+    ensures frames { OnOk result
+        (map frame_of scene.new.nodes.items ≡ map frame_of scene.old.nodes.items) }
+{
+    'steps: while let Some(step) = decide(scene, holds) {
+        make(scene, pool, step)?;
+    }
+    Ok(())
+}
+
+/// Makes the step. `NoMemory` where a growth is refused, and the pool is then as it was.
+fn make(scene: &mut Scene, pool: &mut Pool, step: Decision) -> Result<(), NoMemory>
+    requires sound { IsSound (collection_of scene.old) }
+    requires step { IsStep (collection_of scene.old) step }
+    requires sized { IsSized step }
+    ensures made { OnOk result (IsMadeBy step pool.old
+        (collection_of scene.old) (collection_of scene.new)) }
+    ensures pool { OnOk result (PoolFollows pool.old pool.new
+        (collection_of scene.old) (collection_of scene.new)) }
+    ensures size { pool.new.size ≡ pool.old.size }
+    ensures err { OnErr result (pool.new ≡ pool.old) }
+
+    // Memory is asked for, and the pool changes, only where a root waits for its buffers.
+    ensures waits { OnErr result (is_unplaced scene.old.nodes.items ≡ true) }
+    ensures placed { OnOk result (is_unplaced scene.new.nodes.items ≡ true → pool.new ≡ pool.old) }
+    ensures moves { OnOk result (Moves scene.old.nodes.items scene.new.nodes.items) }
+    ensures few { OnOk result (given_few scene.new.buffers ≡ true) }
+    ensures id { OnOk result (scene.new.id ≡ scene.old.id) }
+{
+    match step {
+        Decision::Ends(top) => end(&mut scene.nodes, top),
+        Decision::Loses(origin, cause) => lose(&mut scene.nodes, Fault { cause, origin }),
+        Decision::Places(head, wants) => return place_first(scene, pool, head, wants),
+        Decision::Allocates(head) => allocate(&mut scene.nodes, head),
+    }
+    Ok(())
+}

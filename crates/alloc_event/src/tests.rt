@@ -1,0 +1,254 @@
+//! Collections of three units, settled.
+ghost use Rattle.std.specs.Prelude.{◌≡◌, [], IfOk};
+ghost use Rattle.alloc_event.specs.Scenes.{collection_of, IsSound};
+
+use crate::allocating::allocate;
+use crate::births::{new_child, new_root};
+use crate::change::Change;
+use crate::effects::affect;
+use crate::ending::end;
+use crate::forest::Forest;
+use crate::losses::lose;
+use crate::returns::give_back;
+use crate::scene::Scene;
+use crate::settling::settle_scene;
+use buffer_holds::Holds;
+use buffer_pool::Pool;
+use sm_names::{Buffers, Call, Cause, Constraints, Failure, Fault, Interval, NodeKey};
+use std::alloc::Global;
+use std::test::Fail;
+
+// The root, an attached node below it, and one below that, which head a unit each.
+const ROOT: NodeKey = NodeKey {
+    slot: 0,
+    generation: 0,
+};
+
+const MIDDLE: NodeKey = NodeKey {
+    slot: 1,
+    generation: 0,
+};
+
+const LOW: NodeKey = NodeKey {
+    slot: 2,
+    generation: 0,
+};
+
+fn demand(camping: u8, at_least: u8, size: u32) -> Result<Constraints, Fail> {
+    match Constraints::new(camping, at_least, size) {
+        Some(demand) => Ok(demand),
+        None => Err(Fail::from("a number is out of its range")),
+    }
+}
+
+// The three units. Each asks for what is given, the root may be released, and all may be weak.
+fn three_units(
+    alloc: Global,
+    asks: [Constraints; 3],
+    released: bool,
+    weak: bool,
+) -> Result<Scene, Fail>
+    ensures sound { IfOk result (λ scene. IsSound (collection_of scene)) }
+    ensures held { IfOk result (λ scene. scene.held.items ≡ []) }
+{
+    let mut root = new_root(ROOT, 5, 5, 1);
+    root.released = released;
+    root.weak = weak;
+    let mut middle = new_child(true, MIDDLE, 6, 1, &root);
+    let mut low = new_child(true, LOW, 7, 1, &middle);
+    root.constraints = Some(asks[0]);
+    middle.constraints = Some(asks[1]);
+    low.constraints = Some(asks[2]);
+    Ok(Scene {
+        id: 5,
+        nodes: [root, middle, low].to_vec(alloc)?,
+        buffers: None,
+        held: Vec::new(alloc),
+    })
+}
+
+// 16 pages.
+fn new_pool(alloc: Global) -> Result<Pool, Fail>
+    ensures { IfOk result (λ pool. pool.held ≡ []) }
+{
+    match Pool::new(alloc, 16) {
+        Ok(pool) => Ok(pool),
+        Err(_) => Err(Fail::from("no memory for a pool")),
+    }
+}
+
+// All forced steps, and then the pages that go back, where nothing was held and no handle is open.
+fn settle(alloc: Global, scene: &mut Scene, pool: &mut Pool) -> Result<(), Fail>
+    requires sound { IsSound (collection_of scene.old) }
+    requires held { scene.old.held.items ≡ [] }
+    requires pool { pool.old.held ≡ [] }
+{
+    let holds = Holds::new(alloc, 8);
+    match settle_scene(scene, pool, &holds) {
+        Ok(()) => {
+            give_back(scene, pool, &holds);
+            Ok(())
+        }
+        Err(_) => Err(Fail::from("no memory to settle")),
+    }
+}
+
+fn held(pool: &Pool) -> Result<Vec<Interval>, Fail> {
+    match pool.held() {
+        Ok(held) => Ok(held),
+        Err(_) => Err(Fail::from("no memory for the held intervals")),
+    }
+}
+
+fn gone(scene: &Scene) -> [bool; 3] {
+    let mut gone = [false; 3];
+    for (at, node) in scene.nodes.iter().enumerate() {
+        if at < 3 {
+            gone[at] = node.gone;
+        }
+    }
+    gone
+}
+
+#[test]
+fn each_unit_is_allocated_in_turn(rt: HostRuntime) -> Result<(), Fail> {
+    let asks = [demand(2, 3, 5000)?, demand(1, 0, 100)?, demand(0, 3, 5000)?];
+    let mut scene = three_units(rt.alloc(), asks, false, false)?;
+    let mut pool = new_pool(rt.alloc())?;
+    settle(rt.alloc(), &mut scene, &mut pool)?;
+    assert_eq!(rt;
+        scene.buffers,
+        Some(Buffers {
+            count: 3,
+            size: 5000
+        })
+    );
+    assert!(rt; scene.nodes.iter().all(|node| node.allocated && !node.gone));
+    let held = held(&pool)?;
+    assert_eq!(rt; held.len(), 3);
+    assert_eq!(rt; held[1], Interval { start: 2, pages: 2 });
+    Ok(())
+}
+
+#[test]
+fn a_unit_that_asks_for_too_much_fails_alone(rt: HostRuntime) -> Result<(), Fail> {
+    let asks = [demand(2, 3, 5000)?, demand(1, 0, 100)?, demand(0, 3, 6000)?];
+    let mut scene = three_units(rt.alloc(), asks, false, false)?;
+    let mut pool = new_pool(rt.alloc())?;
+    settle(rt.alloc(), &mut scene, &mut pool)?;
+    assert_eq!(rt; gone(&scene), [false, false, true]);
+    assert_eq!(rt; scene.nodes.len(), 3);
+    let cause = Cause::Failed(Failure::TooSmall);
+    assert_eq!(rt; scene.nodes[2].fault, Some(Fault { cause, origin: LOW }));
+    Ok(())
+}
+
+#[test]
+fn a_full_pool_fails_all(rt: HostRuntime) -> Result<(), Fail> {
+    let asks = [demand(9, 0, 8192)?, demand(0, 0, 1)?, demand(0, 0, 1)?];
+    let mut scene = three_units(rt.alloc(), asks, false, false)?;
+    let mut pool = new_pool(rt.alloc())?;
+    settle(rt.alloc(), &mut scene, &mut pool)?;
+    assert_eq!(rt; gone(&scene), [true, true, true]);
+    assert_eq!(rt; scene.nodes.len(), 3);
+    let cause = Cause::Failed(Failure::PoolFull);
+    assert_eq!(rt;
+        scene.nodes[1].fault,
+        Some(Fault {
+            cause,
+            origin: ROOT
+        })
+    );
+    assert_eq!(rt; pool.free_pages(), 16);
+    Ok(())
+}
+
+#[test]
+fn a_root_without_live_nodes_ends(rt: HostRuntime) -> Result<(), Fail> {
+    let asks = [demand(2, 0, 5000)?, demand(0, 0, 9000)?, demand(0, 0, 1)?];
+    let mut scene = three_units(rt.alloc(), asks, true, false)?;
+    let mut pool = new_pool(rt.alloc())?;
+    settle(rt.alloc(), &mut scene, &mut pool)?;
+    assert_eq!(rt; gone(&scene), [true, true, true]);
+    assert_eq!(rt; scene.nodes.len(), 3);
+    assert_eq!(rt; scene.nodes[0].fault, None);
+    let cause = Cause::Failed(Failure::TooSmall);
+    assert_eq!(rt;
+        scene.nodes[2].fault,
+        Some(Fault {
+            cause,
+            origin: MIDDLE
+        })
+    );
+    assert_eq!(rt;
+        scene.buffers,
+        Some(Buffers {
+            count: 2,
+            size: 5000
+        })
+    );
+    assert_eq!(rt; scene.held.len(), 0);
+    assert_eq!(rt; pool.free_pages(), 16);
+    Ok(())
+}
+
+#[test]
+fn weak_nodes_are_given_nothing(rt: HostRuntime) -> Result<(), Fail> {
+    let asks = [demand(2, 0, 5000)?, demand(0, 0, 1)?, demand(0, 0, 1)?];
+    let mut scene = three_units(rt.alloc(), asks, false, true)?;
+    let mut pool = new_pool(rt.alloc())?;
+    settle(rt.alloc(), &mut scene, &mut pool)?;
+    assert_eq!(rt; gone(&scene), [true, true, true]);
+    assert_eq!(rt; scene.nodes.len(), 3);
+    let cause = Cause::Failed(Failure::NoStrong);
+    assert_eq!(rt;
+        scene.nodes[1].fault,
+        Some(Fault {
+            cause,
+            origin: ROOT
+        })
+    );
+    assert_eq!(rt; scene.buffers, None);
+    Ok(())
+}
+
+#[test]
+fn a_loss_goes_up_as_far_as_links_let_it(rt: HostRuntime) -> Result<(), Fail> {
+    let root = new_root(ROOT, 5, 5, 1);
+    let middle = new_child(false, MIDDLE, 6, 1, &root);
+    let low = new_child(false, LOW, 7, 1, &middle);
+    let mut nodes = [root, middle, low];
+    affect(&mut nodes, &Call::SetDispensable(MIDDLE));
+    allocate(&mut nodes, ROOT);
+    let cause = Cause::Lost;
+    lose(&mut nodes, Fault { cause, origin: LOW });
+    assert_eq!(rt;
+        [nodes[0].gone, nodes[1].gone, nodes[2].gone],
+        [false, true, true]
+    );
+    end(&mut nodes, ROOT);
+    assert_eq!(rt; nodes[0].gone, true);
+    assert_eq!(rt; nodes[0].fault, None);
+    assert_eq!(rt; nodes[1].fault, Some(Fault { cause, origin: LOW }));
+    Ok(())
+}
+
+#[test]
+fn a_root_is_born_into_a_new_collection(rt: HostRuntime) -> Result<(), Fail> {
+    let mut forest = Forest::new(rt.alloc(), 8);
+    let mut pool = new_pool(rt.alloc())?;
+    let holds = Holds::new(rt.alloc(), 8);
+    let birth = Change::Birth {
+        parent: None,
+        attached: false,
+        client: 3,
+        event: 1,
+    };
+    let Ok(Some(key)) = forest.settle(&mut pool, &holds, 5, birth) else {
+        return Err(Fail::from("no memory for a root"));
+    };
+    assert_eq!(rt; forest.len(), 1);
+    assert_eq!(rt; forest.collections(), 1);
+    assert_eq!(rt; forest.node(key), Some(new_root(key, 5, 1, 3)));
+    Ok(())
+}
