@@ -1,0 +1,180 @@
+-- A collection of a state follows the mark of an event, once the event took effect on it.
+use Rattle.std.proofs.Common.{ℕ, ◌≡◌, ◌+◌, refl, ap, sym, ◌∙◌, Bool, true, false, not, ◌&&◌, ◌==◌, ◌++◌, inl, inr, List, [], ◌∷◌, map, Option, Some, None, is_some}
+use Rattle.std.proofs.lemmas.Bool.{eq-eqb}
+use Rattle.std.proofs.lemmas.List.Elements.{filter-append}
+use Rattle.std.specs.List.{cons_option, filter, list_any}
+use Rattle.sm_names.specs.declared.keys.BufferName.{BufferName}
+use Rattle.sm_names.specs.declared.keys.NodeKey.{NodeKey}
+use Rattle.sm_names.specs.declared.keys.Strength.{Strength}
+use Rattle.sm_names.specs.declared.messages.Call.{Call}
+use Rattle.sm_names.specs.declared.messages.Reply.{Reply}
+use Rattle.sm_names.specs.Answers.{IsAnswer}
+use Rattle.sm_names.specs.Births.{Birth, births, birth_at, ancestors, was_born}
+use Rattle.sm_names.specs.Bounds.{Bound}
+use Rattle.sm_names.specs.Handles.{home, buffers_of, is_doomed}
+use Rattle.sm_names.specs.Kept.{is_kept}
+use Rattle.sm_names.specs.Losses.{gone}
+use Rattle.sm_names.specs.Marks.{Timeline, Called, events}
+use Rattle.sm_names.specs.Members.{Member, births_in, member, members, some_strong_live}
+use Rattle.sm_names.specs.Reading.{readings}
+use Rattle.sm_names.specs.Timelines.{HeldPages, collection_of, held, placed}
+use Rattle.sm_names.proofs.GrowthLaws.{Grows, Stays, Answers}
+use Rattle.sm_names.proofs.ListLaws.{In-filter, filter-In, filter-swap, map-In}
+use Rattle.sm_names.proofs.SamenessLaws.{either_way, both_ways, or_left}
+use Rattle.alloc_event.specs.declared.node.End.{End}
+use Rattle.alloc_event.specs.declared.node.Node.{Node}
+use Rattle.alloc_event.specs.Forest.{Collection, beside}
+use Rattle.lifetime_core.specs.Shown.{IsAfter, IsQuiet, node_after, nodes_after, held_after, collection_after}
+use Rattle.lifetime_core.specs.State.{State}
+use Rattle.lifetime_core.specs.Steps.{spent_by}
+use Rattle.lifetime_core.proofs.AnsweredLaws.{no_birth, nodes-answered, answered_key}
+use Rattle.lifetime_core.proofs.Apart.{is_beside, pages_beside}
+use Rattle.lifetime_core.proofs.CalledLaws.{IsPlain, answered, said, spending, node_called}
+use Rattle.lifetime_core.proofs.ElsewhereLaws.{home_called, came}
+use Rattle.lifetime_core.proofs.EndsApart.{placed_node, placed_in}
+use Rattle.lifetime_core.proofs.FinishLaws.{place_of, spending_is}
+use Rattle.lifetime_core.proofs.Lines.{nodes_kept}
+use Rattle.lifetime_core.proofs.Matching.{Matches}
+use Rattle.lifetime_core.proofs.NewbornLaws.{nodes-born, births-none}
+use Rattle.lifetime_core.proofs.QuietEvents.{quiet_called}
+use Rattle.lifetime_core.proofs.StartLaws.{follows}
+use Rattle.lifetime_core.proofs.Steps.{held_match}
+use Rattle.lifetime_core.proofs.UnsaidLaws.{unsaid}
+
+-- a map that keeps keys passes through a filter by keys
+filter-keyed : (keep : NodeKey → Bool) (f : Node → Node) → ((n : Node) → (f n).key ≡ n.key) → (ns : List Node) → filter (λ (n : Node). keep n.key) (map f ns) ≡ map f (filter (λ (n : Node). keep n.key) ns)
+filter-keyed keep f same [] = refl
+filter-keyed keep f same (n ∷ ns) =
+    let here : keep (f n).key ≡ keep n.key = ap keep (same n) in
+    elim (either_way (keep n.key)) [
+      | inl e ↦ let now : keep (f n).key ≡ true = here ∙ e in rw (now, e) (ap (λ (l : List Node). f n ∷ l) (filter-keyed keep f same ns))
+      | inr e ↦ let now : keep (f n).key ≡ false = here ∙ e in rw (now, e) (filter-keyed keep f same ns)
+    ]
+
+module _ (s : State) (marks : Timeline) (shown : IsAfter s marks) (limits : Bound) (grown : Grows s.pool limits [] marks) (client : ℕ) (reply : Reply) (call : Call)
+    (answer : IsAnswer limits (readings marks) client call reply) (plain : IsPlain call) where
+  -- the marks with that of the call
+  abbrev called : Timeline
+  called = Called client reply call ∷ marks
+
+  -- the pages of the others, where their buffers are home as before
+  beside_called : (id : ℕ) → ((h : HeldPages) → is_beside id h ≡ true → home (Called client reply call ∷ marks) h.buffer ≡ home marks h.buffer) →
+      pages_beside s.pool (Called client reply call ∷ marks) id ≡ pages_beside s.pool marks id
+  beside_called id homes =
+      let now : HeldPages → Bool = λ h. not (home called h.buffer) in
+      let before : HeldPages → Bool = λ h. not (home marks h.buffer) in
+      ap (map (λ (h : HeldPages). h.pages))
+      (filter-swap (is_beside id) now (placed s.pool marks)
+      ∙ (filter-In now before (filter (is_beside id) (placed s.pool marks)) (λ h on. ap not (homes h (In-filter (is_beside id) (placed s.pool marks) h on).1))
+      ∙ filter-swap before (is_beside id) (placed s.pool marks)))
+
+  -- a collection with the nodes that the mark makes follows it
+  pub matches_called : (id : ℕ) → ((h : HeldPages) → is_beside id h ≡ true → home (Called client reply call ∷ marks) h.buffer ≡ home marks h.buffer) →
+      (ns : List Node) → ns ≡ nodes_kept (is_kept marks) (Called client reply call ∷ marks) id →
+      Matches s.pool (is_kept marks) (Called client reply call ∷ marks) (beside s.forest id) (record (collection_after s.pool marks id) { nodes = ns })
+  matches_called id homes ns same =
+      let f : Matches s.pool (is_kept marks) marks (beside s.forest id) (collection_after s.pool marks id) = follows s marks shown limits grown id in
+      record {
+        keeps = f.keeps;
+        nodes = same;
+        buffers = refl;
+        own = f.own;
+        none = f.none;
+        held = held_match s.pool limits marks (Called client reply call) grown (Answers marks client reply call Stays answer) id refl (held_after s.pool marks id) f.held;
+        beside = λ test. f.beside test ∙ ap (list_any test) (sym (beside_called id homes));
+      }
+
+  -- ---- the nodes that the mark makes
+
+  -- those that were there
+  pub kept_answered : birth_at 0 (Called client reply call) ≡ None → (id : ℕ) →
+      map (answered call reply) (collection_after s.pool marks id).nodes ≡ nodes_kept (is_kept marks) (Called client reply call ∷ marks) id
+  kept_answered none id =
+      ap (map (answered call reply)) (follows s marks shown limits grown id).nodes
+      ∙ (sym (filter-keyed (is_kept marks) (answered call reply) (answered_key call reply) (nodes_after marks id))
+      ∙ ap (filter (λ (n : Node). is_kept marks n.key)) (sym (nodes-answered marks client reply call shown.quiet plain none id)))
+
+  -- and one that is born
+  pub kept_born : (b : Birth) → birth_at (events marks + 1) (Called client reply call) ≡ Some b →
+      (collection_after s.pool marks b.collection).nodes ++ node_after (Called client reply call ∷ marks) b ∷ [] ≡ nodes_kept (is_kept marks) (Called client reply call ∷ marks) b.collection
+  kept_born b born =
+      let fresh : was_born (births marks) b.node ≡ false = (came s.pool limits marks client reply call grown answer shown.quiet plain b born).fresh in
+      let kept : is_kept marks b.node ≡ true = or_left (not (gone marks b.node)) _ (ap not (unsaid s.pool limits marks grown b.node fresh).not_gone) in
+      let last : filter (λ (n : Node). is_kept marks n.key) (node_after called b ∷ []) ≡ node_after called b ∷ [] = rw kept refl in
+      ap (λ (ns : List Node). ns ++ node_after called b ∷ []) (follows s marks shown limits grown b.collection).nodes
+      ∙ (ap (λ (ns : List Node). nodes_kept (is_kept marks) marks b.collection ++ ns) (sym last)
+      ∙ (sym (filter-append (λ (n : Node). is_kept marks n.key) (nodes_after marks b.collection) (node_after called b ∷ []))
+      ∙ ap (filter (λ (n : Node). is_kept marks n.key)) (sym (nodes-born marks client reply call b born fresh))))
+
+  -- ---- which buffers are home
+
+  -- in other collections those that were
+  pub homes_elsewhere : (id : ℕ) → collection_of (Called client reply call ∷ marks) call reply ≡ Some id →
+      (h : HeldPages) → is_beside id h ≡ true → home (Called client reply call ∷ marks) h.buffer ≡ home marks h.buffer
+  homes_elsewhere id of h at = home_called s.pool limits marks client reply call grown answer shown.quiet plain h.buffer.collection away h.buffer refl
+    where
+      away : collection_of (Called client reply call ∷ marks) call reply ≡ Some h.buffer.collection → ⊥
+      away e =
+          let both : Some h.buffer.collection ≡ Some id = sym e ∙ of in
+          let same : h.buffer.collection ≡ id = cc in
+          both_ways (is_beside id h) at (ap not (eq-eqb h.buffer.collection id same))
+
+  module _ (none : birth_at 0 (Called client reply call) ≡ None) (nothing : (n : Node) → said call reply n ≡ n) where
+    -- where the event says nothing of any node, only an end is spent
+    node_idle : (b : Birth) → node_after (Called client reply call ∷ marks) b ≡ spending (spent_by call reply) (node_after marks b)
+    node_idle b = node_called marks client b shown.quiet call reply plain none ∙ ap (spending (spent_by call reply)) (nothing (node_after marks b))
+
+    -- what the forced steps read of a node on such a line
+    abbrev of_node : List NodeKey → Node → Member
+    of_node above n = record {
+      key = n.key;
+      parent = n.parent;
+      above = above;
+      attached = n.attached;
+      head = n.head;
+      allocated = n.allocated;
+      gone = n.gone;
+      released = n.released;
+      dispensable = n.dispensable;
+      weak = n.weak;
+      constraints = n.constraints;
+    }
+
+    -- they read nothing of its end
+    of_spent : (above : List NodeKey) (o : Option NodeKey) (n : Node) → of_node above (spending o n) ≡ of_node above n
+    of_spent above None n = refl
+    of_spent above (Some key) n = refl
+
+    -- so each stands as it stood
+    member_idle : (b : Birth) → member (Called client reply call ∷ marks) b ≡ member marks b
+    member_idle b =
+        let lines : ancestors (births called) b.node ≡ ancestors (births marks) b.node =
+        ap (λ (o : Option Birth). ancestors (cons_option o (births marks)) b.node) (no_birth 0 (events marks + 1) (Called client reply call) none) in
+        (λ i. of_node (lines i) (node_idle b i)) ∙ of_spent (ancestors (births marks) b.node) (spent_by call reply) (node_after marks b)
+
+    -- and so do all of a collection
+    members_idle : (id : ℕ) → members (Called client reply call ∷ marks) id ≡ members marks id
+    members_idle id =
+        ap (map (member called)) (births-none marks (Called client reply call) id (no_birth 0 (events marks + 1) (Called client reply call) none))
+        ∙ map-In (member called) (member marks) (births_in marks id) (λ b on. member_idle b)
+
+    -- and the same buffers are home
+    pub home_idle : (buffer : BufferName) → home (Called client reply call ∷ marks) buffer ≡ home marks buffer
+    home_idle buffer =
+        let now : IsQuiet called = quiet_called marks client reply call plain shown.quiet in
+        λ i. (is_some (buffers_of marks buffer.collection)
+        && is_doomed ((now.not_counted buffer Strength.Strong ∙ sym (shown.quiet.not_counted buffer Strength.Strong)) i) (some_strong_live (members_idle buffer.collection i)))
+        && (now.not_counted buffer Strength.Weak ∙ sym (shown.quiet.not_counted buffer Strength.Weak)) i == 0
+
+    -- so no page goes back
+    pub held_idle : held s.pool (Called client reply call ∷ marks) ≡ held s.pool marks
+    held_idle = filter-In (λ (h : HeldPages). not (home called h.buffer)) (λ (h : HeldPages). not (home marks h.buffer)) (placed s.pool marks) (λ h on. ap not (home_idle h.buffer))
+
+    -- each collection with the end spent that the event spends follows its mark
+    pub follows_idle : (id : ℕ) → Matches s.pool (is_kept marks) (Called client reply call ∷ marks) (beside s.forest id) (placed_in (place_of (spent_by call reply)) (collection_after s.pool marks id))
+    follows_idle id =
+        let place : NodeKey → End → End = place_of (spent_by call reply) in
+        let c : Collection = collection_after s.pool marks id in
+        let same : map (answered call reply) c.nodes ≡ map (placed_node place) c.nodes =
+        map-In (answered call reply) (placed_node place) c.nodes (λ n on. ap (spending (spent_by call reply)) (nothing n) ∙ spending_is (spent_by call reply) n) in
+        matches_called id (λ h at. home_idle h.buffer) (map (placed_node place) c.nodes) (sym same ∙ kept_answered none id)

@@ -1,0 +1,145 @@
+-- Lists that are mapped, filtered and turned round.
+use Rattle.std.proofs.Common.{ℕ, ◌≡◌, refl, ap, sym, ◌∙◌, Bool, true, false, cond, ◌||◌, ◌&&◌, inl, inr, List, [], ◌∷◌, ◌++◌, map, reverse, Some, None}
+use Rattle.std.proofs.lemmas.List.{map-append}
+use Rattle.std.specs.List.{filter, find, list_any, flat_map}
+use Rattle.std.specs.Option.{option_map}
+use Rattle.sm_names.specs.Words.{times}
+use Rattle.sm_names.proofs.ListLaws.{In}
+use Rattle.sm_names.proofs.SamenessLaws.{either_way, both_ways, or_right}
+use mathlib.Core.List.{reverse_aux}
+
+-- ---- filters
+
+-- what is kept of a mapped list comes of what passes before it
+pub filter-map : {A B : Type 0} (test : B → Bool) (f : A → B) (xs : List A) → filter test (map f xs) ≡ map f (filter (λ x. test (f x)) xs)
+filter-map test f [] = refl
+filter-map {B = B} test f (x ∷ xs) =
+    elim (either_way (test (f x))) [
+      | inl e ↦ rw e (ap (λ (ys : List B). f x ∷ ys) (filter-map test f xs))
+      | inr e ↦ rw e (filter-map test f xs)
+    ]
+
+-- two filters are one by both tests
+pub filter-filter : {A : Type 0} (p q : A → Bool) (xs : List A) → filter p (filter q xs) ≡ filter (λ x. q x && p x) xs
+filter-filter p q [] = refl
+filter-filter {A = A} p q (x ∷ xs) =
+    elim (either_way (q x)) [
+      | inl e ↦ rw e (elim (p x) as (λ (b : Bool). cond b (x ∷ filter p (filter q xs)) (filter p (filter q xs)) ≡ cond b (x ∷ filter (λ x. q x && p x) xs) (filter (λ x. q x && p x) xs)) [
+        | true ↦ ap (λ (ys : List A). x ∷ ys) (filter-filter p q xs)
+        | false ↦ filter-filter p q xs
+      ])
+      | inr e ↦ rw e (filter-filter p q xs)
+    ]
+
+-- what passes the narrower test may first be kept by the wider one
+pub filter-wider : {A : Type 0} (p q : A → Bool) (xs : List A) → ((x : A) → p x ≡ true → q x ≡ true) → filter p xs ≡ filter p (filter q xs)
+filter-wider p q [] less = refl
+filter-wider {A = A} p q (x ∷ xs) less =
+    let on : filter p xs ≡ filter p (filter q xs) = filter-wider p q xs less in
+    elim (either_way (p x)) [
+      | inl e ↦ let f : q x ≡ true = less x e in rw (f, e) (ap (λ (ys : List A). x ∷ ys) on)
+      | inr e ↦ elim (either_way (q x)) [
+        | inl f ↦ rw (e, f, e) on
+        | inr f ↦ rw (e, f) on
+      ]
+    ]
+
+-- a list whose elements all pass is kept whole
+pub filter-all : {A : Type 0} (test : A → Bool) (xs : List A) → ((x : A) → In x xs → test x ≡ true) → filter test xs ≡ xs
+filter-all test [] all = refl
+filter-all {A = A} test (x ∷ xs) all =
+    let e : test x ≡ true = all x (inl refl) in
+    rw e (ap (λ (ys : List A). x ∷ ys) (filter-all test xs (λ y on. all y (inr on))))
+
+-- ---- maps and finds
+
+-- two maps in turn, where each element of the list comes out alike
+pub map-map_In : {A B C : Type 0} (f : A → B) (g : A → C) (h : B → C) (xs : List A) → ((x : A) → In x xs → g x ≡ h (f x)) → map g xs ≡ map h (map f xs)
+map-map_In f g h [] same = refl
+map-map_In f g h (x ∷ xs) same = λ i. same x (inl refl) i ∷ map-map_In f g h xs (λ y on. same y (inr on)) i
+
+-- ---- lists turned round
+
+-- a map of a list that is turned round onto another
+map-reverse_aux : {A B : Type 0} (f : A → B) (xs ys : List A) → map f (reverse_aux xs ys) ≡ reverse_aux (map f xs) (map f ys)
+map-reverse_aux f [] ys = refl
+map-reverse_aux f (x ∷ xs) ys = map-reverse_aux f xs (x ∷ ys)
+
+-- a map may be turned round before or after
+pub map-reverse : {A B : Type 0} (f : A → B) (xs : List A) → map f (reverse xs) ≡ reverse (map f xs)
+map-reverse f xs = map-reverse_aux f xs []
+
+-- what is kept of a list that is turned round onto another
+filter-reverse_aux : {A : Type 0} (test : A → Bool) (xs ys : List A) → filter test (reverse_aux xs ys) ≡ reverse_aux (filter test xs) (filter test ys)
+filter-reverse_aux test [] ys = refl
+filter-reverse_aux {A = A} test (x ∷ xs) ys =
+    filter-reverse_aux test xs (x ∷ ys)
+    ∙ elim (test x) as (λ (b : Bool). reverse_aux (filter test xs) (cond b (x ∷ filter test ys) (filter test ys)) ≡ reverse_aux (cond b (x ∷ filter test xs) (filter test xs)) (filter test ys)) [ true ↦ refl | false ↦ refl ]
+
+-- what is kept may be turned round before or after
+pub filter-reverse : {A : Type 0} (test : A → Bool) (xs : List A) → filter test (reverse xs) ≡ reverse (filter test xs)
+filter-reverse test xs = filter-reverse_aux test xs []
+
+-- two maps one after the other
+pub map-map : {A B C : Type 0} (g : B → C) (f : A → B) (xs : List A) → map g (map f xs) ≡ map (λ x. g (f x)) xs
+map-map g f [] = refl
+map-map g f (x ∷ xs) = ap (λ (l : List _). g (f x) ∷ l) (map-map g f xs)
+
+-- what is found in a map is made of what is found
+pub find-map : {A B : Type 0} (p : B → Bool) (f : A → B) (xs : List A) → find p (map f xs) ≡ option_map f (find (λ x. p (f x)) xs)
+find-map p f [] = refl
+find-map p f (x ∷ xs) =
+    elim (p (f x)) as (λ (b : Bool). cond b (Some (f x)) (find p (map f xs)) ≡ option_map f (cond b (Some x) (find (λ y. p (f y)) xs)))
+    [ true ↦ refl | false ↦ find-map p f xs ]
+
+-- some of a map pass if some pass the test of what is made of them
+pub list_any-map : {A B : Type 0} (p : B → Bool) (f : A → B) (xs : List A) → list_any p (map f xs) ≡ list_any (λ x. p (f x)) xs
+list_any-map p f [] = refl
+list_any-map p f (x ∷ xs) = ap (λ (b : Bool). p (f x) || b) (list_any-map p f xs)
+
+-- a map of parts is put together of maps
+pub map-flat_map : {A B : Type 0} (f : A → B) (part : ℕ → List A) (ks : List ℕ) → map f (flat_map part ks) ≡ flat_map (λ k. map f (part k)) ks
+map-flat_map f part [] = refl
+map-flat_map f part (k ∷ ks) = map-append f (part k) (flat_map part ks) ∙ ap (λ (l : List _). map f (part k) ++ l) (map-flat_map f part ks)
+
+-- parts that agree are put together to the same
+pub flat_map-same : {B : Type 0} (f g : ℕ → List B) (ks : List ℕ) → ((k : ℕ) → f k ≡ g k) → flat_map f ks ≡ flat_map g ks
+flat_map-same f g ks same = λ i. flat_map (λ k. same k i) ks
+
+-- where only one element passes, it is found
+pub find_only : {A : Type 0} (p : A → Bool) (xs : List A) (x : A) → In x xs → p x ≡ true → ((y : A) → In y xs → p y ≡ true → y ≡ x) → find p xs ≡ Some x
+find_only p [] x on is only = absurd on
+find_only p (y ∷ ys) x on is only =
+    elim (either_way (p y)) [
+      | inl e ↦ rw e (ap Some (only y (inl refl) e))
+      | inr e ↦ rw e (elim on [
+        | inl here ↦ both_ways (p y) (ap p (sym here) ∙ is) e
+        | inr there ↦ find_only p ys x there is (λ z far. only z (inr far))
+      ])
+    ]
+
+-- where none passes, none is found
+pub find_none : {A : Type 0} (p : A → Bool) (xs : List A) → ((y : A) → In y xs → p y ≡ false) → find p xs ≡ None
+find_none p [] none = refl
+find_none p (y ∷ ys) none = rw (none y (inl refl)) (find_none p ys (λ z on. none z (inr on)))
+
+-- and none is counted
+pub times_none : {A : Type 0} (p : A → Bool) (xs : List A) → ((y : A) → In y xs → p y ≡ false) → times p xs ≡ 0
+times_none p [] none = refl
+times_none p (y ∷ ys) none = rw (none y (inl refl)) (times_none p ys (λ z on. none z (inr on)))
+
+-- where all that fail one test fail the other, those that pass the first tell whether some pass the second
+pub any_kept : {A : Type 0} (p kept : A → Bool) (xs : List A) → ((x : A) → In x xs → kept x ≡ false → p x ≡ false) → list_any p (filter kept xs) ≡ list_any p xs
+any_kept p kept [] less = refl
+any_kept p kept (x ∷ xs) less =
+    let on : list_any p (filter kept xs) ≡ list_any p xs = any_kept p kept xs (λ y there. less y (inr there)) in
+    elim (either_way (kept x)) [
+      | inl e ↦ rw (e, on) refl
+      | inr e ↦ rw (e, less x (inl refl) e) on
+    ]
+
+-- an element that passes shows that some do
+pub any_of : {A : Type 0} (p : A → Bool) (xs : List A) (x : A) → In x xs → p x ≡ true → list_any p xs ≡ true
+any_of p [] x on is = absurd on
+any_of p (y ∷ ys) x (inl here) is = let e : p y ≡ true = ap p (sym here) ∙ is in rw e refl
+any_of p (y ∷ ys) x (inr there) is = or_right (p y) (list_any p ys) (any_of p ys x there is)

@@ -1,0 +1,11 @@
+use Rattle.std.proofs.Common.{ap, ◌∙◌}
+use Rattle.std.specs.Option.{option_map}
+use Rattle.lifetime_core.specs.Reads.{fault_in}
+use Rattle.lifetime_core.specs.State.{State}
+use Rattle.lifetime_core.proofs.Showing.{cause_shown, told_of}
+use Rattle.lifetime_core.proofs.machine.Core.cause.Goals as goal
+
+pub returns-clause-shown : goal.returns-clause-shown
+returns-clause-shown c history shows =
+    rw (c.cause.ensures, c.node.ensures)
+    (ap (λ (s : State). option_map told_of (fault_in s c.args.key)) c.self.view_is ∙ cause_shown c.args.self.now history shows c.args.key)

@@ -1,0 +1,7 @@
+use Rattle.std.proofs.Common.{ap, ◌∙◌}
+use Rattle.lifetime_core.specs.State.{State}
+use Rattle.lifetime_core.proofs.Showing.{events_shown}
+use Rattle.lifetime_core.proofs.machine.Core.events.Goals as goal
+
+pub returns-clause-shown : goal.returns-clause-shown
+returns-clause-shown c history shows = ap (λ (s : State). s.events) c.self.view_is ∙ events_shown c.args.self.now history shows

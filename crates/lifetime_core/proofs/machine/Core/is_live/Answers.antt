@@ -1,0 +1,10 @@
+use Rattle.std.proofs.Common.{ap, ◌∙◌}
+use Rattle.lifetime_core.specs.Reads.{is_live_in}
+use Rattle.lifetime_core.specs.State.{State}
+use Rattle.lifetime_core.proofs.Showing.{live_shown}
+use Rattle.lifetime_core.proofs.machine.Core.is_live.Goals as goal
+
+pub returns-clause-shown : goal.returns-clause-shown
+returns-clause-shown c history shows =
+    rw (c.is_live.ensures, c.node.ensures)
+    (ap (λ (s : State). is_live_in s c.args.key) c.self.view_is ∙ live_shown c.args.self.now history shows c.args.key)

@@ -1,0 +1,12 @@
+use Rattle.std.proofs.Common.{ap, ◌∙◌}
+use Rattle.std.proofs.lemmas.Result.{IfOk-weaker}
+use Rattle.alloc_event.specs.Forest.{live_keys}
+use Rattle.lifetime_core.specs.State.{State}
+use Rattle.lifetime_core.proofs.Showing.{live_keys_shown}
+use Rattle.lifetime_core.proofs.machine.Core.live.Goals as goal
+
+pub returns-clause-shown : goal.returns-clause-shown
+returns-clause-shown c =
+    IfOk-weaker c.live.result _ _
+    (λ keys is history shows. is ∙ (ap (λ (s : State). live_keys s.forest) c.self.view_is ∙ live_keys_shown c.args.self.now history shows))
+    c.live.ensures

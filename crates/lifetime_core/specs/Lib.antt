@@ -1,0 +1,9 @@
+pub mod Lines
+pub mod Reads
+pub mod Served
+pub mod Shown
+pub mod State
+pub mod Steps
+pub mod Tasks
+pub mod Theorem
+pub mod Whole

@@ -1,0 +1,30 @@
+-- The lines of the order of answers, over a node.
+use Rattle.std.specs.Prelude.{ℕ, Bool, false, ◌&&◌, ◌==◌, not, if◌then◌else◌, Option}
+use Rattle.std.specs.Option.{option_map, option_map_or}
+use Rattle.sm_names.specs.declared.keys.Kind.{Kind}
+use Rattle.sm_names.specs.declared.messages.Call.{Call}
+use Rattle.sm_names.specs.declared.messages.Reply.{Reply}
+use Rattle.sm_names.specs.declared.outcomes.Fault.{Fault}
+use Rattle.sm_names.specs.declared.outcomes.Refusal.{Refusal}
+use Rattle.sm_names.specs.Answers.{kind_for, refused_if}
+use Rattle.sm_names.specs.Sameness.{same_kind}
+use Rattle.alloc_event.specs.declared.node.End.{End}
+use Rattle.lifetime_core.specs.Reads.{holder_of, is_moving}
+
+-- another client holds the end
+abbrev pub another_of : ℕ → End → Option Reply
+another_of client end = refused_if (not (holder_of end == client) && not (is_moving end)) Refusal.NoSuchEnd
+
+-- the end is in a parcel
+abbrev pub transit_of : End → Option Reply
+transit_of end = refused_if (is_moving end) Refusal.InTransit
+
+-- why and where the node failed
+abbrev pub peer_of : Option Fault → Option Reply
+peer_of fault = option_map (λ (f : Fault). Reply.PeerClosed f.cause f.origin) fault
+
+-- the call is for an end of the other kind
+abbrev pub kind_line : Bool → Call → Option Reply
+kind_line bound call =
+    let kind : Kind = if bound then Kind.Collection else Kind.Token in
+    refused_if (option_map_or (λ k. not (same_kind kind k)) (kind_for call) false) Refusal.WrongKind

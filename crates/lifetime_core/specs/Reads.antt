@@ -1,0 +1,101 @@
+-- What answers and views read of a core's state.
+use Rattle.std.specs.Prelude.{ℕ, ◌-◌, Bool, true, false, ◌&&◌, ◌==◌, not, if◌then◌else◌, List, [], map, length, Option, Some, None, is_some}
+use Rattle.std.specs.List.{find, filter, list_any, sum_by}
+use Rattle.std.specs.Option.{option_map_or, option_and_then}
+use Rattle.sm_names.specs.declared.keys.BufferName.{BufferName}
+use Rattle.sm_names.specs.declared.keys.Kind.{Kind}
+use Rattle.sm_names.specs.declared.keys.NodeKey.{NodeKey}
+use Rattle.sm_names.specs.declared.keys.Strength.{Strength}
+use Rattle.sm_names.specs.declared.outcomes.Buffers.{Buffers}
+use Rattle.sm_names.specs.declared.outcomes.Fault.{Fault}
+use Rattle.sm_names.specs.Answers.{OpenEnd, Readings}
+use Rattle.sm_names.specs.Handles.{is_doomed}
+use Rattle.sm_names.specs.Members.{some_strong_live}
+use Rattle.sm_names.specs.Timelines.{HeldPages}
+use Rattle.sm_names.specs.Views.{Views}
+use Rattle.alloc_event.specs.declared.node.End.{End}
+use Rattle.alloc_event.specs.declared.node.Node.{Node}
+use Rattle.alloc_event.specs.Forest.{Collection, collection_at, node_at, kept, given, live_keys, held_by_page, all_held}
+use Rattle.alloc_event.specs.Nodes.{members_of, is_spent}
+use Rattle.alloc_event.specs.Settling.{Handles, buffer_names}
+use Rattle.lifetime_core.specs.State.{State}
+
+-- how many handles are open: none can be opened yet
+abbrev pub handles : Handles
+handles buffer strength = 0
+
+-- who holds the end, or held it last
+abbrev pub holder_of : End → ℕ
+holder_of (End.Held client) = client
+holder_of (End.InTransit client) = client
+holder_of End.Spent = 0
+
+-- the end is in a parcel
+abbrev pub is_moving : End → Bool
+is_moving (End.InTransit client) = true
+is_moving _ = false
+
+-- what the collection was given
+abbrev pub buffers_in : State → ℕ → Option Buffers
+buffers_in s collection = option_map_or (λ (c : Collection). c.buffers) (collection_at s.forest collection) None
+
+-- the buffers of the collection that are not doomed
+abbrev pub to_open_in : State → ℕ → List BufferName
+to_open_in s collection = option_map_or
+    (λ (c : Collection).
+    filter (λ b. not (is_doomed (handles b Strength.Strong) (some_strong_live (members_of c.nodes)))) (buffer_names c))
+    (collection_at s.forest collection) []
+
+-- the end of the node, as answers read it
+abbrev pub open_end_of : State → Node → OpenEnd
+open_end_of s n = record {
+  holder = holder_of n.end;
+  in_transit = is_moving n.end;
+  kind = if n.bound then Kind.Collection else Kind.Token;
+  collection = n.collection;
+  fault = n.fault;
+  constrained = is_some n.constraints;
+  weak = n.weak;
+  weak_ok = n.weak_ok;
+  took = n.took;
+  node_trackers = n.trackers;
+  buffers = if n.allocated then buffers_in s n.collection else None;
+  to_open = if n.allocated then to_open_in s n.collection else [];
+}
+
+-- the end of the node with this key, unless it is spent
+abbrev pub end_in : State → NodeKey → Option OpenEnd
+end_in s key = option_and_then (λ (n : Node). if is_spent n.end then None else Some (open_end_of s n)) (node_at s.forest key)
+
+-- what answers read of the state: no client is shut, no parcel waits, and no handle or tracker is there yet
+abbrev pub readings_of : State → Readings
+readings_of s = record {
+  events = s.events;
+  has_joined = λ client. list_any (λ c. c == client) s.clients;
+  is_shut = λ client. false;
+  end_of = end_in s;
+  waiting = λ client. [];
+  open_of = λ client. handles;
+  open_total = handles;
+  was_given = given s.forest;
+  kept_nodes = kept s.forest;
+  kept_collections = length s.forest.collections;
+  unfired = 0;
+}
+
+-- why and where the node with this key failed, if it is kept and did
+abbrev pub fault_in : State → NodeKey → Option Fault
+fault_in s key = option_map_or (λ (n : Node). n.fault) (node_at s.forest key) None
+
+-- whether the node with this key is live
+abbrev pub is_live_in : State → NodeKey → Bool
+is_live_in s key = option_map_or (λ (n : Node). not n.gone && not n.released) (node_at s.forest key) false
+
+-- what is seen of the state
+abbrev pub views_of : State → Views
+views_of s = record {
+  live = live_keys s.forest;
+  held = held_by_page s.forest;
+  fired = [];
+  free = s.pool - sum_by (λ (h : HeldPages). h.pages.pages) (all_held s.forest);
+}

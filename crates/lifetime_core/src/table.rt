@@ -1,0 +1,81 @@
+//! The answer table: what is answered to a call that takes effect.
+ghost use Rattle.std.specs.Prelude.{◌≡◌};
+ghost use Rattle.sm_names.specs.Answers.{answer as answer_of, effect as effect_of, of_end};
+ghost use Rattle.lifetime_core.specs.Reads.{readings_of};
+ghost use Rattle.lifetime_core.specs.Served.{IsServed};
+ghost use Rattle.lifetime_core.specs.Tasks.{keyed as keyed_by};
+
+use crate::machine::Core;
+use crate::order::first_answer;
+use sm_names::{Call, ClientId, NodeKey, Refusal, Reply};
+
+// The new token below a node.
+fn token_below(core: &Core, key: NodeKey, new: NodeKey) -> Reply
+    ensures { result ≡ of_end (readings_of core.now) key (λ e. Reply.Token new e.collection) }
+{
+    match core.node_with_end(key) {
+        Some(node) => Reply::Token {
+            key: new,
+            collection: node.collection,
+        },
+        None => Reply::Refused(Refusal::NoSuchEnd),
+    }
+}
+
+// What the node's unit was given.
+fn check(core: &Core, client: ClientId, key: NodeKey, new: NodeKey) -> Reply
+    ensures { result ≡ effect_of (readings_of core.now) client new (Call.Check key) }
+{
+    let Some(node) = core.node_with_end(key) else {
+        return Reply::Refused(Refusal::NoSuchEnd);
+    };
+    if !node.allocated {
+        return Reply::Pending;
+    }
+    match core.buffers_of(node.collection) {
+        Some(buffers) => Reply::Allocated {
+            count: buffers.count,
+            size: buffers.size,
+        },
+        None => Reply::Pending,
+    }
+}
+
+// The answer of a call that takes effect; a new node gets this key.
+fn effect(core: &Core, client: ClientId, new: NodeKey, call: &Call) -> Reply
+    requires { IsServed call.now }
+    ensures { result ≡ effect_of (readings_of core.now) client new call.now }
+{
+    match *call {
+        Call::Join => Reply::Joined(core.next_event()),
+        Call::OpenRoot => Reply::Token {
+            key: new,
+            collection: core.next_event(),
+        },
+        Call::Duplicate(key) | Call::AttachToken(key) => token_below(core, key, new),
+        Call::Check(key) => check(core, client, key, new),
+        _ => Reply::Done,
+    }
+}
+
+/// What is answered, if a new node gets this key.
+pub(crate) fn answer(core: &Core, client: ClientId, new: NodeKey, call: &Call) -> Reply
+    requires { IsServed call.now }
+    ensures { result
+        ≡ answer_of core.now.limits (readings_of core.now) client new call.now }
+{
+    match first_answer(core, client, call) {
+        Some(reply) => reply,
+        None => effect(core, client, new, call),
+    }
+}
+
+/// The reply, where a new node got this key.
+pub(crate) fn keyed(reply: Reply, new: Option<NodeKey>) -> Reply
+    ensures { result ≡ keyed_by reply new }
+{
+    match (reply, new) {
+        (Reply::Token { collection, .. }, Some(key)) => Reply::Token { key, collection },
+        _ => reply,
+    }
+}
