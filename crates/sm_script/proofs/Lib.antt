@@ -1,0 +1,6 @@
+pub mod Advancing
+pub mod Piecing
+pub mod Playing
+pub mod Running
+pub mod Splits
+pub mod Taking

@@ -1,0 +1,181 @@
+-- A run that goes on by one line, or stops at it.
+use Rattle.std.proofs.Common.{◌≡◌, ℕ, ◌+◌, ◌≤◌, List, [], ◌∷◌, ◌++◌, length-append, append_assoc, append-nil, refl, sym, ap, ◌∙◌, subst, Option, inl, inr, arith}
+use Rattle.std.proofs.KnownBytes.{Appends-trans}
+use Rattle.std.specs.Io.KnownBytes.{Appends}
+use Rattle.sm_names.specs.Bounds.{Bound}
+use Rattle.sm_names.specs.Legality.{IsLegal}
+use Rattle.sm_names.specs.Marks.{events}
+use Rattle.sm_names.specs.Timelines.{timeline}
+use Rattle.sm_script.specs.declared.fault.ScriptFault.{ScriptFault}
+use Rattle.sm_script.specs.declared.player.Player.{Player}
+use Rattle.sm_script.specs.declared.stop.Stop.{Stop}
+use Rattle.sm_script.specs.Players.{SoFar, GivesUp, fault_of}
+use Rattle.sm_script.specs.Runs.{WritesPart, IsTold, IsCutOff, IsUnanswered, IsShort, Stopped}
+use Rattle.sm_script.specs.Scenes.{Scene, Setting, Plays, Rests, Goes, Answers, LeadsTo, first_scene}
+use Rattle.sm_script.specs.Sessions.{IsAt, Advances, IsStopped}
+
+-- one more line
+pub plays-more : (pool : ℕ) (from to next : Scene) (lines : List (List ℕ)) (texts line text : List ℕ) →
+    Plays pool from lines texts to → Answers pool to line text next → Plays pool from (lines ++ line ∷ []) (texts ++ text) next
+plays-more pool from to next lines texts line text (Rests scene) more =
+    subst (λ all. Plays pool scene (line ∷ []) all next) (append-nil text) (Goes scene next next line text [] [] more (Rests next))
+plays-more pool from to next lines texts line text (Goes scene mid last one its others their first rest) more =
+    subst (λ all. Plays pool scene (one ∷ (others ++ line ∷ [])) all next) (sym (append_assoc its their text))
+    (Goes scene mid next one its (others ++ line ∷ []) (their ++ text) first (plays-more pool mid last next others their line text rest more))
+
+module _ (setting : Setting) (old new : Option (List ℕ)) (lines more : List (List ℕ)) where
+  cut-more : IsCutOff setting old new lines → IsCutOff setting old new (lines ++ more)
+  cut-more cut = record {
+    before = cut.before;
+    after = cut.after ++ more;
+    split = ap (λ front. front ++ more) cut.split ∙ append_assoc cut.before cut.after more;
+    texts = cut.texts;
+    scene = cut.scene;
+    leads = cut.leads;
+    written = cut.written;
+  }
+
+  short-more : IsShort setting old new lines → IsShort setting old new (lines ++ more)
+  short-more short = record {
+    before = short.before;
+    after = short.after ++ more;
+    split = ap (λ front. front ++ more) short.split ∙ append_assoc short.before short.after more;
+    told = short.told;
+  }
+
+  unanswered-more : (fault : ScriptFault) → IsUnanswered setting old new lines fault → IsUnanswered setting old new (lines ++ more) fault
+  unanswered-more fault stop = record {
+    before = stop.before;
+    line = stop.line;
+    after = stop.after ++ more;
+    split = ap (λ front. front ++ more) stop.split ∙ append_assoc stop.before (stop.line ∷ stop.after) more;
+    texts = stop.texts;
+    scene = stop.scene;
+    leads = stop.leads;
+    why = stop.why;
+    written = stop.written;
+  }
+
+  -- a stop among the first of the lines is one among all
+  pub stopped-more : (fault : ScriptFault) → Stopped setting old new lines fault → Stopped setting old new (lines ++ more) fault
+  stopped-more ScriptFault.ReadFault stop = stop
+  stopped-more ScriptFault.WriteFault stop = cut-more stop
+  stopped-more (ScriptFault.BadLine n) stop = unanswered-more (ScriptFault.BadLine n) stop
+  stopped-more ScriptFault.HistoryFull stop = unanswered-more ScriptFault.HistoryFull stop
+  stopped-more ScriptFault.NoMemory stop = short-more stop
+
+module _ (setting : Setting) (player : Player) (old mid : Option (List ℕ)) (lines : List (List ℕ)) (far : SoFar setting player old mid lines) where
+  -- the lines so far lead to a scene
+  pub so_far-leads : LeadsTo setting lines far.texts far.scene
+  so_far-leads = record {
+    plays = far.plays;
+    legal =
+        subst (λ (limits : Bound). IsLegal setting.pool limits far.scene.history) far.limits
+        (subst (λ (pool : ℕ). IsLegal pool player.session.core.limits far.scene.history) far.pool far.is_at.shows.legal);
+  }
+
+  -- one more line was answered
+  pub so_far-more : (next : Player) (line text : List ℕ) → ((scene : Scene) → IsAt player.session scene →
+      Advances player.session next.session line text scene) → next.out.items ≡ player.out.items ++ text →
+      next.lines ≡ player.lines + 1 → SoFar setting next old mid (lines ++ line ∷ [])
+  so_far-more next line text advances out counted =
+      let step = advances far.scene far.is_at in
+      record {
+        pool = step.setting.pool ∙ far.pool;
+        limits = step.setting.limits ∙ far.limits;
+        scene = step.next;
+        texts = far.texts ++ text;
+        plays = plays-more setting.pool first_scene far.scene step.next lines far.texts line text far.plays
+            (subst (λ (pool : ℕ). Answers pool far.scene line text step.next) far.pool step.answers);
+        is_at = step.is_at;
+        done = far.done;
+        split = ap (λ front. front ++ text) far.split ∙ append_assoc far.done player.out.items text
+            ∙ ap (λ back. far.done ++ back) (sym out);
+        written = far.written;
+        counted = rw length-append (omega (arith, counted, far.counted));
+      }
+
+  all-written : (new : Option (List ℕ)) → Appends mid new player.out.items → Appends old new far.texts
+  all-written new out =
+      subst (Appends old new) (sym far.split) (Appends-trans old mid new far.done player.out.items far.written out)
+
+  -- all of the text went out
+  pub so_far-told : (new : Option (List ℕ)) → Appends mid new player.out.items → IsTold setting old new lines
+  so_far-told new out = record {
+    texts = far.texts;
+    scene = far.scene;
+    leads = so_far-leads;
+    written = all-written new out;
+  }
+
+  -- a part of the text went out
+  pub so_far-cut : (new : Option (List ℕ)) → WritesPart mid new player.out.items → IsCutOff setting old new lines
+  so_far-cut new part = record {
+    before = lines;
+    after = [];
+    split = sym (append-nil lines);
+    texts = far.texts;
+    scene = far.scene;
+    leads = so_far-leads;
+    written = record {
+      done = far.done ++ part.done;
+      rest = part.rest;
+      split = far.split ∙ ap (λ back. far.done ++ back) part.split ∙ sym (append_assoc far.done part.done part.rest);
+      written = Appends-trans old mid new far.done part.done far.written part.written;
+    };
+  }
+
+  -- a line was not answered, and all of the text went out
+  told-stop : (new : Option (List ℕ)) (line : List ℕ) (stop : Stop) → IsStopped player.session line far.scene stop →
+      Appends mid new player.out.items → Stopped setting old new (lines ++ line ∷ []) (fault_of (player.lines + 1) stop)
+  told-stop new line Stop.BadLine why out = record {
+    before = lines;
+    line = line;
+    after = [];
+    split = refl;
+    texts = far.texts;
+    scene = far.scene;
+    leads = so_far-leads;
+    why = (why, ap (λ n. n + 1) far.counted);
+    written = all-written new out;
+  }
+  told-stop new line Stop.HistoryFull why out = record {
+    before = lines;
+    line = line;
+    after = [];
+    split = refl;
+    texts = far.texts;
+    scene = far.scene;
+    leads = so_far-leads;
+    why = record {
+      client = why.0;
+      call = why.1;
+      binds = why.2;
+      asks = why.3;
+      full =
+          subst (λ (pool : ℕ). setting.limits.events ≤ events (timeline pool far.scene.history)) far.pool
+          (subst (λ (limits : Bound). limits.events ≤ events (timeline player.session.core.pool far.scene.history)) far.limits why.4);
+    };
+    written = all-written new out;
+  }
+  told-stop new line Stop.NoMemory why out =
+      record { before = lines; after = line ∷ []; split = refl; told = so_far-told new out }
+
+  -- a line was not answered
+  pub so_far-stop : (new : Option (List ℕ)) (line : List ℕ) (stop : Stop) (fault : ScriptFault) →
+      ((scene : Scene) → IsAt player.session scene → IsStopped player.session line scene stop) →
+      GivesUp mid new player.out.items (player.lines + 1) stop fault → Stopped setting old new (lines ++ line ∷ []) fault
+  so_far-stop new line stop fault why (inl (is, out)) =
+      subst (Stopped setting old new (lines ++ line ∷ [])) (sym is)
+      (told-stop new line stop (why far.scene far.is_at) out)
+  so_far-stop new line stop fault why (inr (is, part)) =
+      subst (Stopped setting old new (lines ++ line ∷ [])) (sym is)
+      (cut-more setting old new lines (line ∷ []) (so_far-cut new part))
+
+  -- memory was refused between two lines
+  pub so_far-short : (new : Option (List ℕ)) (number : ℕ) (fault : ScriptFault) →
+      GivesUp mid new player.out.items number Stop.NoMemory fault → Stopped setting old new lines fault
+  so_far-short new number fault (inl (is, out)) =
+      subst (Stopped setting old new lines) (sym is)
+      (record { before = lines; after = []; split = sym (append-nil lines); told = so_far-told new out })
+  so_far-short new number fault (inr (is, part)) = subst (Stopped setting old new lines) (sym is) (so_far-cut new part)

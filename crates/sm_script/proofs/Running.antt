@@ -1,0 +1,197 @@
+-- A run that reads on, and how it ends.
+use Rattle.std.proofs.Common.{◌≡◌, ◌≢◌, ℕ, ◌+◌, ◌-◌, ◌<◌, ◌≤◌, List, [], ◌++◌, length, length-append, take, append_assoc, append-nil, refl, sym, ap, ◌∙◌, subst, Option, inl, inr, arith}
+use Rattle.std.proofs.KnownBytes.{Appends-nil, Appends-kept, Consumes-nil, Consumes-trans, Consumes-kept}
+use Rattle.std.specs.Prelude.{Ok, Err, Result, MatchResult, OnOk, IfErr}
+use Rattle.std.specs.Io.KnownBytes.{Appends, Consumes, IsAtEnd, Keeps}
+use Rattle.sm_script.specs.declared.fault.ScriptFault.{ScriptFault}
+use Rattle.sm_script.specs.declared.player.Player.{Player}
+use Rattle.sm_script.specs.declared.TheConstants.{MOST_BYTES}
+use Rattle.sm_script.specs.Pieces.{lines_from, rest_from, whole_lines, last_part}
+use Rattle.sm_script.specs.Players.{SoFar, Answered, Breaks, EndsBy}
+use Rattle.sm_script.specs.Runs.{IsTold, IsCutOff, Stopped, RunStops, Runs}
+use Rattle.sm_script.specs.Scenes.{Setting, Rests, first_scene}
+use Rattle.sm_script.proofs.Piecing.{rest-append, lines-append}
+use Rattle.sm_script.proofs.Playing.{so_far-told}
+
+-- a stop is a break
+pub stopped-breaks : (setting : Setting) (old new : Option (List ℕ)) (lines : List (List ℕ)) (fault : ScriptFault) →
+    Stopped setting old new lines fault → Breaks setting old new lines fault
+stopped-breaks setting old new lines ScriptFault.ReadFault stop = absurd stop
+stopped-breaks setting old new lines ScriptFault.WriteFault stop = stop
+stopped-breaks setting old new lines (ScriptFault.BadLine n) stop = stop
+stopped-breaks setting old new lines ScriptFault.HistoryFull stop = stop
+stopped-breaks setting old new lines ScriptFault.NoMemory stop = stop
+
+-- a break ends the run
+breaks-run : (setting : Setting) (left old new : Option (List ℕ)) (script : List ℕ) (fault : ScriptFault) →
+    Breaks setting old new (whole_lines script) fault → RunStops setting left old new script fault
+breaks-run setting left old new script ScriptFault.ReadFault break = break
+breaks-run setting left old new script ScriptFault.WriteFault break = break
+breaks-run setting left old new script (ScriptFault.BadLine n) break = inl break
+breaks-run setting left old new script ScriptFault.HistoryFull break = break
+breaks-run setting left old new script ScriptFault.NoMemory break = break
+
+-- all of what is to go out is out
+pub told-so_far : (setting : Setting) (player : Player) (old new : Option (List ℕ)) (lines : List (List ℕ)) →
+    SoFar setting player old new lines → player.out.items ≡ [] → IsTold setting old new lines
+told-so_far setting player old new lines far empty =
+    so_far-told setting player old new lines far new (subst (Appends new new) (sym empty) (Appends-nil new))
+
+module _ (left_before old : Option (List ℕ)) (first : Player) where
+  -- these bytes came, the lines that end in them were answered, and so many more may come
+  pub record Come (left now : Option (List ℕ)) (player : Player) (front : List ℕ) (room : ℕ) : Type 0 where
+    pub script : List ℕ
+    pub taken : Consumes left_before left script
+    pub counted : length script + room ≡ MOST_BYTES
+    pub answered : Answered first old player now (whole_lines script)
+    pub rest : front ≡ last_part script
+    pub empty : player.out.items ≡ []
+    pub few : player.lines ≤ length script
+
+  module _ (left now : Option (List ℕ)) (player : Player) (front : List ℕ) (room : ℕ) (come : Come left now player front room) where
+    -- the lines of one more piece
+    lines-on : (piece : List ℕ) → whole_lines come.script ++ lines_from front piece ≡ whole_lines (come.script ++ piece)
+    lines-on piece = ap (λ f. whole_lines come.script ++ lines_from f piece) come.rest ∙ sym (lines-append [] come.script piece)
+
+    -- one more piece was answered
+    pub come-more : (later new : Option (List ℕ)) (next : Player) (next_front piece : List ℕ) → Consumes left later piece →
+        (count : ℕ) → length piece ≡ count → count ≤ room → Answered player now next new (lines_from front piece) →
+        next_front ≡ rest_from front piece → next.out.items ≡ [] → next.lines ≤ player.lines + length piece →
+        Come later new next next_front (room - count)
+    come-more later new next next_front piece more count is fits answered rest empty few = record {
+      script = come.script ++ piece;
+      taken = Consumes-trans left_before left later come.script piece come.taken more;
+      counted = rw length-append (omega (arith, come.counted, is, fits));
+      answered = λ setting begun lines far.
+          subst (SoFar setting next begun new)
+          (append_assoc lines (whole_lines come.script) (lines_from front piece) ∙ ap (λ ls. lines ++ ls) (lines-on piece))
+          (answered setting begun (lines ++ whole_lines come.script) (come.answered setting begun lines far));
+      rest = rest ∙ ap (λ f. rest_from f piece) come.rest ∙ sym (rest-append [] come.script piece);
+      empty = empty;
+      few = rw length-append (omega (arith, come.few, few));
+    }
+
+    module _ (setting : Setting) (start : SoFar setting first old old []) where
+      -- the lines so far were answered
+      pub come-told : IsTold setting old now (whole_lines come.script)
+      come-told = told-so_far setting player old now (whole_lines come.script) (come.answered setting old [] start) come.empty
+
+      within-most : length come.script ≤ MOST_BYTES
+      within-most = omega (arith, come.counted)
+
+      all-taken : (later : Option (List ℕ)) → Consumes left_before later come.script → Consumes left_before later (come.script ++ [])
+      all-taken later taken = subst (Consumes left_before later) (sym (append-nil come.script)) taken
+
+      -- no more could be read
+      pub runs-unread : (later : Option (List ℕ)) → Keeps left later → Runs setting left_before later old now (Err ScriptFault.ReadFault)
+      runs-unread later kept = record {
+        script = come.script;
+        beyond = [];
+        taken = all-taken later (Consumes-kept left_before left later come.script come.taken kept);
+        within = within-most;
+        full = λ some. absurd (some refl);
+        outcome = come-told;
+      }
+
+      -- the run breaks off at the next piece, behind which there may be more
+      pub runs-broken : (later new : Option (List ℕ)) (piece beyond : List ℕ) (fault : ScriptFault) → Consumes left later (piece ++ beyond) →
+          length piece ≤ room → (beyond ≢ [] → length piece ≡ room) →
+          ((begun : Option (List ℕ)) (lines : List (List ℕ)) → SoFar setting player begun now lines →
+          Breaks setting begun new (lines ++ lines_from front piece) fault) →
+          Runs setting left_before later old new (Err fault)
+      runs-broken later new piece beyond fault more fits full breaks = record {
+        script = come.script ++ piece;
+        beyond = beyond;
+        taken = subst (Consumes left_before later) (sym (append_assoc come.script piece beyond))
+            (Consumes-trans left_before left later come.script (piece ++ beyond) come.taken more);
+        within = rw length-append (omega (arith, come.counted, fits));
+        full = λ some. rw length-append (omega (arith, come.counted, full some));
+        outcome = breaks-run setting later old new (come.script ++ piece) fault
+            (subst (λ (ls : List (List ℕ)). Breaks setting old new ls fault) (lines-on piece)
+            (breaks old (whole_lines come.script) (come.answered setting old [] start)));
+      }
+
+      -- the end of the script
+      module _ (later new : Option (List ℕ)) (none : Consumes left later []) (end : IsAtEnd later) (kept : Keeps now new) where
+        told-end : IsTold setting old new (whole_lines come.script)
+        told-end =
+            let told = come-told in
+            record {
+              texts = told.texts;
+              scene = told.scene;
+              leads = told.leads;
+              written = Appends-kept old now new told.texts told.written kept;
+            }
+
+        cut-end : IsCutOff setting old new (whole_lines come.script)
+        cut-end =
+            let told = told-end in
+            record {
+              before = whole_lines come.script;
+              after = [];
+              split = sym (append-nil (whole_lines come.script));
+              texts = told.texts;
+              scene = told.scene;
+              leads = told.leads;
+              written = record { done = told.texts; rest = []; split = sym (append-nil told.texts); written = told.written };
+            }
+
+        numbered-end : (n : ℕ) → n ≡ player.lines + 1 → n ≡ length (whole_lines come.script) + 1
+        numbered-end n is = is ∙ ap (λ k. k + 1) (come.answered setting old [] start).counted
+
+        ended-by : (fault : ScriptFault) → EndsBy front player.lines fault → RunStops setting later old new come.script fault
+        ended-by ScriptFault.ReadFault why = absurd why
+        ended-by ScriptFault.WriteFault why = cut-end
+        ended-by (ScriptFault.BadLine n) why = inr (record {
+          at_end = end;
+          unended = λ none. why.0 (come.rest ∙ none);
+          numbered = numbered-end n why.1;
+          told = told-end;
+        })
+        ended-by ScriptFault.HistoryFull why = absurd why
+        ended-by ScriptFault.NoMemory why = absurd why
+
+        pub runs-ended : (result : Result (Unit {0}) ScriptFault) → OnOk result (front ≡ []) → IfErr result (EndsBy front player.lines) →
+            Runs setting left_before later old new result
+        runs-ended result ok err = record {
+          script = come.script;
+          beyond = [];
+          taken = Consumes-trans left_before left later come.script [] come.taken none;
+          within = within-most;
+          full = λ some. absurd (some refl);
+          outcome = by result ok err;
+        }
+          where
+            by : (result : Result (Unit {0}) ScriptFault) → OnOk result (front ≡ []) → IfErr result (EndsBy front player.lines) →
+                MatchResult result
+                (λ _. IsAtEnd later × (◌≡◌ {A = List ℕ} [] []) × (last_part come.script ≡ []) × IsTold setting old new (whole_lines come.script))
+                (RunStops setting later old new come.script)
+            by (Ok u) ok err = (end, refl, sym come.rest ∙ ok, told-end)
+            by (Err fault) ok err = ended-by fault err
+
+-- a read of no bytes, with room for some, is at the end
+pub read-end : (before after : Option (List ℕ)) (n : ℕ) (block : List ℕ) → n ≡ 0 → 0 < length block →
+    Consumes before after (take n block) × (n ≡ 0 → 0 < length block → IsAtEnd after) → Consumes before after [] × IsAtEnd after
+read-end before after n block none room read =
+    (subst (λ k. Consumes before after (take k block)) none read.0, read.1 none room)
+
+-- a run that read nothing
+pub runs-nothing : (setting : Setting) (left old : Option (List ℕ)) → Runs setting left left old old (Err ScriptFault.NoMemory)
+runs-nothing setting left old = record {
+  script = [];
+  beyond = [];
+  taken = Consumes-nil left;
+  within = omega arith;
+  full = λ some. absurd (some refl);
+  outcome = record {
+    before = [];
+    after = [];
+    split = refl;
+    told = record {
+      texts = [];
+      scene = first_scene;
+      leads = record { plays = Rests first_scene; legal = record { answers = tt; within = omega arith } };
+      written = Appends-nil old;
+    };
+  };
+}

@@ -1,0 +1,29 @@
+-- What a script calls its clients and nodes.
+use Rattle.std.specs.Prelude.{ℕ, ◌-◌, Bool, false, ◌&&◌, ◌||◌, nat_le, if◌then◌else◌, List, [], ◌∷◌, ◌++◌, length, take, replicate, Option, Some, None}
+use Rattle.std.specs.List.{list_all}
+use Rattle.sm_script.specs.declared.label.Label.{Label}
+
+-- the byte is a letter from a to z
+abbrev pub is_letter : ℕ → Bool
+is_letter byte = nat_le 97 byte && nat_le byte 122
+
+-- the byte is a digit
+abbrev pub is_digit : ℕ → Bool
+is_digit byte = nat_le 48 byte && nat_le byte 57
+
+-- the word may stand for a client or a node: a letter, and up to fifteen letters or digits
+abbrev pub is_label : List ℕ → Bool
+is_label [] = false
+is_label (first ∷ others) =
+    is_letter first && nat_le (length others) 15 && list_all (λ byte. is_letter byte || is_digit byte) others
+
+-- the label that is spelled so
+abbrev pub label_of : List ℕ → Option Label
+label_of word =
+    if is_label word
+    then Some (record { bytes = word ++ replicate (16 - length word) 0; length = length word })
+    else None
+
+-- how the label is spelled
+abbrev pub text_of_label : Label → List ℕ
+text_of_label label = take label.length label.bytes

@@ -1,0 +1,54 @@
+-- How far a run has come. No public clause cites this module.
+use Rattle.std.specs.Prelude.{◌≡◌, ◌≢◌, ◌⊎◌, ℕ, ◌+◌, List, [], ◌++◌, length, Option}
+use Rattle.std.specs.Io.KnownBytes.{Appends}
+use Rattle.sm_script.specs.declared.fault.ScriptFault.{ScriptFault}
+use Rattle.sm_script.specs.declared.player.Player.{Player}
+use Rattle.sm_script.specs.declared.stop.Stop.{Stop}
+use Rattle.sm_script.specs.Runs.{WritesPart, IsTold, Stopped}
+use Rattle.sm_script.specs.Scenes.{Scene, Setting, Plays, first_scene}
+use Rattle.sm_script.specs.Sessions.{IsAt}
+
+-- these lines were answered; their text was written, but for what is still to go out
+pub record SoFar (setting : Setting) (player : Player) (old new : Option (List ℕ)) (lines : List (List ℕ)) : Type 0 where
+  pub pool : player.session.core.pool ≡ setting.pool
+  pub limits : player.session.core.limits ≡ setting.limits
+  pub scene : Scene
+  pub texts : List ℕ
+  pub plays : Plays setting.pool first_scene lines texts scene
+  pub is_at : IsAt player.session scene
+  pub done : List ℕ
+  pub split : texts ≡ done ++ player.out.items
+  pub written : Appends old new done
+  pub counted : player.lines ≡ length lines
+
+-- these lines more were answered between the two moments
+abbrev pub Answered : Player → Option (List ℕ) → Player → Option (List ℕ) → List (List ℕ) → Type 0
+Answered player mid next new more = (setting : Setting) (old : Option (List ℕ)) (lines : List (List ℕ)) →
+    SoFar setting player old mid lines → SoFar setting next old new (lines ++ more)
+
+-- this fault came before these lines were all answered
+abbrev pub Failed : Player → Option (List ℕ) → Option (List ℕ) → List (List ℕ) → ScriptFault → Type 0
+Failed player mid new more fault = (setting : Setting) (old : Option (List ℕ)) (lines : List (List ℕ)) →
+    SoFar setting player old mid lines → Stopped setting old new (lines ++ more) fault
+
+-- the fault that is told of a line that was not answered, the one of this number
+abbrev pub fault_of : ℕ → Stop → ScriptFault
+fault_of number Stop.BadLine = ScriptFault.BadLine number
+fault_of number Stop.HistoryFull = ScriptFault.HistoryFull
+fault_of number Stop.NoMemory = ScriptFault.NoMemory
+
+-- the text went out, and the stop is told; or only a part went out, and that is told
+abbrev pub GivesUp : Option (List ℕ) → Option (List ℕ) → List ℕ → ℕ → Stop → ScriptFault → Type 0
+GivesUp old new text number stop fault =
+    ((fault ≡ fault_of number stop) × Appends old new text) ⊎ ((fault ≡ ScriptFault.WriteFault) × WritesPart old new text)
+
+-- why a run fails at its end
+abbrev pub EndsBy : List ℕ → ℕ → ScriptFault → Type 0
+EndsBy front lines ScriptFault.WriteFault = front ≡ []
+EndsBy front lines (ScriptFault.BadLine n) = (front ≢ []) × (n ≡ lines + 1)
+EndsBy front lines _ = ⊥
+
+-- why a run breaks off behind these lines, or among them
+abbrev pub Breaks : Setting → Option (List ℕ) → Option (List ℕ) → List (List ℕ) → ScriptFault → Type 0
+Breaks setting old new lines ScriptFault.ReadFault = IsTold setting old new lines
+Breaks setting old new lines fault = Stopped setting old new lines fault

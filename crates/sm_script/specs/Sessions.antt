@@ -1,0 +1,47 @@
+-- Where a session stands.
+use Rattle.std.specs.Prelude.{ℕ, ◌≡◌, ◌≤◌, List, ◌++◌, ⊤, None, Some}
+use Rattle.sm_names.specs.declared.messages.Call.{Call}
+use Rattle.sm_names.specs.Marks.{events}
+use Rattle.sm_names.specs.Timelines.{timeline}
+use Rattle.lifetime_core.specs.Shown.{Shows}
+use Rattle.sm_script.specs.declared.act.Act.{Act}
+use Rattle.sm_script.specs.declared.act.Binds.{Binds}
+use Rattle.sm_script.specs.declared.session.Session.{Session}
+use Rattle.sm_script.specs.declared.stop.Stop.{Stop}
+use Rattle.sm_script.specs.Names.{act_in}
+use Rattle.sm_script.specs.Scenes.{Scene, Answers, Gives}
+use Rattle.sm_script.specs.Tables.{Keeps}
+
+-- the core shows the scene's history, and the tables keep its names
+pub record IsAt (session : Session) (scene : Scene) : Type 0 where
+  pub shows : Shows session.core scene.history
+  pub keeps : Keeps session.tables scene.names
+
+-- the session has the same setting
+pub record IsSameSetting (old new : Session) : Type 0 where
+  pub pool : new.core.pool ≡ old.core.pool
+  pub limits : new.core.limits ≡ old.core.limits
+
+-- the act put its text behind what was there, and led to the next scene
+pub record Gains (old new : Session) (act : Act) (before after : List ℕ) (scene : Scene) : Type 0 where
+  pub setting : IsSameSetting old new
+  pub text : List ℕ
+  pub gained : after ≡ before ++ text
+  pub next : Scene
+  pub gives : Gives old.core.pool scene act text next
+  pub is_at : IsAt new next
+
+-- the line was answered with this text
+pub record Advances (old new : Session) (line text : List ℕ) (scene : Scene) : Type 0 where
+  pub setting : IsSameSetting old new
+  pub next : Scene
+  pub answers : Answers old.core.pool scene line text next
+  pub is_at : IsAt new next
+
+-- why the line was not answered
+abbrev pub IsStopped : Session → List ℕ → Scene → Stop → Type 0
+IsStopped session line scene Stop.BadLine = act_in scene.names line ≡ None
+IsStopped session line scene Stop.HistoryFull =
+    (client : ℕ) × (call : Call) × (binds : Binds)
+    × (act_in scene.names line ≡ Some (Act.Ask client call binds)) × (session.core.limits.events ≤ events (timeline session.core.pool scene.history))
+IsStopped session line scene Stop.NoMemory = ⊤

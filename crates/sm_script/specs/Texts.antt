@@ -1,0 +1,81 @@
+-- The text of a reply and of a view. Labels stand for nodes; keys are never shown.
+use Rattle.std.specs.Prelude.{ℕ, List, [], ◌∷◌, ◌++◌, map, codes, Option, Some, None}
+use Rattle.std.specs.Fmt.{decimal}
+use Rattle.std.specs.List.{flat_map}
+use Rattle.alloc_event.specs.declared.held.HeldBuffer.{HeldBuffer}
+use Rattle.alloc_event.specs.Forest.{held_buffer}
+use Rattle.sm_names.specs.declared.keys.BufferName.{BufferName}
+use Rattle.sm_names.specs.declared.keys.NodeKey.{NodeKey}
+use Rattle.sm_names.specs.declared.messages.Reply.{Reply}
+use Rattle.sm_names.specs.declared.outcomes.Cause.{Cause}
+use Rattle.sm_names.specs.declared.outcomes.Failure.{Failure}
+use Rattle.sm_names.specs.Marks.{Timeline}
+use Rattle.sm_names.specs.Numbers.{refusal_number, refusal_name, misuse_number, misuse_name}
+use Rattle.sm_names.specs.Views.{live_nodes, held_by_page, free_pages}
+use Rattle.sm_script.specs.declared.act.Binds.{Binds}
+use Rattle.sm_script.specs.declared.label.Label.{Label}
+use Rattle.sm_script.specs.declared.line.View.{View}
+use Rattle.sm_script.specs.Labels.{text_of_label}
+use Rattle.sm_script.specs.Names.{Names, label_of_node, label_of_root}
+
+-- the label, if there is one
+abbrev pub label_text : Option Label → List ℕ
+label_text None = []
+label_text (Some label) = text_of_label label
+
+-- the label that the line binds to a node; any other line binds none
+abbrev pub bound_text : Binds → List ℕ
+bound_text (Binds.Node label) = text_of_label label
+bound_text _ = []
+
+-- the name of a failure of an allocation
+abbrev pub failure_name : Failure → List ℕ
+failure_name Failure.NoStrong = codes "NoStrong"
+failure_name Failure.NoBuffers = codes "NoBuffers"
+failure_name Failure.TooManyBuffers = codes "TooManyBuffers"
+failure_name Failure.PoolFull = codes "PoolFull"
+failure_name Failure.TooFew = codes "TooFew"
+failure_name Failure.TooSmall = codes "TooSmall"
+
+-- why a node failed
+abbrev pub cause_text : Cause → List ℕ
+cause_text Cause.Lost = codes "lost"
+cause_text (Cause.Misused misuse) = codes "misused " ++ misuse_name misuse
+cause_text (Cause.Failed failure) = codes "failed " ++ failure_name failure
+cause_text Cause.NoStrong = codes "nostrong"
+
+-- a number and a name
+abbrev pub numbered : ℕ → List ℕ → List ℕ
+numbered number name = decimal number ++ 32 ∷ name
+
+-- the reply to a call that was to bind this, without the end of its line. The replies that tell of handles, parcels,
+-- shut clients and trackers get their texts with the lines of the calls that they answer
+abbrev pub reply_text : Names → Binds → Reply → List ℕ
+reply_text names binds Reply.Done = codes "done"
+reply_text names binds (Reply.Joined client) = codes "joined"
+reply_text names binds (Reply.Token key collection) = codes "token " ++ bound_text binds
+reply_text names binds Reply.Pending = codes "pending"
+reply_text names binds (Reply.Allocated count size) = codes "allocated " ++ numbered count (decimal size)
+reply_text names binds (Reply.Refused refusal) = codes "refused " ++ numbered (refusal_number refusal) (refusal_name refusal)
+reply_text names binds (Reply.Misused misuse) = codes "misused " ++ numbered (misuse_number misuse) (misuse_name misuse)
+reply_text names binds (Reply.PeerClosed cause origin) =
+    codes "closed " ++ cause_text cause ++ 32 ∷ label_text (label_of_node names origin)
+reply_text names binds _ = []
+
+-- a node behind a space
+abbrev pub node_text : Names → NodeKey → List ℕ
+node_text names node = 32 ∷ label_text (label_of_node names node)
+
+-- a buffer behind a space, by the label of its collection's root
+abbrev pub buffer_text : Names → BufferName → List ℕ
+buffer_text names buffer = 32 ∷ label_text (label_of_root names buffer.collection) ++ 46 ∷ decimal buffer.index
+
+-- a held buffer behind a space, its first page, and how many pages
+abbrev pub held_text : Names → HeldBuffer → List ℕ
+held_text names held = buffer_text names held.buffer ++ 32 ∷ numbered held.start (decimal held.pages)
+
+-- what is shown after these marks, without the end of its line
+abbrev pub view_text : ℕ → Timeline → Names → View → List ℕ
+view_text pool marks names View.Live = codes "live" ++ flat_map (node_text names) (live_nodes marks)
+view_text pool marks names View.Held = codes "held" ++ flat_map (held_text names) (map held_buffer (held_by_page pool marks))
+view_text pool marks names View.Free = codes "free " ++ decimal (free_pages pool marks)

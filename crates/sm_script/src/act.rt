@@ -1,0 +1,26 @@
+//! What a line asks for, once its labels are looked up.
+use crate::label::Label;
+use crate::line::View;
+use sm_names::{Call, ClientId};
+
+/// What a label is to stand for, if the call makes it.
+#[derive(Clone, Copy, Debug, PartialEq, Eq)]
+pub enum Binds {
+    Nothing,
+    Client(Label),
+    Node(Label),
+}
+
+/// What a line asks for.
+#[derive(Clone, Copy, Debug, PartialEq, Eq)]
+pub enum Act {
+    Nothing,
+    /// A call by this client.
+    Ask {
+        client: ClientId,
+        call: Call,
+        binds: Binds,
+    },
+    /// A look at the state. It is no event.
+    Show(View),
+}

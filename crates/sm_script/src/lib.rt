@@ -1,0 +1,28 @@
+//! Scripts: lines in, one line out for each call and view.
+#![tactic(auto)]
+
+mod act;
+mod fault;
+mod label;
+mod line;
+mod number;
+mod parser;
+mod player;
+mod reading;
+mod run;
+mod session;
+mod stop;
+mod tables;
+mod texts;
+mod views;
+mod words;
+mod writing;
+
+pub use fault::ScriptFault;
+pub use run::run_script;
+
+/// The greatest size of a script, in bytes.
+pub const MOST_BYTES: usize = 16_777_216;
+
+#[cfg(test)]
+mod tests;

@@ -1,0 +1,107 @@
+//! A run of a script, line by line.
+ghost use Rattle.std.specs.Prelude.{◌≡◌, ◌+◌, ◌^◌, ◌<◌, ◌≤◌, [], ◌∷◌, ◌++◌, List, ℕ, Option, IfOk, IfErr, OnOk};
+ghost use Rattle.sm_script.specs.Players.{Answered, Failed, SoFar};
+ghost use Rattle.sm_script.specs.Runs.{Stopped};
+ghost use Rattle.sm_script.specs.Scenes.{Setting};
+
+use crate::fault::ScriptFault;
+use crate::session::Session;
+use crate::stop::Stop;
+use crate::writing::{give_up, write_out};
+use sm_names::{Limits, NoMemory};
+use std::alloc::Global;
+use std::io::Write;
+
+// Text is written once there is so much of it.
+const ENOUGH: usize = 65_536;
+
+// A session, how many lines were answered, and their text that is still to go out.
+#[derive(Drop)]
+pub(crate) struct Player {
+    pub(crate) session: Session,
+    pub(crate) lines: u64,
+    pub(crate) out: Vec<u8>,
+    // The text of the line at hand.
+    reply: Vec<u8>,
+}
+
+impl Player {
+    // No line was answered.
+    pub(crate) fn new(alloc: Global, pages: u32, limits: Limits) -> Result<Player, NoMemory>
+        requires { (1 ≤ pages) × (pages ≤ 1048576) }
+        ensures so_far { IfOk result (λ player. (old : Option (List ℕ)) →
+            SoFar (record { pool = pages; limits = limits }) player old old []) }
+        ensures no_lines { IfOk result (λ player. player.lines ≡ 0) }
+        ensures no_text { IfOk result (λ player. player.out.items ≡ []) }
+    {
+        let session = Session::new(alloc, pages, limits)?;
+        Ok(Player {
+            session,
+            lines: 0,
+            out: Vec::new(alloc),
+            reply: Vec::new(alloc),
+        })
+    }
+
+    // Writes the text that is still to go out.
+    pub(crate) fn put_out<W: Write>(&mut self, writer: &mut W) -> Result<(), ScriptFault>
+        ensures ok { OnOk result ((setting : Setting) (old : Option (List ℕ))
+            (lines : List (List ℕ)) → SoFar setting self.old old (W.contents writer.old) lines →
+            SoFar setting self.new old (W.contents writer.new) lines) }
+        ensures empty { OnOk result (self.new.out.items ≡ []) }
+        ensures same { self.new.lines ≡ self.old.lines }
+        ensures err { IfErr result (λ fault. (setting : Setting) (old : Option (List ℕ))
+            (lines : List (List ℕ)) → SoFar setting self.old old (W.contents writer.old) lines →
+            Stopped setting old (W.contents writer.new) lines fault) }
+    {
+        match write_out(writer, self.out.as_slice()) {
+            Ok(()) => {
+                self.out.clear();
+                Ok(())
+            }
+            Err(fault) => Err(fault),
+        }
+    }
+
+    // Answers one more line.
+    pub(crate) fn take_line<W: Write>(
+        &mut self,
+        writer: &mut W,
+        line: &[u8],
+    ) -> Result<(), ScriptFault>
+        requires { self.old.lines + 1 < 2 ^ 64 }
+        ensures ok { OnOk result (Answered self.old (W.contents writer.old)
+            self.new (W.contents writer.new) (line.now ∷ [])) }
+        ensures counted { OnOk result (self.new.lines ≡ self.old.lines + 1) }
+        ensures err { IfErr result (Failed self.old (W.contents writer.old)
+            (W.contents writer.new) (line.now ∷ [])) }
+    {
+        match self.session.answer(line, &mut self.reply) {
+            Ok(()) => {}
+            Err(stop) => {
+                return Err(give_up(writer, self.out.as_slice(), self.lines + 1, stop));
+            }
+        }
+        match self.out.extend_from_slice(self.reply.as_slice()) {
+            Ok(()) => {}
+            Err(_) => {
+                let number = self.lines + 1;
+                return Err(give_up(writer, self.out.as_slice(), number, Stop::NoMemory));
+            }
+        }
+        self.lines += 1;
+        if self.out.len() < ENOUGH {
+            return Ok(());
+        }
+        self.put_out(writer)
+    }
+
+    // Gives up between two lines, for want of memory.
+    pub(crate) fn give_in<W: Write>(&self, writer: &mut W) -> ScriptFault
+        ensures { (setting : Setting) (old : Option (List ℕ)) (lines : List (List ℕ)) →
+            SoFar setting self.now old (W.contents writer.old) lines →
+            Stopped setting old (W.contents writer.new) lines result }
+    {
+        give_up(writer, self.out.as_slice(), self.lines, Stop::NoMemory)
+    }
+}

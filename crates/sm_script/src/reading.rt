@@ -1,0 +1,69 @@
+//! Bytes come in, in pieces that end anywhere.
+ghost use Rattle.std.specs.Prelude.{◌≡◌, ◌+◌, ◌^◌, ◌<◌, ◌≤◌, [], ◌∷◌, ◌++◌, length, IfErr, OnOk};
+ghost use Rattle.sm_script.specs.Pieces.{lines_from, rest_from};
+ghost use Rattle.sm_script.specs.Players.{Answered, Failed};
+
+use crate::fault::ScriptFault;
+use crate::player::Player;
+use crate::words::place_of;
+use std::io::Write;
+
+// Answers the line whose front came before, and whose end came now.
+pub(crate) fn end_line<W: Write>(
+    player: &mut Player,
+    writer: &mut W,
+    front: &mut Vec<u8>,
+    line: &[u8],
+) -> Result<(), ScriptFault>
+    requires { player.old.lines + 1 < 2 ^ 64 }
+    ensures ok { OnOk result (Answered player.old (W.contents writer.old)
+        player.new (W.contents writer.new) ((front.old.items ++ line.now) ∷ [])) }
+    ensures counted { OnOk result (player.new.lines ≡ player.old.lines + 1) }
+    ensures empty { OnOk result (front.new.items ≡ []) }
+    ensures err { IfErr result (Failed player.old (W.contents writer.old)
+        (W.contents writer.new) ((front.old.items ++ line.now) ∷ [])) }
+{
+    if front.is_empty() {
+        return player.take_line(writer, line);
+    }
+    match front.extend_from_slice(line) {
+        Ok(()) => {}
+        Err(_) => return Err(player.give_in(writer)),
+    }
+    match player.take_line(writer, front.as_slice()) {
+        Ok(()) => {
+            front.clear();
+            Ok(())
+        }
+        Err(fault) => Err(fault),
+    }
+}
+
+// Answers all lines that end in the piece, and keeps the front of the line that does not.
+pub(crate) fn take_piece<W: Write>(
+    player: &mut Player,
+    writer: &mut W,
+    front: &mut Vec<u8>,
+    piece: &[u8],
+) -> Result<(), ScriptFault>
+    requires { player.old.lines + length piece.now + 1 < 2 ^ 64 }
+    ensures ok { OnOk result (Answered player.old (W.contents writer.old)
+        player.new (W.contents writer.new) (lines_from front.old.items piece.now)) }
+    ensures few { OnOk result (player.new.lines ≤ player.old.lines + length piece.now) }
+    ensures rest { OnOk result (front.new.items ≡ rest_from front.old.items piece.now) }
+    ensures err { IfErr result (Failed player.old (W.contents writer.old)
+        (W.contents writer.new) (lines_from front.old.items piece.now)) }
+{
+    let mut rest = piece;
+    while let Some(at) = place_of(b'\n', rest) {
+        let line = &rest[..at];
+        match end_line(player, writer, front, line) {
+            Ok(()) => rest = &rest[at + 1..],
+            Err(fault) => return Err(fault),
+        }
+    }
+    match front.extend_from_slice(rest) {
+        Ok(()) => Ok(()),
+        Err(_) => Err(player.give_in(writer)),
+    }
+}

@@ -1,0 +1,147 @@
+//! A script from its first byte to its last.
+ghost use Rattle.std.specs.Prelude.{◌≡◌, ◌+◌, ◌^◌, ◌<◌, ◌≤◌, [], ◌++◌, List, ℕ, Option, length, IfErr, OnOk};
+ghost use Rattle.std.specs.Io.KnownBytes.{Keeps};
+ghost use Rattle.sm_script.specs.Pieces.{lines_from, rest_from};
+ghost use Rattle.sm_script.specs.Players.{Answered, Breaks, EndsBy, Failed, SoFar};
+ghost use Rattle.sm_script.specs.Runs.{Runs};
+ghost use Rattle.sm_script.specs.Scenes.{Setting};
+
+use crate::MOST_BYTES;
+use crate::fault::ScriptFault;
+use crate::player::Player;
+use crate::reading::take_piece;
+use sm_names::Limits;
+use std::alloc::Global;
+use std::io::{Read, Write};
+
+// How many bytes are asked for at a time.
+const BLOCK: usize = 65_536;
+
+/// Runs the script that the reader holds against a new core with a pool of `pages` pages, and
+/// writes one line for each call and view. All whole lines that were read are answered before the
+/// next read, and the writer is flushed at the end.
+///
+/// What went out is the text of all lines where the run comes to the end of the script. Else:
+/// - `ReadFault`: the reader failed, or the script has more than `MOST_BYTES` bytes. What went out
+///   is the text of the whole lines among those that were read.
+/// - `WriteFault`: the writer failed, or took nothing, or could not be flushed. What went out is a
+///   first part of the text.
+/// - `BadLine`, `HistoryFull`: this line is bad, or makes a call where as many events were made as
+///   may be. What went out is the text of the lines before it.
+/// - `NoMemory`: memory was refused. What went out is the text of some first lines.
+///
+/// Each line takes a time in proportion to its length and that of its text, a look into a table
+/// for each label, and the time of its call.
+pub fn run_script<R: Read, W: Write>(
+    alloc: Global,
+    reader: &mut R,
+    writer: &mut W,
+    pages: u32,
+    limits: Limits,
+) -> Result<(), ScriptFault>
+    requires { (1 ≤ pages) × (pages ≤ 1048576) }
+    ensures { Runs (record { pool = pages; limits = limits })
+        (R.remaining reader.old) (R.remaining reader.new)
+        (W.contents writer.old) (W.contents writer.new) result }
+{
+    let mut player = match Player::new(alloc, pages, limits) {
+        Ok(player) => player,
+        Err(_) => return Err(ScriptFault::NoMemory),
+    };
+    let mut front = Vec::new(alloc);
+    match vec![in alloc; 0; BLOCK] {
+        Ok(mut block) => read_on(reader, writer, &mut player, &mut front, &mut block),
+        Err(_) => Err(ScriptFault::NoMemory),
+    }
+}
+
+// Reads and answers, block by block, from the first byte on.
+fn read_on<R: Read, W: Write>(
+    reader: &mut R,
+    writer: &mut W,
+    player: &mut Player,
+    front: &mut Vec<u8>,
+    block: &mut [u8],
+) -> Result<(), ScriptFault>
+    requires room { (0 < length block.old) × (length block.old < 2 ^ 32) }
+    requires no_lines { player.old.lines ≡ 0 }
+    requires no_text { player.old.out.items ≡ [] }
+    requires no_front { front.old.items ≡ [] }
+    ensures { (setting : Setting) →
+        SoFar setting player.old (W.contents writer.old) (W.contents writer.old) [] →
+        Runs setting (R.remaining reader.old) (R.remaining reader.new)
+        (W.contents writer.old) (W.contents writer.new) result }
+{
+    let mut left = MOST_BYTES;
+    'turns: loop {
+        match reader.read(block) {
+            Err(_) => return Err(ScriptFault::ReadFault),
+            Ok(0) => return finish(writer, front.as_slice(), player.lines),
+            Ok(n) if left < n => return Err(too_long(writer, player, front, &block[..left])),
+            Ok(n) => {
+                match answer_all(writer, player, front, &block[..n]) {
+                    Ok(()) => {}
+                    Err(fault) => return Err(fault),
+                }
+                left -= n;
+            }
+        }
+    }
+}
+
+// Answers all lines that end in the last piece that may come, behind which more came.
+fn too_long<W: Write>(
+    writer: &mut W,
+    player: &mut Player,
+    front: &mut Vec<u8>,
+    piece: &[u8],
+) -> ScriptFault
+    requires { player.old.lines + length piece.now + 1 < 2 ^ 64 }
+    ensures { (setting : Setting) (old : Option (List ℕ)) (lines : List (List ℕ)) →
+        SoFar setting player.old old (W.contents writer.old) lines →
+        Breaks setting old (W.contents writer.new)
+        (lines ++ lines_from front.old.items piece.now) result }
+{
+    match answer_all(writer, player, front, piece) {
+        Ok(()) => ScriptFault::ReadFault,
+        Err(fault) => fault,
+    }
+}
+
+// Answers all lines that end in the piece, and writes their text.
+fn answer_all<W: Write>(
+    writer: &mut W,
+    player: &mut Player,
+    front: &mut Vec<u8>,
+    piece: &[u8],
+) -> Result<(), ScriptFault>
+    requires { player.old.lines + length piece.now + 1 < 2 ^ 64 }
+    ensures ok { OnOk result (Answered player.old (W.contents writer.old)
+        player.new (W.contents writer.new) (lines_from front.old.items piece.now)) }
+    ensures few { OnOk result (player.new.lines ≤ player.old.lines + length piece.now) }
+    ensures rest { OnOk result (front.new.items ≡ rest_from front.old.items piece.now) }
+    ensures empty { OnOk result (player.new.out.items ≡ []) }
+    ensures err { IfErr result (Failed player.old (W.contents writer.old)
+        (W.contents writer.new) (lines_from front.old.items piece.now)) }
+{
+    match take_piece(player, writer, front, piece) {
+        Ok(()) => player.put_out(writer),
+        Err(fault) => Err(fault),
+    }
+}
+
+// Ends a run after so many lines, where this is left of the last one.
+fn finish<W: Write>(writer: &mut W, front: &[u8], lines: u64) -> Result<(), ScriptFault>
+    requires { lines + 1 < 2 ^ 64 }
+    ensures kept { Keeps (W.contents writer.old) (W.contents writer.new) }
+    ensures ok { OnOk result (front.now ≡ []) }
+    ensures err { IfErr result (EndsBy front.now lines) }
+{
+    if !front.is_empty() {
+        return Err(ScriptFault::BadLine(lines + 1));
+    }
+    match writer.flush() {
+        Ok(()) => Ok(()),
+        Err(_) => Err(ScriptFault::WriteFault),
+    }
+}

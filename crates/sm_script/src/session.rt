@@ -1,0 +1,114 @@
+//! A script's core, and what its labels stand for.
+ghost use Rattle.std.specs.Prelude.{◌≡◌, ◌≢◌, ◌≤◌, ◌++◌, List, IfOk, IfErr, IfSome, OnOk};
+ghost use Rattle.sm_names.specs.Marks.{Entry};
+ghost use Rattle.sm_names.specs.Timelines.{timeline};
+ghost use Rattle.lifetime_core.specs.Served.{IsServed};
+ghost use Rattle.sm_script.specs.Names.{AsksServed, act_in};
+ghost use Rattle.sm_script.specs.Scenes.{Scene, as_line, first_scene};
+ghost use Rattle.sm_script.specs.Sessions.{IsAt, Advances, Gains, IsStopped};
+ghost use Rattle.sm_script.specs.Texts.{view_text};
+
+use crate::act::{Act, Binds};
+use crate::line::View;
+use crate::parser;
+use crate::stop::Stop;
+use crate::tables::Tables;
+use crate::texts::{push, push_reply};
+use crate::views::push_view;
+use lifetime_core::Core;
+use sm_names::{Call, ClientId, Limits, NoMemory, StepFault};
+use std::alloc::Global;
+
+// A core, and what the labels of the lines so far stand for.
+#[derive(Drop)]
+pub(crate) struct Session {
+    pub(crate) core: Core,
+    pub(crate) tables: Tables,
+}
+
+impl Session {
+    // A session that has seen no line.
+    pub(crate) fn new(alloc: Global, pages: u32, limits: Limits) -> Result<Session, NoMemory>
+        requires { (1 ≤ pages) × (pages ≤ 1048576) }
+        ensures pool { IfOk result (λ session. session.core.pool ≡ pages) }
+        ensures limits { IfOk result (λ session. session.core.limits ≡ limits) }
+        ensures start { IfOk result (λ session. IsAt session first_scene) }
+    {
+        let core = Core::new(alloc, pages, limits)?;
+        Ok(Session {
+            core,
+            tables: Tables::new(alloc),
+        })
+    }
+
+    // Answers a line, without its end, in place of what was in `reply`.
+    pub(crate) fn answer(&mut self, line: &[u8], reply: &mut Vec<u8>) -> Result<(), Stop>
+        ensures ok { OnOk result ((scene : Scene) → IsAt self.old scene →
+            Advances self.old self.new line.now reply.new.items scene) }
+        ensures err { IfErr result (λ stop. (scene : Scene) → IsAt self.old scene →
+            IsStopped self.old line.now scene stop) }
+    {
+        reply.clear();
+        match self.read(line) {
+            Some(Act::Nothing) => Ok(()),
+            Some(
+                Act::Ask {
+                    client,
+                    call,
+                    binds,
+                },
+            ) => self.ask(client, call, binds, reply),
+            Some(Act::Show(view)) => self.show(view, reply),
+            None => Err(Stop::BadLine),
+        }
+    }
+
+    // What the line asks for, or `None` if it is bad.
+    fn read(&self, line: &[u8]) -> Option<Act>
+        ensures value { (scene : Scene) → IsAt self.now scene →
+            result ≡ act_in scene.names line.now }
+        ensures served { IfSome result AsksServed }
+    {
+        match parser::line(line) {
+            Some(line) => self.tables.act(line),
+            None => None,
+        }
+    }
+
+    // Makes the call, and puts its reply as a line behind what is there.
+    fn ask(
+        &mut self,
+        client: ClientId,
+        call: Call,
+        binds: Binds,
+        text: &mut Vec<u8>,
+    ) -> Result<(), Stop>
+        requires { IsServed call }
+        ensures ok { OnOk result ((scene : Scene) → IsAt self.old scene →
+            Gains self.old self.new (Act.Ask client call binds)
+            text.old.items text.new.items scene) }
+        ensures err { IfErr result (λ stop. (stop ≢ Stop.BadLine)
+            × (stop ≡ Stop.HistoryFull → self.old.core.limits.events ≤ self.old.core.events)) }
+    {
+        let reply = match self.core.step(client, call) {
+            Ok(reply) => reply,
+            Err(StepFault::HistoryFull) => return Err(Stop::HistoryFull),
+            Err(StepFault::NoMemory) => return Err(Stop::NoMemory),
+        };
+        push_reply(text, &self.tables, binds, reply)?;
+        push(text, "\n")?;
+        self.tables.bind(binds, reply)?;
+        Ok(())
+    }
+
+    // Puts what is seen as a line behind what is there.
+    fn show(&self, view: View, text: &mut Vec<u8>) -> Result<(), Stop>
+        ensures ok { OnOk result ((scene : Scene) → IsAt self.now scene →
+            Gains self.now self.now (Act.Show view) text.old.items text.new.items scene) }
+        ensures err { IfErr result (λ stop. stop ≡ Stop.NoMemory) }
+    {
+        push_view(text, &self.core, &self.tables, view)?;
+        push(text, "\n")?;
+        Ok(())
+    }
+}

@@ -1,0 +1,77 @@
+//! The texts of what is seen.
+ghost use Rattle.std.specs.Prelude.{◌≡◌, ◌++◌, List, codes, OnOk, IfErr};
+ghost use Rattle.std.specs.Fmt.{decimal};
+ghost use Rattle.std.specs.List.{flat_map};
+ghost use Rattle.sm_names.specs.Marks.{Entry};
+ghost use Rattle.sm_names.specs.Timelines.{timeline};
+ghost use Rattle.lifetime_core.specs.Shown.{Shows};
+ghost use Rattle.sm_script.specs.Names.{Names};
+ghost use Rattle.sm_script.specs.Tables.{Keeps};
+ghost use Rattle.sm_script.specs.Texts.{held_text, node_text, view_text};
+
+use crate::line::View;
+use crate::stop::Stop;
+use crate::tables::Tables;
+use crate::texts::{push, push_held, push_node, push_number};
+use lifetime_core::{Core, HeldBuffer};
+use sm_names::NodeKey;
+use std::alloc::AllocError;
+
+// Puts the view behind what is there.
+pub(crate) fn push_view(
+    text: &mut Vec<u8>,
+    core: &Core,
+    tables: &Tables,
+    view: View,
+) -> Result<(), Stop>
+    ensures ok { OnOk result ((names : Names) (history : List Entry) → Keeps tables.now names →
+        Shows core.now history → text.new.items
+        ≡ text.old.items ++ view_text core.now.pool (timeline core.now.pool history) names view) }
+    ensures err { IfErr result (λ stop. stop ≡ Stop.NoMemory) }
+{
+    match view {
+        View::Live => {
+            let nodes = core.live()?;
+            push(text, "live")?;
+            push_nodes(text, tables, nodes.as_slice())?;
+            Ok(())
+        }
+        View::Held => {
+            let buffers = core.held()?;
+            push(text, "held")?;
+            push_buffers(text, tables, buffers.as_slice())?;
+            Ok(())
+        }
+        View::Free => {
+            push(text, "free ")?;
+            push_number(text, core.free_pages() as u64)?;
+            Ok(())
+        }
+    }
+}
+
+// Puts the nodes behind what is there.
+fn push_nodes(text: &mut Vec<u8>, tables: &Tables, nodes: &[NodeKey]) -> Result<(), AllocError>
+    ensures { OnOk result ((names : Names) → Keeps tables.now names →
+        text.new.items ≡ text.old.items ++ flat_map (node_text names) nodes.now) }
+{
+    for node in nodes {
+        push_node(text, tables, *node)?;
+    }
+    Ok(())
+}
+
+// Puts the held buffers behind what is there.
+fn push_buffers(
+    text: &mut Vec<u8>,
+    tables: &Tables,
+    buffers: &[HeldBuffer],
+) -> Result<(), AllocError>
+    ensures { OnOk result ((names : Names) → Keeps tables.now names →
+        text.new.items ≡ text.old.items ++ flat_map (held_text names) buffers.now) }
+{
+    for held in buffers {
+        push_held(text, tables, *held)?;
+    }
+    Ok(())
+}
