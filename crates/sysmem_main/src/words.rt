@@ -1,0 +1,94 @@
+//! The words of the command line.
+ghost use Rattle.std.specs.Prelude.{◌≡◌, ◌≤◌, IfSome};
+
+use clap::{Arg, ArgAction, ArgMatches, Command, value_parser};
+use std::alloc::{AllocError, Global};
+
+const ABOUT: &str = "\
+Answers scripts of clients that share buffers: who has failed, whom a failure
+takes along, and when a buffer's pages are free again.";
+
+const RUN_ABOUT: &str = "Answers the script on standard input, on standard output";
+
+const RUN_HELP: &str = "\
+A script has one call a line: the label of a client, the call, and labels of
+nodes. Each call is answered by one line. So
+
+    a join
+    a open r
+    a bind r
+    a constrain r 2 0 8192
+    a check r
+
+is answered
+
+    joined
+    token r
+    done
+    done
+    allocated 2 8192
+
+Client a joins and makes a collection, whose root token is r. It binds the
+token, says that it camps on 2 buffers of at least 8192 bytes each, and asks
+whether the buffers are there. Empty lines and lines that begin with # are
+skipped. `show live`, `show held` and `show free` tell the live nodes, the held
+buffers with their pages, and how many pages are free.
+
+docs/SCRIPT.md has the whole language, examples/ has scripts with answers.
+
+Status: 0 all lines were answered; 1 read or write fault; 2 the command line was
+refused; 3 a bad line; 4 no memory, or history full. A fault is told in one line
+on standard error, once the lines before it are answered.";
+
+/// What the command line asks for: a script on a pool of so many pages.
+#[derive(Clone, Copy, Debug)]
+pub struct Job {
+    pages: u32,
+    ghost in_range: { (1 ≤ pages) × (pages ≤ 1048576) },
+}
+
+impl Job {
+    /// The pages of the pool, from 1 to 1,048,576. It costs a constant.
+    pub fn pages(self) -> u32
+        ensures value { result ≡ self.pages }
+        ensures in_range { (1 ≤ result) × (result ≤ 1048576) }
+    {
+        self.pages
+    }
+}
+
+// The option `--pages N`.
+fn pages_word<'a>(alloc: Global) -> Arg<'a> {
+    Arg::new(alloc, "pages")
+        .long("pages")
+        .action(ArgAction::Set)
+        .value_name("N")
+        .value_parser(value_parser!(u32).range(1..=1_048_576))
+        .default_value("16")
+        .help("How many pages of 4096 bytes the pool has, from 1 to 1048576")
+}
+
+/// The commands with their options and help.
+pub fn command<'a>(alloc: Global) -> Result<Command<'a>, AllocError> {
+    let run = Command::new(alloc, "run")
+        .about(RUN_ABOUT)
+        .after_help(RUN_HELP)
+        .arg(pages_word(alloc))?;
+    Command::new(alloc, "sysmem")
+        .bin_name("sysmem")?
+        .about(ABOUT)
+        .after_help("'sysmem run --help' tells what a script is.")
+        .subcommand_required(true)
+        .subcommand(run)
+}
+
+/// The job that the matches of a parse ask for. The range of the pages is tested once more, since
+/// the parse of a subcommand tells nothing of its values.
+pub fn job_of(matches: &ArgMatches<'_>) -> Option<Job> {
+    let (_, inner) = matches.subcommand()?;
+    let pages = inner.get_one::<u32>("pages")?;
+    if pages < 1 || 1_048_576 < pages {
+        return None;
+    }
+    Some(Job { pages })
+}
