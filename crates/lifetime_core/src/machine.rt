@@ -247,6 +247,8 @@ impl Core {
             GoesOn self.old self.new (entries calls.now replies.items)) }
         ensures goes_on_some { IfErr result (λ fault.
             GoesOn self.old self.new (entries calls.now fault.0.items)) }
+        ensures full { IfErr result (λ fault. fault.1 ≡ StepFault.HistoryFull →
+            self.new.limits.events ≤ self.new.events) }
     {
         let Ok(mut replies) = Vec::with_capacity(alloc, calls.len()) else {
             return Err((Vec::new(alloc), StepFault::NoMemory));
