@@ -1,4 +1,5 @@
 pub mod AttachLemmas
+pub mod DetachLemmas
 pub mod FilingLemmas
 pub mod FoundLemmas
 pub mod HeldLemmas

@@ -97,6 +97,27 @@ impl Trackers {
         }
     }
 
+    /// How many trackers wait. It takes no memory and constant time.
+    pub fn waiting(&self) -> usize
+        ensures { result ≡ length self.now.unfired }
+    {
+        let over = self.fired.len();
+        self.rows.len() - over
+    }
+
+    /// Takes out again the tracker that was attached last, under this collection, before any sweep:
+    /// all is as it was before that. It takes no memory, and a pass over the trackers that wait
+    /// under the collection.
+    pub fn detach(&mut self, collection: CollectionId)
+        requires last { (before : Table) × (tracker : Waiting) × Attaches before self.old tracker
+            × (tracker.place ≡ collection) }
+        ensures { (before : Table) (tracker : Waiting) →
+            Attaches before self.old tracker → self.new ≡ before }
+    {
+        self.rows.pop();
+        unfile(&mut self.piles, collection, &self.rows);
+    }
+
     /// Fires the trackers that wait and whose condition holds, by rising id, at this event, which
     /// concerned one collection: under another none holds. It takes no memory. It looks up that
     /// collection, and tests each tracker that waits under it once; where one fires, it goes

@@ -1,5 +1,5 @@
 //! What no contract says: that calls succeed, and that a cell that was set is seen.
-use crate::{Condition, Fired, TrackFault};
+use crate::{Condition, Fired, TrackFault, Trackers};
 use fixture::{HERE, Here, Line, QUIET};
 use sm_names::{BufferName, NodeKey};
 use std::test::Fail;
@@ -31,7 +31,7 @@ fn each_condition_fires_once_it_holds(rt: HostRuntime) -> Result<(), Fail> {
         collection: HERE,
         index: 1,
     });
-    let held = |left: u32| Here {
+    let held = |left: usize| Here {
         gone: None,
         allocated: true,
         left,
@@ -174,5 +174,28 @@ fn refused_memory_leaves_all_as_it_was(rt: HostRuntime) -> Result<(), Fail> {
     }
     line.sweep(&GONE);
     assert_eq!(rt; line.fired().len(), 6);
+    Ok(())
+}
+
+#[test]
+fn a_tracker_taken_out_again_never_was(rt: HostRuntime) -> Result<(), Fail> {
+    let mut trackers = Trackers::new(rt.alloc(), 1);
+    match trackers.attach(1, HERE, Condition::Node(NODE)) {
+        Ok(()) => trackers.detach(HERE),
+        Err(_) => {
+            return Err(Fail::from("not attached"));
+        }
+    }
+    assert_eq!(rt; trackers.waiting(), 0);
+    assert!(rt; trackers.take_tracker(1).is_none());
+    match trackers.attach(1, HERE, Condition::Node(OTHER)) {
+        Ok(()) => {}
+        Err(_) => {
+            return Err(Fail::from("not attached again"));
+        }
+    }
+    assert_eq!(rt; trackers.waiting(), 1);
+    trackers.sweep(2, HERE, &GONE);
+    assert!(rt; trackers.fired().is_empty());
     Ok(())
 }

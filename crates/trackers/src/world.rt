@@ -18,7 +18,7 @@ pub trait World {
         ensures { result ≡ (seen self.now).allocated key };
 
     /// How many buffers of the collection are not home.
-    fn left(&self, collection: CollectionId) -> u32
+    fn left(&self, collection: CollectionId) -> usize
         ensures { result ≡ (seen self.now).left collection };
 
     /// Whether the buffer is doomed: nothing strong holds it, nor ever will again.
@@ -35,7 +35,7 @@ pub fn holds_in<W: World>(condition: Condition, world: &W) -> bool
         Condition::Node(key) => world.gone(key),
         Condition::Lifetime(key, collection, most) => {
             if world.allocated(key) {
-                world.left(collection) <= most
+                world.left(collection) <= most as usize
             } else {
                 world.gone(key)
             }

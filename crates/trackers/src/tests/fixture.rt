@@ -16,7 +16,7 @@ pub const HERE: CollectionId = 1;
 pub struct Here {
     pub gone: Option<u32>,
     pub allocated: bool,
-    pub left: u32,
+    pub left: usize,
     pub doomed: Option<u8>,
 }
 
@@ -50,7 +50,7 @@ impl World for Here {
         self.allocated
     }
 
-    fn left(&self, _collection: CollectionId) -> u32 {
+    fn left(&self, _collection: CollectionId) -> usize {
         self.left
     }
 

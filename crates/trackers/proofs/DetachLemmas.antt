@@ -1,0 +1,258 @@
+-- What is left once the last row is taken out, where that was attached just now.
+use Rattle.std.proofs.Common.{◌≡◌, ◌≢◌, ℕ, ◌+◌, ◌<◌, Bool, true, false, ◌==◌, if◌then◌else◌, List, [], ◌∷◌, ◌++◌, map, length, slice_get, count_by, cond, Option, Some, None, refl, sym, ap, subst, ◌∙◌, arith, append-nil}
+use Rattle.std.specs.List.{filter, filter_map, cons_option, AllByRecursion}
+use Rattle.std.specs.Option.{option_map_or, option_to_list}
+use Rattle.std.proofs.lemmas.Bool.{eqb-true, eq-eqb}
+use Rattle.std.proofs.lemmas.List.{map_push, length_push}
+use Rattle.std.proofs.lemmas.List.Elements.{filter-append}
+use Rattle.std.proofs.lemmas.List.Sums.{sum_by-append, sum_by-cons}
+use Rattle.sm_names.specs.declared.tracking.Fired.{Fired}
+use Rattle.sm_names.specs.declared.tracking.Condition.{Condition}
+use Rattle.sm_names.specs.Trackers.{World}
+use Rattle.trackers.specs.Table.{Cell, Table, Waiting, Attaches, firing_of}
+use Rattle.trackers.specs.Row.{Kept, Stage, Waits, Over, is_waiting, waiting_of_row, firing_of_row}
+use Rattle.trackers.specs.Filing.{Piles, pile_of, waits_at}
+use Rattle.trackers.specs.Held.{cell_of_row, untaken_of_row, is_filed, after, positions, AreRising, IsKeptUp, NoneHas, table_of}
+use Rattle.trackers.proofs.FilingLemmas.{kept_positions, positions_push}
+use Rattle.trackers.proofs.Walks.{filter_map_push, row_of}
+
+-- ---- the last of a list
+
+-- lists that are the same with one more element were the same, and so is the element
+last_same : {A : Type 0} (xs ys : List A) (x y : A) → xs ++ x ∷ [] ≡ ys ++ y ∷ [] → (xs ≡ ys) × (x ≡ y)
+last_same [] [] x y same = (refl, cc)
+last_same [] (b ∷ []) x y same = cc
+last_same [] (b ∷ c ∷ ys) x y same = cc
+last_same (a ∷ []) [] x y same = cc
+last_same (a ∷ b ∷ xs) [] x y same = cc
+last_same (a ∷ xs) (b ∷ ys) x y same =
+    let here : a ≡ b = cc in
+    let rest : xs ++ x ∷ [] ≡ ys ++ y ∷ [] = cc in
+    let more = last_same xs ys x y rest in
+    ((λ i. here i ∷ more.0 i), more.1)
+
+-- what holds of all holds of the last
+last_of : {A : Type 0} (P : A → Type 0) (xs : List A) (x : A) → AllByRecursion P (xs ++ x ∷ []) → P x
+last_of P [] x all = all.0
+last_of P (y ∷ ys) x all = last_of P ys x all.1
+
+-- and of those before it
+front_of : {A : Type 0} (P : A → Type 0) (xs : List A) (x : A) → AllByRecursion P (xs ++ x ∷ []) → AllByRecursion P xs
+front_of P [] x all = tt
+front_of P (y ∷ ys) x all = (all.0, front_of P ys x all.1)
+
+-- a list of no length is empty
+pub no_items : {A : Type 0} (xs : List A) → length xs ≡ 0 → xs ≡ []
+no_items [] none = refl
+no_items (x ∷ xs) none = absurd (omega (arith, none))
+
+-- ---- ids below that of the last row
+
+-- the rows before the last have lower ids
+below_last : (rows : List Kept) (row : Kept) → AreRising (rows ++ row ∷ []) → AllByRecursion (λ (r : Kept). r.id < row.id) rows
+below_last [] row rising = tt
+below_last (other ∷ rows) row rising = (last_of (λ (r : Kept). other.id < r.id) rows row rising.0, below_last rows row rising.1)
+
+-- and rise among themselves
+front_rises : (rows : List Kept) (row : Kept) → AreRising (rows ++ row ∷ []) → AreRising rows
+front_rises [] row rising = tt
+front_rises (other ∷ rows) row rising = (front_of (λ (r : Kept). other.id < r.id) rows row rising.0, front_rises rows row rising.1)
+
+-- what waits of rows with low ids has a low id
+waits_low : (n id cell : ℕ) (stage : Stage) (has : Bool) (more : List Waiting) → id < n → AllByRecursion (λ (t : Waiting). t.id < n) more →
+    AllByRecursion (λ (t : Waiting). t.id < n) (cons_option (waiting_of_row (row_of id cell stage has)) more)
+waits_low n id cell (Waits place c) has more low all = (low, all)
+waits_low n id cell (Over event) has more low all = all
+
+waits_below : (n : ℕ) (rows : List Kept) → AllByRecursion (λ (r : Kept). r.id < n) rows → AllByRecursion (λ (t : Waiting). t.id < n) (filter_map waiting_of_row rows)
+waits_below n [] all = tt
+waits_below n (row ∷ rows) all = waits_low n row.id row.cell row.stage row.has_reader (filter_map waiting_of_row rows) all.0 (waits_below n rows all.1)
+
+-- so has what is still to be taken
+untaken_low : (n id cell : ℕ) (stage : Stage) (has : Bool) (more : List ℕ) → id < n → AllByRecursion (λ (i : ℕ). i < n) more →
+    AllByRecursion (λ (i : ℕ). i < n) (cons_option (untaken_of_row (row_of id cell stage has)) more)
+untaken_low n id cell stage true more low all = (low, all)
+untaken_low n id cell stage false more low all = all
+
+untaken_below : (n : ℕ) (rows : List Kept) → AllByRecursion (λ (r : Kept). r.id < n) rows → AllByRecursion (λ (i : ℕ). i < n) (filter_map untaken_of_row rows)
+untaken_below n [] all = tt
+untaken_below n (row ∷ rows) all = untaken_low n row.id row.cell row.stage row.has_reader (filter_map untaken_of_row rows) all.0 (untaken_below n rows all.1)
+
+-- ---- the row that was attached last
+
+module _ (limit : ℕ) (rows : List Kept) (row : Kept) (fired : List Fired) (rising : AreRising (rows ++ row ∷ [])) (before : Table) (tracker : Waiting)
+    (attaches : Attaches before (table_of limit (rows ++ row ∷ []) fired) tracker) where
+  -- its cell is the last
+  cells_same : (map cell_of_row rows ≡ before.cells) × (cell_of_row row ≡ record { id = tracker.id; name = attaches.name })
+  cells_same = last_same (map cell_of_row rows) before.cells (cell_of_row row) (record { id = tracker.id; name = attaches.name })
+      (sym (map_push cell_of_row rows row) ∙ ap (λ (t : Table). t.cells) attaches.next)
+
+  -- so it has the tracker's id
+  same_id : row.id ≡ tracker.id
+  same_id = ap (λ (c : Cell). c.id) cells_same.1
+
+  -- and is what waits last
+  waits_same : (filter_map waiting_of_row rows ≡ before.unfired) × (waiting_of_row row ≡ Some tracker)
+  waits_same = from (waiting_of_row row) refl
+    where
+      all : filter_map waiting_of_row rows ++ option_to_list (waiting_of_row row) ≡ before.unfired ++ tracker ∷ []
+      all = sym (filter_map_push waiting_of_row rows row) ∙ ap (λ (t : Table). t.unfired) attaches.next
+
+      from : (o : Option Waiting) → waiting_of_row row ≡ o → (filter_map waiting_of_row rows ≡ before.unfired) × (waiting_of_row row ≡ Some tracker)
+      from None e =
+          let there : filter_map waiting_of_row rows ≡ before.unfired ++ tracker ∷ [] = sym (append-nil (filter_map waiting_of_row rows)) ∙ (ap (λ o. filter_map waiting_of_row rows ++ option_to_list o) (sym e) ∙ all) in
+          let low : tracker.id < row.id = last_of (λ (t : Waiting). t.id < row.id) before.unfired tracker (subst (AllByRecursion (λ (t : Waiting). t.id < row.id)) there (waits_below row.id rows (below_last rows row rising))) in
+          absurd (omega (arith, low, same_id))
+      from (Some t) e =
+          let last = last_same (filter_map waiting_of_row rows) before.unfired t tracker (ap (λ o. filter_map waiting_of_row rows ++ option_to_list o) (sym e) ∙ all) in
+          (last.0, e ∙ ap Some last.1)
+
+  -- its reader is what is to be taken last
+  untaken_same : filter_map untaken_of_row rows ≡ before.untaken
+  untaken_same = from (untaken_of_row row) refl
+    where
+      all : filter_map untaken_of_row rows ++ option_to_list (untaken_of_row row) ≡ before.untaken ++ tracker.id ∷ []
+      all = sym (filter_map_push untaken_of_row rows row) ∙ ap (λ (t : Table). t.untaken) attaches.next
+
+      from : (o : Option ℕ) → untaken_of_row row ≡ o → filter_map untaken_of_row rows ≡ before.untaken
+      from None e =
+          let there : filter_map untaken_of_row rows ≡ before.untaken ++ tracker.id ∷ [] = sym (append-nil (filter_map untaken_of_row rows)) ∙ (ap (λ o. filter_map untaken_of_row rows ++ option_to_list o) (sym e) ∙ all) in
+          let low : tracker.id < row.id = last_of (λ (i : ℕ). i < row.id) before.untaken tracker.id (subst (AllByRecursion (λ (i : ℕ). i < row.id)) there (untaken_below row.id rows (below_last rows row rising))) in
+          absurd (omega (arith, low, same_id))
+      from (Some i) e = (last_same (filter_map untaken_of_row rows) before.untaken i tracker.id (ap (λ o. filter_map untaken_of_row rows ++ option_to_list o) (sym e) ∙ all)).0
+
+  -- without it the table shows what it showed
+  pub table_popped : table_of limit rows fired ≡ before
+  table_popped = λ i. record {
+    limit = ap (λ (t : Table). t.limit) attaches.next i;
+    cells = cells_same.0 i;
+    unfired = waits_same.0 i;
+    untaken = untaken_same i;
+    fired = ap (λ (t : Table). t.fired) attaches.next i;
+  }
+
+-- ---- the rows that are left
+
+-- a world in which nothing is due
+abbrev calm : World
+calm = record { gone = λ key. false; allocated = λ key. false; left = λ collection. 0; doomed = λ buffer. false }
+
+-- no row is met there
+unmet_at : (id cell : ℕ) (stage : Stage) (has : Bool) → after calm 0 (row_of id cell stage has) ≡ row_of id cell stage has
+unmet_at id cell (Waits place (Condition.Node key)) has = refl
+unmet_at id cell (Waits place (Condition.Lifetime key collection most)) has = refl
+unmet_at id cell (Waits place (Condition.Weak buffer)) has = refl
+unmet_at id cell (Over event) has = refl
+
+calm_rows : (rows : List Kept) → map (after calm 0) rows ≡ rows
+calm_rows [] = refl
+calm_rows (row ∷ rows) = λ i. unmet_at row.id row.cell row.stage row.has_reader i ∷ calm_rows rows i
+
+-- of the places of rows that wait all stay
+stay_filed : (collection : ℕ) (rows : List Kept) → filter (waits_at rows) (positions (is_filed collection) 0 rows) ≡ positions (is_filed collection) 0 rows
+stay_filed collection rows = subst (λ (rs : List Kept). filter (waits_at rs) (positions (is_filed collection) 0 rows) ≡ positions (is_filed collection) 0 rs) (calm_rows rows) (kept_positions calm 0 collection rows)
+
+-- no row stands behind the last
+none_behind : (rows : List Kept) → slice_get rows (length rows) ≡ None
+none_behind [] = refl
+none_behind (row ∷ rows) = none_behind rows
+
+-- so a place there does not wait
+gone_place : (rows : List Kept) → waits_at rows (0 + length rows) ≡ false
+gone_place rows = (let place : 0 + length rows ≡ length rows = omega arith in ap (waits_at rows) place) ∙ ap (λ o. option_map_or is_waiting o false) (none_behind rows)
+
+-- an id that no row but the last has is had by none, if it is not the last one's
+none_last : (id : ℕ) (rows : List Kept) (row : Kept) → row.id ≢ id → NoneHas id rows → NoneHas id (rows ++ row ∷ [])
+none_last id [] row other none = (other, tt)
+none_last id (r ∷ rows) row other none = (none.0, none_last id rows row other none.1)
+
+-- a row that waits has no firing
+waits_untold : (id cell : ℕ) (stage : Stage) (has : Bool) (tracker : Waiting) → waiting_of_row (row_of id cell stage has) ≡ Some tracker →
+    (firing_of_row (row_of id cell stage has) ≡ None) × (is_waiting (row_of id cell stage has) ≡ true)
+waits_untold id cell (Waits place c) has tracker e = (refl, refl)
+waits_untold id cell (Over event) has tracker e = cc
+
+module _ (limit capacity : ℕ) (rows : List Kept) (row : Kept) (fired : List Fired) (old new : Piles) (kept : IsKeptUp limit (rows ++ row ∷ []) fired capacity old) (tracker : Waiting)
+    (waits : waiting_of_row row ≡ Some tracker) where
+  -- the last row waits
+  waits_on : (firing_of_row row ≡ None) × (is_waiting row ≡ true)
+  waits_on = waits_untold row.id row.cell row.stage row.has_reader tracker waits
+
+  -- the firing of a row is found under its id
+  abbrev Told : Kept → Type 0
+  Told r = firing_of fired r.id ≡ firing_of_row r
+
+  -- no other id has a firing either
+  own_left : (id : ℕ) → NoneHas id rows → firing_of fired id ≡ None
+  own_left id none = from (row.id == id) refl
+    where
+      from : (b : Bool) → (row.id == id) ≡ b → firing_of fired id ≡ None
+      from true e = ap (firing_of fired) (sym (eqb-true row.id id e)) ∙ (last_of Told rows row kept.held.told ∙ waits_on.0)
+      from false e = kept.held.own id (none_last id rows row (λ same. let no : false ≡ true = sym e ∙ eq-eqb row.id id same in cc) none)
+
+  -- the place that is filed of it
+  filed_at : (collection : ℕ) → is_filed collection row ≡ (collection == tracker.place)
+  filed_at collection = ap (λ o. option_map_or (λ (t : Waiting). collection == t.place) o false) waits
+
+  -- the table is right without it
+  pub kept_popped : ((c : ℕ) → pile_of new c ≡ (if c == tracker.place then filter (waits_at rows) (pile_of old c) else pile_of old c)) → IsKeptUp limit rows fired capacity new
+  kept_popped unfiled = record {
+    held = record {
+      rising = front_rises rows row kept.held.rising;
+      counted = omega (arith, kept.held.counted, length_push rows row, counts);
+      room = omega (arith, kept.held.room, length_push rows row);
+      within = omega (arith, kept.held.within, counts);
+      told = front_of Told rows row kept.held.told;
+      own = own_left;
+    };
+    filed = record { at = at };
+  }
+    where
+      one : count_by is_waiting (row ∷ []) ≡ 1
+      one = sum_by-cons (λ r. cond (is_waiting r) 1 0) row [] ∙ ap (λ (b : Bool). cond b 1 0 + 0) waits_on.1
+
+      counts : count_by is_waiting (rows ++ row ∷ []) ≡ count_by is_waiting rows + 1
+      counts = sum_by-append (λ r. cond (is_waiting r) 1 0) rows (row ∷ []) ∙ ap (λ n. count_by is_waiting rows + n) one
+
+      split : (c : ℕ) → pile_of old c ≡ positions (is_filed c) 0 rows ++ (if c == tracker.place then (0 + length rows) ∷ [] else [])
+      split c = kept.filed.at c ∙ (positions_push c 0 rows row ∙ ap (λ b. positions (is_filed c) 0 rows ++ (if b then (0 + length rows) ∷ [] else [])) (filed_at c))
+
+      none : filter (waits_at rows) ((0 + length rows) ∷ []) ≡ []
+      none = rw (gone_place rows) refl
+
+      at : (c : ℕ) → pile_of new c ≡ positions (is_filed c) 0 rows
+      at c = unfiled c ∙ elim (c == tracker.place) as (λ b. pile_of old c ≡ positions (is_filed c) 0 rows ++ (if b then (0 + length rows) ∷ [] else []) → (if b then filter (waits_at rows) (pile_of old c) else pile_of old c) ≡ positions (is_filed c) 0 rows) [
+        | true ↦ λ is. ap (filter (waits_at rows)) is ∙ (filter-append (waits_at rows) (positions (is_filed c) 0 rows) ((0 + length rows) ∷ []) ∙ ((λ i. stay_filed c rows i ++ none i) ∙ append-nil (positions (is_filed c) 0 rows)))
+        | false ↦ λ is. is ∙ append-nil (positions (is_filed c) 0 rows)
+      ] (split c)
+
+-- ---- the last row, taken out
+
+module _ (limit capacity : ℕ) (rows left : List Kept) (fired : List Fired) (old new : Piles) (kept : IsKeptUp limit rows fired capacity old) where
+  -- the row that was taken out
+  popped : (o : Option Kept) → rows ≡ left ++ option_to_list o → (o ≡ None → rows ≡ []) → (before : Table) (tracker : Waiting) → Attaches before (table_of limit rows fired) tracker →
+      (row : Kept) × (rows ≡ left ++ row ∷ [])
+  popped (Some row) is none before tracker attaches = (row, is)
+  popped None is none before tracker attaches =
+      let empty : rows ≡ [] = none refl in
+      let bad : Attaches before (table_of limit [] fired) tracker = subst (λ (rs : List Kept). Attaches before (table_of limit rs fired) tracker) empty attaches in
+      absurd (some_cells (record { id = tracker.id; name = bad.name }) before.cells (ap (λ (t : Table). t.cells) bad.next))
+    where
+      some_cells : (c : Cell) (cs : List Cell) → ◌≡◌ {A = List Cell} [] (cs ++ c ∷ []) → ⊥
+      some_cells c [] e = cc
+      some_cells c (d ∷ cs) e = cc
+
+  -- the table shows what it showed before
+  pub shown_again : (o : Option Kept) → rows ≡ left ++ option_to_list o → (o ≡ None → rows ≡ []) → (before : Table) (tracker : Waiting) → Attaches before (table_of limit rows fired) tracker → table_of limit left fired ≡ before
+  shown_again o is none before tracker attaches =
+      let p = popped o is none before tracker attaches in
+      table_popped limit left p.0 fired (subst AreRising p.1 kept.held.rising) before tracker (subst (λ (rs : List Kept). Attaches before (table_of limit rs fired) tracker) p.1 attaches)
+
+  -- and is right
+  pub kept_detached : (o : Option Kept) → rows ≡ left ++ option_to_list o → (o ≡ None → rows ≡ []) → (before : Table) (tracker : Waiting) → Attaches before (table_of limit rows fired) tracker →
+      ((c : ℕ) → pile_of new c ≡ (if c == tracker.place then filter (waits_at left) (pile_of old c) else pile_of old c)) → IsKeptUp limit left fired capacity new
+  kept_detached o is none before tracker attaches unfiled =
+      let p = popped o is none before tracker attaches in
+      let so : Attaches before (table_of limit (left ++ p.0 ∷ []) fired) tracker = subst (λ (rs : List Kept). Attaches before (table_of limit rs fired) tracker) p.1 attaches in
+      kept_popped limit capacity left p.0 fired old new (subst (λ (rs : List Kept). IsKeptUp limit rs fired capacity old) p.1 kept) tracker
+      (waits_same limit left p.0 fired (subst AreRising p.1 kept.held.rising) before tracker so).1 unfiled

@@ -1,0 +1,19 @@
+use Rattle.std.proofs.Common.{◌≡◌, arith, length, vec_len}
+use Rattle.trackers.proofs.DetachLemmas.{no_items, shown_again, kept_detached}
+use Rattle.trackers.proofs.table.Trackers.detach.Goals as goal
+
+-- the rows that are left are right
+pub invariant_of-self : goal.invariant_of-self
+invariant_of-self c =
+    let long : vec_len c.self.inside.rows ≡ length c.self.inside.rows.items = omega arith in
+    let last = rw (← c.self.view_is) at c.requires.last in
+    kept_detached _ _ _ _ _ _ _ c.self.invariant c.pop.result c.pop.ensures.items
+    (λ none. no_items c.self.inside.rows.items (let empty = rw none at c.pop.ensures.cases in omega (arith, empty.0, long))) last.0 last.1 last.2
+    (rw (last.3, ← c.deref.ensures.value) c.unfile.ensures)
+
+-- the table is as it was
+pub returns : goal.returns
+returns c = λ before tracker attaches.
+    let long : vec_len c.self.inside.rows ≡ length c.self.inside.rows.items = omega arith in
+    shown_again _ _ _ _ _ c.self.inside.piles c.self.inside.piles c.self.invariant c.pop.result c.pop.ensures.items
+    (λ none. no_items c.self.inside.rows.items (let empty = rw none at c.pop.ensures.cases in omega (arith, empty.0, long))) before tracker (rw (← c.self.view_is) at attaches)
