@@ -13,11 +13,13 @@ use Rattle.node_table.proofs.Keys.{true-same_key}
 use Rattle.alloc_event.specs.declared.change.Change.{Change}
 use Rattle.alloc_event.specs.declared.node.Node.{Node}
 use Rattle.alloc_event.specs.Forest.{Collection, with_nodes, node_at as forest_node}
-use Rattle.alloc_event.specs.Kept.{Shelf, AreRising, IsKept, put_shelf, collection_in, nodes_with, forest_of, all_keys, are_filed, is_filed, all_of, has_room}
+use Rattle.alloc_event.specs.Kept.{Shelf, AreRising, IsHung, IsKept, IsWhole, put_shelf, collection_in, nodes_with, forest_of, all_keys, are_filed, is_filed, all_of, has_room}
 use Rattle.alloc_event.specs.Nodes.{affected, lost, is_taken}
 use Rattle.alloc_event.specs.Scenes.{IsSound, has_tracker_room}
+use Rattle.alloc_event.specs.Ties.{IsTied}
 use Rattle.alloc_event.specs.Settling.{MayChange, changed, collection_or_new, is_birth, no_key, fits, is_there, is_kept}
 use Rattle.alloc_event.proofs.Finishing.{keys_in, looked-keys}
+use Rattle.alloc_event.proofs.Hanging.{hung_changed, looked_hung, looked_tied}
 use Rattle.alloc_event.proofs.Putting.{cases_place, above-weaker}
 use Rattle.alloc_event.proofs.Showing.{node_is, collection_is, filed_found}
 use Rattle.alloc_event.proofs.Writing.{IsSameNode, IsSound-map}
@@ -222,14 +224,14 @@ pub found_filed : (t : Table Node) (id : ℕ) (ss : List Shelf) (s : Shelf) → 
 found_filed t id ss s filed found = filed_found t id ss filed s found
 
 -- by whether the first is found
-found_sound-by : (t : Table Node) (id : ℕ) (x : Shelf) (xs : List Shelf) (s : Shelf) (here : Bool) → AllByRecursion (λ (y : Shelf). IsSound (collection_in t y)) (x ∷ xs) → cond here (Some x) (find (λ (y : Shelf). y.id == id) xs) ≡ Some s → (find (λ (y : Shelf). y.id == id) xs ≡ Some s → IsSound (collection_in t s)) → IsSound (collection_in t s)
-found_sound-by t id x xs s true all found on = subst (λ (y : Shelf). IsSound (collection_in t y)) (Some-shelf x s found) all.0
-found_sound-by t id x xs s false all found on = on found
+found_whole-by : (t : Table Node) (id : ℕ) (x : Shelf) (xs : List Shelf) (s : Shelf) (here : Bool) → AllByRecursion (λ (y : Shelf). IsWhole (collection_in t y)) (x ∷ xs) → cond here (Some x) (find (λ (y : Shelf). y.id == id) xs) ≡ Some s → (find (λ (y : Shelf). y.id == id) xs ≡ Some s → IsWhole (collection_in t s)) → IsWhole (collection_in t s)
+found_whole-by t id x xs s true all found on = subst (λ (y : Shelf). IsWhole (collection_in t y)) (Some-shelf x s found) all.0
+found_whole-by t id x xs s false all found on = on found
 
--- its collection is sound
-pub found_sound : (t : Table Node) (id : ℕ) (ss : List Shelf) (s : Shelf) → AllByRecursion (λ (x : Shelf). IsSound (collection_in t x)) ss → find (λ (x : Shelf). x.id == id) ss ≡ Some s → IsSound (collection_in t s)
-found_sound t id [] s all found = absurd (cc)
-found_sound t id (x ∷ xs) s all found = found_sound-by t id x xs s (x.id == id) all found (found_sound t id xs s all.1)
+-- its collection is whole
+pub found_whole : (t : Table Node) (id : ℕ) (ss : List Shelf) (s : Shelf) → AllByRecursion (λ (x : Shelf). IsWhole (collection_in t x)) ss → find (λ (x : Shelf). x.id == id) ss ≡ Some s → IsWhole (collection_in t s)
+found_whole t id [] s all found = absurd (cc)
+found_whole t id (x ∷ xs) s all found = found_whole-by t id x xs s (x.id == id) all found (found_whole t id xs s all.1)
 
 module _ (t : Table Node) (ss : List Shelf) (ok : IsKept t ss) (id : ℕ) (s : Shelf)
     (found : find (λ (x : Shelf). x.id == id) ss ≡ Some s) (change : Change) (birth : is_birth change ≡ false)
@@ -241,6 +243,14 @@ module _ (t : Table Node) (ss : List Shelf) (ok : IsKept t ss) (id : ℕ) (s : S
   -- as of the collection that was there
   is_made : now ≡ with_nodes (map made.of) (collection_in t s)
   is_made = became ∙ made.is ∙ ap (with_nodes (map made.of)) loaded
+
+  -- it was whole
+  before : IsWhole (collection_in t s)
+  before = found_whole t id ss s ok.whole found
+
+  -- its nodes hung on their parents
+  hung : IsHung t (nodes_with t s.keys)
+  hung = looked_hung t ok.named ok.linked s.keys before.rooted
 
   -- its keys are filed
   own : list_all (is_filed t s.id) s.keys ≡ true
@@ -268,7 +278,17 @@ module _ (t : Table Node) (ss : List Shelf) (ok : IsKept t ss) (id : ℕ) (s : S
 
   -- the collection is sound
   pub altered-sound : IsSound now
-  altered-sound = subst IsSound (sym is_made) (IsSound-map made.of made.same (collection_in t s) (found_sound t id ss s ok.sound found))
+  altered-sound = subst IsSound (sym is_made) (IsSound-map made.of made.same (collection_in t s) before.sound)
+
+  -- its nodes hang on their parents
+  pub altered-hung : IsHung t now.nodes
+  altered-hung =
+      subst (λ (d : Collection). IsHung t d.nodes) (sym (became ∙ ap (changed change no_key) loaded))
+      (hung_changed t change no_key (collection_in t s) birth before.sound.distinct hung)
+
+  -- and the nodes before are tied to the table
+  pub altered-tied : IsTied t c.nodes
+  altered-tied = subst (λ (d : Collection). IsTied t d.nodes) (sym loaded) (looked_tied t ok.named s.keys hung)
 
   -- each node is of it
   pub altered-of : all_of now.id now.nodes ≡ true

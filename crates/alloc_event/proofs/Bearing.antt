@@ -4,13 +4,13 @@ use Rattle.std.proofs.lemmas.Bool.{ne_eqb, lt-ltb, le-leb, false≢true, cases_e
 use Rattle.std.proofs.lemmas.List.{get_or_past}
 use Rattle.sm_names.specs.declared.keys.NodeKey.{NodeKey}
 use Rattle.sm_names.specs.Sameness.{same_key}
-use Rattle.node_table.specs.Table.{Row, Table, row_at, node_at, next_at, was_given}
+use Rattle.node_table.specs.Table.{Row, Table, row_at, node_at, parent_at, parent_in, next_at, was_given}
 use Rattle.node_table.specs.Changes.{Births, Writes, at_parent, with_child}
 use Rattle.node_table.specs.Lending.{table_with_node}
 use Rattle.node_table.proofs.Keys.{key_cases, same_key-true, same_key-false}
 use Rattle.alloc_event.specs.declared.node.Node.{Node}
 use Rattle.alloc_event.specs.Kept.{Bears, born}
-use Rattle.alloc_event.proofs.Writing.{look-written}
+use Rattle.alloc_event.proofs.Writing.{look-written, parents-written}
 
 -- ---- the table
 
@@ -46,10 +46,25 @@ born_look t u now parent draft node b w k = look-written u now node.key node w k
   | inr differ ↦ rw (same_key-false node.key k differ) (ap (option_map (λ (row : Row Node). row.node)) (b.others k (λ same. differ (sym same))) ∙ still_node parent node.key k (row_at t k))
 ])
 
+-- and their parents
+still_parent : (parent : Option NodeKey) (key other : NodeKey) (o : Option (Row Node)) → parent_in (option_map (at_parent parent (with_child key) other) o) ≡ parent_in o
+still_parent None key other None = refl
+still_parent None key other (Some row) = refl
+still_parent (Some above) key other None = refl
+still_parent (Some above) key other (Some row) = elim (same_key above other) as (λ b. (cond b (with_child key row) row).parent ≡ row.parent) [ true ↦ refl | false ↦ refl ]
+
+-- the node has its parent in the table, and the others have theirs
+born_parents : (t u now : Table Node) (parent : Option NodeKey) (draft node : Node) → node.parent ≡ parent → Births t u parent draft node.key → Writes u now node.key node → (k : NodeKey) → parent_at now k ≡ (if same_key node.key k then node.parent else parent_at t k)
+born_parents t u now parent draft node up b w k = parents-written u now node.key node w k ∙ (elim (key_cases node.key k) [
+  | inl same ↦ rw (same_key-true node.key k same) (ap (parent_at u) (sym same) ∙ ap parent_in b.born ∙ sym up)
+  | inr differ ↦ rw (same_key-false node.key k differ) (ap parent_in (b.others k (λ same. differ (sym same))) ∙ still_parent parent node.key k (row_at t k))
+])
+
 -- there is one more node
-pub bears_node : (t u now : Table Node) (parent : Option NodeKey) (draft node : Node) → t.first ≡ 0 → Births t u parent draft node.key → now ≡ table_with_node u node.key node → Writes u now node.key node → Bears t now node
-bears_node t u now parent draft node first b becomes w = record {
+pub bears_node : (t u now : Table Node) (parent : Option NodeKey) (draft node : Node) → t.first ≡ 0 → node.parent ≡ parent → Births t u parent draft node.key → now ≡ table_with_node u node.key node → Writes u now node.key node → Bears t now node
+bears_node t u now parent draft node first up b becomes w = record {
   look = born_look t u now parent draft node b w;
+  parents = born_parents t u now parent draft node up b w;
   none = ungiven t node.key first b.fresh;
   gives = record {
     fresh = b.fresh;
@@ -64,3 +79,8 @@ bears_node t u now parent draft node first b becomes w = record {
 pub born_key : (above : Option Node) (attached : Bool) (id event client : ℕ) (key : NodeKey) → (born above attached id event client key).key ≡ key
 born_key None attached id event client key = refl
 born_key (Some above) attached id event client key = refl
+
+-- and the one above as its parent
+pub born_parent : (above : Option Node) (attached : Bool) (id event client : ℕ) (key : NodeKey) → (born above attached id event client key).parent ≡ option_map (λ (n : Node). n.key) above
+born_parent None attached id event client key = refl
+born_parent (Some above) attached id event client key = refl

@@ -8,16 +8,15 @@ use Rattle.sm_names.specs.declared.keys.NodeKey.{NodeKey}
 use Rattle.sm_names.specs.Sameness.{same_key}
 use Rattle.sm_names.specs.Timelines.{HeldPages}
 use Rattle.sm_names.proofs.SamenessLaws.{and_left, and_right, or_right}
-use Rattle.node_table.specs.Table.{Table, node_at}
+use Rattle.node_table.specs.Table.{Table, node_at, parent_at}
 use Rattle.node_table.proofs.Keys.{key_cases, true-same_key, same_key-true, same_key-false}
 use Rattle.alloc_event.specs.declared.node.Node.{Node}
 use Rattle.alloc_event.specs.Forest.{Collection, all_held}
-use Rattle.alloc_event.specs.Kept.{Shelf, AreRising, IsKept, Bears, put_shelf, collection_in, nodes_with, forest_of, all_keys, are_apart, are_filed, is_filed}
-use Rattle.alloc_event.specs.Scenes.{IsSound}
+use Rattle.alloc_event.specs.Kept.{Shelf, AreRising, IsKept, IsWhole, Bears, put_shelf, collection_in, nodes_with, forest_of, all_keys, are_apart, are_filed, is_filed}
 use Rattle.alloc_event.specs.Settling.{put}
 use Rattle.alloc_event.proofs.Alike.{or_swap, part_swap}
 use Rattle.alloc_event.proofs.Altering.{none_above, any-append}
-use Rattle.alloc_event.proofs.Finishing.{sound-map, sound-unmap}
+use Rattle.alloc_event.proofs.Finishing.{whole-map, whole-unmap}
 use Rattle.alloc_event.proofs.Lookups.{same_key-swap}
 use Rattle.alloc_event.proofs.Putting.{cases_place, rising-put, above-weaker, put-map}
 
@@ -111,13 +110,13 @@ filed-born t new (s ∷ ss) own all = cases_place s.id new.id (are_filed t (put_
     let first : list_all (is_filed t s.id) s.keys ≡ true = and_left _ _ all in
     rw (other, below, first) (filed-born t new ss own (and_right _ _ all)))
 
--- a collection more that is sound
-sound-born : (new : Collection) (cs : List Collection) → IsSound new → AllByRecursion IsSound cs → AllByRecursion IsSound (put new cs)
-sound-born new [] ok all = (ok, tt)
-sound-born new (c ∷ cs) ok all = cases_place c.id new.id (AllByRecursion IsSound (put new (c ∷ cs)))
+-- a collection more that is whole
+whole-born : (new : Collection) (cs : List Collection) → IsWhole new → AllByRecursion IsWhole cs → AllByRecursion IsWhole (put new cs)
+whole-born new [] ok all = (ok, tt)
+whole-born new (c ∷ cs) ok all = cases_place c.id new.id (AllByRecursion IsWhole (put new (c ∷ cs)))
     (λ same. rw same (ok, all.1))
     (λ other above. rw (other, above) (ok, all))
-    (λ other below. rw (other, below) (all.0, sound-born new cs ok all.1))
+    (λ other below. rw (other, below) (all.0, whole-born new cs ok all.1))
 
 -- neither test holds
 pub both_none : {a b : Bool} → a ≡ false → b ≡ false → (a || b) ≡ false
@@ -220,6 +219,18 @@ module _ (t now : Table Node) (node : Node) (bears : Bears t now node) where
         or_right _ _ (ok.there key n was)
   ]
 
+  -- each node that is not gone has its parent
+  linked_more : {ss : List Shelf} → IsKept t ss → (key : NodeKey) (n : Node) → node_at now key ≡ Some n → n.gone ≡ false → parent_at now key ≡ n.parent
+  linked_more ok key n is here = bears.parents key ∙ (elim (key_cases node.key key) [
+    | inl same ↦
+        let one : Some node ≡ Some n = sym (bears.look key ∙ rw (same_key-true node.key key same) refl) ∙ is in
+        let node_is : node ≡ n = cc in
+        rw (same_key-true node.key key same) (ap (λ (m : Node). m.parent) node_is)
+    | inr differ ↦
+        let was : node_at t key ≡ Some n = sym (bears.look key ∙ rw (same_key-false node.key key differ) refl) ∙ is in
+        rw (same_key-false node.key key differ) (ok.linked key n was here)
+  ])
+
   -- no shelf has the key yet
   none_yet : (ss : List Shelf) → are_filed t ss ≡ true → list_any (same_key node.key) (all_keys ss) ≡ false
   none_yet [] filed = refl
@@ -236,8 +247,8 @@ module _ (t now : Table Node) (node : Node) (bears : Bears t now node) where
       (rw (born_at, eq-eqb node.collection new.id of) refl))
 
   -- all that holds of forests holds
-  pub kept-born : (new : Shelf) (ss : List Shelf) → IsKept t ss → new.keys ≡ keys_before new.id ss ++ node.key ∷ [] → list_all (is_filed t new.id) (keys_before new.id ss) ≡ true → node.collection ≡ new.id → IsSound (collection_in now new) → IsKept now (put_shelf new ss)
-  kept-born new ss ok keys own of sound =
+  pub kept-born : (new : Shelf) (ss : List Shelf) → IsKept t ss → new.keys ≡ keys_before new.id ss ++ node.key ∷ [] → list_all (is_filed t new.id) (keys_before new.id ss) ≡ true → node.collection ≡ new.id → IsWhole (collection_in now new) → IsKept now (put_shelf new ss)
+  kept-born new ss ok keys own of whole =
       let same = keys-born new node.key ss ok.rising keys in
       record {
         first = bears.gives.first ∙ ok.first;
@@ -247,6 +258,7 @@ module _ (t now : Table Node) (node : Node) (bears : Bears t now node) where
         filed = filed-born now new ss (own_more new ss keys own of) (still_all_filed ss ok.filed);
         there = λ key n is. same.any (same_key key) ∙ there_more ok key n is;
         counted = same.len ∙ omega (arith, ok.counted, bears.len);
-        sound = sound-unmap now (put_shelf new ss) (subst (AllByRecursion IsSound) (sym (put-map now new ss ∙ ap (put (collection_in now new)) (still_collections ss ok.filed)))
-            (sound-born (collection_in now new) (map (collection_in t) ss) sound (sound-map t ss ok.sound)));
+        linked = linked_more ok;
+        whole = whole-unmap now (put_shelf new ss) (subst (AllByRecursion IsWhole) (sym (put-map now new ss ∙ ap (put (collection_in now new)) (still_collections ss ok.filed)))
+            (whole-born (collection_in now new) (map (collection_in t) ss) whole (whole-map t ss ok.whole)));
       }

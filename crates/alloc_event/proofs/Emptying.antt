@@ -9,8 +9,7 @@ use Rattle.node_table.specs.Table.{Table}
 use Rattle.alloc_event.specs.declared.entry.Entry.{Entry}
 use Rattle.alloc_event.specs.declared.node.Node.{Node}
 use Rattle.alloc_event.specs.Forest.{Collection, collection_at, is_left}
-use Rattle.alloc_event.specs.Kept.{Shelf, shelf_of, shelves_of, place_in, AreRising, IsKept, collection_in, nodes_with, forest_of, all_keys, are_filed, is_filed}
-use Rattle.alloc_event.specs.Scenes.{IsSound}
+use Rattle.alloc_event.specs.Kept.{Shelf, shelf_of, shelves_of, place_in, AreRising, IsKept, IsWhole, collection_in, nodes_with, forest_of, all_keys, are_filed, is_filed}
 use Rattle.alloc_event.proofs.Entries.{Some-inj}
 use Rattle.alloc_event.proofs.Showing.{filed-length, filed_found, collection_is}
 
@@ -97,7 +96,8 @@ kept-beside t id ss ok none =
       filed = filed-beside t id ss ok.filed;
       there = λ key n is. rw keys (ok.there key n is);
       counted = rw keys ok.counted;
-      sound = all-beside (λ (s : Shelf). IsSound (collection_in t s)) id ss ok.sound;
+      linked = ok.linked;
+      whole = all-beside (λ (s : Shelf). IsWhole (collection_in t s)) id ss ok.whole;
     }
 
 -- a list of no key

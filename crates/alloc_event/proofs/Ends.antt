@@ -10,7 +10,7 @@ use Rattle.alloc_event.specs.declared.node.Node.{Node}
 use Rattle.alloc_event.specs.Forest.{with_nodes, on_collections}
 use Rattle.alloc_event.specs.Kept.{Shelf, forest_of, IsKept}
 use Rattle.alloc_event.specs.Nodes.{with_end}
-use Rattle.alloc_event.proofs.Writing.{IsSameNode, look-changed, kept-map, sound-map, collections-map}
+use Rattle.alloc_event.proofs.Writing.{IsSameNode, look-changed, kept-map, collections-map, parents-written}
 
 module _ (key : NodeKey) (end : End) where
   -- nothing of a node but its end changes
@@ -33,9 +33,8 @@ module _ (key : NodeKey) (end : End) where
     -- the forest stays sound
     pub ends-kept : (es : List Shelf) → now ≡ table_with_node t n.key (record n { end = end }) → IsKept t es → IsKept now es
     ends-kept es becomes ok =
-        let look = ends-look ok.named in
-        kept-map (with_end key end) same_node t now (ap (λ (x : Table Node). x.first) becomes) w.len look es
-        (sound-map (with_end key end) same_node t now look es ok.sound) ok
+        kept-map (with_end key end) same_node (λ m. refl) t now (ap (λ (x : Table Node). x.first) becomes) w.len (ends-look ok.named)
+        (parents-written t now n.key (record n { end = end }) w) es ok
 
     -- and shows the end
     pub ends-shown : (es : List Shelf) → now ≡ table_with_node t n.key (record n { end = end }) → IsKept t es → forest_of now es ≡ on_collections (with_nodes (map (with_end key end))) (forest_of t es)

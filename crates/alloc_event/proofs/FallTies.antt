@@ -1,9 +1,9 @@
 -- What a failure takes of a table of nodes is what a loss takes of their collection.
-use Rattle.std.proofs.Common.{◌≡◌, refl, ap, sym, ◌∙◌, subst, Bool, true, false, cond, ◌||◌, ◌&&◌, not, inl, inr, List, [], ◌∷◌, map, reverse, filter, Option, Some, None, is_some, ◌↔◌}
+use Rattle.std.proofs.Common.{◌≡◌, refl, ap, sym, ◌∙◌, subst, Bool, true, false, cond, ◌||◌, ◌&&◌, not, inl, inr, List, ◌∷◌, map, reverse, filter, Option, Some, None, is_some, ◌↔◌}
 use Rattle.std.proofs.lemmas.Bool.{not_from_false}
 use Rattle.std.proofs.lemmas.Map.Views.{Contains-from_any, list_any-from_Contains}
 use Rattle.std.specs.Cmp.{IsEquivalence}
-use Rattle.std.specs.List.{list_any, AllByRecursion}
+use Rattle.std.specs.List.{list_any}
 use Rattle.std.specs.Option.{option_map_or}
 use Rattle.sm_names.specs.declared.keys.NodeKey.{NodeKey}
 use Rattle.sm_names.specs.declared.outcomes.Fault.{Fault}
@@ -21,13 +21,8 @@ use Rattle.alloc_event.specs.Decisions.{is_left_of}
 use Rattle.alloc_event.specs.Nodes.{above_among, after_loss, is_of, is_taken, lost, member_of, members_of, node_of}
 use Rattle.alloc_event.proofs.Chains.{reached_by_line, top-along}
 use Rattle.alloc_event.specs.Ties.{IsFall, IsTied, is_blocking}
+use Rattle.alloc_event.proofs.Hanging.{in_all}
 use Rattle.alloc_event.proofs.Rooted.{AreOne, HasLine, IsLeft, left_in, left_node, line_of}
-
--- what holds of all holds of each
-in_all : (P : Node → Type 0) (nodes : List Node) → AllByRecursion P nodes → (n : Node) → In n nodes → P n
-in_all P [] all n on = absurd on
-in_all P (m ∷ ms) all n (inl is) = subst P (sym is) all.0
-in_all P (m ∷ ms) all n (inr on) = in_all P ms all.1 n on
 
 -- keys are told apart by their test
 key_equivalence : IsEquivalence same_key

@@ -9,12 +9,12 @@ use Rattle.node_table.specs.Table.{Table}
 use Rattle.alloc_event.specs.declared.node.Node.{Node}
 use Rattle.alloc_event.specs.declared.scene.Scene.{Scene}
 use Rattle.alloc_event.specs.Forest.{Collection, all_held, pages_in, beside}
-use Rattle.alloc_event.specs.Kept.{Shelf, AreRising, IsKept, Stores, put_shelf, shelf_in, collection_in, forest_of, is_filed, all_of, have_places}
+use Rattle.alloc_event.specs.Kept.{Shelf, AreRising, IsHung, IsKept, IsWhole, Stores, put_shelf, shelf_in, collection_in, forest_of, is_filed, all_of, have_places}
 use Rattle.alloc_event.specs.Parted.{are_parted}
 use Rattle.alloc_event.specs.Scenes.{IsSound, collection_of, held_pages, frame_of}
 use Rattle.alloc_event.specs.Settling.{Handles, put, given_back}
 use Rattle.alloc_event.proofs.Alike.{start_of}
-use Rattle.alloc_event.proofs.Finishing.{keys_in, frames-keys, frames-of, places-filed, nodes-stored, collections-put, kept-put, sound-map, sound-unmap, sound-put}
+use Rattle.alloc_event.proofs.Finishing.{keys_in, frames-keys, frames-of, places-filed, nodes-stored, collections-put, kept-put, whole-map, whole-unmap, whole-put}
 use Rattle.alloc_event.proofs.Pools.{pool_back}
 use Rattle.alloc_event.proofs.Putting.{filed-own, put-map}
 
@@ -73,17 +73,19 @@ module _ (handles : Handles) (t : Table Node) (ss : List Shelf) (start worked ba
         collections-put t now start.id back.nodes.items stores kept.named back_filed shelf_back (shelf_in start) ss back_id (sym back_id) rising kept.filed
         ∙ ap (λ c. put c (map (collection_in t) ss)) nodes_back
 
-    -- all of them are sound
-    finished-sound : AllByRecursion (λ (s : Shelf). IsSound (collection_in now s)) (put_shelf shelf_back ss)
-    finished-sound =
-        let before = subst (AllByRecursion IsSound) (put-map t (shelf_in start) ss) (sound-map t (put_shelf (shelf_in start) ss) kept.sound) in
-        sound-unmap now (put_shelf shelf_back ss) (subst (AllByRecursion IsSound) (sym finished-collections)
-        (sound-put (given_back handles (collection_of worked)) (collection_in t (shelf_in start)) (map (collection_in t) ss) (sym same_id)
-        (sound-given_back handles (collection_of worked) sound) before))
+    -- all of them are whole
+    finished-whole : IsHung t worked.nodes.items → AllByRecursion (λ (s : Shelf). IsWhole (collection_in now s)) (put_shelf shelf_back ss)
+    finished-whole hung =
+        let before = subst (AllByRecursion IsWhole) (put-map t (shelf_in start) ss) (whole-map t (put_shelf (shelf_in start) ss) kept.whole) in
+        whole-unmap now (put_shelf shelf_back ss) (subst (AllByRecursion IsWhole) (sym finished-collections)
+        (whole-put (given_back handles (collection_of worked)) (collection_in t (shelf_in start)) (map (collection_in t) ss) (sym same_id)
+        (record { sound = sound-given_back handles (collection_of worked) sound; rooted = hung.rooted }) before))
 
     -- all that holds of forests holds
-    pub finished-kept : IsKept now (put_shelf shelf_back ss)
-    finished-kept = kept-put t now start.id back.nodes.items stores kept.named back_filed back_of shelf_back (shelf_in start) ss (sym back_id) (sym keys_are) rising kept finished-sound
+    pub finished-kept : IsHung t worked.nodes.items → IsKept now (put_shelf shelf_back ss)
+    finished-kept hung =
+        let linked = (subst (IsHung t) (sym back_nodes) hung).linked in
+        kept-put t now start.id back.nodes.items stores kept.named back_filed back_of shelf_back (shelf_in start) ss (sym back_id) (sym keys_are) rising kept linked (finished-whole hung)
 
     -- the pool is the forest's
     pub finished-pool : (held : List Interval) → are_parted held ≡ true → held ≡ sorted_by start_of (pages_in (collection_of back) ++ beside (forest_of t ss) start.id) → held ≡ sorted_by start_of (map (λ (h : HeldPages). h.pages) (all_held (forest_of now (put_shelf shelf_back ss))))

@@ -5,18 +5,20 @@ use Rattle.std.specs.Option.{option_map_or}
 use Rattle.std.proofs.lemmas.Bool.{eqb-true, eqb-false, cases_eq, false≢true, ltb-true}
 use Rattle.sm_names.specs.declared.keys.NodeKey.{NodeKey}
 use Rattle.sm_names.specs.Sameness.{same_key}
+use Rattle.sm_names.proofs.ListLaws.{In}
 use Rattle.sm_names.proofs.SamenessLaws.{and_left, and_right, or_none_left}
-use Rattle.node_table.specs.Table.{Table, node_at}
+use Rattle.node_table.specs.Table.{Table, node_at, parent_at}
 use Rattle.node_table.proofs.Keys.{true-same_key, same_key-true}
 use Rattle.alloc_event.specs.declared.node.Node.{Node}
 use Rattle.alloc_event.specs.Forest.{Collection}
 use Rattle.alloc_event.specs.Nodes.{is_of}
-use Rattle.alloc_event.specs.Kept.{Shelf, AreRising, IsKept, Stores, put_shelf, collection_in, nodes_with, all_keys, are_filed, is_filed, all_of, stored, written, have_places}
-use Rattle.alloc_event.specs.Scenes.{IsSound, are_distinct, frame_of}
+use Rattle.alloc_event.specs.Kept.{Shelf, AreRising, IsKept, IsWhole, Stores, put_shelf, collection_in, nodes_with, all_keys, are_filed, is_filed, all_of, stored, written, have_places}
+use Rattle.alloc_event.specs.Scenes.{are_distinct, frame_of}
 use Rattle.alloc_event.specs.Settling.{put}
+use Rattle.alloc_event.proofs.Hanging.{in_all}
 use Rattle.alloc_event.proofs.Lookups.{looked-map, same_key-swap}
 use Rattle.alloc_event.proofs.Putting.{cases_place, rising-put, keys-put, filed-same, filed-put, above-weaker}
-use Rattle.alloc_event.proofs.Storing.{stored-key}
+use Rattle.alloc_event.proofs.Storing.{stored-key, stored_one}
 
 -- the keys of nodes
 abbrev pub keys_in : List Node → List NodeKey
@@ -193,15 +195,29 @@ module _ (t now : Table Node) (id : ℕ) (ns : List Node) (stores : Stores t now
       rw (other, below) (λ i. first i ∷ rest i))
 
   -- a node that is found was found under the same key
-  found-before : (key : NodeKey) (o : Option Node) (n : Node) → option_map (stored ns) o ≡ Some n → (m : Node) × (o ≡ Some m) × (n.key ≡ m.key)
+  found-before : (key : NodeKey) (o : Option Node) (n : Node) → option_map (stored ns) o ≡ Some n → (m : Node) × (o ≡ Some m) × (n.key ≡ m.key) × (stored ns m ≡ n)
   found-before key None n is = absurd (cc)
   found-before key (Some m) n is =
       let same : stored ns m ≡ n = cc in
-      (m, refl, ap (λ (x : Node). x.key) (sym same) ∙ stored-key ns m)
+      (m, refl, ap (λ (x : Node). x.key) (sym same) ∙ stored-key ns m, same)
+
+  -- a node that is not gone has its parent in the table, as all that were stored have
+  linked-put : AllByRecursion (λ (n : Node). n.gone ≡ false → parent_at t n.key ≡ n.parent) ns → ((key : NodeKey) (n : Node) → node_at t key ≡ Some n → n.gone ≡ false → parent_at t key ≡ n.parent) →
+      (key : NodeKey) (n : Node) → node_at now key ≡ Some n → n.gone ≡ false → parent_at now key ≡ n.parent
+  linked-put all linked key n is here =
+      let was = found-before key (node_at t key) n (sym (stores.look key) ∙ is) in
+      stores.parents key ∙ (elim (stored_one ns was.0) [
+        | inl same ↦
+            let one : was.0 ≡ n = sym same ∙ was.3 in
+            linked key was.0 was.1 (ap (λ (x : Node). x.gone) one ∙ here) ∙ ap (λ (x : Node). x.parent) one
+        | inr on ↦
+            ap (parent_at t) (sym (was.2 ∙ named key was.0 was.1))
+            ∙ in_all (λ (m : Node). m.gone ≡ false → parent_at t m.key ≡ m.parent) ns all n (subst (λ (m : Node). In m ns) was.3 on) here
+      ])
 
   -- all stays so
-  pub kept-put : all_of id ns ≡ true → (new old : Shelf) (ss : List Shelf) → old.id ≡ new.id → old.keys ≡ new.keys → AreRising ss → IsKept t (put_shelf old ss) → AllByRecursion (λ (s : Shelf). IsSound (collection_in now s)) (put_shelf new ss) → IsKept now (put_shelf new ss)
-  kept-put all new old ss ids keys rising ok sound =
+  pub kept-put : all_of id ns ≡ true → (new old : Shelf) (ss : List Shelf) → old.id ≡ new.id → old.keys ≡ new.keys → AreRising ss → IsKept t (put_shelf old ss) → AllByRecursion (λ (n : Node). n.gone ≡ false → parent_at t n.key ≡ n.parent) ns → AllByRecursion (λ (s : Shelf). IsWhole (collection_in now s)) (put_shelf new ss) → IsKept now (put_shelf new ss)
+  kept-put all new old ss ids keys rising ok linked whole =
       let same_keys : all_keys (put_shelf new ss) ≡ all_keys (put_shelf old ss) = sym (keys-put old new ss ids keys) in
       record {
         first = stores.same.first ∙ ok.first;
@@ -215,28 +231,29 @@ module _ (t now : Table Node) (id : ℕ) (ns : List Node) (stores : Stores t now
             let was = found-before key (node_at t key) n (sym (stores.look key) ∙ is) in
             rw same_keys (ok.there key was.0 was.1);
         counted = rw same_keys ok.counted ∙ sym stores.same.len;
-        sound = sound;
+        linked = linked-put linked ok.linked;
+        whole = whole;
       }
 
--- ---- soundness
+-- ---- wholeness
 
 -- of shelves and of their collections
-pub sound-map : (t : Table Node) (ss : List Shelf) → AllByRecursion (λ (s : Shelf). IsSound (collection_in t s)) ss → AllByRecursion IsSound (map (collection_in t) ss)
-sound-map t [] all = tt
-sound-map t (s ∷ ss) all = (all.0, sound-map t ss all.1)
+pub whole-map : (t : Table Node) (ss : List Shelf) → AllByRecursion (λ (s : Shelf). IsWhole (collection_in t s)) ss → AllByRecursion IsWhole (map (collection_in t) ss)
+whole-map t [] all = tt
+whole-map t (s ∷ ss) all = (all.0, whole-map t ss all.1)
 
 -- and back
-pub sound-unmap : (t : Table Node) (ss : List Shelf) → AllByRecursion IsSound (map (collection_in t) ss) → AllByRecursion (λ (s : Shelf). IsSound (collection_in t s)) ss
-sound-unmap t [] all = tt
-sound-unmap t (s ∷ ss) all = (all.0, sound-unmap t ss all.1)
+pub whole-unmap : (t : Table Node) (ss : List Shelf) → AllByRecursion IsWhole (map (collection_in t) ss) → AllByRecursion (λ (s : Shelf). IsWhole (collection_in t s)) ss
+whole-unmap t [] all = tt
+whole-unmap t (s ∷ ss) all = (all.0, whole-unmap t ss all.1)
 
--- with a sound collection in the place of another
-pub sound-put : (new old : Collection) (cs : List Collection) → old.id ≡ new.id → IsSound new → AllByRecursion IsSound (put old cs) → AllByRecursion IsSound (put new cs)
-sound-put new old [] ids ok all = (ok, tt)
-sound-put new old (c ∷ cs) ids ok all = cases_place c.id new.id (AllByRecursion IsSound (put new (c ∷ cs)))
+-- with a whole collection in the place of another
+pub whole-put : (new old : Collection) (cs : List Collection) → old.id ≡ new.id → IsWhole new → AllByRecursion IsWhole (put old cs) → AllByRecursion IsWhole (put new cs)
+whole-put new old [] ids ok all = (ok, tt)
+whole-put new old (c ∷ cs) ids ok all = cases_place c.id new.id (AllByRecursion IsWhole (put new (c ∷ cs)))
     (λ same. let parts = rw (ids, same) at all in rw same (ok, parts.1))
     (λ other above. let parts = rw (ids, other, above) at all in rw (other, above) (ok, parts.1))
-    (λ other below. let parts = rw (ids, other, below) at all in rw (other, below) (parts.0, sound-put new old cs ids ok parts.1))
+    (λ other below. let parts = rw (ids, other, below) at all in rw (other, below) (parts.0, whole-put new old cs ids ok parts.1))
 
 -- ---- frames
 

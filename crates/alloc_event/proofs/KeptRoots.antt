@@ -43,10 +43,10 @@ filter-reverse_aux p (x ∷ xs) ys =
     ])
 
 -- the map takes some of the nodes, and changes neither keys nor parents
-record Takes (f : Node → Node) (taken : Node → Bool) : Type 0 where
-  key : (n : Node) → (f n).key ≡ n.key
-  parent : (n : Node) → (f n).parent ≡ n.parent
-  gone : (n : Node) → (f n).gone ≡ (taken n || n.gone)
+pub record Takes (f : Node → Node) (taken : Node → Bool) : Type 0 where
+  pub key : (n : Node) → (f n).key ≡ n.key
+  pub parent : (n : Node) → (f n).parent ≡ n.parent
+  pub gone : (n : Node) → (f n).gone ≡ (taken n || n.gone)
 
 -- with a node it takes the children of the node
 abbrev GoesDown : List Node → (Node → Bool) → Type 0
@@ -54,7 +54,7 @@ GoesDown nodes taken =
     (n m : Node) → In n nodes → In m nodes → n.gone ≡ false → n.parent ≡ Some m.key → taken m ≡ true → taken n ≡ true
 
 -- no call takes a node
-call_takes : (call : Call) → Takes (affected call) (λ n. false)
+pub call_takes : (call : Call) → Takes (affected call) (λ n. false)
 call_takes (Call.Bind key) = record { key = λ n. refl; parent = λ n. refl; gone = λ n. refl }
 call_takes (Call.SetDispensable key) = record { key = λ n. refl; parent = λ n. refl; gone = λ n. refl }
 call_takes (Call.SetWeak key) = record { key = λ n. refl; parent = λ n. refl; gone = λ n. refl }
@@ -121,7 +121,7 @@ module _ (nodes : List Node) (old : IsRooted nodes) where
     }
 
   -- a map that takes none
-  rooted_same : (f : Node → Node) → Takes f (λ n. false) → IsRooted (map f nodes)
+  pub rooted_same : (f : Node → Node) → Takes f (λ n. false) → IsRooted (map f nodes)
   rooted_same f takes = rooted_map f (λ n. false) takes (λ n m on there here up h. cc)
 
   -- ---- losses and ends

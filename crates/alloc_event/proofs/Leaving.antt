@@ -1,25 +1,26 @@
 -- What stays true of a forest without one node.
-use Rattle.std.proofs.Common.{◌≡◌, ◌≢◌, ℕ, zero, suc, ◌+◌, ◌<◌, ◌==◌, Bool, true, false, ◌||◌, not, List, [], ◌∷◌, ◌++◌, map, length, set, get_or, drop, Option, Some, None, option_map, is_some, cond, refl, sym, ap, subst, ◌∙◌, inl, inr, arith}
+use Rattle.std.proofs.Common.{◌≡◌, ◌≢◌, ℕ, zero, suc, ◌+◌, ◌<◌, ◌==◌, Bool, true, false, ◌||◌, not, List, [], ◌∷◌, ◌++◌, map, length, set, get_or, Option, Some, None, option_map, is_some, cond, refl, sym, ap, subst, ◌∙◌, inl, inr, arith}
 use Rattle.std.specs.List.{list_any, list_all, filter, AllByRecursion}
 use Rattle.std.specs.Option.{option_map_or}
 use Rattle.std.proofs.lemmas.Bool.{eqb-true, eqb-false, false≢true}
 use Rattle.std.proofs.lemmas.List.Elements.{filter-append}
 use Rattle.sm_names.specs.declared.keys.NodeKey.{NodeKey}
 use Rattle.sm_names.specs.Sameness.{same_key}
-use Rattle.sm_names.proofs.SamenessLaws.{and_left, and_right, either_way, or_none_left}
-use Rattle.node_table.specs.Table.{Table, node_at}
+use Rattle.sm_names.proofs.SamenessLaws.{and_left, and_right, either_way}
+use Rattle.node_table.specs.Table.{Table, node_at, parent_at}
 use Rattle.node_table.proofs.Keys.{true-same_key, same_key-true}
 use Rattle.alloc_event.specs.declared.entry.Entry.{Entry}
 use Rattle.alloc_event.specs.declared.node.Node.{Node}
-use Rattle.alloc_event.specs.Forest.{Collection, with_nodes}
-use Rattle.alloc_event.specs.Kept.{Shelf, shelf_of, shelves_of, place_in, AreRising, IsKept, TakesOut, collection_in, all_keys, are_apart, are_filed, is_filed}
+use Rattle.alloc_event.specs.Forest.{with_nodes}
+use Rattle.alloc_event.specs.Kept.{Shelf, shelf_of, shelves_of, place_in, AreRising, IsKept, IsWhole, TakesOut, collection_in, all_keys, are_filed, is_filed}
 use Rattle.alloc_event.specs.Nodes.{is_of}
-use Rattle.alloc_event.specs.Scenes.{IsSound, are_distinct, heads_itself}
 use Rattle.alloc_event.proofs.Altering.{filed_at, kept_of}
 use Rattle.alloc_event.proofs.Entries.{none_in, Some-inj}
-use Rattle.alloc_event.proofs.Finishing.{not-true, or_none_right}
+use Rattle.alloc_event.proofs.Hanging.{looked_gone}
+use Rattle.alloc_event.proofs.LeftParents.{childless}
 use Rattle.alloc_event.proofs.Lookups.{looked-without, looked-kept}
 use Rattle.alloc_event.proofs.Showing.{shelf_found}
+use Rattle.alloc_event.proofs.Thinning.{IsWhole-filter, apart-filter, lacks-filter, one_less}
 
 -- another key
 abbrev pub is_other : NodeKey → NodeKey → Bool
@@ -28,87 +29,6 @@ is_other key other = not (same_key key other)
 -- the shelf without the key
 abbrev pub shelf_without : NodeKey → Shelf → Shelf
 shelf_without key s = record s { keys = filter (is_other key) s.keys }
-
--- ---- what a filter keeps
-
--- by whether the first is kept
-any-filter-by : {A : Type 0} (test keep : A → Bool) (x : A) (xs : List A) (kept : Bool) → (test x || list_any test xs) ≡ false → list_any test (filter keep xs) ≡ false → list_any test (cond kept (x ∷ filter keep xs) (filter keep xs)) ≡ false
-any-filter-by test keep x xs true none on = let first : test x ≡ false = or_none_left _ _ none in rw first on
-any-filter-by test keep x xs false none on = on
-
--- what none of all is, none of some is
-any-filter : {A : Type 0} (test keep : A → Bool) (xs : List A) → list_any test xs ≡ false → list_any test (filter keep xs) ≡ false
-any-filter test keep [] none = refl
-any-filter test keep (x ∷ xs) none = any-filter-by test keep x xs (keep x) none (any-filter test keep xs (or_none_right (test x) _ none))
-
--- what all are, some are
-all-filter : {A : Type 0} (test keep : A → Bool) (xs : List A) → list_all test xs ≡ true → list_all test (filter keep xs) ≡ true
-all-filter test keep [] all = refl
-all-filter test keep (x ∷ xs) all = elim (keep x) as (λ b. list_all test (cond b (x ∷ filter keep xs) (filter keep xs)) ≡ true) [
-  | true ↦ let first : test x ≡ true = and_left _ _ all in rw first (all-filter test keep xs (and_right _ _ all))
-  | false ↦ all-filter test keep xs (and_right _ _ all)
-]
-
--- keys stay apart
-apart-filter : (keep : NodeKey → Bool) (ks : List NodeKey) → are_apart ks ≡ true → are_apart (filter keep ks) ≡ true
-apart-filter keep [] ok = refl
-apart-filter keep (k ∷ ks) ok = elim (keep k) as (λ b. are_apart (cond b (k ∷ filter keep ks) (filter keep ks)) ≡ true) [
-  | true ↦
-      let none : list_any (same_key k) (filter keep ks) ≡ false = any-filter (same_key k) keep ks (not-true _ (and_left _ _ ok)) in
-      rw none (apart-filter keep ks (and_right _ _ ok))
-  | false ↦ apart-filter keep ks (and_right _ _ ok)
-]
-
--- nodes stay distinct
-distinct-filter : (keep : Node → Bool) (ns : List Node) → are_distinct ns ≡ true → are_distinct (filter keep ns) ≡ true
-distinct-filter keep [] ok = refl
-distinct-filter keep (n ∷ ns) ok = elim (keep n) as (λ b. are_distinct (cond b (n ∷ filter keep ns) (filter keep ns)) ≡ true) [
-  | true ↦
-      let none : list_any (is_of n.key) (filter keep ns) ≡ false = any-filter (is_of n.key) keep ns (not-true _ (and_left _ _ ok)) in
-      rw none (distinct-filter keep ns (and_right _ _ ok))
-  | false ↦ distinct-filter keep ns (and_right _ _ ok)
-]
-
--- what all are, those behind the first are
-all-drop : {A : Type 0} (test : A → Bool) (xs : List A) → list_all test xs ≡ true → list_all test (drop 1 xs) ≡ true
-all-drop test [] all = refl
-all-drop test (x ∷ xs) all = and_right _ _ all
-
--- behind the first of some lie some of those behind the first of all
-one_root-filter : (keep : Node → Bool) (ns : List Node) → list_all (λ (n : Node). is_some n.parent) (drop 1 ns) ≡ true → list_all (λ (n : Node). is_some n.parent) (drop 1 (filter keep ns)) ≡ true
-one_root-filter keep [] ok = refl
-one_root-filter keep (n ∷ ns) ok = elim (keep n) as (λ b. list_all (λ (x : Node). is_some x.parent) (drop 1 (cond b (n ∷ filter keep ns) (filter keep ns))) ≡ true) [
-  | true ↦ all-filter (λ (x : Node). is_some x.parent) keep ns ok
-  | false ↦ all-drop (λ (x : Node). is_some x.parent) (filter keep ns) (all-filter (λ (x : Node). is_some x.parent) keep ns ok)
-]
-
--- some of the nodes of a sound collection are sound
-sound-filter : (keep : Node → Bool) (c : Collection) → IsSound c → IsSound (with_nodes (filter keep) c)
-sound-filter keep c ok = record {
-  distinct = distinct-filter keep c.nodes ok.distinct;
-  heads = all-filter heads_itself keep c.nodes ok.heads;
-  one_root = one_root-filter keep c.nodes ok.one_root;
-  few = ok.few;
-}
-
--- a key that none is leaves all
-filter-lacks : (key : NodeKey) (ks : List NodeKey) → list_any (same_key key) ks ≡ false → filter (is_other key) ks ≡ ks
-filter-lacks key [] none = refl
-filter-lacks key (k ∷ ks) none =
-    let other : same_key key k ≡ false = or_none_left _ _ none in
-    rw other (ap (λ l. k ∷ l) (filter-lacks key ks (or_none_right (same_key key k) _ none)))
-
--- by whether the first is it
-filter-one-by : (key k : NodeKey) (ks : List NodeKey) (same : Bool) → same_key key k ≡ same → are_apart (k ∷ ks) ≡ true → (same || list_any (same_key key) ks) ≡ true → (list_any (same_key key) ks ≡ true → length (filter (is_other key) ks) + 1 ≡ length ks) → length (cond (not same) (k ∷ filter (is_other key) ks) (filter (is_other key) ks)) + 1 ≡ suc (length ks)
-filter-one-by key k ks true same ok there on =
-    let none : list_any (same_key key) ks ≡ false = ap (λ (x : NodeKey). list_any (same_key x) ks) (true-same_key key k same) ∙ not-true _ (and_left _ _ ok) in
-    omega (arith, ap length (filter-lacks key ks none))
-filter-one-by key k ks false other ok there on = omega (arith, on there)
-
--- one of keys apart is one
-filter-one : (key : NodeKey) (ks : List NodeKey) → are_apart ks ≡ true → list_any (same_key key) ks ≡ true → length (filter (is_other key) ks) + 1 ≡ length ks
-filter-one key [] ok there = absurd (false≢true there)
-filter-one key (k ∷ ks) ok there = filter-one-by key k ks (same_key key k) refl ok there (filter-one key ks (and_right _ _ ok))
 
 -- ---- the forest
 
@@ -127,6 +47,10 @@ rising-without key [] rising = tt
 rising-without key (s ∷ ss) rising = (above-without key s.id ss rising.0, rising-without key ss rising.1)
 
 module _ (t now : Table Node) (key : NodeKey) (node : Node) (out : TakesOut t now key node) where
+  -- where the node is gone, so is what has the key
+  goes : node.gone ≡ true → (m : Node) → node_at t key ≡ Some m → m.gone ≡ true
+  goes gone m is = let same : Some node ≡ Some m = sym out.was ∙ is in let one : node ≡ m = cc in ap (λ (x : Node). x.gone) (sym one) ∙ gone
+
   -- the collections without the node
   pub collections-without : ((k : NodeKey) (n : Node) → node_at t k ≡ Some n → n.key ≡ k) → (ss : List Shelf) → map (collection_in now) (map (shelf_without key) ss) ≡ map (with_nodes (filter (λ n. not (is_of key n)))) (map (collection_in t) ss)
   collections-without named [] = refl
@@ -155,13 +79,16 @@ module _ (t now : Table Node) (key : NodeKey) (node : Node) (out : TakesOut t no
       let first : list_all (is_filed now s.id) (filter (is_other key) s.keys) ≡ true = filed-without s.id s.keys (and_left _ _ filed) in
       rw first (all_filed-without ss (and_right _ _ filed))
 
-  -- the collections stay sound
-  sound-without : ((k : NodeKey) (n : Node) → node_at t k ≡ Some n → n.key ≡ k) → (ss : List Shelf) → AllByRecursion (λ (s : Shelf). IsSound (collection_in t s)) ss → AllByRecursion (λ (s : Shelf). IsSound (collection_in now s)) (map (shelf_without key) ss)
-  sound-without named [] all = tt
-  sound-without named (s ∷ ss) all =
+  -- the collections stay whole, where the node is gone
+  whole-without : node.gone ≡ true → ((k : NodeKey) (n : Node) → node_at t k ≡ Some n → n.key ≡ k) → (ss : List Shelf) → AllByRecursion (λ (s : Shelf). IsWhole (collection_in t s)) ss → AllByRecursion (λ (s : Shelf). IsWhole (collection_in now s)) (map (shelf_without key) ss)
+  whole-without gone named [] all = tt
+  whole-without gone named (s ∷ ss) all =
       let none : node_at now key ≡ None = out.look key ∙ rw (same_key-true key key refl) refl in
-      let nodes = looked-kept key (node_at now) none s.keys ∙ looked-without key (node_at t) (node_at now) named out.look s.keys in
-      (subst (λ (ns : List Node). IsSound (record { id = s.id; nodes = ns; buffers = s.buffers; held = s.held })) (sym nodes) (sound-filter (λ n. not (is_of key n)) (collection_in t s) all.0), sound-without named ss all.1)
+      let nodes = looked-kept key (node_at now) none s.keys ∙ looked-without key (node_at t) (node_at now) named out.look s.keys in (
+        subst (λ (ns : List Node). IsWhole (record { id = s.id; nodes = ns; buffers = s.buffers; held = s.held })) (sym nodes)
+            (IsWhole-filter (λ n. not (is_of key n)) (collection_in t s) (looked_gone t named key (goes gone) s.keys) all.0),
+        whole-without gone named ss all.1,
+      )
 
   -- by whether it is the key
   found-by : (k : NodeKey) (n : Node) (same : Bool) → same_key key k ≡ same → node_at now k ≡ Some n → (same ≡ false) × (node_at t k ≡ Some n)
@@ -186,9 +113,16 @@ module _ (t now : Table Node) (key : NodeKey) (node : Node) (out : TakesOut t no
   any-other k n is [] there = there
   any-other k n is (x ∷ xs) there = any-other-by k n is x xs (same_key key x) refl (same_key k x) refl there (any-other k n is xs)
 
+  -- a node that is not gone keeps its parent, where the other is gone
+  linked-without : node.gone ≡ true → (ss : List Shelf) → IsKept t ss → (k : NodeKey) (n : Node) → node_at now k ≡ Some n → n.gone ≡ false → parent_at now k ≡ n.parent
+  linked-without gone ss ok k n is here =
+      let was = found-by k n (same_key key k) refl is in
+      out.parents k (λ same. false≢true (sym was.0 ∙ same_key-true key k (sym same))) (childless t ss ok key (goes gone) k n was.1 here)
+      ∙ ok.linked k n was.1 here
+
   -- all that holds of forests holds
-  pub kept-without : (ss : List Shelf) → IsKept t ss → IsKept now (map (shelf_without key) ss)
-  kept-without ss ok =
+  pub kept-without : node.gone ≡ true → (ss : List Shelf) → IsKept t ss → IsKept now (map (shelf_without key) ss)
+  kept-without gone ss ok =
       let keys = all_keys-without key ss in
       record {
         first = out.first ∙ ok.first;
@@ -197,8 +131,9 @@ module _ (t now : Table Node) (key : NodeKey) (node : Node) (out : TakesOut t no
         named = λ k n is. ok.named k n (found-without k n is);
         filed = all_filed-without ss ok.filed;
         there = λ k n is. rw keys (any-other k n is (all_keys ss) (ok.there k n (found-without k n is)));
-        counted = ap length keys ∙ omega (arith, filter-one key (all_keys ss) ok.apart (ok.there key node out.was), ok.counted, out.shorter);
-        sound = sound-without ok.named ss ok.sound;
+        counted = ap length keys ∙ omega (arith, one_less key (all_keys ss) ok.apart (ok.there key node out.was), ok.counted, out.shorter);
+        linked = linked-without gone ss ok;
+        whole = whole-without gone ok.named ss ok.whole;
       }
 
 -- ---- the entries
@@ -210,7 +145,7 @@ lacks_without t key node s was filed differ =
       | inl there ↦ absurd (differ (sym (eqb-true _ _ (filed_at t s.id s.keys key node filed was there))))
       | inr none ↦ none
     ] in
-    λ i. record s { keys = filter-lacks key s.keys none i }
+    λ i. record s { keys = lacks-filter key s.keys none i }
 
 -- so with all of greater ids
 above_lack : (t : Table Node) (key : NodeKey) (node : Node) (ss : List Shelf) → node_at t key ≡ Some node → are_filed t ss ≡ true → AllByRecursion (λ (later : Shelf). node.collection < later.id) ss → map (shelf_without key) ss ≡ ss

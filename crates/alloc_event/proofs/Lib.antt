@@ -45,3 +45,5 @@ pub mod Tidying
 pub mod Dropping
 pub mod Forgotten
 pub mod Quiet
+mod Hanging
+mod LeftParents

@@ -1,5 +1,5 @@
 -- The collection that a node is born into.
-use Rattle.std.proofs.Common.{◌≡◌, ℕ, ◌<◌, ◌==◌, Bool, true, false, ◌||◌, ◌&&◌, ◌⊎◌, not, List, [], ◌∷◌, ◌++◌, map, drop, Option, Some, None, option_map, is_some, IsSome, IfSome, refl, sym, ap, subst, ◌∙◌, inl, inr}
+use Rattle.std.proofs.Common.{◌≡◌, ℕ, ◌<◌, ◌==◌, Bool, true, false, ◌||◌, ◌&&◌, ◌⊎◌, not, List, [], ◌∷◌, ◌++◌, map, drop, reverse, Option, Some, None, option_map, is_some, IsSome, IfSome, refl, sym, ap, subst, ◌∙◌, inl, inr}
 use Rattle.std.specs.List.{list_any, list_all, find, filter, flat_map, AllByRecursion}
 use Rattle.std.specs.Option.{option_map_or, option_and_then, unwrap_or}
 use Rattle.std.proofs.lemmas.Bool.{eqb-true, eq-eqb, false≢true}
@@ -8,21 +8,27 @@ use Rattle.sm_names.specs.declared.keys.NodeKey.{NodeKey}
 use Rattle.sm_names.specs.declared.outcomes.Buffers.{Buffers}
 use Rattle.sm_names.specs.Sameness.{same_key}
 use Rattle.sm_names.specs.Timelines.{HeldPages}
+use Rattle.sm_names.proofs.ListLaws.{In-find}
 use Rattle.sm_names.proofs.SamenessLaws.{and_left, and_right, or_cases, or_none_left}
 use Rattle.node_table.specs.Table.{Table, node_at, row_at}
 use Rattle.node_table.proofs.Keys.{same_key-true}
 use Rattle.alloc_event.specs.declared.change.Change.{Change}
 use Rattle.alloc_event.specs.declared.node.Node.{Node}
+use Rattle.alloc_event.specs.Decisions.{is_left_of}
 use Rattle.alloc_event.specs.Forest.{Collection, all_held, pages_in}
-use Rattle.alloc_event.specs.Kept.{Shelf, AreRising, IsKept, Bears, Gives, SameTable, Finishes, born, put_shelf, collection_in, nodes_with, forest_of, all_keys, are_filed, is_filed, all_of}
+use Rattle.alloc_event.specs.Kept.{Shelf, AreRising, IsHung, IsKept, IsWhole, Bears, Gives, SameTable, Finishes, born, put_shelf, collection_in, nodes_with, forest_of, all_keys, are_filed, is_filed, all_of}
 use Rattle.alloc_event.specs.Nodes.{is_of, node_of, new_root}
 use Rattle.alloc_event.specs.Scenes.{IsSound, are_distinct, heads_itself}
 use Rattle.alloc_event.specs.Settling.{Handles, Settles, put, given_back, MayChange, collection_or_new, with_birth, is_kept}
-use Rattle.alloc_event.proofs.Altering.{any-append, filed_at, kept_of, found_id, found_filed, found_sound, shelf_by, looked-of, none_above}
+use Rattle.alloc_event.specs.Ties.{are_rooted}
+use Rattle.alloc_event.proofs.Altering.{any-append, filed_at, kept_of, found_id, found_filed, found_whole, shelf_by, looked-of, none_above}
 use Rattle.alloc_event.proofs.Bearing.{born_key}
 use Rattle.alloc_event.proofs.Birthing.{keys_before, held_before, kept-born, helds-born, helds_in, born_looked, none_there, all-append}
 use Rattle.alloc_event.proofs.Finishing.{keys_in, looked-keys, or_none_right, not-true}
+use Rattle.alloc_event.proofs.Hanging.{looked_hung}
+use Rattle.alloc_event.proofs.KeptRoots.{rooted_birth}
 use Rattle.alloc_event.proofs.Lookups.{node_of-looked, same_key-swap}
+use Rattle.alloc_event.proofs.Rooted.{left_in, whole_rooted}
 use Rattle.alloc_event.proofs.Showing.{node_is, collection_is}
 use Rattle.alloc_event.proofs.Storing.{row_there}
 
@@ -36,11 +42,11 @@ pub record IsBefore (t : Table Node) (ss : List Shelf) (id : ℕ) (c : Collectio
   pub nodes : c.nodes ≡ nodes_with t (keys_before id ss)
   pub held : c.held ≡ held_before id ss
   pub filed : list_all (is_filed t id) (keys_before id ss) ≡ true
-  pub sound : IsSound c
+  pub whole : IsWhole c
 
--- an empty collection is sound
-sound-empty : (id : ℕ) → IsSound (record { id = id; nodes = []; buffers = None; held = [] })
-sound-empty id = record { distinct = refl; heads = refl; one_root = refl; few = refl }
+-- an empty collection is whole
+whole-empty : (id : ℕ) → IsWhole (record { id = id; nodes = []; buffers = None; held = [] })
+whole-empty id = record { sound = record { distinct = refl; heads = refl; one_root = refl; few = refl }; rooted = refl }
 
 -- by the shelf that is found
 before-by : (t : Table Node) (ss : List Shelf) → IsKept t ss → (id : ℕ) (o : Option Shelf) → find (λ (s : Shelf). s.id == id) ss ≡ o → IsBefore t ss id (unwrap_or (option_map (collection_in t) o) (record { id = id; nodes = []; buffers = None; held = [] }))
@@ -49,7 +55,7 @@ before-by t ss ok id None is = record {
   nodes = ap (λ (o : Option Shelf). nodes_with t (option_map_or (λ (s : Shelf). s.keys) o [])) (sym is);
   held = ap (λ (o : Option Shelf). option_map_or (λ (s : Shelf). s.held) o []) (sym is);
   filed = ap (λ (o : Option Shelf). list_all (is_filed t id) (option_map_or (λ (s : Shelf). s.keys) o [])) is;
-  sound = sound-empty id;
+  whole = whole-empty id;
 }
 before-by t ss ok id (Some s) is =
     let own = found_id id ss s is in
@@ -59,7 +65,7 @@ before-by t ss ok id (Some s) is =
       held = ap (λ (o : Option Shelf). option_map_or (λ (x : Shelf). x.held) o []) (sym is);
       filed = ap (λ (o : Option Shelf). list_all (is_filed t id) (option_map_or (λ (x : Shelf). x.keys) o [])) is
           ∙ subst (λ (i : ℕ). list_all (is_filed t i) s.keys ≡ true) own (found_filed t id ss s ok.filed is);
-      sound = found_sound t id ss s ok.sound is;
+      whole = found_whole t id ss s ok.whole is;
     }
 
 -- the collection with the id, or an empty one
@@ -122,17 +128,17 @@ born_heads (Some above) false id event client key = refl
 -- the node above is there, or the collection is new
 pub data Above (t : Table Node) (ss : List Shelf) (id : ℕ) : Option NodeKey → Option Node → Type 0 where
   Root : find (λ (s : Shelf). s.id == id) ss ≡ None → Above t ss id None None
-  Child : (key : NodeKey) (n : Node) → node_at t key ≡ Some n → n.collection ≡ id → Above t ss id (Some key) (Some n)
+  Child : (key : NodeKey) (n : Node) → node_at t key ≡ Some n → n.collection ≡ id → n.gone ≡ false → Above t ss id (Some key) (Some n)
 
 -- the node is of the collection
 of_above : {t : Table Node} {ss : List Shelf} {id : ℕ} {parent : Option NodeKey} {above : Option Node} → Above t ss id parent above → (attached : Bool) (event client : ℕ) (key : NodeKey) → (born above attached id event client key).collection ≡ id
 of_above (Root none) attached event client key = refl
-of_above (Child up n is own) attached event client key = own
+of_above (Child up n is own here) attached event client key = own
 
 -- a root comes first
 kind_of : {t : Table Node} {ss : List Shelf} {id : ℕ} {parent : Option NodeKey} {above : Option Node} → Above t ss id parent above → (attached : Bool) (event client : ℕ) (key : NodeKey) → (ns : List Node) → ns ≡ nodes_with t (keys_before id ss) → (is_some (born above attached id event client key).parent ≡ true) ⊎ (ns ≡ [])
 kind_of (Root none) attached event client key ns is = inr (is ∙ rw none refl)
-kind_of (Child up n there own) attached event client key ns is = inl refl
+kind_of (Child up n there own here) attached event client key ns is = inl refl
 
 -- whether a node has the key is told by the keys
 any-is_of : (key : NodeKey) (ns : List Node) → list_any (is_of key) ns ≡ list_any (same_key key) (keys_in ns)
@@ -145,7 +151,7 @@ lacks_key t id named key ns keys is filed none =
     any-is_of key ns ∙ ap (list_any (same_key key)) (ap keys_in is ∙ looked-keys t id named keys filed) ∙ none
 
 -- the node above is found in the collection
-found_above : (t : Table Node) (ss : List Shelf) → IsKept t ss → (c : Collection) (up : NodeKey) (n : Node) → node_at t up ≡ Some n → c.nodes ≡ nodes_with t (keys_before n.collection ss) → node_of c.nodes up ≡ Some n
+pub found_above : (t : Table Node) (ss : List Shelf) → IsKept t ss → (c : Collection) (up : NodeKey) (n : Node) → node_at t up ≡ Some n → c.nodes ≡ nodes_with t (keys_before n.collection ss) → node_of c.nodes up ≡ Some n
 found_above t ss ok c up n is nodes =
     let own = in_own t ss up n ok.rising ok.filed is (ok.there up n is) in
     ap (λ ns. node_of ns up) nodes ∙ node_of-looked (node_at t) ok.named (keys_before n.collection ss) up ∙ rw (own, is) refl
@@ -155,9 +161,25 @@ birth_by : (t : Table Node) (ss : List Shelf) → IsKept t ss → (id : ℕ) (pa
 birth_by t ss ok id None attached client event None (Root none) key c before = λ i. grown c (new_root key (before.id_is i) event client)
 birth_by t ss ok id None attached client event (Some _) at key c before = elim at [ ]
 birth_by t ss ok id (Some _) attached client event None at key c before = elim at [ ]
-birth_by t ss ok id (Some _) attached client event (Some _) (Child up n is own) key c before =
+birth_by t ss ok id (Some _) attached client event (Some _) (Child up n is own here) key c before =
     let found = found_above t ss ok c up n is (before.nodes ∙ ap (λ (i : ℕ). nodes_with t (keys_before i ss)) (sym own)) in
     rw found refl
+
+-- the node above is left in the collection
+above_left : (t : Table Node) (ss : List Shelf) → IsKept t ss → (id : ℕ) (parent : Option NodeKey) (attached : Bool) (client event : ℕ) (above : Option Node) → Above t ss id parent above → (key : NodeKey) (c : Collection) → IsBefore t ss id c → option_map_or (is_left_of c.nodes) (born above attached id event client key).parent true ≡ true
+above_left t ss ok id None attached client event None (Root none) key c before = refl
+above_left t ss ok id None attached client event (Some _) at key c before = elim at [ ]
+above_left t ss ok id (Some _) attached client event None at key c before = elim at [ ]
+above_left t ss ok id (Some _) attached client event (Some _) (Child up n is own here) key c before =
+    let found = found_above t ss ok c up n is (before.nodes ∙ ap (λ (i : ℕ). nodes_with t (keys_before i ss)) (sym own)) in
+    left_in c.nodes n (In-find (is_of up) c.nodes n found).0 here
+
+-- it has the key that is named
+pub above_key : (t : Table Node) (ss : List Shelf) → IsKept t ss → (id : ℕ) (parent : Option NodeKey) (above : Option Node) → Above t ss id parent above → option_map (λ (n : Node). n.key) above ≡ parent
+above_key t ss ok id None None (Root none) = refl
+above_key t ss ok id None (Some _) at = elim at [ ]
+above_key t ss ok id (Some _) None at = elim at [ ]
+above_key t ss ok id (Some _) (Some _) (Child up n is own here) = ap Some (ok.named up n is)
 
 module _ (t now : Table Node) (ss : List Shelf) (ok : IsKept t ss) (id : ℕ) (parent : Option NodeKey) (attached : Bool) (client event : ℕ) (above : Option Node) (at : Above t ss id parent above) (key : NodeKey) (bears : Bears t now (born above attached id event client key)) where
   -- the node
@@ -189,8 +211,14 @@ module _ (t now : Table Node) (ss : List Shelf) (ok : IsKept t ss) (id : ℕ) (p
 
   -- it is sound
   pub born_sound : IsSound born_collection
-  born_sound = sound-more c0 node before.sound born_fresh
+  born_sound = sound-more c0 node before.whole.sound born_fresh
       (born_heads above attached id event client key) (kind_of at attached event client key c0.nodes before.nodes)
+
+  -- its nodes hang on their parents
+  born_rooted : are_rooted (reverse born_collection.nodes) ≡ true
+  born_rooted =
+      (rooted_birth c0.nodes (whole_rooted c0 before.whole) node born_fresh
+      (above_left t ss ok id parent attached client event above at key c0 before)).rooted
 
   -- each node is of it
   pub born_all_of : all_of born_collection.id born_collection.nodes ≡ true
@@ -219,7 +247,14 @@ module _ (t now : Table Node) (ss : List Shelf) (ok : IsKept t ss) (id : ℕ) (p
   born_kept = kept-born t now node bears (shelf_by born_collection) ss ok
       (subst (λ (i : ℕ). keys_in born_collection.nodes ≡ keys_before i ss ++ node.key ∷ []) (sym before.id_is) born_keys)
       (subst (λ (i : ℕ). list_all (is_filed t i) (keys_before i ss) ≡ true) (sym before.id_is) before.filed)
-      (born_of ∙ sym before.id_is) (subst IsSound (sym born_shown) born_sound)
+      (born_of ∙ sym before.id_is) (subst IsWhole (sym born_shown) (record { sound = born_sound; rooted = born_rooted }))
+
+  -- its nodes hang in the table
+  pub born_hung : IsHung now born_collection.nodes
+  born_hung =
+      let shown = ap (λ (c : Collection). c.nodes) born_shown in
+      subst (IsHung now) shown (looked_hung now born_kept.named born_kept.linked (keys_in born_collection.nodes)
+      (subst (λ (ns : List Node). are_rooted (reverse ns) ≡ true) (sym shown) born_rooted))
 
   -- the pages stay
   pub born_held : all_held (forest_of now (put_shelf (shelf_by born_collection) ss)) ≡ all_held (forest_of t ss)
@@ -246,7 +281,7 @@ new_root_is t ss id new = none_by t (find (λ (s : Shelf). s.id == id) ss) (not-
 -- by the node above
 child_is : (t : Table Node) (ss : List Shelf) (id : ℕ) (up : NodeKey) (o : Option Node) → node_at t up ≡ o → option_map_or (λ (n : Node). n.collection == id && not n.gone) o false ≡ true → Above t ss id (Some up) o
 child_is t ss id up None is fit = absurd (false≢true fit)
-child_is t ss id up (Some n) is fit = Child up n is (eqb-true _ _ (and_left _ _ fit))
+child_is t ss id up (Some n) is fit = Child up n is (eqb-true _ _ (and_left _ _ fit)) (not-true _ (and_right _ _ fit))
 
 -- the node above, by what the change asks
 pub above_is : (t : Table Node) (ss : List Shelf) → IsKept t ss → (id : ℕ) (parent : Option NodeKey) (attached : Bool) (client event : ℕ) → MayChange (forest_of t ss) id (Change.Birth parent attached client event) → Above t ss id parent (option_and_then (node_at t) parent)
@@ -258,7 +293,7 @@ pub above_there : (t : Table Node) (ss : List Shelf) (id : ℕ) (parent : Option
 above_there t ss id None None (Root none) = tt
 above_there t ss id None (Some _) at = elim at [ ]
 above_there t ss id (Some _) None at = elim at [ ]
-above_there t ss id (Some _) (Some _) (Child up n is own) = row_there t up (ap is_some is)
+above_there t ss id (Some _) (Some _) (Child up n is own here) = row_there t up (ap is_some is)
 
 -- a scene with one more node
 pub grown_scene : (c0 : Collection) (id : ℕ) (nodes old : List Node) (buffers : Option Buffers) (held : List HeldPages) (n node : Node) → record { id = id; nodes = old; buffers = buffers; held = held } ≡ c0 → nodes ≡ old ++ n ∷ [] → n ≡ node → record { id = id; nodes = nodes; buffers = buffers; held = held } ≡ grown c0 node

@@ -1,5 +1,5 @@
 -- A birth in a collection where nothing else changes with it.
-use Rattle.std.proofs.Common.{◌≡◌, ℕ, Bool, true, false, ◌||◌, ◌&&◌, ◌==◌, not, List, [], ◌∷◌, ◌++◌, map, Option, Some, None, refl, sym, ap, subst, ◌∙◌, inl, inr}
+use Rattle.std.proofs.Common.{◌≡◌, ℕ, Bool, true, false, ◌||◌, ◌&&◌, ◌==◌, not, List, [], ◌∷◌, ◌++◌, map, reverse, Option, Some, None, refl, sym, ap, subst, ◌∙◌, inl, inr}
 use Rattle.std.specs.List.{filter, list_all, list_any}
 use Rattle.std.proofs.lemmas.List.{map-append}
 use Rattle.sm_names.specs.declared.keys.NodeKey.{NodeKey}
@@ -8,33 +8,32 @@ use Rattle.sm_names.specs.Forced.{forced}
 use Rattle.sm_names.specs.Handles.{is_home}
 use Rattle.sm_names.specs.Members.{is_live, some_strong_live, Member}
 use Rattle.sm_names.specs.Timelines.{HeldPages}
-use Rattle.sm_names.proofs.SamenessLaws.{and_left, and_right, either_way}
-use Rattle.node_table.specs.Table.{Table, node_at}
+use Rattle.sm_names.specs.Sameness.{same_key}
+use Rattle.sm_names.proofs.SamenessLaws.{and_left, and_right, both_ways, either_way, same_key-refl}
+use Rattle.sm_names.proofs.StandingLaws.{In-any}
+use Rattle.node_table.specs.Table.{Table}
 use Rattle.alloc_event.specs.declared.node.Node.{Node}
 use Rattle.alloc_event.specs.Forest.{Collection, all_held, beside}
 use Rattle.alloc_event.specs.Kept.{Shelf, IsKept, Bears, Finishes, born, put_shelf, collection_in, forest_of}
 use Rattle.alloc_event.specs.Nodes.{is_of, member_of, members_of}
 use Rattle.alloc_event.specs.Settling.{Handles, collection_or_new, given_back, is_home_in, put, standing, with_birth}
-use Rattle.alloc_event.specs.Still.{hangs_in, IsStill, shelf_with}
+use Rattle.alloc_event.specs.Still.{IsStill, shelf_with}
+use Rattle.alloc_event.specs.Ties.{are_rooted}
 use Rattle.alloc_event.proofs.Altering.{any-append, shelf_by}
 use Rattle.alloc_event.proofs.BirthRest.{HaveOthers, births_force_nothing, birth_settles, members_more}
 use Rattle.alloc_event.proofs.Birthing.{still_collections}
 use Rattle.alloc_event.proofs.Finishing.{keys_in}
-use Rattle.alloc_event.proofs.Newborn.{Above, born_collection, born_fresh, born_held, born_is, born_kept, born_shown, key_is}
+use Rattle.alloc_event.proofs.Newborn.{Above, before_is, born_collection, born_fresh, born_held, born_is, born_kept, born_shown, key_is}
 use Rattle.alloc_event.proofs.Putting.{put-map}
+use Rattle.alloc_event.proofs.Rooted.{left_node, left_parent}
 
 -- ---- parents
 
--- a key that has no node is no parent
-no_parent : (t : Table Node) (key : NodeKey) → node_at t key ≡ None → (n : Node) → hangs_in t n ≡ true → n.gone ≡ false → n.parent ≡ Some key → ⊥
-no_parent t key none n hangs here up = let no : hangs_in t n ≡ false = rw (here, up, none) refl in absurd (cc)
-
--- none of the nodes has such a parent
-pub no_parents : (t : Table Node) (key : NodeKey) → node_at t key ≡ None → (ns : List Node) → list_all (hangs_in t) ns ≡ true → HaveOthers ns key
-no_parents t key none [] hang n on here up = absurd on
-no_parents t key none (m ∷ ms) hang n (inl is) here up =
-    no_parent t key none n (ap (hangs_in t) is ∙ and_left (hangs_in t m) (list_all (hangs_in t) ms) hang) here up
-no_parents t key none (m ∷ ms) hang n (inr on) here up = no_parents t key none ms (and_right (hangs_in t m) (list_all (hangs_in t) ms) hang) n on here up
+-- a key that none of the nodes has is no parent of one that is not gone
+no_children : (nodes : List Node) (key : NodeKey) → are_rooted (reverse nodes) ≡ true → list_any (is_of key) nodes ≡ false → HaveOthers nodes key
+no_children nodes key rooted fresh n on here up =
+    let x = left_node nodes key (left_parent nodes rooted n key on here up) in
+    both_ways (list_any (is_of key) nodes) (In-any (is_of key) nodes x.node x.on (ap (λ (k : NodeKey). same_key k key) x.is ∙ same_key-refl key)) fresh
 
 -- ---- buffers
 
@@ -78,7 +77,7 @@ born_here (Some above) attached id event client key = refl
 -- ---- the birth
 
 module _ (t now : Table Node) (ss : List Shelf) (ok : IsKept t ss) (id : ℕ) (parent : Option NodeKey) (attached : Bool) (client event : ℕ) (above : Option Node) (at : Above t ss id parent above) (key : NodeKey) (bears : Bears t now (born above attached id event client key))
-    (handles : Handles) (still : IsStill t handles (collection_or_new (forest_of t ss) id)) where
+    (handles : Handles) (still : IsStill handles (collection_or_new (forest_of t ss) id)) where
   abbrev c0 : Collection
   c0 = collection_or_new (forest_of t ss) id
 
@@ -99,7 +98,7 @@ module _ (t now : Table Node) (ss : List Shelf) (ok : IsKept t ss) (id : ℕ) (p
   fresh = subst (λ (k : NodeKey). list_any (is_of k) c0.nodes ≡ false) own (born_fresh t now ss ok id parent attached client event above at key bears)
 
   others : HaveOthers c0.nodes key
-  others = no_parents t key (ap (node_at t) (sym own) ∙ bears.none) c0.nodes still.parents
+  others = no_children c0.nodes key (before_is t ss ok id).whole.rooted fresh
 
   -- no pages go back
   stays : given_back handles after ≡ after

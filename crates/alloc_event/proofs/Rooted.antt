@@ -11,6 +11,8 @@ use Rattle.sm_names.proofs.SamenessLaws.{and_both, and_left, and_right, both_way
 use Rattle.sm_names.proofs.StandingLaws.{In-any}
 use Rattle.alloc_event.specs.declared.node.Node.{Node}
 use Rattle.alloc_event.specs.Decisions.{is_left_of}
+use Rattle.alloc_event.specs.Forest.{Collection}
+use Rattle.alloc_event.specs.Kept.{IsWhole}
 use Rattle.alloc_event.specs.Nodes.{above_among, is_of}
 use Rattle.alloc_event.specs.Scenes.{are_distinct}
 use Rattle.alloc_event.specs.Ties.{hangs_on, are_rooted}
@@ -45,6 +47,10 @@ distinct_one (n ∷ ns) distinct a b on too same =
     from (inl first) (inr there) rest = absurd (again b there (sym same ∙ key_of a n first))
     from (inr there) (inl second) rest = absurd (again a there (same ∙ key_of b n second))
     from (inr here) (inr there) rest = rest here there
+
+-- the nodes of a whole collection hang so
+pub whole_rooted : (c : Collection) → IsWhole c → IsRooted c.nodes
+whole_rooted c ok = record { one = distinct_one c.nodes ok.sound.distinct; rooted = ok.rooted }
 
 -- ---- keys that are left
 
@@ -133,28 +139,21 @@ module _ (nodes : List Node) (parent : NodeKey → Option NodeKey) (one : AreOne
 
 -- ---- parents
 
--- each parent of a node that is not gone is among them
-abbrev pub HaveParents : List Node → Type 0
-HaveParents nodes =
-    (n : Node) (parent : NodeKey) → In n nodes → n.gone ≡ false → n.parent ≡ Some parent → list_any (is_of parent) nodes ≡ true
-
--- a part of the nodes that hangs on parents has them
-parents_among : (ns : List Node) → are_rooted ns ≡ true → HaveParents ns
-parents_among [] rooted n p on here up = absurd on
-parents_among (m ∷ older) rooted n p (inl is) here up =
+-- the parent of a node that is not gone is left, in a part of the nodes that hangs on parents
+parent_among : (ns : List Node) → are_rooted ns ≡ true → (n : Node) (p : NodeKey) → In n ns → n.gone ≡ false → n.parent ≡ Some p → is_left_of ns p ≡ true
+parent_among [] rooted n p on here up = absurd on
+parent_among (m ∷ older) rooted n p (inl is) here up =
     let first : hangs_on older m ≡ true =
     and_left (hangs_on older m) (are_rooted older) rooted in
     let here' : m.gone ≡ false = ap (λ (x : Node). x.gone) (sym is) ∙ here in
     let up' : m.parent ≡ Some p = ap (λ (x : Node). x.parent) (sym is) ∙ up in
-    let left : is_left_of older p ≡ true = rw (here', up') at first in
-    let x = left_node older p left in
-    or_right (is_of p m) (list_any (is_of p) older) (In-any (is_of p) older x.node x.on (ap (λ (k : NodeKey). same_key k p) x.is ∙ same_key-refl p))
-parents_among (m ∷ older) rooted n p (inr on) here up =
-    or_right (is_of p m) (list_any (is_of p) older)
-    (parents_among older (and_right (hangs_on older m) (are_rooted older) rooted) n p on here up)
+    or_right (is_of p m && not m.gone) (is_left_of older p) (rw (here', up') at first)
+parent_among (m ∷ older) rooted n p (inr on) here up =
+    or_right (is_of p m && not m.gone) (is_left_of older p)
+    (parent_among older (and_right (hangs_on older m) (are_rooted older) rooted) n p on here up)
 
--- so the nodes have the parents of those that are not gone
-pub rooted_parents : (nodes : List Node) → are_rooted (reverse nodes) ≡ true → HaveParents nodes
-rooted_parents nodes rooted n p on here up =
-    let a = In-list_any (is_of p) (reverse nodes) (parents_among (reverse nodes) rooted n p (In-reverse-back nodes n on) here up) in
-    In-any (is_of p) nodes a.0 (In-reverse nodes a.0 a.1) a.2
+-- so it is left among all
+pub left_parent : (nodes : List Node) → are_rooted (reverse nodes) ≡ true → (n : Node) (p : NodeKey) → In n nodes → n.gone ≡ false → n.parent ≡ Some p → is_left_of nodes p ≡ true
+left_parent nodes rooted n p on here up =
+    left_within (reverse nodes) nodes (λ m there. In-reverse nodes m there) p
+    (parent_among (reverse nodes) rooted n p (In-reverse-back nodes n on) here up)

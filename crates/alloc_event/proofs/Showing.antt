@@ -1,9 +1,11 @@
 -- What the forest that a table and entries make is read as.
-use Rattle.std.proofs.Common.{◌≡◌, ℕ, suc, ◌==◌, ◌+◌, Bool, true, false, List, [], ◌∷◌, ◌++◌, map, length, Option, Some, None, option_map, cond, if◌then◌else◌, refl, sym, ap, subst, ◌∙◌, arith, length-append}
+use Rattle.std.proofs.Common.{◌≡◌, ◌≤◌, IfSome, ℕ, suc, ◌==◌, ◌+◌, Bool, true, false, List, [], ◌∷◌, ◌++◌, map, length, Option, Some, None, option_map, cond, if◌then◌else◌, refl, sym, ap, subst, ◌∙◌, arith, length-append}
 use Rattle.std.specs.List.{find, list_any, list_all, cons_option}
 use Rattle.std.specs.Option.{option_map_or}
+use Rattle.std.proofs.lemmas.Bool.{leb-true}
 use Rattle.std.proofs.lemmas.List.Elements.{filter_map-append}
 use Rattle.sm_names.specs.declared.keys.NodeKey.{NodeKey}
+use Rattle.sm_names.specs.declared.outcomes.Buffers.{Buffers}
 use Rattle.sm_names.specs.Sameness.{same_key}
 use Rattle.sm_names.proofs.SamenessLaws.{and_left, and_right}
 use Rattle.node_table.specs.Table.{Table, node_at}
@@ -12,7 +14,7 @@ use Rattle.alloc_event.specs.declared.held.HeldBuffer.{HeldBuffer}
 use Rattle.alloc_event.specs.declared.node.Node.{Node}
 use Rattle.alloc_event.specs.Forest.{summary_of, all_nodes, node_at as forest_node, collection_at}
 use Rattle.alloc_event.specs.Nodes.{node_of}
-use Rattle.alloc_event.specs.Scenes.{held_pages}
+use Rattle.alloc_event.specs.Scenes.{held_pages, given_few}
 use Rattle.alloc_event.specs.Kept.{Shelf, shelf_of, shelves_of, nodes_with, collection_in, forest_of, all_keys, is_filed, are_filed, IsKept}
 use Rattle.alloc_event.proofs.Lookups.{nothing, node_of-looked}
 
@@ -99,3 +101,8 @@ collection_some t es ok id e found =
 -- and where none is found
 pub collection_none : (t : Table Node) (es : List Entry) (id : ℕ) → find (λ (x : Entry). x.id == id) es ≡ None → collection_at (forest_of t (shelves_of es)) id ≡ None
 collection_none t es id none = collection_is t id (shelves_of es) ∙ ap (option_map (collection_in t)) (shelf_found id es ∙ ap (option_map shelf_of) none)
+
+-- so few buffers were given
+pub few_given : (o : Option Buffers) → given_few o ≡ true → IfSome o (λ b. b.count ≤ 64)
+few_given None few = tt
+few_given (Some b) few = leb-true b.count 64 few

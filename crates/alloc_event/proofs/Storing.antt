@@ -1,12 +1,13 @@
 -- Nodes that are written one after another, each in the place of the one with its key.
-use Rattle.std.proofs.Common.{◌≡◌, ℕ, zero, suc, ◌+◌, ◌<◌, Bool, true, false, List, [], ◌∷◌, ◌++◌, length, get_or, take, Option, Some, None, option_map, is_some, cond, if◌then◌else◌, refl, ap, ◌∙◌, arith, IsSome}
+use Rattle.std.proofs.Common.{◌≡◌, ℕ, zero, suc, ◌+◌, ◌<◌, Bool, true, false, List, [], ◌∷◌, ◌++◌, length, get_or, take, ◌⊎◌, inl, inr, Option, Some, None, option_map, is_some, cond, if◌then◌else◌, refl, ap, ◌∙◌, arith, IsSome}
 use Rattle.std.specs.List.{filter_map, cons_option}
 use Rattle.std.proofs.lemmas.Bool.{false≢true}
 use Rattle.std.proofs.lemmas.List.{take_more}
 use Rattle.std.proofs.lemmas.List.Elements.{filter_map-append}
 use Rattle.sm_names.specs.declared.keys.NodeKey.{NodeKey}
 use Rattle.sm_names.specs.Sameness.{same_key}
-use Rattle.sm_names.proofs.SamenessLaws.{and_left, and_right}
+use Rattle.sm_names.proofs.ListLaws.{In}
+use Rattle.sm_names.proofs.SamenessLaws.{and_left, and_right, either_way}
 use Rattle.node_table.specs.Table.{Row, Table, row_at, node_at}
 use Rattle.node_table.specs.Changes.{Writes}
 use Rattle.node_table.specs.Lending.{table_with_node}
@@ -14,7 +15,7 @@ use Rattle.node_table.proofs.Keys.{true-same_key}
 use Rattle.alloc_event.specs.declared.node.Node.{Node}
 use Rattle.alloc_event.specs.Kept.{written, stored, Stores, have_places}
 use Rattle.alloc_event.proofs.Lookups.{Look}
-use Rattle.alloc_event.proofs.Writing.{look-written}
+use Rattle.alloc_event.proofs.Writing.{look-written, parents-written}
 
 -- by whether they have one key
 written-key-by : (m n : Node) (same : Bool) → same_key m.key n.key ≡ same → (cond same m n).key ≡ n.key
@@ -44,6 +45,17 @@ row_there-by (Some row) h = refl
 pub row_there : (t : Table Node) (key : NodeKey) → is_some (node_at t key) ≡ true → IsSome (row_at t key)
 row_there t key h = row_there-by (row_at t key) h
 
+-- a node as it is stored is one of those, or as it was
+pub stored_one : (ns : List Node) (n : Node) → (stored ns n ≡ n) ⊎ In (stored ns n) ns
+stored_one [] n = inl refl
+stored_one (m ∷ ms) n = elim (stored_one ms (written m n)) [
+  | inl same ↦ elim (either_way (same_key m.key n.key)) [
+    | inl e ↦ inr (inl (same ∙ rw e refl))
+    | inr e ↦ inl (same ∙ rw e refl)
+  ]
+  | inr on ↦ inr (inr on)
+]
+
 -- nothing is changed
 unmapped : (o : Option Node) → o ≡ option_map (stored []) o
 unmapped None = refl
@@ -68,6 +80,7 @@ kept_there f (Some n) = refl
 pub Stores-none : (t : Table Node) → Stores t t []
 Stores-none t = record {
   look = λ key. unmapped (node_at t key);
+  parents = λ key. refl;
   same = record { first = refl; nexts = refl; limit = refl; len = refl };
 }
 
@@ -82,6 +95,7 @@ more-by ns n key (Some m) named =
 pub Stores-more : (t u now : Table Node) (ns : List Node) (n : Node) → ((key : NodeKey) (m : Node) → node_at t key ≡ Some m → m.key ≡ key) → Stores t u ns → now ≡ table_with_node u n.key n → Writes u now n.key n → Stores t now (ns ++ n ∷ [])
 Stores-more t u now ns n named stores becomes w = record {
   look = λ key. look-written u now n.key n w key ∙ rw (stores.look key) (more-by ns n key (node_at t key) (named key));
+  parents = λ key. parents-written u now n.key n w key ∙ stores.parents key;
   same = record {
     first = ap (λ (x : Table Node). x.first) becomes ∙ stores.same.first;
     nexts = ap (λ (x : Table Node). x.nexts) becomes ∙ stores.same.nexts;

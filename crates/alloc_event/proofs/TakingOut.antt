@@ -1,5 +1,5 @@
 -- A node that is taken out of the table, with its children cut.
-use Rattle.std.proofs.Common.{◌≡◌, ℕ, suc, ◌+◌, ◌-◌, ◌<◌, ◌≤◌, nat_lt, slice_index_or, Bool, true, false, not, List, [], ◌∷◌, length, get_or, Option, Some, None, option_map, is_some, IsSome, Contains, cond, if◌then◌else◌, refl, sym, ap, subst, ◌∙◌, inl, inr, arith}
+use Rattle.std.proofs.Common.{◌≡◌, ◌≢◌, ℕ, suc, ◌+◌, ◌-◌, ◌<◌, ◌≤◌, nat_lt, slice_index_or, Bool, true, false, not, List, [], ◌∷◌, length, get_or, Option, Some, None, option_map, is_some, IsSome, Contains, cond, if◌then◌else◌, refl, sym, ap, subst, ◌∙◌, inl, inr, arith}
 use Rattle.std.specs.List.{slice_get}
 use Rattle.std.specs.Option.{MatchOption}
 use Rattle.std.proofs.lemmas.Option.{slice_get-get_or}
@@ -50,6 +50,14 @@ still_node None key other (Some row) = refl
 still_node (Some above) key other None = refl
 still_node (Some above) key other (Some row) =
     elim (same_key above other) as (λ b. Some (cond b (without_child key row) row).node ≡ Some row.node) [ true ↦ refl | false ↦ refl ]
+
+-- a row keeps its parent where it loses a child
+still_parent : (parent : Option NodeKey) (key other : NodeKey) (o : Option (Row Node)) → parent_in (option_map (at_parent parent (without_child key) other) o) ≡ parent_in o
+still_parent None key other None = refl
+still_parent None key other (Some row) = refl
+still_parent (Some above) key other None = refl
+still_parent (Some above) key other (Some row) =
+    elim (same_key above other) as (λ b. (cond b (without_child key row) row).parent ≡ row.parent) [ true ↦ refl | false ↦ refl ]
 
 -- a cut changes no node
 pub cut_look : (t now : Table Node) (key : NodeKey) → Cuts t now key → (k : NodeKey) → node_at now k ≡ node_at t k
@@ -134,27 +142,32 @@ cut_fewer t now key child is cuts =
     (subst (λ (l : List NodeKey). Contains l child) (sym same) is.listed)) in
     omega (arith, ap length left, less)
 
--- what was cut so far
-pub record CutsOff (old new : Table Node) : Type 0 where
+-- which children of the key were cut so far
+pub record CutsOff (old new : Table Node) (key : NodeKey) : Type 0 where
   pub look : (k : NodeKey) → node_at new k ≡ node_at old k
+  pub parents : (k : NodeKey) → parent_at old k ≢ Some key → parent_at new k ≡ parent_at old k
   pub keys : SameKeys old new
   pub len : table_len new ≡ table_len old
 
 -- nothing so far
-pub CutsOff-none : (t : Table Node) → CutsOff t t
-CutsOff-none t = record { look = λ k. refl; keys = SameKeys-refl t; len = refl }
+pub CutsOff-none : (t : Table Node) (key : NodeKey) → CutsOff t t key
+CutsOff-none t key = record { look = λ k. refl; parents = λ k other. refl; keys = SameKeys-refl t; len = refl }
 
 -- one more
-pub CutsOff-more : (t u now : Table Node) (key : NodeKey) → CutsOff t u → Cuts u now key → CutsOff t now
-CutsOff-more t u now key off cuts = record {
-  look = λ k. cut_look u now key cuts k ∙ off.look k;
+pub CutsOff-more : (t u now : Table Node) (key child : NodeKey) → CutsOff t u key → IsChild u key child → Cuts u now child → CutsOff t now key
+CutsOff-more t u now key child off is cuts = record {
+  look = λ k. cut_look u now child cuts k ∙ off.look k;
+  parents = λ k other. elim (key_cases k child) [
+    | inl same ↦ absurd (other (sym (off.parents k other) ∙ ap (parent_at u) same ∙ is.parent_is))
+    | inr differ ↦ ap parent_in (cuts.others k differ) ∙ still_parent (parent_at u child) child k (row_at u k) ∙ off.parents k other
+  ];
   keys = SameKeys-trans t u now off.keys cuts.keys;
   len = cuts.len ∙ off.len;
 }
 
 -- all
-pub CutsOff-all : (t now : Table Node) (key : NodeKey) → CutsOff t now → children_at now key ≡ [] → Unlinks t now key
-CutsOff-all t now key off leaf = record { leaf = leaf; look = off.look; keys = off.keys; len = off.len }
+pub CutsOff-all : (t now : Table Node) (key : NodeKey) → CutsOff t now key → children_at now key ≡ [] → Unlinks t now key
+CutsOff-all t now key off leaf = record { leaf = leaf; look = off.look; parents = off.parents; keys = off.keys; len = off.len }
 
 -- by the row
 row_there-by : (o : Option (Row Node)) → IsSome (node_in o) → IsSome o
@@ -178,6 +191,7 @@ pub takes_out : (t u now : Table Node) (key : NodeKey) (n : Node) → IsSome (no
 takes_out t u now key n was un removes = record {
   was = was;
   look = λ k. removed_look u now key n removes k ∙ ap (λ (o : Option Node). if same_key key k then None else o) (un.look k);
+  parents = λ k differ other. ap parent_in (removes.others k differ) ∙ still_parent (parent_at u key) key k (row_at u k) ∙ un.parents k other;
   keys = SameKeys-trans t u now un.keys removes.keys;
   shorter = removes.shorter ∙ un.len;
 }
@@ -198,6 +212,7 @@ pub taken : (t now : Table Node) (key : NodeKey) (node : Node) → TakesOut t no
 taken t now key node out was = record {
   was = was;
   look = out.look;
+  parents = out.parents;
   given = out.keys.given;
   first = same_first t now out.keys;
   limit = out.keys.limit;

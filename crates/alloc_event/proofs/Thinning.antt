@@ -6,16 +6,21 @@ use Rattle.std.proofs.lemmas.Bool.{false≢true}
 use Rattle.std.proofs.lemmas.List.Elements.{filter-append}
 use Rattle.sm_names.specs.declared.keys.NodeKey.{NodeKey}
 use Rattle.sm_names.specs.Sameness.{same_key}
+use Rattle.sm_names.proofs.ListLaws.{In}
 use Rattle.sm_names.proofs.SamenessLaws.{and_left, and_right, and_both, or_both, or_cases, or_left, or_none_left, or_none_right, or_right, either_way}
-use Rattle.node_table.specs.Table.{Table, node_at, table_len}
-use Rattle.node_table.proofs.Keys.{true-same_key}
+use Rattle.node_table.specs.Table.{Table, node_at, parent_at, table_len}
+use Rattle.node_table.proofs.Keys.{same_key-true, true-same_key}
 use Rattle.alloc_event.specs.declared.node.Node.{Node}
 use Rattle.alloc_event.specs.Forest.{Collection, with_nodes}
 use Rattle.alloc_event.specs.Forgetting.{TakesOut, is_found, thinned}
-use Rattle.alloc_event.specs.Kept.{Shelf, AreRising, IsKept, all_keys, are_apart, are_filed, collection_in, is_filed, nodes_with}
+use Rattle.alloc_event.specs.Kept.{Shelf, AreRising, IsKept, IsWhole, all_keys, are_apart, are_filed, collection_in, is_filed, nodes_with}
 use Rattle.alloc_event.specs.Nodes.{is_of}
 use Rattle.alloc_event.specs.Scenes.{IsSound, are_distinct, heads_itself}
+use Rattle.alloc_event.proofs.Hanging.{looked_gone}
+use Rattle.alloc_event.proofs.KeptRoots.{rooted_filter}
+use Rattle.alloc_event.proofs.LeftParents.{childless}
 use Rattle.alloc_event.proofs.Lookups.{looked-without}
+use Rattle.alloc_event.proofs.Rooted.{whole_rooted}
 use Rattle.alloc_event.proofs.TakingOut.{same_first}
 
 -- ---- lists of which some elements are kept
@@ -95,7 +100,7 @@ there-filter p key (k ∷ ks) passes there = elim (or_cases (same_key key k) (li
 ]
 
 -- a key that none of them is can't be left out
-lacks-filter : (key : NodeKey) (ks : List NodeKey) → list_any (same_key key) ks ≡ false → filter (λ k. not (same_key key k)) ks ≡ ks
+pub lacks-filter : (key : NodeKey) (ks : List NodeKey) → list_any (same_key key) ks ≡ false → filter (λ k. not (same_key key k)) ks ≡ ks
 lacks-filter key [] none = refl
 lacks-filter key (k ∷ ks) none = rw (or_none_left (same_key key k) (list_any (same_key key) ks) none) (ap (λ l. k ∷ l) (lacks-filter key ks (or_none_right _ _ none)))
 
@@ -134,12 +139,19 @@ distinct-filter p (n ∷ ns) h = elim (p n) as (λ b. are_distinct (cond b (n �
     not_true false h = refl
 
 -- a collection stays sound with some of its nodes
-pub IsSound-filter : (p : Node → Bool) (c : Collection) → IsSound c → IsSound (with_nodes (filter p) c)
+IsSound-filter : (p : Node → Bool) (c : Collection) → IsSound c → IsSound (with_nodes (filter p) c)
 IsSound-filter p c ok = record {
   distinct = distinct-filter p c.nodes ok.distinct;
   heads = each-filter p heads_itself c.nodes ok.heads;
   one_root = behind-filter p (λ (n : Node). is_some n.parent) c.nodes ok.one_root;
   few = ok.few;
+}
+
+-- and whole, where those that are left out are gone
+pub IsWhole-filter : (p : Node → Bool) (c : Collection) → ((n : Node) → In n c.nodes → p n ≡ false → n.gone ≡ true) → IsWhole c → IsWhole (with_nodes (filter p) c)
+IsWhole-filter p c over ok = record {
+  sound = IsSound-filter p c ok.sound;
+  rooted = (rooted_filter c.nodes (whole_rooted c ok) p over).rooted;
 }
 
 -- ---- shelves with the keys that a table has
@@ -254,11 +266,18 @@ module _ (t now : Table Node) (key : NodeKey) (out : TakesOut t now key) where
       only_found [] = refl
       only_found (k ∷ ks) = by k (node_at now k) (filter (is_found now) ks) (nodes_with now ks) refl (only_found ks)
 
-  -- the collections stay sound
-  sound-kept : ((k : NodeKey) (n : Node) → node_at t k ≡ Some n → n.key ≡ k) → (ss : List Shelf) → AllByRecursion (λ (s : Shelf). IsSound (collection_in t s)) ss → AllByRecursion (λ (s : Shelf). IsSound (collection_in now s)) (map (thinned now) ss)
-  sound-kept named [] all = tt
-  sound-kept named (s ∷ ss) all =
-      (rw (nodes_left named s.keys) (IsSound-filter (λ n. not (is_of key n)) (collection_in t s) all.0), sound-kept named ss all.1)
+  -- the collections stay whole, where the node is gone
+  whole-kept : ((m : Node) → node_at t key ≡ Some m → m.gone ≡ true) → ((k : NodeKey) (n : Node) → node_at t k ≡ Some n → n.key ≡ k) → (ss : List Shelf) → AllByRecursion (λ (s : Shelf). IsWhole (collection_in t s)) ss → AllByRecursion (λ (s : Shelf). IsWhole (collection_in now s)) (map (thinned now) ss)
+  whole-kept goes named [] all = tt
+  whole-kept goes named (s ∷ ss) all =
+      (rw (nodes_left named s.keys) (IsWhole-filter (λ n. not (is_of key n)) (collection_in t s) (looked_gone t named key goes s.keys) all.0), whole-kept goes named ss all.1)
+
+  -- a node that is not gone keeps its parent, where the other is gone
+  linked-kept : ((m : Node) → node_at t key ≡ Some m → m.gone ≡ true) → (ss : List Shelf) → IsKept t ss → (k : NodeKey) (n : Node) → node_at now k ≡ Some n → n.gone ≡ false → parent_at now k ≡ n.parent
+  linked-kept goes ss ok k n is here =
+      let was = still k n is in
+      out.parents k (λ same. false≢true (sym was.0 ∙ same_key-true key k (sym same))) (childless t ss ok key goes k n was.1 here)
+      ∙ ok.linked k n was.1 here
 
   -- by the node that is gone
   counted-by : (ss : List Shelf) → IsKept t ss → (o : Option Node) → node_at t key ≡ o → is_some o ≡ true → length (all_keys (map (thinned now) ss)) ≡ table_len now
@@ -269,8 +288,8 @@ module _ (t now : Table Node) (key : NodeKey) (out : TakesOut t now key) where
       omega (arith, fewer, left, ok.counted, out.shorter)
 
   -- all that holds of forests holds of the shelves without the key
-  pub taken-kept : (ss : List Shelf) → IsKept t ss → IsKept now (map (thinned now) ss)
-  taken-kept ss ok = record {
+  pub taken-kept : ((m : Node) → node_at t key ≡ Some m → m.gone ≡ true) → (ss : List Shelf) → IsKept t ss → IsKept now (map (thinned now) ss)
+  taken-kept goes ss ok = record {
     first = same_first t now out.keys ∙ ok.first;
     rising = thinned-rising now ss ok.rising;
     apart = ap are_apart (thinned-keys now ss) ∙ apart-filter (is_found now) (all_keys ss) ok.apart;
@@ -279,5 +298,6 @@ module _ (t now : Table Node) (key : NodeKey) (out : TakesOut t now key) where
     there = λ k n is. ap (list_any (same_key k)) (thinned-keys now ss)
         ∙ there-filter (is_found now) k (all_keys ss) (ap is_some is) (ok.there k n (still k n is).1);
     counted = counted-by ss ok (node_at t key) refl out.was;
-    sound = sound-kept ok.named ss ok.sound;
+    linked = linked-kept goes ss ok;
+    whole = whole-kept goes ok.named ss ok.whole;
   }

@@ -11,9 +11,8 @@ use Rattle.node_table.proofs.Keys.{same_key-true, true-same_key}
 use Rattle.alloc_event.specs.declared.node.Node.{Node}
 use Rattle.alloc_event.specs.Forest.{is_left, tidied, without_over_in}
 use Rattle.alloc_event.specs.Forgetting.{is_bare, is_found, left_at, thin_in, thinned, unless_over, without_bare}
-use Rattle.alloc_event.specs.Kept.{Shelf, AreRising, IsKept, all_keys, are_apart, are_filed, collection_in, is_filed, nodes_with}
+use Rattle.alloc_event.specs.Kept.{Shelf, AreRising, IsKept, IsWhole, all_keys, are_apart, are_filed, collection_in, is_filed, nodes_with}
 use Rattle.alloc_event.specs.Nodes.{is_over}
-use Rattle.alloc_event.specs.Scenes.{IsSound}
 use Rattle.alloc_event.proofs.Thinning.{all-filter, each-filter, filed_all}
 
 -- a key of a collection has a node of it
@@ -222,12 +221,12 @@ bare-keys id (s ∷ ss) = by (bare-keys id ss) (s.id == id && is_bare s) refl
 bare-filed : (t : Table Node) (id : ℕ) (ss : List Shelf) → are_filed t ss ≡ true → are_filed t (without_bare id ss) ≡ true
 bare-filed t id ss filed = each-filter (λ (s : Shelf). not (s.id == id && is_bare s)) (λ (s : Shelf). list_all (is_filed t s.id) s.keys) ss filed
 
--- the collections stay sound
-bare-sound : (t : Table Node) (id : ℕ) (ss : List Shelf) → AllByRecursion (λ (s : Shelf). IsSound (collection_in t s)) ss → AllByRecursion (λ (s : Shelf). IsSound (collection_in t s)) (without_bare id ss)
-bare-sound t id [] all = tt
-bare-sound t id (s ∷ ss) all = elim (s.id == id && is_bare s) as (λ b. AllByRecursion (λ (x : Shelf). IsSound (collection_in t x)) (cond (not b) (s ∷ without_bare id ss) (without_bare id ss))) [
-  | true ↦ bare-sound t id ss all.1
-  | false ↦ (all.0, bare-sound t id ss all.1)
+-- the collections stay whole
+bare-whole : (t : Table Node) (id : ℕ) (ss : List Shelf) → AllByRecursion (λ (s : Shelf). IsWhole (collection_in t s)) ss → AllByRecursion (λ (s : Shelf). IsWhole (collection_in t s)) (without_bare id ss)
+bare-whole t id [] all = tt
+bare-whole t id (s ∷ ss) all = elim (s.id == id && is_bare s) as (λ b. AllByRecursion (λ (x : Shelf). IsWhole (collection_in t x)) (cond (not b) (s ∷ without_bare id ss) (without_bare id ss))) [
+  | true ↦ bare-whole t id ss all.1
+  | false ↦ (all.0, bare-whole t id ss all.1)
 ]
 
 -- all that holds of forests holds without a bare collection
@@ -240,5 +239,6 @@ bare-kept t id ss ok = record {
   filed = bare-filed t id ss ok.filed;
   there = λ key n is. ap (list_any (same_key key)) (bare-keys id ss) ∙ ok.there key n is;
   counted = ap length (bare-keys id ss) ∙ ok.counted;
-  sound = bare-sound t id ss ok.sound;
+  linked = ok.linked;
+  whole = bare-whole t id ss ok.whole;
 }

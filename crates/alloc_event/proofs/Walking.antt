@@ -1,18 +1,18 @@
 -- The walk over the keys of a collection that takes out the nodes that are over.
-use Rattle.std.proofs.Common.{◌≡◌, ◌≢◌, Bool, true, false, List, [], ◌∷◌, ◌++◌, map, Option, None, cond, refl, sym, ap, subst, ◌∙◌, inl, inr}
+use Rattle.std.proofs.Common.{◌≡◌, ◌≢◌, Bool, true, false, List, [], ◌∷◌, ◌++◌, map, Option, Some, None, cond, refl, sym, ap, subst, ◌∙◌, inl, inr}
 use Rattle.std.specs.List.{list_any}
 use Rattle.std.specs.Option.{option_map_or}
 use Rattle.std.proofs.lemmas.List.Folds.{list_any-append}
 use Rattle.sm_names.specs.declared.keys.NodeKey.{NodeKey}
 use Rattle.sm_names.specs.Sameness.{same_key}
-use Rattle.sm_names.proofs.SamenessLaws.{or_false, or_right}
+use Rattle.sm_names.proofs.SamenessLaws.{and_left, or_false, or_right}
 use Rattle.node_table.specs.Table.{Table, node_at}
 use Rattle.node_table.specs.Changes.{SameKeys}
 use Rattle.node_table.proofs.Keys.{key_cases, same_key-true, same_key-false}
 use Rattle.alloc_event.specs.declared.node.Node.{Node}
 use Rattle.alloc_event.specs.Forgetting.{TakesOut, left_at, thinned, unless_over}
 use Rattle.alloc_event.specs.Kept.{Shelf, IsKept}
-use Rattle.alloc_event.specs.Nodes.{is_over}
+use Rattle.alloc_event.specs.Nodes.{is_over, is_spent}
 use Rattle.alloc_event.proofs.TakingOut.{SameKeys-refl, SameKeys-trans}
 use Rattle.alloc_event.proofs.Thinning.{all_thinned-same, found_before, taken-kept, thinned-twice}
 
@@ -89,10 +89,14 @@ Walks-stays old t keys older key walks not_over = record {
   given = walks.given;
 }
 
+-- what is over is gone
+over_gone : (o : Option Node) → option_map_or is_over o false ≡ true → (m : Node) → o ≡ Some m → m.gone ≡ true
+over_gone o over m is = and_left m.gone (is_spent m.end) (rw is at over)
+
 -- or goes
 pub Walks-goes : (old t now : Table Node) (keys older : List NodeKey) (key : NodeKey) → Walks old t keys (older ++ key ∷ []) → TakesOut t now key → option_map_or is_over (node_at t key) false ≡ true → Walks old now keys older
 Walks-goes old t now keys older key walks out over = record {
   look = λ k. goes_look t now older key out over k ∙ walks.look k;
-  kept = λ ss ok. subst (IsKept now) (thinned-twice t now (found_before t now key out) ss) (taken-kept t now key out (map (thinned t) ss) (walks.kept ss ok));
+  kept = λ ss ok. subst (IsKept now) (thinned-twice t now (found_before t now key out) ss) (taken-kept t now key out (over_gone (node_at t key) over) (map (thinned t) ss) (walks.kept ss ok));
   given = SameKeys-trans old t now walks.given out.keys;
 }

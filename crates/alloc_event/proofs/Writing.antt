@@ -4,15 +4,17 @@ use Rattle.std.specs.List.{list_any, list_all, AllByRecursion}
 use Rattle.std.specs.Option.{option_map_or}
 use Rattle.sm_names.specs.declared.keys.NodeKey.{NodeKey}
 use Rattle.sm_names.specs.Sameness.{same_key}
-use Rattle.node_table.specs.Table.{Row, Table, row_at, node_at, table_len}
+use Rattle.node_table.specs.Table.{Row, Table, row_at, node_at, parent_at, parent_in, table_len}
 use Rattle.node_table.specs.Changes.{Writes, with_node}
 use Rattle.node_table.proofs.Keys.{key_cases, same_key-true, same_key-false}
 use Rattle.alloc_event.specs.declared.node.Node.{Node}
 use Rattle.alloc_event.specs.Forest.{Collection, with_nodes}
-use Rattle.alloc_event.specs.Kept.{Shelf, collection_in, is_filed, are_filed, IsKept}
+use Rattle.alloc_event.specs.Kept.{Shelf, collection_in, is_filed, are_filed, IsKept, IsWhole}
 use Rattle.alloc_event.specs.Nodes.{is_of}
 use Rattle.alloc_event.specs.Scenes.{IsSound, are_distinct, heads_itself}
+use Rattle.alloc_event.proofs.KeptRoots.{rooted_same}
 use Rattle.alloc_event.proofs.Lookups.{looked-map}
+use Rattle.alloc_event.proofs.Rooted.{whole_rooted}
 
 -- the first is the second, but for what a change may make of it
 pub record IsSameNode (m n : Node) : Type 0 where
@@ -57,6 +59,13 @@ module _ (f : Node → Node) (same : (n : Node) → IsSameNode (f n) n) where
     few = ok.few;
   }
 
+  -- and whole, where no node goes
+  IsWhole-map : ((n : Node) → (f n).gone ≡ n.gone) → (c : Collection) → IsWhole c → IsWhole (with_nodes (map f) c)
+  IsWhole-map gone c ok = record {
+    sound = IsSound-map c ok.sound;
+    rooted = (rooted_same c.nodes (whole_rooted c ok) f (record { key = λ n. (same n).key; parent = λ n. (same n).parent; gone = gone })).rooted;
+  }
+
   -- a key is filed where it was
   filed-map : (t now : Table Node) → ((key : NodeKey) → node_at now key ≡ option_map f (node_at t key)) → (id : ℕ) (keys : List NodeKey) → list_all (is_filed now id) keys ≡ list_all (is_filed t id) keys
   filed-map t now each id [] = refl
@@ -85,9 +94,15 @@ module _ (f : Node → Node) (same : (n : Node) → IsSameNode (f n) n) where
   found-map : (t now : Table Node) → ((key : NodeKey) → node_at now key ≡ option_map f (node_at t key)) → (key : NodeKey) (n : Node) → node_at now key ≡ Some n → (m : Node) × (node_at t key ≡ Some m) × (f m ≡ n)
   found-map t now each key n is = found-map-by (node_at t key) n (sym (each key) ∙ is)
 
-  -- all stays so, where the collections stay sound
-  pub kept-map : (t now : Table Node) → now.first ≡ t.first → table_len now ≡ table_len t → ((key : NodeKey) → node_at now key ≡ option_map f (node_at t key)) → (es : List Shelf) → AllByRecursion (λ (e : Shelf). IsSound (collection_in now e)) es → IsKept t es → IsKept now es
-  kept-map t now first len each es sound ok = record {
+  -- the collections stay whole
+  whole-map : ((n : Node) → (f n).gone ≡ n.gone) → (t now : Table Node) → ((key : NodeKey) → node_at now key ≡ option_map f (node_at t key)) → (es : List Shelf) → AllByRecursion (λ (e : Shelf). IsWhole (collection_in t e)) es → AllByRecursion (λ (e : Shelf). IsWhole (collection_in now e)) es
+  whole-map gone t now each [] whole = tt
+  whole-map gone t now each (e ∷ es) whole =
+      (rw (looked-map f (node_at t) (node_at now) each e.keys) (IsWhole-map gone (collection_in t e) whole.0), whole-map gone t now each es whole.1)
+
+  -- all stays so, where no node goes
+  pub kept-map : ((n : Node) → (f n).gone ≡ n.gone) → (t now : Table Node) → now.first ≡ t.first → table_len now ≡ table_len t → ((key : NodeKey) → node_at now key ≡ option_map f (node_at t key)) → ((key : NodeKey) → parent_at now key ≡ parent_at t key) → (es : List Shelf) → IsKept t es → IsKept now es
+  kept-map gone t now first len each parents es ok = record {
     first = first ∙ ok.first;
     rising = ok.rising;
     apart = ok.apart;
@@ -96,14 +111,11 @@ module _ (f : Node → Node) (same : (n : Node) → IsSameNode (f n) n) where
     filed = all_filed-map t now each es ∙ ok.filed;
     there = λ key n is. let was = found-map t now each key n is in ok.there key was.0 was.1;
     counted = ok.counted ∙ sym len;
-    sound = sound;
+    linked = λ key n is here. let was = found-map t now each key n is in
+        let left : was.0.gone ≡ false = sym (gone was.0) ∙ ap (λ (x : Node). x.gone) was.2 ∙ here in
+        parents key ∙ ok.linked key was.0 was.1 left ∙ sym (same was.0).parent ∙ ap (λ (x : Node). x.parent) was.2;
+    whole = whole-map gone t now each es ok.whole;
   }
-
-  -- the collections stay sound where f keeps what their soundness reads
-  pub sound-map : (t now : Table Node) → ((key : NodeKey) → node_at now key ≡ option_map f (node_at t key)) → (es : List Shelf) → AllByRecursion (λ (e : Shelf). IsSound (collection_in t e)) es → AllByRecursion (λ (e : Shelf). IsSound (collection_in now e)) es
-  sound-map t now each [] sound = tt
-  sound-map t now each (e ∷ es) sound =
-      (rw (looked-map f (node_at t) (node_at now) each e.keys) (IsSound-map (collection_in t e) sound.0), sound-map t now each es sound.1)
 
 -- the row that is written has the node
 written_row : (node : Node) (o : Option (Row Node)) → option_map (λ (row : Row Node). row.node) (option_map (with_node node) o) ≡ option_map (λ _. node) (option_map (λ (row : Row Node). row.node) o)
@@ -116,6 +128,18 @@ look-written t now key node w k = elim (key_cases key k) [
   | inl same ↦ rw (same_key-true key k same) (subst (λ (x : NodeKey). node_at now x ≡ option_map (λ _. node) (node_at t x)) same
       (ap (option_map (λ (row : Row Node). row.node)) w.written ∙ written_row node (row_at t key)))
   | inr differ ↦ rw (same_key-false key k differ) (ap (option_map (λ (row : Row Node). row.node)) (w.others k (λ same. differ (sym same))))
+]
+
+-- the row that is written has its parent
+written_parent : (node : Node) (o : Option (Row Node)) → parent_in (option_map (with_node node) o) ≡ parent_in o
+written_parent node None = refl
+written_parent node (Some row) = refl
+
+-- no parent changes where a node is written
+pub parents-written : (t now : Table Node) (key : NodeKey) (node : Node) → Writes t now key node → (k : NodeKey) → parent_at now k ≡ parent_at t k
+parents-written t now key node w k = elim (key_cases key k) [
+  | inl same ↦ subst (λ (x : NodeKey). parent_at now x ≡ parent_at t x) same (ap parent_in w.written ∙ written_parent node (row_at t key))
+  | inr differ ↦ ap parent_in (w.others k (λ same. differ (sym same)))
 ]
 
 -- f keeps what is found under another key

@@ -1,12 +1,12 @@
 -- How a forest lies in its table of nodes and its entries. No public clause cites this module.
-use Rattle.std.specs.Prelude.{◌≡◌, ℕ, ◌+◌, ◌<◌, Bool, true, false, ◌==◌, ◌&&◌, ◌||◌, not, nat_lt, ⊤, if◌then◌else◌, List, [], ◌∷◌, map, length, Option, Some, None, option_map, is_some}
+use Rattle.std.specs.Prelude.{◌≡◌, ◌≢◌, ℕ, ◌+◌, ◌<◌, Bool, true, false, ◌==◌, ◌&&◌, ◌||◌, not, nat_lt, ⊤, if◌then◌else◌, List, [], ◌∷◌, map, length, reverse, Option, Some, None, option_map, is_some}
 use Rattle.std.specs.List.{list_any, list_all, filter_map, flat_map, AllByRecursion}
 use Rattle.std.specs.Option.{option_map_or}
 use Rattle.sm_names.specs.declared.keys.NodeKey.{NodeKey}
 use Rattle.sm_names.specs.declared.outcomes.Buffers.{Buffers}
 use Rattle.sm_names.specs.Sameness.{same_key}
 use Rattle.sm_names.specs.Timelines.{HeldPages}
-use Rattle.node_table.specs.Table.{Table, node_at, was_given, table_len}
+use Rattle.node_table.specs.Table.{Table, node_at, parent_at, was_given, table_len}
 use Rattle.alloc_event.specs.declared.change.Change.{Change}
 use Rattle.alloc_event.specs.declared.entry.Entry.{Entry}
 use Rattle.alloc_event.specs.declared.node.Node.{Node}
@@ -16,6 +16,8 @@ use Rattle.alloc_event.specs.Forest.{Collection, Forest, beside}
 use Rattle.alloc_event.specs.Settling.{Handles, Settles, put, given_back, standing}
 use Rattle.alloc_event.specs.Nodes.{new_root, new_child}
 use Rattle.alloc_event.specs.Scenes.{held_pages, IsSound, has_tracker_room}
+use Rattle.alloc_event.specs.Decisions.{is_left_of}
+use Rattle.alloc_event.specs.Ties.{are_rooted}
 
 -- a collection, with the keys of its nodes in their place
 pub record Shelf : Type 0 where
@@ -95,6 +97,16 @@ is_filed t id key = option_map_or (λ (n : Node). n.collection == id) (node_at t
 abbrev pub are_filed : Table Node → List Shelf → Bool
 are_filed t ss = list_all (λ (s : Shelf). list_all (is_filed t s.id) s.keys) ss
 
+-- a collection as the forced steps ask for it, each of whose nodes that is not gone hangs on its parent
+pub record IsWhole (c : Collection) : Type 0 where
+  pub sound : IsSound c
+  pub rooted : are_rooted (reverse c.nodes) ≡ true
+
+-- the nodes hang on their parents, and the table has the parent of each that is not gone
+pub record IsHung (t : Table Node) (nodes : List Node) : Type 0 where
+  pub linked : AllByRecursion (λ (n : Node). n.gone ≡ false → parent_at t n.key ≡ n.parent) nodes
+  pub rooted : are_rooted (reverse nodes) ≡ true
+
 -- what holds of the table and the shelves of each forest
 pub record IsKept (t : Table Node) (ss : List Shelf) : Type 0 where
   pub first : t.first ≡ 0
@@ -104,8 +116,8 @@ pub record IsKept (t : Table Node) (ss : List Shelf) : Type 0 where
   pub filed : are_filed t ss ≡ true
   pub there : (key : NodeKey) (n : Node) → node_at t key ≡ Some n → list_any (same_key key) (all_keys ss) ≡ true
   pub counted : length (all_keys ss) ≡ table_len t
-  -- what the forced steps ask of each collection
-  pub sound : AllByRecursion (λ (s : Shelf). IsSound (collection_in t s)) ss
+  pub linked : (key : NodeKey) (n : Node) → node_at t key ≡ Some n → n.gone ≡ false → parent_at t key ≡ n.parent
+  pub whole : AllByRecursion (λ (s : Shelf). IsWhole (collection_in t s)) ss
 
 -- this node, where it has the key of the other
 abbrev pub written : Node → Node → Node
@@ -126,6 +138,7 @@ pub record SameTable (old new : Table Node) : Type 0 where
 -- the nodes are in their places, and nothing else changed
 pub record Stores (old new : Table Node) (nodes : List Node) : Type 0 where
   pub look : (key : NodeKey) → node_at new key ≡ option_map (stored nodes) (node_at old key)
+  pub parents : (key : NodeKey) → parent_at new key ≡ parent_at old key
   pub same : SameTable old new
 
 -- each node has a place
@@ -149,6 +162,11 @@ abbrev pub has_room : Change → List Node → Bool
 has_room (Change.Effect call) nodes = list_all (has_tracker_room call) nodes
 has_room _ nodes = true
 
+-- a node that the change loses is there, and not gone
+abbrev pub loses_left : Change → List Node → Bool
+loses_left (Change.Loss origin cause) nodes = is_left_of nodes origin
+loses_left _ nodes = true
+
 -- the node that is born with this key: a child, or a root of the collection
 abbrev pub born : Option Node → Bool → ℕ → ℕ → ℕ → NodeKey → Node
 born None attached id event client key = new_root key id event client
@@ -164,14 +182,16 @@ pub record Gives (old new : Table Node) (key : NodeKey) : Type 0 where
 -- there is one more node, under a key that was given to none before
 pub record Bears (old new : Table Node) (node : Node) : Type 0 where
   pub look : (key : NodeKey) → node_at new key ≡ (if same_key node.key key then Some node else node_at old key)
+  pub parents : (key : NodeKey) → parent_at new key ≡ (if same_key node.key key then node.parent else parent_at old key)
   pub none : node_at old node.key ≡ None
   pub gives : Gives old new node.key
   pub len : table_len new ≡ table_len old + 1
 
--- the table has this node no more, and all else still
+-- the table has this node no more, its children have no parent, and all else is there still
 pub record TakesOut (old new : Table Node) (key : NodeKey) (node : Node) : Type 0 where
   pub was : node_at old key ≡ Some node
   pub look : (other : NodeKey) → node_at new other ≡ (if same_key key other then None else node_at old other)
+  pub parents : (other : NodeKey) → other ≢ key → parent_at old other ≢ Some key → parent_at new other ≡ parent_at old other
   pub given : (other : NodeKey) → was_given new other ≡ was_given old other
   pub first : new.first ≡ old.first
   pub limit : new.limit ≡ old.limit

@@ -1,5 +1,5 @@
 //! Changes to a collection that is there, and the births of nodes.
-ghost use Rattle.std.specs.Prelude.{◌≡◌, false, true, None, Some, IfOk, IfSome, IsSome, OnOk, OnErr, option_copied, [], ◌∷◌, ◌++◌};
+ghost use Rattle.std.specs.Prelude.{◌≡◌, false, true, None, Some, IfOk, IfSome, IsSome, OnOk, OnErr, option_copied, option_map, [], ◌∷◌, ◌++◌};
 ghost use Rattle.std.specs.Option.{option_and_then};
 ghost use Rattle.sm_names.specs.declared.keys.NodeKey.{NodeKey as Key};
 ghost use Rattle.node_table.specs.Table.{row_at, node_at};
@@ -7,17 +7,18 @@ ghost use Rattle.node_table.specs.Changes.{Births};
 ghost use Rattle.alloc_event.specs.declared.node.Node.{Node as Kept};
 ghost use Rattle.buffer_holds.specs.Counts.{total};
 ghost use Rattle.alloc_event.specs.Forest.{IsPoolOf};
-ghost use Rattle.alloc_event.specs.Kept.{AreRising, IsKept, Bears, Gives, Finishes, SameTable, born, put_shelf, shelf_in, shelves_of, forest_of, has_room};
+ghost use Rattle.alloc_event.specs.Kept.{AreRising, IsKept, Bears, Gives, Finishes, SameTable, born, put_shelf, shelf_in, shelves_of, forest_of, has_room, loses_left};
 ghost use Rattle.alloc_event.specs.Scenes.{collection_of};
 ghost use Rattle.alloc_event.specs.Settling.{MayChange, changed, with_birth, collection_or_new, is_birth, no_key};
 ghost use Rattle.alloc_event.specs.Still.{shelf_with};
+ghost use Rattle.alloc_event.specs.Ties.{IsTied};
 
 use crate::births::{new_child, new_root};
 use crate::change::Change;
 use crate::effects::affect;
 use crate::entry::{Entry, entry_of};
 use crate::finish::finish;
-use crate::losses::lose;
+use crate::losses::lose_by_fall;
 use crate::node::Node;
 use crate::scene::Scene;
 use crate::still::is_still;
@@ -28,18 +29,29 @@ use node_table::NodeTable;
 use sm_names::{ClientId, CollectionId, Fault, NoMemory, NodeKey};
 use std::alloc::{AllocError, Global};
 
-/// Makes the change to the scene, if it is no birth.
-fn change_scene(scene: &mut Scene, change: &Change)
+/// Makes the change to the scene, if it is no birth. `NoMemory` where a loss is refused the room
+/// for what it takes.
+fn change_scene(
+    alloc: Global,
+    table: &NodeTable<Node>,
+    scene: &mut Scene,
+    change: &Change,
+) -> Result<(), NoMemory>
     requires birth { is_birth change.now ≡ false }
     requires room { has_room change.now scene.old.nodes.items ≡ true }
-    ensures { collection_of scene.new ≡ changed change.now no_key (collection_of scene.old) }
+    requires tied { IsTied table.now scene.old.nodes.items }
+    requires left { loses_left change.now scene.old.nodes.items ≡ true }
+    ensures { OnOk result (collection_of scene.new ≡ changed change.now no_key (collection_of scene.old)) }
 {
     match *change {
         Change::Effect(call) => affect(&mut scene.nodes, &call),
-        Change::Loss(origin, cause) => lose(&mut scene.nodes, Fault { cause, origin }),
+        Change::Loss(origin, cause) => {
+            return lose_by_fall(alloc, table, &mut scene.nodes, Fault { cause, origin });
+        }
         Change::Nothing => {}
         Change::Birth { .. } => unreachable!(),
     }
+    Ok(())
 }
 
 /// Makes a change to a collection that is there, and all that it forces. `NoMemory` leaves the
@@ -74,7 +86,7 @@ pub(crate) fn settle_change(
     let Ok(mut scene) = load(alloc, table, entry) else {
         return Err(NoMemory);
     };
-    change_scene(&mut scene, change);
+    change_scene(alloc, table, &mut scene, change)?;
     finish(table, entries, pool, holds, scene)
 }
 
@@ -155,6 +167,7 @@ fn bear(
 ) -> Result<NodeKey, NoMemory>
     requires first { table.old.first ≡ 0 }
     requires parent { IfSome parent (λ p. IsSome (row_at table.old p)) }
+    requires above { option_map (λ n. n.key) (option_copied above) ≡ parent }
     ensures ok { IfOk result (λ key. Bears table.old table.new
         (born (option_copied above.entry) attached id event client key)) }
     ensures err { OnErr result (table.new ≡ table.old) }
@@ -308,7 +321,7 @@ pub(crate) fn settle_birth(
     let Ok(scene) = load_or_new(alloc, table, entries, id) else {
         return Err(NoMemory);
     };
-    if is_still(table, &scene, holds) {
+    if is_still(&scene, holds) {
         return bear_still(table, entries, id, parent, attached, client, event, scene);
     }
     settle_newborn(

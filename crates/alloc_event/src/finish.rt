@@ -2,7 +2,7 @@
 ghost use Rattle.std.specs.Prelude.{◌≡◌, true, OnOk, OnErr};
 ghost use Rattle.buffer_holds.specs.Counts.{total};
 ghost use Rattle.alloc_event.specs.Forest.{IsPoolOf};
-ghost use Rattle.alloc_event.specs.Kept.{IsKept, Finishes, SameTable, AreRising, all_of, shelf_in, shelves_of, put_shelf, forest_of};
+ghost use Rattle.alloc_event.specs.Kept.{IsHung, IsKept, Finishes, SameTable, AreRising, all_of, shelf_in, shelves_of, put_shelf, forest_of};
 ghost use Rattle.alloc_event.specs.Parted.{are_parted};
 ghost use Rattle.alloc_event.specs.Scenes.{IsSound, collection_of};
 
@@ -33,6 +33,7 @@ pub(crate) fn finish(
     requires rising { AreRising (shelves_of entries.old.items) }
     requires sound { IsSound (collection_of scene) }
     requires own { all_of scene.id scene.nodes.items ≡ true }
+    requires hung { IsHung table.old scene.nodes.items }
     requires pool { IsPoolOf pool.old (forest_of table.old (put_shelf (shelf_in scene) (shelves_of entries.old.items))) }
     ensures ok { OnOk result (Finishes pool.old.size (total holds.now) table.old (shelves_of entries.old.items)
         table.new (shelves_of entries.new.items) (collection_of scene)) }

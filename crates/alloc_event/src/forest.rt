@@ -1,5 +1,5 @@
 //! The forest: the collections with their nodes and buffers.
-ghost use Rattle.std.specs.Prelude.{◌≡◌, ℕ, [], false, true, None, IfOk, OnErr, OnOk, map, length, not, is_some, ◌&&◌, ◌==◌};
+ghost use Rattle.std.specs.Prelude.{◌≡◌, ◌≤◌, ℕ, [], false, true, None, IfOk, IfSome, OnErr, OnOk, map, length, not, is_some, ◌&&◌, ◌==◌};
 ghost use Rattle.std.specs.List.{filter};
 ghost use Rattle.sm_names.specs.declared.keys.BufferName.{BufferName};
 ghost use Rattle.sm_names.specs.declared.keys.NodeKey.{NodeKey as Key};
@@ -66,9 +66,10 @@ impl Forest {
     /// are then as they were.
     ///
     /// It costs a copy of the collection, and the question for the next step after each that is
-    /// made. A birth in a collection at rest, none of whose buffers is home, forces nothing, and
-    /// so does that of a root: it costs the copy and one question. Any other birth costs a copy of
-    /// the whole table besides.
+    /// made. A loss costs besides what `fall` costs, and a walk over what falls for each node. A
+    /// birth in a collection at rest, none of whose buffers is home, forces nothing, and so does
+    /// that of a root: it costs the copy and one question. Any other birth costs a copy of the
+    /// whole table besides.
     pub fn settle(
         &mut self,
         pool: &mut Pool,
@@ -109,7 +110,8 @@ impl Forest {
 
     /// The collection with this id at a glance, if it is there. A binary search.
     pub fn collection(&self, id: CollectionId) -> Option<Summary>
-        ensures { result ≡ option_map summary_of (collection_at self.now id) }
+        ensures value { result ≡ option_map summary_of (collection_at self.now id) }
+        ensures few { IfSome result (λ s. IfSome s.buffers (λ b. b.count ≤ 64)) }
     {
         match entry_of(&self.entries, id) {
             Some(entry) => Some(Summary {

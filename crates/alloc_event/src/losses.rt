@@ -1,17 +1,64 @@
 //! What a failure takes.
-ghost use Rattle.std.specs.Prelude.{◌≡◌, map, reverse};
+ghost use Rattle.std.specs.Prelude.{◌≡◌, map, reverse, OnOk, true};
 ghost use Rattle.std.specs.List.{list_any};
 ghost use Rattle.sm_names.specs.Losses.{top as topmost};
+ghost use Rattle.sm_names.specs.Sameness.{same_key};
+ghost use Rattle.alloc_event.specs.Decisions.{is_left_of};
 ghost use Rattle.alloc_event.specs.Nodes.{above_among, after_loss, lost};
 ghost use Rattle.alloc_event.specs.Questions.{blocks_here, is_below};
+ghost use Rattle.alloc_event.specs.Ties.{IsTied};
 
 use crate::node::Node;
 use crate::questions::{blocks, has_node, is_under};
-use sm_names::{Fault, NodeKey};
+use failure_domains::fall;
+use node_table::NodeTable;
+use sm_names::{Fault, NoMemory, NodeKey};
+use std::alloc::Global;
+
+/// The node where the fault began fails, and with it the highest node that its failure goes up to
+/// and all below that one, as `fall` finds them in the table. Nodes that are gone keep their
+/// faults.
+///
+/// `NoMemory` where the list of what fails is refused room. It takes a walk over that list for
+/// each node.
+pub(crate) fn lose_by_fall(
+    alloc: Global,
+    table: &NodeTable<Node>,
+    nodes: &mut [Node],
+    fault: Fault,
+) -> Result<(), NoMemory>
+    requires tied { IsTied table.now nodes.old }
+    requires left { is_left_of nodes.old fault.origin ≡ true }
+    ensures { OnOk result (nodes.new ≡ after_loss fault nodes.old) }
+{
+    let fallen = fall(alloc, table, fault.origin)?;
+    fail_all(nodes, &fallen.keys, fault);
+    Ok(())
+}
+
+/// The nodes with these keys fail.
+fn fail_all(nodes: &mut [Node], keys: &[NodeKey], fault: Fault)
+    ensures { nodes.new ≡ map (lost (λ n. list_any (same_key n.key) keys.now) fault) nodes.old }
+{
+    for node in nodes.iter_mut() {
+        let taken = is_among(keys, node.key);
+        fail(node, taken, fault);
+    }
+}
+
+/// Whether the key is one of these.
+fn is_among(keys: &[NodeKey], key: NodeKey) -> bool
+    ensures { result ≡ list_any (same_key key) keys.now }
+{
+    keys.iter().any(|other| key == *other)
+}
 
 /// The node where the fault began fails, and with it the highest node that its failure goes up to
 /// and all below that one. Nodes that are gone keep their faults. It takes no memory,
 /// and a walk over the nodes for each.
+///
+/// The forced steps lose nodes so: they work on nodes that the table does not have yet as they
+/// are, so that what falls there is not what falls here.
 pub fn lose(nodes: &mut [Node], fault: Fault)
     ensures { nodes.new ≡ after_loss fault nodes.old }
 {

@@ -1,4 +1,7 @@
 //! What is kept of a node and of its end.
+ghost use Rattle.alloc_event.specs.Ties.{is_blocking};
+
+use failure_domains::Link;
 use sm_names::{ClientId, CollectionId, Constraints, Fault, NodeKey};
 
 /// Where the end of a node is.
@@ -46,4 +49,13 @@ pub struct Node {
     /// Its token was bound.
     pub bound: bool,
     pub end: End,
+}
+
+impl Link for Node {
+    ghost blocks = { is_blocking };
+
+    /// Whether the node is attached, or dispensable in a unit that has its buffers.
+    fn blocks(&self) -> bool {
+        self.attached || self.dispensable && self.allocated
+    }
 }

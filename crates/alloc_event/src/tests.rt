@@ -4,10 +4,8 @@ ghost use Rattle.alloc_event.specs.Scenes.{collection_of, IsSound};
 
 use crate::allocating::allocate;
 use crate::births::{new_child, new_root};
-use crate::change::Change;
 use crate::effects::affect;
 use crate::ending::end;
-use crate::forest::Forest;
 use crate::losses::lose;
 use crate::returns::give_back;
 use crate::scene::Scene;
@@ -17,6 +15,9 @@ use buffer_pool::Pool;
 use sm_names::{Buffers, Call, Cause, Constraints, Failure, Fault, Interval, NodeKey};
 use std::alloc::Global;
 use std::test::Fail;
+
+mod changes;
+mod ground;
 
 // The root, an attached node below it, and one below that, which head a unit each.
 const ROOT: NodeKey = NodeKey {
@@ -230,25 +231,5 @@ fn a_loss_goes_up_as_far_as_links_let_it(rt: HostRuntime) -> Result<(), Fail> {
     assert_eq!(rt; nodes[0].gone, true);
     assert_eq!(rt; nodes[0].fault, None);
     assert_eq!(rt; nodes[1].fault, Some(Fault { cause, origin: LOW }));
-    Ok(())
-}
-
-#[test]
-fn a_root_is_born_into_a_new_collection(rt: HostRuntime) -> Result<(), Fail> {
-    let mut forest = Forest::new(rt.alloc(), 8);
-    let mut pool = new_pool(rt.alloc())?;
-    let holds = Holds::new(rt.alloc(), 8);
-    let birth = Change::Birth {
-        parent: None,
-        attached: false,
-        client: 3,
-        event: 1,
-    };
-    let Ok(Some(key)) = forest.settle(&mut pool, &holds, 5, birth) else {
-        return Err(Fail::from("no memory for a root"));
-    };
-    assert_eq!(rt; forest.len(), 1);
-    assert_eq!(rt; forest.collections(), 1);
-    assert_eq!(rt; forest.node(key), Some(new_root(key, 5, 1, 3)));
     Ok(())
 }

@@ -19,13 +19,13 @@ by_both (Err e) p q both = tt
 pub is_still-requires : goal.is_still-requires
 is_still-requires c =
     let loaded = rw c.deref.ensures.value at c.in-Ok.ensures in
-    subst IsSound (sym loaded) (before_is c.args.table.now (shelves_of c.args.entries.now.items) c.requires.kept c.args.id).sound
+    subst IsSound (sym loaded) (before_is c.args.table.now (shelves_of c.args.entries.now.items) c.requires.kept c.args.id).whole.sound
 
 pub returns-then-is_still-clause-ok : goal.returns-then-is_still-clause-ok
 returns-then-is_still-clause-ok c =
     let loaded = rw c.deref.ensures.value at c.in-Ok.ensures in
     let at = above_is c.args.table.now (shelves_of c.args.entries.now.items) c.requires.kept c.args.id c.args.parent c.args.attached c.args.client c.args.event c.requires.change in
-    let still = subst (IsStill c.args.table.now (total c.args.holds.now)) loaded (c.is_still.ensures c.if-is_still.true) in
+    let still = subst (IsStill (total c.args.holds.now)) loaded (c.is_still.ensures c.if-is_still.true) in
     by_both c.bear_still.result c.bear_still.ensures.bears c.bear_still.ensures.entries (λ key bears placed.
     quiet_ok c.args.table.now c.bear_still.new.table (shelves_of c.args.entries.now.items) c.requires.kept c.args.id c.args.parent c.args.attached c.args.client c.args.event _ at key bears
     (total c.args.holds.now) still (collection_of c.in-Ok.scene) loaded (shelves_of c.bear_still.new.entries.items) placed c.args.pool.now.size)
@@ -34,7 +34,7 @@ pub returns-then-is_still-clause-kept : goal.returns-then-is_still-clause-kept
 returns-then-is_still-clause-kept c =
     let loaded = rw c.deref.ensures.value at c.in-Ok.ensures in
     let at = above_is c.args.table.now (shelves_of c.args.entries.now.items) c.requires.kept c.args.id c.args.parent c.args.attached c.args.client c.args.event c.requires.change in
-    let still = subst (IsStill c.args.table.now (total c.args.holds.now)) loaded (c.is_still.ensures c.if-is_still.true) in
+    let still = subst (IsStill (total c.args.holds.now)) loaded (c.is_still.ensures c.if-is_still.true) in
     by_both c.bear_still.result c.bear_still.ensures.bears c.bear_still.ensures.entries (λ key bears placed.
     quiet_kept c.args.table.now c.bear_still.new.table (shelves_of c.args.entries.now.items) c.requires.kept c.args.id c.args.parent c.args.attached c.args.client c.args.event _ at key bears
     (total c.args.holds.now) still (collection_of c.in-Ok.scene) loaded (shelves_of c.bear_still.new.entries.items) placed)
@@ -43,7 +43,7 @@ pub returns-then-is_still-clause-pool : goal.returns-then-is_still-clause-pool
 returns-then-is_still-clause-pool c =
     let loaded = rw c.deref.ensures.value at c.in-Ok.ensures in
     let at = above_is c.args.table.now (shelves_of c.args.entries.now.items) c.requires.kept c.args.id c.args.parent c.args.attached c.args.client c.args.event c.requires.change in
-    let still = subst (IsStill c.args.table.now (total c.args.holds.now)) loaded (c.is_still.ensures c.if-is_still.true) in
+    let still = subst (IsStill (total c.args.holds.now)) loaded (c.is_still.ensures c.if-is_still.true) in
     by_both c.bear_still.result c.bear_still.ensures.bears c.bear_still.ensures.entries (λ key bears placed.
     c.requires.pool ∙ ap (λ (hs : List HeldPages). sorted_by start_of (map (λ (h : HeldPages). h.pages) hs))
     (sym (quiet_held c.args.table.now c.bear_still.new.table (shelves_of c.args.entries.now.items) c.requires.kept c.args.id c.args.parent c.args.attached c.args.client c.args.event _ at key bears

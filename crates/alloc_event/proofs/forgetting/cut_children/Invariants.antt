@@ -5,7 +5,7 @@ use Rattle.alloc_event.proofs.forgetting.cut_children.Given as goal
 
 -- only links were cut so far
 abbrev pub invariant-cutting : goal.invariant-cutting
-invariant-cutting l = record { off : CutsOff l.initial.table l.table }
+invariant-cutting l = record { off : CutsOff l.initial.table l.table l.key }
 
 -- each cut leaves fewer children
 abbrev pub decreases-cutting : goal.decreases-cutting

@@ -10,7 +10,6 @@ use Rattle.alloc_event.specs.Forest.{Collection, pages_in}
 use Rattle.alloc_event.specs.Nodes.{members_of}
 use Rattle.alloc_event.specs.Scenes.{collection_of, held_pages, is_out}
 use Rattle.alloc_event.specs.Settling.{is_home_in}
-use Rattle.alloc_event.specs.Still.{hangs_in}
 use Rattle.alloc_event.proofs.Forcing.{strong_tie}
 use Rattle.alloc_event.proofs.still.is_still.Goals as goal
 
@@ -19,17 +18,16 @@ all-map : {A B : Type 0} (test : B → Bool) (f : A → B) (xs : List A) → lis
 all-map test f [] = refl
 all-map test f (x ∷ xs) = ap (λ b. test (f x) && b) (all-map test f xs)
 
-pub returns-then-are_out : goal.returns-then-are_out
-returns-then-are_out c rooted =
+pub returns-in-None : goal.returns-in-None
+returns-in-None c told =
     let it : Collection = collection_of c.args.scene.now in
     let own : List HeldBuffer = c.args.scene.now.held.items in
     let live : c.some_strong_live-strong_live.result ≡ some_strong_live (members_of it.nodes) =
     c.some_strong_live-strong_live.ensures ∙ (ap has_strong c.deref.ensures.value ∙ sym (strong_tie it.nodes)) in
     let out : list_all (is_out (total c.args.holds.now) c.some_strong_live-strong_live.result) own ≡ true =
-    ap (list_all (is_out (total c.args.holds.now) c.some_strong_live-strong_live.result)) (sym c.deref-in-None.ensures.value) ∙ (sym c.are_out.ensures ∙ c.if-are_out.true) in
+    ap (list_all (is_out (total c.args.holds.now) c.some_strong_live-strong_live.result)) (sym c.deref-in-None.ensures.value) ∙ (sym c.are_out.ensures ∙ told) in
     record {
       rest = λ pool others. c.decide.ensures.forced pool others ∙ ap (option_map (mark_of pool (pages_in it ++ others))) c.in-None.is;
       out = sym (all-map (λ (h : HeldPages). not (is_home_in (total c.args.holds.now) it h.buffer)) held_pages own)
           ∙ (ap (λ (b : Bool). list_all (is_out (total c.args.holds.now) b) own) (sym live) ∙ out);
-      parents = ap (list_all (hangs_in c.args.table.now)) (sym c.deref-then-are_out.ensures.value) ∙ (sym c.have_parents.ensures ∙ rooted);
     }

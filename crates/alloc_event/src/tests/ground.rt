@@ -1,0 +1,215 @@
+//! A forest and a pool of 16 pages, changed only as they may be.
+ghost use Rattle.std.specs.Prelude.{◌≡◌, true};
+ghost use Rattle.alloc_event.specs.Forest.{Forest as Trees, IsPoolOf};
+ghost use Rattle.alloc_event.specs.Settling.{MayChange, is_kept, is_there};
+ghost use Rattle.alloc_event.specs.declared.tests.ground.TheConstants.{LIMIT};
+
+use crate::change::Change;
+use crate::forest::Forest;
+use crate::node::Node;
+use crate::summary::Summary;
+use buffer_holds::Holds;
+use buffer_pool::Pool;
+use sm_names::{BufferName, Call, Cause, CollectionId, Constraints, NoMemory, NodeKey, Strength};
+use std::alloc::Global;
+use std::test::Fail;
+
+/// How many nodes the forest has at most.
+pub const LIMIT: usize = 8;
+
+/// The one collection.
+pub const HERE: CollectionId = 5;
+
+/// Its first buffer.
+const FIRST: BufferName = BufferName {
+    collection: HERE,
+    index: 0,
+};
+
+/// The forest, the pool that has its pages, and the open handles.
+#[derive(Drop)]
+pub struct Ground {
+    forest: Forest,
+    pool: Pool,
+    holds: Holds,
+    ghost limited: { forest.limit ≡ LIMIT },
+    ghost pages: { IsPoolOf pool forest },
+}
+
+/// What is seen of a forest without memory.
+#[derive(Debug, Clone, Copy, PartialEq, Eq)]
+pub struct View {
+    len: usize,
+    collections: usize,
+    here: Option<Summary>,
+    first: [Option<Node>; 4],
+    free_pages: u32,
+}
+
+impl Ground {
+    /// An empty forest, and a pool with all pages free.
+    pub fn new(alloc: Global) -> Result<Ground, Fail> {
+        for _ in 0..2 {
+            if let Ok(pool) = Pool::new(alloc, 16) {
+                return Ok(Ground {
+                    forest: Forest::new(alloc, LIMIT),
+                    pool,
+                    holds: Holds::new(alloc, 8),
+                });
+            }
+        }
+        Err(Fail::from("no memory for a pool"))
+    }
+
+    /// What is seen of it.
+    pub fn view(&self) -> View {
+        View {
+            len: self.forest.len(),
+            collections: self.forest.collections(),
+            here: self.forest.collection(HERE),
+            first: [
+                self.first_of(0),
+                self.first_of(1),
+                self.first_of(2),
+                self.first_of(3),
+            ],
+            free_pages: self.pool.free_pages(),
+        }
+    }
+
+    fn first_of(&self, slot: u32) -> Option<Node> {
+        self.forest.node(NodeKey {
+            slot,
+            generation: 0,
+        })
+    }
+
+    fn is_kept(&self) -> bool
+        ensures { result ≡ is_kept self.now.forest HERE }
+    {
+        self.forest.collection(HERE).is_some()
+    }
+
+    fn is_there(&self, key: NodeKey) -> bool
+        ensures { result ≡ is_there self.now.forest HERE key }
+    {
+        match self.forest.node(key) {
+            Some(node) => node.collection == HERE && !node.gone,
+            None => false,
+        }
+    }
+
+    fn may_change(&self, change: &Change) -> bool
+        ensures { result ≡ true → MayChange self.now.forest HERE change.now }
+    {
+        match *change {
+            Change::Birth {
+                parent: Some(above),
+                ..
+            } => self.is_there(above) && self.forest.len() < LIMIT,
+            Change::Birth { attached, .. } => {
+                !self.is_kept() && !attached && self.forest.len() < LIMIT
+            }
+            Change::Effect(Call::SetConstraints(key, _) | Call::Release(key)) => self.is_there(key),
+            Change::Effect(_) => false,
+            Change::Loss(origin, _) => self.is_there(origin),
+            Change::Nothing => self.is_kept(),
+        }
+    }
+
+    fn settle(&mut self, change: Change) -> Result<Option<NodeKey>, NoMemory>
+        requires { MayChange self.old.forest HERE change }
+    {
+        self.forest
+            .settle(&mut self.pool, &self.holds, HERE, change)
+    }
+
+    /// Makes the change, if it may be made. Where memory is refused nothing is seen to change, and
+    /// the same call is made once more.
+    fn change(&mut self, change: Change) -> Result<Option<NodeKey>, Fail> {
+        for _ in 0..2 {
+            if !self.may_change(&change) {
+                return Err(Fail::from("a change that may not be made"));
+            }
+            let before = self.view();
+            match self.settle(change) {
+                Ok(key) => return Ok(key),
+                Err(_) => {
+                    if self.view() != before {
+                        return Err(Fail::from("a refused change left something"));
+                    }
+                }
+            }
+        }
+        Err(Fail::from("refused twice"))
+    }
+
+    /// A node that is born, whose end client 3 holds.
+    pub fn bear(&mut self, parent: Option<NodeKey>, attached: bool) -> Result<NodeKey, Fail> {
+        let event = self.forest.len() as u64;
+        let birth = Change::Birth {
+            parent,
+            attached,
+            client: 3,
+            event,
+        };
+        match self.change(birth)? {
+            Some(key) => Ok(key),
+            None => Err(Fail::from("a birth without a key")),
+        }
+    }
+
+    /// The node asks for this.
+    pub fn ask(&mut self, key: NodeKey, asked: Constraints) -> Result<(), Fail> {
+        self.change(Change::Effect(Call::SetConstraints(key, asked)))?;
+        Ok(())
+    }
+
+    /// The node is released.
+    pub fn release(&mut self, key: NodeKey) -> Result<(), Fail> {
+        self.change(Change::Effect(Call::Release(key)))?;
+        Ok(())
+    }
+
+    /// The node fails.
+    pub fn lose(&mut self, key: NodeKey) -> Result<(), Fail> {
+        self.change(Change::Loss(key, Cause::Lost))?;
+        Ok(())
+    }
+
+    /// Only handles changed.
+    pub fn look_again(&mut self) -> Result<(), Fail> {
+        self.change(Change::Nothing)?;
+        Ok(())
+    }
+
+    /// Client 3 opens a strong handle of the collection's first buffer.
+    pub fn open(&mut self) -> Result<(), Fail> {
+        for _ in 0..2 {
+            if let Ok(()) = self.holds.add(3, FIRST, Strength::Strong) {
+                return Ok(());
+            }
+        }
+        Err(Fail::from("no handle"))
+    }
+
+    /// And closes it.
+    pub fn close(&mut self) -> bool {
+        self.holds.sub(3, FIRST, Strength::Strong)
+    }
+
+    /// The forest.
+    pub fn forest(&self) -> &Forest {
+        &self.forest
+    }
+
+    /// The forest, out of its ground.
+    pub fn into_forest(self) -> Forest {
+        self.forest
+    }
+
+    /// How many pages are free.
+    pub fn free_pages(&self) -> u32 {
+        self.pool.free_pages()
+    }
+}
