@@ -1,18 +1,23 @@
 -- What an event that bears no node makes of the nodes of a collection.
-use Rattle.std.proofs.Common.{ℕ, ◌≡◌, ◌+◌, refl, ap, ◌∙◌, true, false, ◌∷◌, map, Option, Some, None}
+use Rattle.std.proofs.Common.{ℕ, ◌≡◌, ◌+◌, refl, ap, ◌∙◌, true, false, [], ◌∷◌, map, Option, Some, None}
 use Rattle.sm_names.specs.declared.keys.NodeKey.{NodeKey}
 use Rattle.sm_names.specs.declared.messages.Call.{Call}
 use Rattle.sm_names.specs.declared.messages.Reply.{Reply}
+use Rattle.sm_names.specs.Answers.{IsAnswer}
 use Rattle.sm_names.specs.Births.{birth_at}
+use Rattle.sm_names.specs.Bounds.{Bound}
 use Rattle.sm_names.specs.Marks.{Mark, Timeline, Called, events}
 use Rattle.sm_names.specs.Members.{births_in}
+use Rattle.sm_names.specs.Reading.{readings}
 use Rattle.sm_names.specs.Sameness.{same_key}
 use Rattle.sm_names.specs.Timelines.{key_of}
+use Rattle.sm_names.proofs.GrowthLaws.{Grows}
 use Rattle.alloc_event.specs.declared.node.Node.{Node}
 use Rattle.alloc_event.specs.Nodes.{affected}
-use Rattle.lifetime_core.specs.Shown.{IsQuiet, node_after, nodes_after}
-use Rattle.lifetime_core.specs.Steps.{spent_by}
-use Rattle.lifetime_core.proofs.CalledLaws.{IsPlain, answered, said, spending, node_called}
+use Rattle.lifetime_core.specs.Shown.{node_after, nodes_after}
+use Rattle.lifetime_core.specs.Steps.{Place, end_by, place_of}
+use Rattle.lifetime_core.proofs.CalledLaws.{answered, said, node_called}
+use Rattle.lifetime_core.proofs.EndsApart.{placed_node}
 use Rattle.lifetime_core.proofs.Lists.{map-map_In}
 use Rattle.lifetime_core.proofs.NewbornLaws.{births-none}
 
@@ -26,74 +31,63 @@ no_birth here there _ h = refl
 -- ---- a node that the call does not name
 
 -- what the call sets is not set there
-said_other : (call : Call) (n : Node) → ((key : NodeKey) → key_of call ≡ Some key → same_key key n.key ≡ false) → affected call n ≡ n
-said_other (Call.Bind key) n other = let e : same_key key n.key ≡ false = other key refl in rw e refl
-said_other (Call.SetDispensable key) n other = let e : same_key key n.key ≡ false = other key refl in rw e refl
-said_other (Call.SetWeak key) n other = let e : same_key key n.key ≡ false = other key refl in rw e refl
-said_other (Call.SetWeakOk key true) n other = let e : same_key key n.key ≡ false = other key refl in rw e refl
-said_other (Call.SetWeakOk key false) n other = let e : same_key key n.key ≡ false = other key refl in rw e refl
-said_other (Call.SetConstraints key demand) n other = let e : same_key key n.key ≡ false = other key refl in rw e refl
-said_other (Call.Take key) n other = let e : same_key key n.key ≡ false = other key refl in rw e refl
-said_other (Call.Release key) n other = let e : same_key key n.key ≡ false = other key refl in rw e refl
-said_other (Call.TrackNode key) n other = let e : same_key key n.key ≡ false = other key refl in rw e refl
-said_other _ n other = refl
+affected_other : (call : Call) (n : Node) → ((key : NodeKey) → key_of call ≡ Some key → same_key key n.key ≡ false) → affected call n ≡ n
+affected_other (Call.Bind key) n other = let e : same_key key n.key ≡ false = other key refl in rw e refl
+affected_other (Call.SetDispensable key) n other = let e : same_key key n.key ≡ false = other key refl in rw e refl
+affected_other (Call.SetWeak key) n other = let e : same_key key n.key ≡ false = other key refl in rw e refl
+affected_other (Call.SetWeakOk key true) n other = let e : same_key key n.key ≡ false = other key refl in rw e refl
+affected_other (Call.SetWeakOk key false) n other = let e : same_key key n.key ≡ false = other key refl in rw e refl
+affected_other (Call.SetConstraints key demand) n other = let e : same_key key n.key ≡ false = other key refl in rw e refl
+affected_other (Call.Take key) n other = let e : same_key key n.key ≡ false = other key refl in rw e refl
+affected_other (Call.Release key) n other = let e : same_key key n.key ≡ false = other key refl in rw e refl
+affected_other (Call.TrackNode key) n other = let e : same_key key n.key ≡ false = other key refl in rw e refl
+affected_other call n other = refl
 
--- what is said of a node is said by an answer Done
-said_by : (call : Call) (reply : Reply) (n : Node) → affected call n ≡ n → said call reply n ≡ n
-said_by call Reply.Done n same = same
-said_by call _ n same = refl
+-- whatever the answer
+pub said_other : (reply : Reply) (call : Call) (n : Node) → ((key : NodeKey) → key_of call ≡ Some key → same_key key n.key ≡ false) → said call reply n ≡ n
+said_other Reply.Done (Call.Take key) n other = refl
+said_other Reply.Done (Call.TrackNode key) n other = refl
+said_other Reply.Done call n other = affected_other call n other
+said_other (Reply.Taken collection strength set) (Call.Take key) n other = affected_other (Call.Take key) n other
+said_other (Reply.Taken collection strength set) call n other = refl
+said_other (Reply.Tracker id) (Call.TrackNode key) n other = affected_other (Call.TrackNode key) n other
+said_other (Reply.Tracker id) call n other = refl
+said_other reply call n other = refl
 
--- the end that an event spends is that of the node that it names
-pub spent_named : (call : Call) (reply : Reply) (key : NodeKey) → spent_by call reply ≡ Some key → key_of call ≡ Some key
-spent_named (Call.Close k) Reply.Done key h = h
-spent_named (Call.Release k) Reply.Done key h = h
-spent_named (Call.Release k) (Reply.PeerClosed cause origin) key h = h
-spent_named call _ key h = cc
-
--- an end that is not that one's is not spent
-pub spending_other : (o : Option NodeKey) (n : Node) → ((key : NodeKey) → o ≡ Some key → same_key key n.key ≡ false) → spending o n ≡ n
-spending_other None n other = refl
-spending_other (Some key) n other = let e : same_key key n.key ≡ false = other key refl in rw e refl
+-- nor is its end moved, where none is or that of another
+pub placed_other : (o : Option Place) (n : Node) → ((p : Place) → o ≡ Some p → same_key p.key n.key ≡ false) → placed_node (place_of o) n ≡ n
+placed_other None n other = refl
+placed_other (Some p) n other = let e : same_key p.key n.key ≡ false = other p refl in rw e refl
 
 -- so the node stays as it was
-pub answered_other : (call : Call) (reply : Reply) (n : Node) → ((key : NodeKey) → key_of call ≡ Some key → same_key key n.key ≡ false) → answered call reply n ≡ n
-answered_other call reply n other =
-    ap (spending (spent_by call reply)) (said_by call reply n (said_other call n other))
-    ∙ spending_other (spent_by call reply) n (λ key e. other key (spent_named call reply key e))
+pub answered_other : (client : ℕ) (call : Call) (reply : Reply) (n : Node) → ((key : NodeKey) → key_of call ≡ Some key → same_key key n.key ≡ false) →
+    ((p : Place) → end_by client call reply ≡ Some p → same_key p.key n.key ≡ false) → answered client call reply n ≡ n
+answered_other client call reply n other apart =
+    ap (placed_node (place_of (end_by client call reply))) (said_other reply call n other) ∙ placed_other (end_by client call reply) n apart
 
 -- ---- keys stay
 
 -- what a call sets leaves a node's key
-said_key : (call : Call) (n : Node) → (affected call n).key ≡ n.key
-said_key (Call.Bind key) n = refl
-said_key (Call.SetDispensable key) n = refl
-said_key (Call.SetWeak key) n = refl
-said_key (Call.SetWeakOk key children) n = refl
-said_key (Call.SetConstraints key demand) n = refl
-said_key (Call.Take key) n = refl
-said_key (Call.Release key) n = refl
-said_key (Call.TrackNode key) n = refl
-said_key _ n = refl
+pub said_key_by : (reply : Reply) (call : Call) (n : Node) → (said call reply n).key ≡ n.key
+said_key_by Reply.Done (Call.Take key) n = refl
+said_key_by Reply.Done call n = refl
+said_key_by (Reply.Taken collection strength set) (Call.Take key) n = refl
+said_key_by (Reply.Taken collection strength set) call n = refl
+said_key_by (Reply.Tracker id) (Call.TrackNode key) n = refl
+said_key_by (Reply.Tracker id) call n = refl
+said_key_by reply call n = refl
 
--- nor does a spent end change it
-pub spending_key : (o : Option NodeKey) (n : Node) → (spending o n).key ≡ n.key
-spending_key None n = refl
-spending_key (Some key) n = refl
-
--- whatever the answer
-pub said_key_by : (call : Call) (reply : Reply) (n : Node) → (said call reply n).key ≡ n.key
-said_key_by call Reply.Done n = said_key call n
-said_key_by call _ n = refl
-
--- also where its end is spent
-pub answered_key : (call : Call) (reply : Reply) (n : Node) → (answered call reply n).key ≡ n.key
-answered_key call reply n = spending_key (spent_by call reply) (said call reply n) ∙ said_key_by call reply n
+-- also where its end is moved
+pub answered_key : (client : ℕ) (call : Call) (reply : Reply) (n : Node) → (answered client call reply n).key ≡ n.key
+answered_key client call reply n = said_key_by reply call n
 
 -- ---- the nodes of collections
 
-module _ (marks : Timeline) (client : ℕ) (reply : Reply) (call : Call) (quiet : IsQuiet marks) (plain : IsPlain call) (none : birth_at 0 (Called client reply call) ≡ None) where
+module _ (pool : ℕ) (limits : Bound) (marks : Timeline) (grown : Grows pool limits [] marks) (client : ℕ) (reply : Reply) (call : Call) (answer : IsAnswer limits (readings marks) client call reply)
+    (none : birth_at 0 (Called client reply call) ≡ None) where
   -- each node is as the event makes it
-  pub nodes-answered : (collection : ℕ) → nodes_after (Called client reply call ∷ marks) collection ≡ map (answered call reply) (nodes_after marks collection)
+  pub nodes-answered : (collection : ℕ) → nodes_after (Called client reply call ∷ marks) collection ≡ map (answered client call reply) (nodes_after marks collection)
   nodes-answered collection =
       ap (map (node_after (Called client reply call ∷ marks))) (births-none marks (Called client reply call) collection (no_birth 0 (events marks + 1) (Called client reply call) none))
-      ∙ map-map_In (node_after marks) (node_after (Called client reply call ∷ marks)) (answered call reply) (births_in marks collection) (λ b on. node_called marks client b quiet call reply plain none)
+      ∙ map-map_In (node_after marks) (node_after (Called client reply call ∷ marks)) (answered client call reply) (births_in marks collection)
+      (λ b on. node_called pool limits marks grown client reply call answer none b)

@@ -1,16 +1,16 @@
 -- What a call has passed that was answered so.
-use Rattle.std.proofs.Common.{ℕ, ◌≡◌, refl, ap, sym, ◌∙◌, Bool, true, false, List, [], ◌∷◌, Option, Some, None}
-use Rattle.std.specs.Option.{option_map, option_map_or, option_and_then, unwrap_or}
+use Rattle.std.proofs.Common.{ℕ, ◌≡◌, refl, ap, Bool, true, false, List, ◌∷◌, Option, Some, None}
+use Rattle.std.specs.Option.{option_map, option_map_or, unwrap_or}
 use Rattle.sm_names.specs.declared.keys.NodeKey.{NodeKey}
 use Rattle.sm_names.specs.declared.messages.Call.{Call}
 use Rattle.sm_names.specs.declared.messages.Reply.{Reply}
 use Rattle.sm_names.specs.declared.outcomes.Fault.{Fault}
-use Rattle.sm_names.specs.Answers.{OpenEnd, Readings, answer, effect, closing, no_end, is_anothers, refused_if, unknown_client, shut_client, end_in_transit, end_named, peer_closed, wrong_kind, misuse, no_handle, limits_met}
+use Rattle.sm_names.specs.Answers.{OpenEnd, Readings, answer, effect, closing, no_end, is_anothers, refused_if, unknown_client, shut_client, end_in_transit, peer_closed, wrong_kind, misuse, no_handle, limits_met}
 use Rattle.sm_names.specs.declared.outcomes.Refusal.{Refusal}
 use Rattle.sm_names.specs.Bounds.{Bound}
 use Rattle.sm_names.specs.Timelines.{key_of}
 use Rattle.sm_names.specs.Words.{first_some}
-use Rattle.sm_names.proofs.RejectLaws.{is_refusal, Rejects, strip, unknown_rejects, shut_rejects, no_end_rejects, in_transit_rejects}
+use Rattle.sm_names.proofs.RejectLaws.{is_refusal, strip, unknown_rejects, shut_rejects, no_end_rejects, in_transit_rejects}
 
 -- the reply tells why the node is gone
 abbrev pub is_closed : Reply → Bool

@@ -6,16 +6,15 @@ use Rattle.sm_names.specs.declared.keys.NodeKey.{NodeKey}
 use Rattle.sm_names.specs.declared.messages.Call.{Call}
 use Rattle.sm_names.specs.declared.messages.Reply.{Reply}
 use Rattle.sm_names.specs.declared.outcomes.Cause.{Cause}
-use Rattle.sm_names.specs.declared.outcomes.Misuse.{Misuse}
 use Rattle.sm_names.specs.Answers.{IsAnswer, new_key}
-use Rattle.sm_names.specs.Births.{Birth, births, birth_at, birth_of}
+use Rattle.sm_names.specs.Births.{Birth, births, birth_at}
 use Rattle.sm_names.specs.Bounds.{Bound}
 use Rattle.sm_names.specs.Ends.{spent}
 use Rattle.sm_names.specs.Kept.{is_kept, is_kept_collection}
 use Rattle.sm_names.specs.Losses.{fault, gone}
 use Rattle.sm_names.specs.Marks.{Mark, Timeline, Called, Loss, events}
 use Rattle.sm_names.specs.Reading.{readings}
-use Rattle.sm_names.specs.Timelines.{collection_of, key_of, own_loss}
+use Rattle.sm_names.specs.Timelines.{collection_of, own_loss}
 use Rattle.sm_names.proofs.BirthLaws.{birth_is, Comes}
 use Rattle.sm_names.proofs.GrowthLaws.{Grows, Answers}
 use Rattle.sm_names.proofs.LifeLaws.{In_old, whole}
@@ -29,35 +28,26 @@ use Rattle.alloc_event.specs.Nodes.{affected, after_call, after_loss, node_of, n
 use Rattle.alloc_event.specs.Settling.{changed, collection_or_new, no_key}
 use Rattle.lifetime_core.specs.Shown.{IsAfter, node_after, collection_after}
 use Rattle.lifetime_core.specs.State.{State}
-use Rattle.lifetime_core.specs.Steps.{Work, at_node, spent_by}
-use Rattle.lifetime_core.proofs.CalledLaws.{IsPlain, answered, said, spending}
-use Rattle.lifetime_core.proofs.CallSteps.{matches_called, kept_answered, kept_born, homes_elsewhere, follows_idle}
-use Rattle.lifetime_core.proofs.CollectedLaws.{not_collected}
-use Rattle.lifetime_core.proofs.ElsewhereLaws.{came, named_in, born_in}
+use Rattle.lifetime_core.specs.Steps.{Work, Place, at_node, end_by, place_of}
+use Rattle.lifetime_core.proofs.CalledLaws.{said}
+use Rattle.lifetime_core.proofs.CallSteps.{matches_called, kept_answered, kept_born, homes_elsewhere, follows_placed}
+use Rattle.lifetime_core.proofs.ElsewhereLaws.{came, born_in}
 use Rattle.lifetime_core.proofs.EndsApart.{placed_node, placed_in, lost_placed}
-use Rattle.lifetime_core.proofs.FinishLaws.{place_of, spending_is}
 use Rattle.lifetime_core.proofs.PutLaws.{map-stays}
 use Rattle.lifetime_core.proofs.Lists.{map-map}
 use Rattle.lifetime_core.proofs.Matching.{Matches}
 use Rattle.lifetime_core.proofs.Members.{node_found}
-use Rattle.lifetime_core.proofs.NewbornLaws.{attached, new_root_is, child_stands, attached_stands}
+use Rattle.lifetime_core.proofs.NewbornLaws.{new_root_is, child_stands, attached_stands}
 use Rattle.lifetime_core.proofs.ReadingNodes.{node_there}
-use Rattle.lifetime_core.proofs.ReadingEnds.{collection_of_kept}
+use Rattle.lifetime_core.proofs.Rooting.{collection_of_kept}
 use Rattle.lifetime_core.proofs.StartLaws.{follows, there_or_new, new_or_there}
 use Rattle.lifetime_core.proofs.Steps.{loss_matches}
-use Rattle.lifetime_core.proofs.UnsaidLaws.{unsaid}
 use Rattle.lifetime_core.proofs.WorkLaws.{Starts}
 
--- a misuse spends no end
-pub spent_misused : (call : Call) (m : Misuse) → spent_by call (Reply.Misused m) ≡ None
-spent_misused (Call.Close key) m = refl
-spent_misused (Call.Release key) m = refl
-spent_misused _ m = refl
-
--- where no end is spent, all nodes stay
-none_spent : (o : Option NodeKey) → o ≡ None → (ns : List Node) → map (placed_node (place_of o)) ns ≡ ns
-none_spent None e ns = map-stays (placed_node (place_of None)) ns (λ n on. refl)
-none_spent (Some key) e ns = cc
+-- where no end is put elsewhere, all nodes stay
+none_moved : (o : Option Place) → o ≡ None → (ns : List Node) → map (placed_node (place_of o)) ns ≡ ns
+none_moved None e ns = map-stays (placed_node (place_of None)) ns (λ n on. refl)
+none_moved (Some place) e ns = cc
 
 module _ (s : State) (marks : Timeline) (shown : IsAfter s marks) (limits : Bound) (grown : Grows s.pool limits [] marks) where
   -- what is known of a node that is found
@@ -65,8 +55,7 @@ module _ (s : State) (marks : Timeline) (shown : IsAfter s marks) (limits : Boun
     pub birth : Birth
     pub there : In birth (births marks)
     pub is : birth.node ≡ key
-    pub found : birth_of marks key ≡ Some birth
-    pub kept : is_kept marks key ≡ true
+    pub kept : is_kept_collection marks birth.collection ≡ true
     pub work_is : work ≡ record { collection = birth.collection; change = change (node_after marks birth) }
 
   -- the work on it is done in its collection
@@ -74,45 +63,39 @@ module _ (s : State) (marks : Timeline) (shown : IsAfter s marks) (limits : Boun
   at_found key change work e =
       let t = map-Some (λ (n : Node). record { collection = n.collection; change = change n }) (node_at s.forest key) work e in
       let r = node_there s marks shown limits grown key t.0 t.1 in
+      let on : In r.0 (births marks) = (birth_is marks key r.0 r.1).0 in
       record {
         birth = r.0;
-        there = (birth_is marks key r.0 r.1).0;
+        there = on;
         is = r.2;
-        found = r.1;
-        kept = r.3;
+        kept = collection_of_kept marks r.0 on (ap (is_kept marks) r.2 ∙ r.3);
         work_is = sym t.2 ∙ ap (λ (n : Node). record { collection = n.collection; change = change n }) r.4;
       }
 
-  module _ (client : ℕ) (reply : Reply) (call : Call) (answer : IsAnswer limits (readings marks) client call reply) (plain : IsPlain call) where
+  module _ (client : ℕ) (reply : Reply) (call : Call) (answer : IsAnswer limits (readings marks) client call reply) where
     -- the marks with that of the call
     abbrev called : Timeline
     called = Called client reply call ∷ marks
 
-    -- its node's collection is that of the call, and was there
-    module _ (b : Birth) (on : In b (births marks)) (names : key_of call ≡ Some b.node) (kept : is_kept marks b.node ≡ true) where
-      -- it is the collection of the call
-      of_it : collection_of (Called client reply call ∷ marks) call reply ≡ Some b.collection
-      of_it = named_in s.pool limits marks client reply call grown answer shown.quiet plain b on names
-
+    -- the collection of the call has a node that was born, and is kept
+    module _ (b : Birth) (on : In b (births marks)) (of : collection_of (Called client reply call ∷ marks) call reply ≡ Some b.collection) (kept : is_kept_collection marks b.collection ≡ true) where
       -- its birth is among those after the call
       born_still : In b (births (Called client reply call ∷ marks))
       born_still = In_old (birth_at (events marks + 1) (Called client reply call)) (births marks) b on
 
       -- it was there
       there_now : collection_or_new s.forest b.collection ≡ collection_after s.pool marks b.collection
-      there_now = there_or_new s marks shown limits grown b.collection (collection_of_kept s marks shown limits grown b on kept)
+      there_now = there_or_new s marks shown limits grown b.collection kept
 
-      -- the call takes effect on the node
-      pub effect_starts : reply ≡ Reply.Done → own_loss marks call reply ≡ None → birth_at 0 (Called client reply call) ≡ None →
-          Starts s marks shown limits grown client reply call answer plain (record { collection = b.collection; change = Change.Effect call })
-      effect_starts done no_loss none =
-          let place = place_of (spent_by call reply) in
+      -- the call takes effect on one of its nodes
+      pub effect_starts : ((n : Node) → said call reply n ≡ affected call n) → own_loss marks call reply ≡ None → birth_at 0 (Called client reply call) ≡ None →
+          Starts s marks shown limits grown client reply call answer (record { collection = b.collection; change = Change.Effect call })
+      effect_starts says no_loss none =
+          let place = place_of (end_by client call reply) in
           let c : Collection = collection_after s.pool marks b.collection in
-          let homes = homes_elsewhere s marks shown limits grown client reply call answer plain b.collection of_it in
-          let one : (n : Node) → placed_node place (affected call n) ≡ answered call reply n =
-          λ n. sym (spending_is (spent_by call reply) (affected call n)) ∙ ap (λ (r : Reply). spending (spent_by call reply) (said call r n)) (sym done) in
+          let homes = homes_elsewhere s marks shown limits grown client reply call answer b.collection of in
           record {
-            of = of_it;
+            of = of;
             birth = b;
             born = born_still;
             ours = refl;
@@ -120,28 +103,32 @@ module _ (s : State) (marks : Timeline) (shown : IsAfter s marks) (limits : Boun
             start_is = ap (with_nodes (after_call call)) there_now;
             same_id = refl;
             begins = subst (λ (o : Option Mark). Matches s.pool (is_kept marks) (cons_option o called) (beside s.forest b.collection) (placed_in place (with_nodes (after_call call) c))) (sym no_loss)
-                (matches_called s marks shown limits grown client reply call answer plain b.collection homes (map (placed_node place) (map (affected call) c.nodes))
-                (map-map (placed_node place) (affected call) c.nodes ∙ ((λ i. map (λ n. one n i) c.nodes) ∙ kept_answered s marks shown limits grown client reply call answer plain none b.collection)));
+                (matches_called s marks shown limits grown client reply call answer b.collection homes (map (placed_node place) (map (affected call) c.nodes))
+                (map-map (placed_node place) (affected call) c.nodes
+                ∙ ((λ i. map (λ n. placed_node place (sym (says n) i)) c.nodes) ∙ kept_answered s marks shown limits grown client reply call answer none b.collection)));
           }
 
       module _ (none : birth_at 0 (Called client reply call) ≡ None) (nothing : (n : Node) → said call reply n ≡ n) where
+        -- the nodes stay as they were, but for an end
+        follows_so : Matches s.pool (is_kept marks) (Called client reply call ∷ marks) (beside s.forest b.collection) (placed_in (place_of (end_by client call reply)) (collection_after s.pool marks b.collection))
+        follows_so = follows_placed s marks shown limits grown client reply call answer none nothing b.collection (homes_elsewhere s marks shown limits grown client reply call answer b.collection of)
+
         -- the call loses the node
         pub loss_starts : (cause : Cause) → gone marks b.node ≡ false → own_loss marks call reply ≡ Some (Loss b.node cause) →
-            Starts s marks shown limits grown client reply call answer plain (record { collection = b.collection; change = Change.Loss b.node cause })
+            Starts s marks shown limits grown client reply call answer (record { collection = b.collection; change = Change.Loss b.node cause })
         loss_starts cause free loss =
-            let place = place_of (spent_by call reply) in
+            let place = place_of (end_by client call reply) in
             let c : Collection = collection_after s.pool marks b.collection in
             let before : Collection = placed_in place c in
             let others = beside s.forest b.collection in
-            let m : Matches s.pool (is_kept marks) called others before = follows_idle s marks shown limits grown client reply call answer plain none nothing b.collection in
             let grown_called : Grows s.pool limits [] called = Answers marks client reply call grown answer in
             let lost : Matches s.pool (is_kept marks) (Loss b.node cause ∷ called) others (with_nodes (after_loss (record { cause = cause; origin = b.node })) before) =
-            loss_matches s.pool limits (is_kept marks) called others before grown_called m b born_still refl free cause in
+            loss_matches s.pool limits (is_kept marks) called others before grown_called follows_so b born_still refl free cause in
             let after : Collection = with_nodes (after_loss (record { cause = cause; origin = b.node })) c in
             let same : with_nodes (after_loss (record { cause = cause; origin = b.node })) before ≡ placed_in place after =
             λ i. record c { nodes = lost_placed place (record { cause = cause; origin = b.node }) c.nodes i } in
             record {
-              of = of_it;
+              of = of;
               birth = b;
               born = born_still;
               ours = refl;
@@ -152,34 +139,32 @@ module _ (s : State) (marks : Timeline) (shown : IsAfter s marks) (limits : Boun
                   (subst (λ (d : Collection). Matches s.pool (is_kept marks) (Loss b.node cause ∷ called) others d) same lost);
             }
 
-        -- the call only spends the node's end
-        pub nothing_starts : own_loss marks call reply ≡ None → Starts s marks shown limits grown client reply call answer plain (record { collection = b.collection; change = Change.Nothing })
-        nothing_starts no_loss =
-            let place = place_of (spent_by call reply) in
-            let c : Collection = collection_after s.pool marks b.collection in
-            record {
-              of = of_it;
-              birth = b;
-              born = born_still;
-              ours = refl;
-              start = c;
-              start_is = there_now;
-              same_id = refl;
-              begins = subst (λ (o : Option Mark). Matches s.pool (is_kept marks) (cons_option o called) (beside s.forest b.collection) (placed_in place c)) (sym no_loss)
-                  (follows_idle s marks shown limits grown client reply call answer plain none nothing b.collection);
-            }
+        -- the call changes no node, but for an end
+        pub nothing_starts : own_loss marks call reply ≡ None → Starts s marks shown limits grown client reply call answer (record { collection = b.collection; change = Change.Nothing })
+        nothing_starts no_loss = record {
+          of = of;
+          birth = b;
+          born = born_still;
+          ours = refl;
+          start = collection_after s.pool marks b.collection;
+          start_is = there_now;
+          same_id = refl;
+          begins = subst
+              (λ (o : Option Mark). Matches s.pool (is_kept marks) (cons_option o called) (beside s.forest b.collection) (placed_in (place_of (end_by client call reply)) (collection_after s.pool marks b.collection)))
+              (sym no_loss) follows_so;
+        }
 
     -- a birth
-    born_starts : (b : Birth) → birth_at (events marks + 1) (Called client reply call) ≡ Some b → spent_by call reply ≡ None → own_loss marks call reply ≡ None → (change : Change) →
+    born_starts : (b : Birth) → birth_at (events marks + 1) (Called client reply call) ≡ Some b → end_by client call reply ≡ None → own_loss marks call reply ≡ None → (change : Change) →
         changed change (unwrap_or (new_key reply) no_key) (collection_or_new s.forest b.collection)
         ≡ record (collection_after s.pool marks b.collection) { nodes = (collection_after s.pool marks b.collection).nodes ++ node_after (Called client reply call ∷ marks) b ∷ [] } →
-        Starts s marks shown limits grown client reply call answer plain (record { collection = b.collection; change = change })
-    born_starts b born no_end no_loss change start_is =
-        let of : collection_of called call reply ≡ Some b.collection = born_in s.pool limits marks client reply call grown answer shown.quiet plain b born in
-        let homes = homes_elsewhere s marks shown limits grown client reply call answer plain b.collection of in
+        Starts s marks shown limits grown client reply call answer (record { collection = b.collection; change = change })
+    born_starts b born stays no_loss change start_is =
+        let of : collection_of called call reply ≡ Some b.collection = born_in s.pool limits marks grown client reply call answer b born in
+        let homes = homes_elsewhere s marks shown limits grown client reply call answer b.collection of in
         let c : Collection = collection_after s.pool marks b.collection in
         let ns : List Node = c.nodes ++ node_after called b ∷ [] in
-        let place = place_of (spent_by call reply) in
+        let place = place_of (end_by client call reply) in
         record {
           of = of;
           birth = b;
@@ -189,8 +174,8 @@ module _ (s : State) (marks : Timeline) (shown : IsAfter s marks) (limits : Boun
           start_is = start_is;
           same_id = refl;
           begins = subst (λ (o : Option Mark). Matches s.pool (is_kept marks) (cons_option o called) (beside s.forest b.collection) (placed_in place (record c { nodes = ns }))) (sym no_loss)
-              (matches_called s marks shown limits grown client reply call answer plain b.collection homes (map (placed_node place) ns)
-              (none_spent (spent_by call reply) no_end ns ∙ kept_born s marks shown limits grown client reply call answer plain b born));
+              (matches_called s marks shown limits grown client reply call answer b.collection homes (map (placed_node place) ns)
+              (none_moved (end_by client call reply) stays ns ∙ kept_born s marks shown limits grown client reply call answer b born));
         }
 
   -- the birth of a root
@@ -199,14 +184,14 @@ module _ (s : State) (marks : Timeline) (shown : IsAfter s marks) (limits : Boun
 
   -- a root is born
   pub root_starts : (client : ℕ) (key : NodeKey) (collection : ℕ) (answer : IsAnswer limits (readings marks) client Call.OpenRoot (Reply.Token key collection)) →
-      Starts s marks shown limits grown client (Reply.Token key collection) Call.OpenRoot answer tt (record { collection = collection; change = Change.Birth None false client (s.events + 1) })
+      Starts s marks shown limits grown client (Reply.Token key collection) Call.OpenRoot answer (record { collection = collection; change = Change.Birth None false client (s.events + 1) })
   root_starts client key collection answer =
       let b : Birth = root_birth client key collection in
-      let k : Comes marks client (Reply.Token key collection) Call.OpenRoot b = came s.pool limits marks client (Reply.Token key collection) Call.OpenRoot grown answer shown.quiet tt b refl in
+      let k : Comes marks client (Reply.Token key collection) Call.OpenRoot b = came s.pool limits marks grown client (Reply.Token key collection) Call.OpenRoot answer b refl in
       let c : Collection = collection_after s.pool marks collection in
       let is : new_root key collection (s.events + 1) client ≡ node_after (Called client (Reply.Token key collection) Call.OpenRoot ∷ marks) b =
-      ap (λ (e : ℕ). new_root key collection (e + 1) client) shown.events ∙ sym (new_root_is marks shown.quiet client key collection (unsaid s.pool limits marks grown key k.fresh) (not_collected s.pool limits marks grown key k.fresh)) in
-      born_starts client (Reply.Token key collection) Call.OpenRoot answer tt b refl refl refl (Change.Birth None false client (s.events + 1))
+      ap (λ (e : ℕ). new_root key collection (e + 1) client) shown.events ∙ sym (new_root_is s.pool limits marks grown client key collection k.fresh) in
+      born_starts client (Reply.Token key collection) Call.OpenRoot answer b refl refl refl (Change.Birth None false client (s.events + 1))
       (ap (changed (Change.Birth None false client (s.events + 1)) key) (new_or_there s marks shown limits grown collection (later k.from))
       ∙ ap (λ (n : Node). record c { nodes = c.nodes ++ n ∷ [] }) is)
     where
@@ -229,7 +214,7 @@ module _ (s : State) (marks : Timeline) (shown : IsAfter s marks) (limits : Boun
       let c : Collection = collection_after s.pool marks collection in
       let f : Matches s.pool (is_kept marks) marks (beside s.forest collection) c = follows s marks shown limits grown collection in
       let there : collection_or_new s.forest collection ≡ c =
-      there_or_new s marks shown limits grown collection (ap (is_kept_collection marks) ours ∙ collection_of_kept s marks shown limits grown p on kept) in
+      there_or_new s marks shown limits grown collection (ap (is_kept_collection marks) ours ∙ collection_of_kept marks p on kept) in
       let found : node_of c.nodes above ≡ Some (node_after marks p) =
       ap (node_of c.nodes) (sym is) ∙ (ap (λ (ns : List Node). node_of ns p.node) f.nodes
       ∙ node_found (is_kept marks) marks collection (whole s.pool limits marks grown) f.keeps p on (sym ours) kept) in
@@ -256,30 +241,30 @@ module _ (s : State) (marks : Timeline) (shown : IsAfter s marks) (limits : Boun
 
   -- a child is born
   pub child_starts : (client : ℕ) (key : NodeKey) (collection : ℕ) (above : NodeKey) (answer : IsAnswer limits (readings marks) client (Call.Duplicate above) (Reply.Token key collection)) →
-      Starts s marks shown limits grown client (Reply.Token key collection) (Call.Duplicate above) answer tt (record { collection = collection; change = Change.Birth (Some above) false client (s.events + 1) })
+      Starts s marks shown limits grown client (Reply.Token key collection) (Call.Duplicate above) answer (record { collection = collection; change = Change.Birth (Some above) false client (s.events + 1) })
   child_starts client key collection above answer =
       let reply : Reply = Reply.Token key collection in
       let b : Birth = child_birth client key collection false above in
-      let k : Comes marks client reply (Call.Duplicate above) b = came s.pool limits marks client reply (Call.Duplicate above) grown answer shown.quiet tt b refl in
+      let k : Comes marks client reply (Call.Duplicate above) b = came s.pool limits marks grown client reply (Call.Duplicate above) answer b refl in
       let p : Bears collection above = bears client reply (Call.Duplicate above) b above k refl in
       let c : Collection = collection_after s.pool marks collection in
       let is : new_child false key (s.events + 1) client (node_after marks p.parent) ≡ node_after (Called client reply (Call.Duplicate above) ∷ marks) b =
       ap (λ (e : ℕ). new_child false key (e + 1) client (node_after marks p.parent)) shown.events
-      ∙ sym (child_stands marks shown.quiet client key collection (unsaid s.pool limits marks grown key k.fresh) (not_collected s.pool limits marks grown key k.fresh) p.parent above p.is p.ours) in
-      born_starts client reply (Call.Duplicate above) answer tt b refl refl refl (Change.Birth (Some above) false client (s.events + 1))
+      ∙ sym (child_stands s.pool limits marks grown client key collection k.fresh p.parent above p.is p.ours) in
+      born_starts client reply (Call.Duplicate above) answer b refl refl refl (Change.Birth (Some above) false client (s.events + 1))
       (child_changed client key collection false above p.parent p.there p.is p.ours p.unspent ∙ ap (λ (n : Node). record c { nodes = c.nodes ++ n ∷ [] }) is)
 
   -- an attached child is born
   pub attached_starts : (client : ℕ) (key : NodeKey) (collection : ℕ) (above : NodeKey) (answer : IsAnswer limits (readings marks) client (Call.AttachToken above) (Reply.Token key collection)) →
-      Starts s marks shown limits grown client (Reply.Token key collection) (Call.AttachToken above) answer tt (record { collection = collection; change = Change.Birth (Some above) true client (s.events + 1) })
+      Starts s marks shown limits grown client (Reply.Token key collection) (Call.AttachToken above) answer (record { collection = collection; change = Change.Birth (Some above) true client (s.events + 1) })
   attached_starts client key collection above answer =
       let reply : Reply = Reply.Token key collection in
       let b : Birth = child_birth client key collection true above in
-      let k : Comes marks client reply (Call.AttachToken above) b = came s.pool limits marks client reply (Call.AttachToken above) grown answer shown.quiet tt b refl in
+      let k : Comes marks client reply (Call.AttachToken above) b = came s.pool limits marks grown client reply (Call.AttachToken above) answer b refl in
       let p : Bears collection above = bears client reply (Call.AttachToken above) b above k refl in
       let c : Collection = collection_after s.pool marks collection in
       let is : new_child true key (s.events + 1) client (node_after marks p.parent) ≡ node_after (Called client reply (Call.AttachToken above) ∷ marks) b =
       ap (λ (e : ℕ). new_child true key (e + 1) client (node_after marks p.parent)) shown.events
-      ∙ sym (attached_stands marks shown.quiet client key collection (unsaid s.pool limits marks grown key k.fresh) (not_collected s.pool limits marks grown key k.fresh) p.parent above p.is p.ours) in
-      born_starts client reply (Call.AttachToken above) answer tt b refl refl refl (Change.Birth (Some above) true client (s.events + 1))
+      ∙ sym (attached_stands s.pool limits marks grown client key collection k.fresh p.parent above p.is p.ours) in
+      born_starts client reply (Call.AttachToken above) answer b refl refl refl (Change.Birth (Some above) true client (s.events + 1))
       (child_changed client key collection true above p.parent p.there p.is p.ours p.unspent ∙ ap (λ (n : Node). record c { nodes = c.nodes ++ n ∷ [] }) is)

@@ -11,32 +11,30 @@ use Rattle.sm_names.specs.declared.messages.Reply.{Reply}
 use Rattle.sm_names.specs.Answers.{IsAnswer}
 use Rattle.sm_names.specs.Births.{Birth, births, birth_at, ancestors, was_born}
 use Rattle.sm_names.specs.Bounds.{Bound}
-use Rattle.sm_names.specs.Handles.{home, buffers_of, is_doomed}
+use Rattle.sm_names.specs.Handles.{home, buffers_of, open_total}
 use Rattle.sm_names.specs.Kept.{is_kept}
 use Rattle.sm_names.specs.Losses.{gone}
 use Rattle.sm_names.specs.Marks.{Timeline, Called, events}
 use Rattle.sm_names.specs.Members.{Member, births_in, member, members, some_strong_live}
 use Rattle.sm_names.specs.Reading.{readings}
-use Rattle.sm_names.specs.Timelines.{HeldPages, collection_of, held, placed}
+use Rattle.sm_names.specs.Timelines.{HeldPages, collection_of, held, own_loss, placed}
 use Rattle.sm_names.proofs.GrowthLaws.{Grows, Stays, Answers}
 use Rattle.sm_names.proofs.ListLaws.{In-filter, filter-In, filter-swap, map-In}
 use Rattle.sm_names.proofs.SamenessLaws.{either_way, both_ways, or_left}
 use Rattle.alloc_event.specs.declared.node.End.{End}
 use Rattle.alloc_event.specs.declared.node.Node.{Node}
 use Rattle.alloc_event.specs.Forest.{Collection, beside}
-use Rattle.lifetime_core.specs.Shown.{IsAfter, IsQuiet, node_after, nodes_after, held_after, collection_after}
+use Rattle.lifetime_core.specs.Shown.{IsAfter, node_after, nodes_after, held_after, collection_after}
 use Rattle.lifetime_core.specs.State.{State}
-use Rattle.lifetime_core.specs.Steps.{spent_by}
+use Rattle.lifetime_core.specs.Steps.{end_by, place_of}
 use Rattle.lifetime_core.proofs.AnsweredLaws.{no_birth, nodes-answered, answered_key}
 use Rattle.lifetime_core.proofs.Apart.{is_beside, pages_beside}
-use Rattle.lifetime_core.proofs.CalledLaws.{IsPlain, answered, said, spending, node_called}
+use Rattle.lifetime_core.proofs.CalledLaws.{answered, said, node_called}
 use Rattle.lifetime_core.proofs.ElsewhereLaws.{home_called, came}
 use Rattle.lifetime_core.proofs.EndsApart.{placed_node, placed_in}
-use Rattle.lifetime_core.proofs.FinishLaws.{place_of, spending_is}
 use Rattle.lifetime_core.proofs.Lines.{nodes_kept}
 use Rattle.lifetime_core.proofs.Matching.{Matches}
 use Rattle.lifetime_core.proofs.NewbornLaws.{nodes-born, births-none}
-use Rattle.lifetime_core.proofs.QuietEvents.{quiet_called}
 use Rattle.lifetime_core.proofs.StartLaws.{follows}
 use Rattle.lifetime_core.proofs.Steps.{held_match}
 use Rattle.lifetime_core.proofs.UnsaidLaws.{unsaid}
@@ -51,8 +49,16 @@ filter-keyed keep f same (n ∷ ns) =
       | inr e ↦ let now : keep (f n).key ≡ false = here ∙ e in rw (now, e) (filter-keyed keep f same ns)
     ]
 
+-- the event changes no node, but for an end, and forces nothing: it bears no node, says nothing of any and loses none, and handles
+-- of a buffer and strength are open after it exactly if some were before
+pub record IsIdle (marks : Timeline) (client : ℕ) (reply : Reply) (call : Call) : Type 0 where
+  pub bears_none : birth_at 0 (Called client reply call) ≡ None
+  pub says_nothing : (n : Node) → said call reply n ≡ n
+  pub loses_none : own_loss marks call reply ≡ None
+  pub opens_alike : (buffer : BufferName) (strength : Strength) → (open_total (Called client reply call ∷ marks) buffer strength == 0) ≡ (open_total marks buffer strength == 0)
+
 module _ (s : State) (marks : Timeline) (shown : IsAfter s marks) (limits : Bound) (grown : Grows s.pool limits [] marks) (client : ℕ) (reply : Reply) (call : Call)
-    (answer : IsAnswer limits (readings marks) client call reply) (plain : IsPlain call) where
+    (answer : IsAnswer limits (readings marks) client call reply) where
   -- the marks with that of the call
   abbrev called : Timeline
   called = Called client reply call ∷ marks
@@ -88,17 +94,17 @@ module _ (s : State) (marks : Timeline) (shown : IsAfter s marks) (limits : Boun
 
   -- those that were there
   pub kept_answered : birth_at 0 (Called client reply call) ≡ None → (id : ℕ) →
-      map (answered call reply) (collection_after s.pool marks id).nodes ≡ nodes_kept (is_kept marks) (Called client reply call ∷ marks) id
+      map (answered client call reply) (collection_after s.pool marks id).nodes ≡ nodes_kept (is_kept marks) (Called client reply call ∷ marks) id
   kept_answered none id =
-      ap (map (answered call reply)) (follows s marks shown limits grown id).nodes
-      ∙ (sym (filter-keyed (is_kept marks) (answered call reply) (answered_key call reply) (nodes_after marks id))
-      ∙ ap (filter (λ (n : Node). is_kept marks n.key)) (sym (nodes-answered marks client reply call shown.quiet plain none id)))
+      ap (map (answered client call reply)) (follows s marks shown limits grown id).nodes
+      ∙ (sym (filter-keyed (is_kept marks) (answered client call reply) (answered_key client call reply) (nodes_after marks id))
+      ∙ ap (filter (λ (n : Node). is_kept marks n.key)) (sym (nodes-answered s.pool limits marks grown client reply call answer none id)))
 
   -- and one that is born
   pub kept_born : (b : Birth) → birth_at (events marks + 1) (Called client reply call) ≡ Some b →
       (collection_after s.pool marks b.collection).nodes ++ node_after (Called client reply call ∷ marks) b ∷ [] ≡ nodes_kept (is_kept marks) (Called client reply call ∷ marks) b.collection
   kept_born b born =
-      let fresh : was_born (births marks) b.node ≡ false = (came s.pool limits marks client reply call grown answer shown.quiet plain b born).fresh in
+      let fresh : was_born (births marks) b.node ≡ false = (came s.pool limits marks grown client reply call answer b born).fresh in
       let kept : is_kept marks b.node ≡ true = or_left (not (gone marks b.node)) _ (ap not (unsaid s.pool limits marks grown b.node fresh).not_gone) in
       let last : filter (λ (n : Node). is_kept marks n.key) (node_after called b ∷ []) ≡ node_after called b ∷ [] = rw kept refl in
       ap (λ (ns : List Node). ns ++ node_after called b ∷ []) (follows s marks shown limits grown b.collection).nodes
@@ -111,7 +117,7 @@ module _ (s : State) (marks : Timeline) (shown : IsAfter s marks) (limits : Boun
   -- in other collections those that were
   pub homes_elsewhere : (id : ℕ) → collection_of (Called client reply call ∷ marks) call reply ≡ Some id →
       (h : HeldPages) → is_beside id h ≡ true → home (Called client reply call ∷ marks) h.buffer ≡ home marks h.buffer
-  homes_elsewhere id of h at = home_called s.pool limits marks client reply call grown answer shown.quiet plain h.buffer.collection away h.buffer refl
+  homes_elsewhere id of h at = home_called s.pool limits marks grown client reply call answer h.buffer.collection away h.buffer refl
     where
       away : collection_of (Called client reply call ∷ marks) call reply ≡ Some h.buffer.collection → ⊥
       away e =
@@ -120,11 +126,18 @@ module _ (s : State) (marks : Timeline) (shown : IsAfter s marks) (limits : Boun
           both_ways (is_beside id h) at (ap not (eq-eqb h.buffer.collection id same))
 
   module _ (none : birth_at 0 (Called client reply call) ≡ None) (nothing : (n : Node) → said call reply n ≡ n) where
-    -- where the event says nothing of any node, only an end is spent
-    node_idle : (b : Birth) → node_after (Called client reply call ∷ marks) b ≡ spending (spent_by call reply) (node_after marks b)
-    node_idle b = node_called marks client b shown.quiet call reply plain none ∙ ap (spending (spent_by call reply)) (nothing (node_after marks b))
+    -- where the event says nothing of any node, only an end is put elsewhere: a collection follows the mark with that end there
+    pub follows_placed : (id : ℕ) → ((h : HeldPages) → is_beside id h ≡ true → home (Called client reply call ∷ marks) h.buffer ≡ home marks h.buffer) →
+        Matches s.pool (is_kept marks) (Called client reply call ∷ marks) (beside s.forest id) (placed_in (place_of (end_by client call reply)) (collection_after s.pool marks id))
+    follows_placed id homes =
+        let place : NodeKey → End → End = place_of (end_by client call reply) in
+        let c : Collection = collection_after s.pool marks id in
+        let same : map (answered client call reply) c.nodes ≡ map (placed_node place) c.nodes =
+        map-In (answered client call reply) (placed_node place) c.nodes (λ n on. ap (placed_node place) (nothing n)) in
+        matches_called id homes (map (placed_node place) c.nodes) (sym same ∙ kept_answered none id)
 
-    -- what the forced steps read of a node on such a line
+  module _ (idle : IsIdle marks client reply call) where
+    -- what the forced steps read of a node on such a line: nothing of its end
     abbrev of_node : List NodeKey → Node → Member
     of_node above n = record {
       key = n.key;
@@ -140,41 +153,34 @@ module _ (s : State) (marks : Timeline) (shown : IsAfter s marks) (limits : Boun
       constraints = n.constraints;
     }
 
-    -- they read nothing of its end
-    of_spent : (above : List NodeKey) (o : Option NodeKey) (n : Node) → of_node above (spending o n) ≡ of_node above n
-    of_spent above None n = refl
-    of_spent above (Some key) n = refl
+    -- an idle event bears no node
+    pub births_idle : birth_at (events marks + 1) (Called client reply call) ≡ None
+    births_idle = no_birth 0 (events marks + 1) (Called client reply call) idle.bears_none
 
-    -- so each stands as it stood
+    -- each stands as it stood
     member_idle : (b : Birth) → member (Called client reply call ∷ marks) b ≡ member marks b
     member_idle b =
-        let lines : ancestors (births called) b.node ≡ ancestors (births marks) b.node =
-        ap (λ (o : Option Birth). ancestors (cons_option o (births marks)) b.node) (no_birth 0 (events marks + 1) (Called client reply call) none) in
-        (λ i. of_node (lines i) (node_idle b i)) ∙ of_spent (ancestors (births marks) b.node) (spent_by call reply) (node_after marks b)
+        let lines : ancestors (births called) b.node ≡ ancestors (births marks) b.node = ap (λ (o : Option Birth). ancestors (cons_option o (births marks)) b.node) births_idle in
+        let same : node_after called b ≡ placed_node (place_of (end_by client call reply)) (node_after marks b) =
+        node_called s.pool limits marks grown client reply call answer idle.bears_none b ∙ ap (placed_node (place_of (end_by client call reply))) (idle.says_nothing (node_after marks b)) in
+        λ i. of_node (lines i) (same i)
 
     -- and so do all of a collection
     members_idle : (id : ℕ) → members (Called client reply call ∷ marks) id ≡ members marks id
     members_idle id =
-        ap (map (member called)) (births-none marks (Called client reply call) id (no_birth 0 (events marks + 1) (Called client reply call) none))
+        ap (map (member called)) (births-none marks (Called client reply call) id births_idle)
         ∙ map-In (member called) (member marks) (births_in marks id) (λ b on. member_idle b)
 
     -- and the same buffers are home
     pub home_idle : (buffer : BufferName) → home (Called client reply call ∷ marks) buffer ≡ home marks buffer
-    home_idle buffer =
-        let now : IsQuiet called = quiet_called marks client reply call plain shown.quiet in
-        λ i. (is_some (buffers_of marks buffer.collection)
-        && is_doomed ((now.not_counted buffer Strength.Strong ∙ sym (shown.quiet.not_counted buffer Strength.Strong)) i) (some_strong_live (members_idle buffer.collection i)))
-        && (now.not_counted buffer Strength.Weak ∙ sym (shown.quiet.not_counted buffer Strength.Weak)) i == 0
+    home_idle buffer = λ i.
+        (is_some (buffers_of marks buffer.collection) && (idle.opens_alike buffer Strength.Strong i && not (some_strong_live (members_idle buffer.collection i))))
+        && idle.opens_alike buffer Strength.Weak i
 
     -- so no page goes back
     pub held_idle : held s.pool (Called client reply call ∷ marks) ≡ held s.pool marks
     held_idle = filter-In (λ (h : HeldPages). not (home called h.buffer)) (λ (h : HeldPages). not (home marks h.buffer)) (placed s.pool marks) (λ h on. ap not (home_idle h.buffer))
 
-    -- each collection with the end spent that the event spends follows its mark
-    pub follows_idle : (id : ℕ) → Matches s.pool (is_kept marks) (Called client reply call ∷ marks) (beside s.forest id) (placed_in (place_of (spent_by call reply)) (collection_after s.pool marks id))
-    follows_idle id =
-        let place : NodeKey → End → End = place_of (spent_by call reply) in
-        let c : Collection = collection_after s.pool marks id in
-        let same : map (answered call reply) c.nodes ≡ map (placed_node place) c.nodes =
-        map-In (answered call reply) (placed_node place) c.nodes (λ n on. ap (spending (spent_by call reply)) (nothing n) ∙ spending_is (spent_by call reply) n) in
-        matches_called id (λ h at. home_idle h.buffer) (map (placed_node place) c.nodes) (sym same ∙ kept_answered none id)
+    -- each collection with the end that the event puts elsewhere follows its mark
+    pub follows_idle : (id : ℕ) → Matches s.pool (is_kept marks) (Called client reply call ∷ marks) (beside s.forest id) (placed_in (place_of (end_by client call reply)) (collection_after s.pool marks id))
+    follows_idle id = follows_placed idle.bears_none idle.says_nothing id (λ h at. home_idle h.buffer)

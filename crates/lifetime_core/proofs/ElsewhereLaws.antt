@@ -10,9 +10,9 @@ use Rattle.sm_names.specs.declared.messages.Call.{Call}
 use Rattle.sm_names.specs.declared.messages.Reply.{Reply}
 use Rattle.sm_names.specs.declared.outcomes.Cause.{Cause}
 use Rattle.sm_names.specs.Answers.{IsAnswer}
-use Rattle.sm_names.specs.Births.{Birth, births, birth_at, birth_of, ancestors}
+use Rattle.sm_names.specs.Births.{Birth, births, birth_at, birth_of, was_born, ancestors}
 use Rattle.sm_names.specs.Bounds.{Bound}
-use Rattle.sm_names.specs.Handles.{home, buffers_of, is_doomed}
+use Rattle.sm_names.specs.Handles.{home, buffers_of, is_doomed, open_total}
 use Rattle.sm_names.specs.Marks.{Mark, Timeline, Called, Loss, events}
 use Rattle.sm_names.specs.Members.{births_in, member, members, some_strong_live}
 use Rattle.sm_names.specs.Reading.{readings}
@@ -23,25 +23,28 @@ use Rattle.sm_names.proofs.BirthLaws.{HasEnd, birth_is, Comes, comes, ancestors_
 use Rattle.sm_names.proofs.GrowthLaws.{Grows, Answers, own_loss_origin, grows_lost}
 use Rattle.sm_names.proofs.IsolationLaws.{birth_of_collection, of_ours}
 use Rattle.sm_names.proofs.LifeLaws.{whole, In_old}
-use Rattle.sm_names.proofs.ListLaws.{In, In-filter, map-In, map-at, filter-In, filter-swap}
+use Rattle.sm_names.proofs.ListLaws.{In, In-filter, map-In, filter-In, filter-swap}
+use Rattle.sm_names.proofs.ReachLaws.{other_key}
 use Rattle.sm_names.proofs.RejectLaws.{not_refused_end}
 use Rattle.sm_names.proofs.SamenessLaws.{both_ways, false_if, none_or_some, same_key-true}
 use Rattle.sm_names.proofs.SettledLaws.{In-was_born, find_birth}
 use Rattle.sm_names.proofs.WholeLaws.{IsWhole}
+use Rattle.alloc_event.specs.declared.node.End.{End}
 use Rattle.alloc_event.specs.Nodes.{is_over}
-use Rattle.lifetime_core.specs.Shown.{IsQuiet, node_after, nodes_after, held_after, collection_after}
-use Rattle.lifetime_core.proofs.AnsweredLaws.{nodes-answered, answered_other, no_birth}
+use Rattle.lifetime_core.specs.Shown.{node_after, nodes_after, held_after, collection_after}
+use Rattle.lifetime_core.specs.Steps.{Place, end_by}
+use Rattle.lifetime_core.proofs.AnsweredLaws.{nodes-answered, answered_other, said_other, no_birth}
 use Rattle.lifetime_core.proofs.Apart.{IsIn}
-use Rattle.lifetime_core.proofs.CalledLaws.{IsPlain, answered}
+use Rattle.lifetime_core.proofs.CalledLaws.{answered, rest_called}
+use Rattle.lifetime_core.proofs.EndsApart.{placed_node}
+use Rattle.lifetime_core.proofs.HandLaws.{open_elsewhere}
 use Rattle.lifetime_core.proofs.Leaving.{SameBeside, same_beside_mark, settled_beside}
 use Rattle.lifetime_core.proofs.Lists.{map-map_In}
-use Rattle.lifetime_core.proofs.NewbornLaws.{nodes-elsewhere, births-elsewhere, births-none}
-use Rattle.lifetime_core.proofs.QuietEvents.{quiet_called}
+use Rattle.lifetime_core.proofs.NewbornLaws.{old_node, nodes-elsewhere, births-elsewhere, births-none}
 
 -- ---- the call
 
-module _ (pool : ℕ) (limits : Bound) (marks : Timeline) (client : ℕ) (reply : Reply) (call : Call) (g : Grows pool limits [] marks) (answer : IsAnswer limits (readings marks) client call reply)
-    (quiet : IsQuiet marks) (plain : IsPlain call) where
+module _ (pool : ℕ) (limits : Bound) (marks : Timeline) (grown : Grows pool limits [] marks) (client : ℕ) (reply : Reply) (call : Call) (answer : IsAnswer limits (readings marks) client call reply) where
   -- the marks with that of the call
   abbrev called : Timeline
   called = Called client reply call ∷ marks
@@ -52,7 +55,7 @@ module _ (pool : ℕ) (limits : Bound) (marks : Timeline) (client : ℕ) (reply 
 
   -- the marks grow with it
   pub grown_called : Grows pool limits [] (Called client reply call ∷ marks)
-  grown_called = Answers marks client reply call g answer
+  grown_called = Answers marks client reply call grown answer
 
   -- how what it bears comes about
   pub came : (b : Birth) → birth_at (events marks + 1) (Called client reply call) ≡ Some b → Comes marks client reply call b
@@ -68,20 +71,9 @@ module _ (pool : ℕ) (limits : Bound) (marks : Timeline) (client : ℕ) (reply 
 
   -- so does the root that it makes
   root_in : (event : ℕ) (reply : Reply) (call : Call) (b : Birth) → birth_at event (Called client reply call) ≡ Some b → b.parent ≡ None → collection_of (Called client reply call ∷ marks) call reply ≡ Some b.collection
-  root_in event (Reply.Token key collection) Call.OpenRoot b h root =
-      let same : Some (record { node = key; parent = None; attached = false; collection = collection; event = event; client = client }) ≡ Some b = h in
-      let is : record { node = key; parent = None; attached = false; collection = collection; event = event; client = client } ≡ b = cc in
-      ap (λ (c : Birth). Some c.collection) is
-  root_in event (Reply.Token key collection) (Call.Duplicate parent) b h root =
-      let same : Some (record { node = key; parent = Some parent; attached = false; collection = collection; event = event; client = client }) ≡ Some b = h in
-      let is : record { node = key; parent = Some parent; attached = false; collection = collection; event = event; client = client } ≡ b = cc in
-      let x : Some parent ≡ None = ap (λ (c : Birth). c.parent) is ∙ root in
-      cc
-  root_in event (Reply.Token key collection) (Call.AttachToken parent) b h root =
-      let same : Some (record { node = key; parent = Some parent; attached = true; collection = collection; event = event; client = client }) ≡ Some b = h in
-      let is : record { node = key; parent = Some parent; attached = true; collection = collection; event = event; client = client } ≡ b = cc in
-      let x : Some parent ≡ None = ap (λ (c : Birth). c.parent) is ∙ root in
-      cc
+  root_in event (Reply.Token key collection) Call.OpenRoot b h root = ap (option_map (λ (c : Birth). c.collection)) h
+  root_in event (Reply.Token key collection) (Call.Duplicate parent) b h root = let no : Some parent ≡ None = ap (option_and_then (λ (c : Birth). c.parent)) h ∙ root in cc
+  root_in event (Reply.Token key collection) (Call.AttachToken parent) b h root = let no : Some parent ≡ None = ap (option_and_then (λ (c : Birth). c.parent)) h ∙ root in cc
   root_in event reply call b h root = cc
 
   -- a node that is born is of the call's collection
@@ -103,28 +95,29 @@ module _ (pool : ℕ) (limits : Bound) (marks : Timeline) (client : ℕ) (reply 
       | inr some ↦ births-elsewhere marks (Called client reply call) some.0 theirs some.1 (not_theirs some.0.collection (born_in some.0 some.1))
     ]
 
-    -- their nodes stay
-    pub nodes_called : nodes_after (Called client reply call ∷ marks) theirs ≡ nodes_after marks theirs
-    nodes_called = elim (none_or_some new) [
-      | inl e ↦
-          nodes-answered marks client reply call quiet plain (no_birth (events marks + 1) 0 (Called client reply call) e) theirs
-          ∙ sym (map-map_In (node_after marks) (node_after marks) (answered call reply) (births_in marks theirs) (λ b on. sym (untouched b on)))
-      | inr some ↦ nodes-elsewhere marks client reply call some.0 some.1 (came some.0 some.1).fresh theirs (not_theirs some.0.collection (born_in some.0 some.1))
-    ]
-      where
-        untouched : (b : Birth) → In b (births_in marks theirs) → answered call reply (node_after marks b) ≡ node_after marks b
-        untouched b on =
-            let t = birth_of_collection marks theirs b on in
-            answered_other call reply (node_after marks b) (λ key is. false_if (same_key key b.node) (λ e.
-            both_ways (b.collection == theirs) t.1 (not_theirs b.collection (named_in b t.0 (is ∙ ap Some (same_key-true key b.node e))))))
+    -- none of their nodes is named
+    unnamed : (b : Birth) → In b (births_in marks theirs) → (key : NodeKey) → key_of call ≡ Some key → same_key key b.node ≡ false
+    unnamed b on key is =
+        let t = birth_of_collection marks theirs b on in
+        false_if (same_key key b.node) (λ e. both_ways (b.collection == theirs) t.1 (not_theirs b.collection (named_in b t.0 (is ∙ ap Some (same_key-true key b.node e)))))
 
-    -- and stand as they stood
+    -- so each stays, but for its end
+    rest_stays : (b : Birth) → In b (births_in marks theirs) → record (node_after (Called client reply call ∷ marks) b) { end = End.Spent } ≡ record (node_after marks b) { end = End.Spent }
+    rest_stays b on = elim (none_or_some new) [
+      | inl e ↦
+          rest_called marks client b (λ key end. End.Spent) reply call (no_birth (events marks + 1) 0 (Called client reply call) e)
+          ∙ ap (placed_node (λ key end. End.Spent)) (said_other reply call (node_after marks b) (unnamed b on))
+      | inr some ↦
+          let born : was_born (births marks) b.node ≡ true = In-was_born (births marks) b (birth_of_collection marks theirs b on).0 in
+          ap (placed_node (λ key end. End.Spent)) (old_node marks client reply call some.0 b some.1 (other_key (births marks) b.node some.0.node born (came some.0 some.1).fresh))
+    ]
+
+    -- and stands as it stood
     member_called : (b : Birth) → In b (births_in marks theirs) → member (Called client reply call ∷ marks) b ≡ member marks b
     member_called b on =
-        let t = birth_of_collection marks theirs b on in
-        let same : map (node_after called) (births_in marks theirs) ≡ map (node_after marks) (births_in marks theirs) = ap (map (node_after called)) (sym births_called) ∙ nodes_called in
-        let n : node_after called b ≡ node_after marks b = map-at (node_after called) (node_after marks) (births_in marks theirs) same b on in
-        let lines : ancestors (births called) b.node ≡ ancestors (births marks) b.node = ancestors_old new (births marks) b.node (In-was_born (births marks) b t.0) (λ c e. (came c e).fresh) in
+        let n = rest_stays b on in
+        let born : was_born (births marks) b.node ≡ true = In-was_born (births marks) b (birth_of_collection marks theirs b on).0 in
+        let lines : ancestors (births called) b.node ≡ ancestors (births marks) b.node = ancestors_old new (births marks) b.node born (λ c e. (came c e).fresh) in
         λ i. record {
           key = b.node;
           parent = b.parent;
@@ -146,11 +139,10 @@ module _ (pool : ℕ) (limits : Bound) (marks : Timeline) (client : ℕ) (reply 
     -- which of their buffers are home
     pub home_called : (buffer : BufferName) → buffer.collection ≡ theirs → home (Called client reply call ∷ marks) buffer ≡ home marks buffer
     home_called buffer is =
-        let now : IsQuiet called = quiet_called marks client reply call plain quiet in
+        let count : (strength : Strength) → open_total called buffer strength ≡ open_total marks buffer strength =
+        open_elsewhere pool limits marks grown client reply call answer buffer (λ of. away (of ∙ ap Some is)) in
         let strong : members called buffer.collection ≡ members marks buffer.collection = subst (λ (k : ℕ). members called k ≡ members marks k) (sym is) members_called in
-        λ i. (is_some (buffers_of marks buffer.collection)
-        && is_doomed ((now.not_counted buffer Strength.Strong ∙ sym (quiet.not_counted buffer Strength.Strong)) i) (some_strong_live (strong i)))
-        && (now.not_counted buffer Strength.Weak ∙ sym (quiet.not_counted buffer Strength.Weak)) i == 0
+        λ i. (is_some (buffers_of marks buffer.collection) && is_doomed (count Strength.Strong i) (some_strong_live (strong i))) && count Strength.Weak i == 0
 
     -- and what they hold
     pub held_called : held_after pool (Called client reply call ∷ marks) theirs ≡ held_after pool marks theirs
@@ -162,14 +154,40 @@ module _ (pool : ℕ) (limits : Bound) (marks : Timeline) (client : ℕ) (reply 
         ∙ (filter-In now before (filter ours (placed pool marks)) (λ h on. ap not (home_called h.buffer (eqb-true h.buffer.collection theirs (In-filter ours (placed pool marks) h on).1)))
         ∙ filter-swap before ours (placed pool marks))
 
-    -- so the collection stays
-    pub collection_called : collection_after pool (Called client reply call ∷ marks) theirs ≡ collection_after pool marks theirs
-    collection_called = λ i. record {
-      id = theirs;
-      nodes = filter (λ n. not (is_over n)) (nodes_called i);
-      buffers = buffers_of marks theirs;
-      held = held_called i;
-    }
+    module _ (ends_here : (p : Place) → end_by client call reply ≡ Some p → key_of call ≡ Some p.key) where
+      -- their nodes stay
+      pub nodes_called : nodes_after (Called client reply call ∷ marks) theirs ≡ nodes_after marks theirs
+      nodes_called = elim (none_or_some new) [
+        | inl e ↦
+            let none : birth_at 0 (Called client reply call) ≡ None = no_birth (events marks + 1) 0 (Called client reply call) e in
+            nodes-answered pool limits marks grown client reply call answer none theirs
+            ∙ sym (map-map_In (node_after marks) (node_after marks) (answered client call reply) (births_in marks theirs)
+            (λ b on. sym (answered_other client call reply (node_after marks b) (unnamed b on) (λ p e. unnamed b on p.key (ends_here p e)))))
+        | inr some ↦ nodes-elsewhere marks client reply call some.0 some.1 (came some.0 some.1).fresh theirs (not_theirs some.0.collection (born_in some.0 some.1))
+      ]
+
+      -- so the collection stays
+      pub collection_called : collection_after pool (Called client reply call ∷ marks) theirs ≡ collection_after pool marks theirs
+      collection_called = λ i. record {
+        id = theirs;
+        nodes = filter (λ n. not (is_over n)) (nodes_called i);
+        buffers = buffers_of marks theirs;
+        held = held_called i;
+      }
+
+-- the call got its caller the end of a node
+abbrev pub collects_end : Call → Reply → Bool
+collects_end Call.Collect (Reply.Collected key kind collection) = true
+collects_end _ _ = false
+
+-- each other call moves no end but that of the node that it names
+pub ends_named : (client : ℕ) (call : Call) (reply : Reply) → collects_end call reply ≡ false → (p : Place) → end_by client call reply ≡ Some p → key_of call ≡ Some p.key
+ends_named client (Call.Close key) Reply.Done other p e = ap (option_map (λ (q : Place). q.key)) e
+ends_named client (Call.Release key) Reply.Done other p e = ap (option_map (λ (q : Place). q.key)) e
+ends_named client (Call.Release key) (Reply.PeerClosed cause origin) other p e = ap (option_map (λ (q : Place). q.key)) e
+ends_named client (Call.Give key to) Reply.Done other p e = ap (option_map (λ (q : Place). q.key)) e
+ends_named client Call.Collect (Reply.Collected key kind collection) other p e = cc
+ends_named client call reply other p e = cc
 
 -- ---- what follows it
 
@@ -182,54 +200,53 @@ collection_beside pool ours theirs earlier later s other = λ i. record {
   held = s.pages theirs other i;
 }
 
-module _ (pool : ℕ) (limits : Bound) (marks : Timeline) (client : ℕ) (reply : Reply) (call : Call) (g : Grows pool limits [] marks) (answer : IsAnswer limits (readings marks) client call reply)
-    (quiet : IsQuiet marks) (plain : IsPlain call) where
+module _ (pool : ℕ) (limits : Bound) (marks : Timeline) (grown : Grows pool limits [] marks) (client : ℕ) (reply : Reply) (call : Call) (answer : IsAnswer limits (readings marks) client call reply) where
   -- the marks with the loss that the call makes itself
   abbrev pub lost : Timeline
   lost = cons_option (own_loss marks call reply) (Called client reply call ∷ marks)
 
   -- a node that the call loses is one that it names and that is there
-  pub record LosesOwn (mark : Mark) : Type 0 where
-    pub birth : Birth
-    pub there : In birth (births marks)
-    pub cause : Cause
-    pub is : mark ≡ Loss birth.node cause
-    pub names : key_of call ≡ Some birth.node
+  record LosesOwn (mark : Mark) : Type 0 where
+    birth : Birth
+    there : In birth (births marks)
+    cause : Cause
+    is : mark ≡ Loss birth.node cause
+    names : key_of call ≡ Some birth.node
 
   -- so it is with each loss of its own
-  pub loses_own : (mark : Mark) → own_loss marks call reply ≡ Some mark → LosesOwn mark
+  loses_own : (mark : Mark) → own_loss marks call reply ≡ Some mark → LosesOwn mark
   loses_own mark e =
       let t = own_loss_origin pool limits [] marks call reply mark e in
       let end : HasEnd marks t.0 = not_refused_end limits marks client call reply t.0 answer t.4 t.3 in
       let b = birth_is marks t.0 end.birth end.is in
       record { birth = end.birth; there = b.0; cause = t.1; is = t.2 ∙ ap (λ (k : NodeKey). Loss k t.1) (sym b.1); names = t.3 ∙ ap Some (sym b.1) }
 
-  module _ (theirs : ℕ) (away : collection_of (Called client reply call ∷ marks) call reply ≡ Some theirs → ⊥) where
+  module _ (theirs : ℕ) (away : collection_of (Called client reply call ∷ marks) call reply ≡ Some theirs → ⊥)
+      (ends_here : (p : Place) → end_by client call reply ≡ Some p → key_of call ≡ Some p.key) where
     -- the loss leaves them
     lost_elsewhere : (o : Option Mark) → own_loss marks call reply ≡ o → collection_after pool (cons_option o (Called client reply call ∷ marks)) theirs ≡ collection_after pool marks theirs
-    lost_elsewhere None e = collection_called pool limits marks client reply call g answer quiet plain theirs away
+    lost_elsewhere None e = collection_called pool limits marks grown client reply call answer theirs away ends_here
     lost_elsewhere (Some mark) e =
         let l : LosesOwn mark = loses_own mark e in
         let b : Birth = l.birth in
         let called : Timeline = Called client reply call ∷ marks in
-        let grown : Grows pool limits [] called = grown_called pool limits marks client reply call g answer quiet plain in
-        let w : IsWhole called = whole pool limits called grown in
+        let w : IsWhole called = whole pool limits called (grown_called pool limits marks grown client reply call answer) in
         let on : In b (births called) = In_old (birth_at (events marks + 1) (Called client reply call)) (births marks) b l.there in
         let at : IsIn called b.collection (Loss b.node l.cause) = of_ours called b.collection w b on (eq-eqb b.collection b.collection refl) in
         let other : (b.collection == theirs) ≡ false =
-        not_theirs pool limits marks client reply call g answer quiet plain theirs away b.collection (named_in pool limits marks client reply call g answer quiet plain b l.there l.names) in
+        not_theirs pool limits marks grown client reply call answer theirs away b.collection (named_in pool limits marks grown client reply call answer b l.there l.names) in
         rw l.is
         (collection_beside pool b.collection theirs called (Loss b.node l.cause ∷ called) (same_beside_mark pool b.collection called (Loss b.node l.cause) w at) other
-        ∙ collection_called pool limits marks client reply call g answer quiet plain theirs away)
+        ∙ collection_called pool limits marks grown client reply call answer theirs away ends_here)
 
     -- so does all that the event forces
     pub collection_elsewhere : collection_after pool (after pool marks (client, call, reply)) theirs ≡ collection_after pool marks theirs
-    collection_elsewhere = from (collection_of (Called client reply call ∷ marks) call reply) (not_theirs pool limits marks client reply call g answer quiet plain theirs away)
+    collection_elsewhere = from (collection_of (Called client reply call ∷ marks) call reply) (not_theirs pool limits marks grown client reply call answer theirs away)
       where
         from : (o : Option ℕ) → ((c : ℕ) → o ≡ Some c → (c == theirs) ≡ false) →
             collection_after pool (option_map_or (λ collection. settled pool collection (cons_option (own_loss marks call reply) (Called client reply call ∷ marks))) o (cons_option (own_loss marks call reply) (Called client reply call ∷ marks))) theirs
             ≡ collection_after pool marks theirs
         from None other = lost_elsewhere (own_loss marks call reply) refl
         from (Some ours) other =
-            collection_beside pool ours theirs lost (settled pool ours lost) (settled_beside pool limits ours lost (grows_lost pool limits [] marks (client, call, reply) g answer)) (other ours refl)
+            collection_beside pool ours theirs lost (settled pool ours lost) (settled_beside pool limits ours lost (grows_lost pool limits [] marks (client, call, reply) grown answer)) (other ours refl)
             ∙ lost_elsewhere (own_loss marks call reply) refl

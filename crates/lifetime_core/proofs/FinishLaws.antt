@@ -1,5 +1,5 @@
--- Ends are spent and what is over is forgotten: what is left is what the marks keep.
-use Rattle.std.proofs.Common.{ℕ, ◌≡◌, refl, ap, sym, ◌∙◌, Bool, true, false, not, ◌&&◌, ◌||◌, ◌==◌, ◌⊎◌, inl, inr, List, [], ◌∷◌, map, length, Option, Some, None, arith, if◌then◌else◌}
+-- An end is put elsewhere and what is over is forgotten: what is left is what the marks keep.
+use Rattle.std.proofs.Common.{ℕ, ◌≡◌, refl, ap, sym, ◌∙◌, Bool, true, false, not, ◌&&◌, ◌||◌, ◌==◌, ◌⊎◌, inl, inr, List, [], ◌∷◌, map, length, Option, Some, None, arith}
 use Rattle.std.proofs.lemmas.Bool.{eqb-true}
 use Rattle.std.specs.List.{filter}
 use Rattle.sm_names.specs.declared.keys.NodeKey.{NodeKey}
@@ -11,18 +11,15 @@ use Rattle.sm_names.specs.Ends.{spends, spent}
 use Rattle.sm_names.specs.Losses.{gone}
 use Rattle.sm_names.specs.Marks.{Mark, Timeline, Called, Loss, Allocated, Ended}
 use Rattle.sm_names.specs.Members.{births_in}
-use Rattle.sm_names.specs.Sameness.{same_key}
 use Rattle.sm_names.proofs.GoneLaws.{gone_stays}
 use Rattle.sm_names.proofs.GrowthLaws.{Grows, Stays, Answers, Loses, Allocates, Ends}
 use Rattle.sm_names.proofs.ListLaws.{In, In-map, filter-In}
 use Rattle.sm_names.proofs.SamenessLaws.{and_left, and_right, either_way, or_right}
-use Rattle.alloc_event.specs.declared.node.End.{End}
 use Rattle.alloc_event.specs.declared.node.Node.{Node}
 use Rattle.alloc_event.specs.Forest.{Collection, Forest, with_nodes, is_left}
 use Rattle.alloc_event.specs.Nodes.{is_over}
 use Rattle.lifetime_core.specs.Shown.{node_after, nodes_after, held_after, collection_after, kept_ids}
-use Rattle.lifetime_core.specs.Steps.{with_spent, without_over}
-use Rattle.lifetime_core.proofs.CalledLaws.{spending}
+use Rattle.lifetime_core.specs.Steps.{Place, place_of, with_place, without_over}
 use Rattle.lifetime_core.proofs.EndsApart.{placed_node, placed_in}
 use Rattle.lifetime_core.proofs.IdLaws.{ids, kept_are}
 use Rattle.lifetime_core.proofs.LeftLaws.{left_after}
@@ -31,47 +28,37 @@ use Rattle.lifetime_core.proofs.Matching.{Matches}
 use Rattle.lifetime_core.proofs.ReadingNodes.{not_over}
 use Rattle.lifetime_core.proofs.PutLaws.{filter-map_asked, map-asked, map-stays}
 
--- ---- ends that are spent
+-- ---- an end elsewhere
 
--- where an end is, once that one is spent
-abbrev pub place_of : Option NodeKey → NodeKey → End → End
-place_of None k e = e
-place_of (Some key) k e = if same_key key k then End.Spent else e
-
--- a node with that end spent
-pub spending_is : (o : Option NodeKey) (n : Node) → spending o n ≡ placed_node (place_of o) n
-spending_is None n = refl
-spending_is (Some key) n = refl
-
--- the collections with that end spent
-pub spent_collections : (o : Option NodeKey) (f : Forest) → (with_spent o f).collections ≡ map (placed_in (place_of o)) f.collections
-spent_collections None f = sym (map-stays (placed_in (place_of None)) f.collections (λ c on i. record c { nodes = map-stays (placed_node (place_of None)) c.nodes (λ n there. refl) i }))
-spent_collections (Some key) f = refl
+-- the collections with that end there
+pub placed_collections : (o : Option Place) (f : Forest) → (with_place o f).collections ≡ map (placed_in (place_of o)) f.collections
+placed_collections None f = sym (map-stays (placed_in (place_of None)) f.collections (λ c on i. record c { nodes = map-stays (placed_node (place_of None)) c.nodes (λ n there. refl) i }))
+placed_collections (Some place) f = refl
 
 -- ---- what is left
 
--- the collection with that end spent and without the nodes that are over
-abbrev pub finished : Option NodeKey → Collection → Collection
+-- the collection with that end there and without the nodes that are over
+abbrev pub finished : Option Place → Collection → Collection
 finished o c = with_nodes (filter (λ n. not (is_over n))) (placed_in (place_of o) c)
 
 -- among collections by their ids, those that are left
-pub finished_ids : (o : Option NodeKey) (f : Forest) (w : ℕ → Collection) (k : ℕ → Bool) (ds : List ℕ) → f.collections ≡ map w (filter k ds) →
-    without_over (with_spent o f).collections ≡ map (λ d. finished o (w d)) (filter (λ d. k d && not (is_left (finished o (w d)))) ds)
+pub finished_ids : (o : Option Place) (f : Forest) (w : ℕ → Collection) (k : ℕ → Bool) (ds : List ℕ) → f.collections ≡ map w (filter k ds) →
+    without_over (with_place o f).collections ≡ map (λ d. finished o (w d)) (filter (λ d. k d && not (is_left (finished o (w d)))) ds)
 finished_ids o f w k ds is =
     let over : Collection → Collection = with_nodes (filter (λ n. not (is_over n))) in
-    let made : map over (with_spent o f).collections ≡ map (λ d. finished o (w d)) (filter k ds) =
-    ap (map over) (spent_collections o f ∙ ap (map (placed_in (place_of o))) is)
+    let made : map over (with_place o f).collections ≡ map (λ d. finished o (w d)) (filter k ds) =
+    ap (map over) (placed_collections o f ∙ ap (map (placed_in (place_of o))) is)
     ∙ (map-map over (placed_in (place_of o)) (map w (filter k ds)) ∙ map-map (finished o) w (filter k ds)) in
     ap (filter (λ c. not (is_left c))) made ∙ filter-map_asked (λ c. not (is_left c)) (λ d. finished o (w d)) k ds
 
 -- a collection that is there comes to what the marks make of it, and one that is not there is not kept
-abbrev pub ComesTo : ℕ → Option NodeKey → (ℕ → Collection) → (ℕ → Bool) → Timeline → ℕ → Type 0
+abbrev pub ComesTo : ℕ → Option Place → (ℕ → Collection) → (ℕ → Bool) → Timeline → ℕ → Type 0
 ComesTo pool o w k marks d = ((k d ≡ true) × (finished o (w d) ≡ collection_after pool marks d)) ⊎ ((k d ≡ false) × (is_kept_collection marks d ≡ false))
 
 -- then what is left is what the marks keep
-pub finished_kept : (pool : ℕ) (limits : Bound) (marks : Timeline) → Grows pool limits [] marks → (o : Option NodeKey) (f : Forest) (w : ℕ → Collection) (k : ℕ → Bool) →
+pub finished_kept : (pool : ℕ) (limits : Bound) (marks : Timeline) → Grows pool limits [] marks → (o : Option Place) (f : Forest) (w : ℕ → Collection) (k : ℕ → Bool) →
     f.collections ≡ map w (filter k (ids (births marks))) → ((d : ℕ) → In d (ids (births marks)) → ComesTo pool o w k marks d) →
-    without_over (with_spent o f).collections ≡ map (collection_after pool marks) (kept_ids marks)
+    without_over (with_place o f).collections ≡ map (collection_after pool marks) (kept_ids marks)
 finished_kept pool limits marks grown o f w k is each =
     finished_ids o f w k (ids (births marks)) is
     ∙ (map-asked (λ d. finished o (w d)) (collection_after pool marks) (λ d. k d && not (is_left (finished o (w d)))) (is_kept_collection marks) (ids (births marks))
@@ -89,12 +76,12 @@ finished_kept pool limits marks grown o f w k is each =
 -- ---- collections of which nothing is left
 
 -- a list of no length is empty
-no_length : {A : Type 0} (xs : List A) → (length xs == 0) ≡ true → xs ≡ []
+pub no_length : {A : Type 0} (xs : List A) → (length xs == 0) ≡ true → xs ≡ []
 no_length [] h = refl
 no_length (x ∷ xs) h = absurd (let is : length (x ∷ xs) ≡ 0 = eqb-true (length (x ∷ xs)) 0 h in omega (arith, is))
 
 -- nothing comes back
-pub left_finished : (o : Option NodeKey) (c : Collection) → is_left c ≡ true → is_left (finished o c) ≡ true
+pub left_finished : (o : Option Place) (c : Collection) → is_left c ≡ true → is_left (finished o c) ≡ true
 left_finished o c h =
     let none : c.nodes ≡ [] = no_length c.nodes (and_left (length c.nodes == 0) _ h) in
     let pages : (length c.held == 0) ≡ true = and_right (length c.nodes == 0) _ h in
@@ -123,8 +110,8 @@ over_stays pool limits marks _ (Loses before origin cause g born) node over = ov
 over_stays pool limits marks _ (Allocates before collection head g e) node over = over_mark before (Allocated head) node (over_stays pool limits marks before g node over)
 over_stays pool limits marks _ (Ends before collection top g e) node over = over_mark before (Ended top) node (over_stays pool limits marks before g node over)
 
--- where the collection with that end spent follows later marks, and holds what they hold, it comes to what they make of it
-pub finished_is : (pool : ℕ) (limits : Bound) (marks later : Timeline) → Grows pool limits marks later → (others : List Interval) (o : Option NodeKey) (c : Collection) →
+-- where the collection with that end there follows later marks, and holds what they hold, it comes to what they make of it
+pub finished_is : (pool : ℕ) (limits : Bound) (marks later : Timeline) → Grows pool limits marks later → (others : List Interval) (o : Option Place) (c : Collection) →
     Matches pool (is_kept marks) later others (placed_in (place_of o) c) → c.held ≡ held_after pool later c.id → finished o c ≡ collection_after pool later c.id
 finished_is pool limits marks later g others o c m held = λ i. record {
   id = c.id;

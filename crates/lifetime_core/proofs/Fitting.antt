@@ -1,7 +1,7 @@
 -- What an event and the steps that it forces keep of the nodes of its collection.
 use Rattle.std.proofs.Common.{ℕ, ◌≡◌, refl, ap, sym, ◌∙◌, subst, Bool, true, false, ◌||◌, ◌&&◌, not, if◌then◌else◌, List, [], ◌∷◌, ◌++◌, map, Option, Some, None, is_some, ◌⊎◌, inl, inr}
 use Rattle.std.specs.List.{find, filter}
-use Rattle.std.specs.Option.{option_map, option_map_or}
+use Rattle.std.specs.Option.{option_map_or}
 use Rattle.sm_names.specs.declared.keys.Interval.{Interval}
 use Rattle.sm_names.specs.declared.keys.NodeKey.{NodeKey}
 use Rattle.sm_names.specs.declared.messages.Call.{Call}
@@ -10,20 +10,19 @@ use Rattle.sm_names.specs.declared.outcomes.Failure.{Failure}
 use Rattle.sm_names.specs.declared.outcomes.Fault.{Fault}
 use Rattle.sm_names.specs.Forced.{Standing, forced, ending, abandoned, initial_allocation, logical_allocation, outcome, is_deserted, initial_failure, is_next_head, logical_failure}
 use Rattle.sm_names.specs.Marks.{Mark, Called, Loss, Allocated, Ended}
-use Rattle.sm_names.specs.Members.{Member, is_live, is_under, some_live, subtree, root_left, asked, demands, unit, reserved}
+use Rattle.sm_names.specs.Members.{is_live, is_under, some_live, subtree, root_left, asked, demands, unit, reserved}
 use Rattle.sm_names.specs.Sameness.{same_key}
 use Rattle.sm_names.specs.Timelines.{layout}
 use Rattle.sm_names.proofs.ListLaws.{In, In-map, In-map-back, In-filter-back, In-find, In-append, In-first_some, none-In, when-Some}
-use Rattle.sm_names.proofs.SamenessLaws.{and_right, either_way, or_left, or_right, both_ways, none_or_some}
+use Rattle.sm_names.proofs.SamenessLaws.{and_right, or_right}
 use Rattle.sm_names.proofs.SettledLaws.{and_then-Some, map-Some, not_back}
 use Rattle.alloc_event.specs.declared.change.Change.{Change}
-use Rattle.alloc_event.specs.declared.node.End.{End}
 use Rattle.alloc_event.specs.declared.node.Node.{Node}
 use Rattle.alloc_event.specs.Forest.{Collection, pages_in, with_nodes}
-use Rattle.alloc_event.specs.Nodes.{affected, after_allocation, after_loss, ended, given_buffers, is_of, is_taken, lost, member_of, members_of, new_child, new_root, node_of, is_spent, with_end}
+use Rattle.alloc_event.specs.Nodes.{affected, after_allocation, after_loss, ended, given_buffers, is_of, is_taken, lost, member_of, members_of, new_child, new_root, node_of, is_spent}
 use Rattle.alloc_event.specs.Settling.{Handles, Settles, Rests, Forces, changed, is_birth, is_root_of, made, standing, with_birth}
 use Rattle.lifetime_core.specs.Tasks.{released_by}
-use Rattle.lifetime_core.specs.Whole.{AreFit, IsFit, is_leaving}
+use Rattle.lifetime_core.specs.Whole.{AreFit, AreOnce, IsFit, is_leaving}
 
 -- ---- one mark on one node
 
@@ -176,10 +175,19 @@ pub record Keeps (Known : NodeKey → Type 0) (id : ℕ) (leaving : Option NodeK
   pub same_id : d.id ≡ c.id
   pub fit : AreFit Known id leaving c.nodes → AreFit Known id leaving d.nodes
   pub keys : (n : Node) → In n c.nodes → (m : Node) × In m d.nodes × (m.key ≡ n.key)
+  pub once : AreOnce c.nodes → AreOnce d.nodes
 
 -- a map that keeps the keys
 mapped : (f : Node → Node) → ((n : Node) → (f n).key ≡ n.key) → (nodes : List Node) (n : Node) → In n nodes → (m : Node) × In m (map f nodes) × (m.key ≡ n.key)
 mapped f same nodes n in_nodes = (f n, In-map-back f nodes n in_nodes, same n)
+
+-- and leaves each key once
+pub mapped_once : (f : Node → Node) → ((n : Node) → (f n).key ≡ n.key) → (nodes : List Node) → AreOnce nodes → AreOnce (map f nodes)
+mapped_once f same nodes once n m n_in m_in key =
+    let x = In-map f nodes n n_in in
+    let y = In-map f nodes m m_in in
+    let keys : x.0.key ≡ y.0.key = sym (ap (λ (k : Node). k.key) x.2 ∙ same x.0) ∙ (key ∙ (ap (λ (k : Node). k.key) y.2 ∙ same y.0)) in
+    x.2 ∙ (ap f (once x.0 y.0 x.1 y.1 keys) ∙ sym y.2)
 
 -- no call changes a key
 affected_key : (call : Call) (n : Node) → (affected call n).key ≡ n.key
@@ -196,7 +204,7 @@ affected_key _ n = refl
 module _ (Known : NodeKey → Type 0) (id : ℕ) (leaving : Option NodeKey) where
   -- nothing happened
   nothing : (c : Collection) → Keeps Known id leaving c c
-  nothing c = record { same_id = refl; fit = λ fit. fit; keys = λ n in_nodes. (n, in_nodes, refl) }
+  nothing c = record { same_id = refl; fit = λ fit. fit; keys = λ n in_nodes. (n, in_nodes, refl); once = λ once. once }
 
   -- one after another
   after_that : (c d e : Collection) → Keeps Known id leaving c d → Keeps Known id leaving d e → Keeps Known id leaving c e
@@ -204,6 +212,7 @@ module _ (Known : NodeKey → Type 0) (id : ℕ) (leaving : Option NodeKey) wher
     same_id = next.same_id ∙ first.same_id;
     fit = λ fit. next.fit (first.fit fit);
     keys = λ n in_nodes. let m = first.keys n in_nodes in let k = next.keys m.0 m.1 in (k.0, k.1, k.2 ∙ m.2);
+    once = λ once. next.once (first.once once);
   }
 
   -- a loss
@@ -212,6 +221,7 @@ module _ (Known : NodeKey → Type 0) (id : ℕ) (leaving : Option NodeKey) wher
     same_id = refl;
     fit = map-fit Known id leaving (lost (is_taken c.nodes fault.origin) fault) c.nodes (λ n in_nodes fit. lost-fit Known id leaving (is_taken c.nodes fault.origin) fault n fit);
     keys = mapped (lost (is_taken c.nodes fault.origin) fault) (λ n. refl) c.nodes;
+    once = mapped_once (lost (is_taken c.nodes fault.origin) fault) (λ n. refl) c.nodes;
   }
 
   -- an allocation, whatever else it gives the collection
@@ -221,6 +231,7 @@ module _ (Known : NodeKey → Type 0) (id : ℕ) (leaving : Option NodeKey) wher
     fit = λ fit. subst (AreFit Known id leaving) (sym nodes)
         (map-fit Known id leaving (given_buffers head) c.nodes (λ n in_nodes fit. given-fit Known id leaving head n fit) fit);
     keys = λ n in_nodes. let m = mapped (given_buffers head) (λ n. refl) c.nodes n in_nodes in (m.0, subst (In m.0) (sym nodes) m.1, m.2);
+    once = λ once. subst AreOnce (sym nodes) (mapped_once (given_buffers head) (λ n. refl) c.nodes once);
   }
 
   -- one of two
@@ -244,6 +255,7 @@ module _ (Known : NodeKey → Type 0) (id : ℕ) (leaving : Option NodeKey) wher
     same_id = refl;
     fit = map-fit Known id leaving (ended c.nodes top) c.nodes (λ n in_nodes fit. ended-fit Known id leaving c.nodes top n (ended_released pool handles others c top is n in_nodes) fit);
     keys = mapped (ended c.nodes top) (λ n. refl) c.nodes;
+    once = mapped_once (ended c.nodes top) (λ n. refl) c.nodes;
   }
 
   -- all forced steps
@@ -259,12 +271,14 @@ in_front (z ∷ xs) ys x (inl is) = inl is
 in_front (z ∷ xs) ys x (inr on) = inr (in_front xs ys x on)
 
 module _ (Known : NodeKey → Type 0) (id : ℕ) (leaving : Option NodeKey) where
-  -- one more node that is fit
-  born : (c : Collection) (new : Node) → (AreFit Known id leaving c.nodes → IsFit Known id leaving new) → Keeps Known id leaving c (with_nodes (λ nodes. nodes ++ new ∷ []) c)
-  born c new fits = record {
+  -- one more node that is fit, with a key of its own
+  born : (c : Collection) (new : Node) → (AreFit Known id leaving c.nodes → IsFit Known id leaving new) → ((n : Node) → In n c.nodes → n.key ≡ new.key → ⊥) →
+      Keeps Known id leaving c (with_nodes (λ nodes. nodes ++ new ∷ []) c)
+  born c new fits own = record {
     same_id = refl;
     fit = λ fit n there. by fit n (In-append c.nodes (new ∷ []) n there);
     keys = λ n in_nodes. (n, in_front c.nodes (new ∷ []) n in_nodes, refl);
+    once = λ once n m n_in m_in key. two once n m (In-append c.nodes (new ∷ []) n n_in) (In-append c.nodes (new ∷ []) m m_in) key;
   }
     where
       by : AreFit Known id leaving c.nodes → (n : Node) → In n c.nodes ⊎ In n (new ∷ []) → IsFit Known id leaving n
@@ -272,36 +286,49 @@ module _ (Known : NodeKey → Type 0) (id : ℕ) (leaving : Option NodeKey) wher
       by fit n (inr (inl is)) = subst (IsFit Known id leaving) (sym is) (fits fit)
       by fit n (inr (inr none)) = absurd none
 
+      two : AreOnce c.nodes → (n m : Node) → In n c.nodes ⊎ In n (new ∷ []) → In m c.nodes ⊎ In m (new ∷ []) → n.key ≡ m.key → n ≡ m
+      two once n m (inl n_old) (inl m_old) key = once n m n_old m_old key
+      two once n m (inl n_old) (inr (inl m_new)) key = absurd (own n n_old (key ∙ ap (λ (k : Node). k.key) m_new))
+      two once n m (inr (inl n_new)) (inl m_old) key = absurd (own m m_old (sym key ∙ ap (λ (k : Node). k.key) n_new))
+      two once n m (inr (inl n_new)) (inr (inl m_new)) key = n_new ∙ sym m_new
+      two once n m (inr (inr none)) m_in key = absurd none
+      two once n m n_in (inr (inr none)) key = absurd none
+
+  -- the key is that of no node of the collection
+  abbrev IsOwn : Collection → NodeKey → Type 0
+  IsOwn c key = (n : Node) → In n c.nodes → n.key ≡ key → ⊥
+
   -- the birth of a root
-  root_born : (key : NodeKey) (event client : ℕ) (c : Collection) → c.id ≡ id → Known key → Keeps Known id leaving c (with_birth None false client event key c)
-  root_born key event client c here known =
-      born c (new_root key c.id event client) (λ fit. record { key = known; collection = here; failed = λ gone. cc; left = λ released. cc })
+  root_born : (key : NodeKey) (event client : ℕ) (c : Collection) → c.id ≡ id → Known key → IsOwn c key → Keeps Known id leaving c (with_birth None false client event key c)
+  root_born key event client c here known own =
+      born c (new_root key c.id event client) (λ fit. record { key = known; collection = here; failed = λ gone. cc; left = λ released. cc }) own
 
   -- the birth of a child
-  child_born : (attached : Bool) (key : NodeKey) (event client : ℕ) (c : Collection) (above : NodeKey) (o : Option Node) → node_of c.nodes above ≡ o → Known key →
+  child_born : (attached : Bool) (key : NodeKey) (event client : ℕ) (c : Collection) (above : NodeKey) (o : Option Node) → node_of c.nodes above ≡ o → Known key → IsOwn c key →
       Keeps Known id leaving c (option_map_or (λ n. record c { nodes = c.nodes ++ new_child attached key event client n ∷ [] }) o c)
-  child_born attached key event client c above None is known = nothing Known id leaving c
-  child_born attached key event client c above (Some n) is known =
+  child_born attached key event client c above None is known own = nothing Known id leaving c
+  child_born attached key event client c above (Some n) is known own =
       born c (new_child attached key event client n)
-      (λ fit. record { key = known; collection = (fit n (In-find (is_of above) c.nodes n is).0).collection; failed = λ gone. cc; left = λ released. cc })
+      (λ fit. record { key = known; collection = (fit n (In-find (is_of above) c.nodes n is).0).collection; failed = λ gone. cc; left = λ released. cc }) own
 
   -- what the event changes
-  pub changed_keeps : (change : Change) (key : NodeKey) (c : Collection) → c.id ≡ id → (is_birth change ≡ true → Known key) →
+  pub changed_keeps : (change : Change) (key : NodeKey) (c : Collection) → c.id ≡ id → (is_birth change ≡ true → Known key × IsOwn c key) →
       ((k : NodeKey) → released_by change ≡ Some k → leaving ≡ Some k) → Keeps Known id leaving c (changed change key c)
-  changed_keeps (Change.Birth None attached client event) key c here known spends = root_born key event client c here (known refl)
+  changed_keeps (Change.Birth None attached client event) key c here known spends = root_born key event client c here (known refl).0 (known refl).1
   changed_keeps (Change.Birth (Some above) attached client event) key c here known spends =
-      child_born attached key event client c above (node_of c.nodes above) refl (known refl)
+      child_born attached key event client c above (node_of c.nodes above) refl (known refl).0 (known refl).1
   changed_keeps (Change.Effect call) key c here known spends = record {
     same_id = refl;
     fit = map-fit Known id leaving (affected call) c.nodes (λ n in_nodes fit. affected-fit Known id leaving call n spends fit);
     keys = mapped (affected call) (affected_key call) c.nodes;
+    once = mapped_once (affected call) (affected_key call) c.nodes;
   }
   changed_keeps (Change.Loss origin cause) key c here known spends = loses Known id leaving c (record { cause = cause; origin = origin })
   changed_keeps Change.Nothing key c here known spends = nothing Known id leaving c
 
   -- what the event changes, and all that it forces
   pub event_keeps : (pool : ℕ) (handles : Handles) (others : List Interval) (change : Change) (key : NodeKey) (c after : Collection) → c.id ≡ id →
-      (is_birth change ≡ true → Known key) → ((k : NodeKey) → released_by change ≡ Some k → leaving ≡ Some k) →
+      (is_birth change ≡ true → Known key × IsOwn c key) → ((k : NodeKey) → released_by change ≡ Some k → leaving ≡ Some k) →
       Settles pool handles others (changed change key c) after → Keeps Known id leaving c after
   event_keeps pool handles others change key c after here known spends settles =
       after_that Known id leaving c (changed change key c) after (changed_keeps change key c here known spends)

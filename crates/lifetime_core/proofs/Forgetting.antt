@@ -1,21 +1,21 @@
 -- An end is spent, and what is over is forgotten.
-use Rattle.std.proofs.Common.{ℕ, ◌≡◌, ◌≢◌, ◌<◌, refl, ap, sym, ◌∙◌, subst, Bool, true, false, ◌==◌, ◌||◌, ◌&&◌, not, if◌then◌else◌, List, [], ◌∷◌, ◌++◌, length, map, Option, Some, None, ◌⊎◌, inl, inr, arith}
-use Rattle.std.proofs.lemmas.Bool.{eqb-true, eqb-false, eq-eqb}
+use Rattle.std.proofs.Common.{ℕ, ◌≡◌, ◌<◌, refl, ap, sym, ◌∙◌, subst, Bool, true, false, ◌==◌, ◌||◌, ◌&&◌, not, if◌then◌else◌, List, [], ◌∷◌, ◌++◌, length, map, Option, Some, None, inl, inr, arith}
+use Rattle.std.proofs.lemmas.Bool.{eqb-true, eqb-false}
 use Rattle.std.specs.List.{filter, flat_map, AllByRecursion}
-use Rattle.sm_names.specs.declared.keys.Interval.{Interval}
 use Rattle.sm_names.specs.declared.keys.NodeKey.{NodeKey}
 use Rattle.sm_names.specs.Sameness.{same_key}
 use Rattle.sm_names.specs.Timelines.{HeldPages}
 use Rattle.sm_names.proofs.ListLaws.{In, In-filter, In-map}
-use Rattle.sm_names.proofs.SamenessLaws.{and_right, either_way, false_if, same_key-true, or_left, or_false}
+use Rattle.sm_names.proofs.SamenessLaws.{and_right, false_if, same_key-true}
 use Rattle.sm_names.proofs.SettledLaws.{not_back}
 use Rattle.alloc_event.specs.declared.node.End.{End}
 use Rattle.alloc_event.specs.declared.node.Node.{Node}
 use Rattle.alloc_event.specs.Forest.{Collection, Forest, SameKeys, all_held, given, is_left, tidied, with_nodes, without_over_in}
 use Rattle.alloc_event.specs.Nodes.{is_over, is_spent, with_end}
-use Rattle.lifetime_core.specs.Steps.{with_spent, without_over}
-use Rattle.lifetime_core.specs.Whole.{AreFit, IsAmid, IsFit, IsSound, IsTidy, Rise, is_leaving}
-use Rattle.lifetime_core.proofs.Putting.{all_tidy, ids, others_tidy}
+use Rattle.lifetime_core.specs.Steps.{with_place, without_over}
+use Rattle.lifetime_core.specs.Tasks.{spent_place}
+use Rattle.lifetime_core.specs.Whole.{AreFit, AreOnce, IsAmid, IsFit, IsSound, IsTidy, Rise}
+use Rattle.lifetime_core.proofs.Putting.{ids, others_tidy}
 
 -- the collection once the end is spent
 abbrev spent_in_one : Option NodeKey → Collection → Collection
@@ -28,7 +28,7 @@ map-same f [] same = refl
 map-same f (x ∷ xs) same = λ i. same x (inl refl) i ∷ map-same f xs (λ y on. same y (inr on)) i
 
 -- each collection, once the end is spent
-spent_is : (leaving : Option NodeKey) (f : Forest) → (with_spent leaving f).collections ≡ map (spent_in_one leaving) f.collections
+spent_is : (leaving : Option NodeKey) (f : Forest) → (with_place (spent_place leaving) f).collections ≡ map (spent_in_one leaving) f.collections
 spent_is None f = sym (map-same (λ c. c) f.collections (λ c on. refl))
 spent_is (Some key) f = refl
 
@@ -121,7 +121,7 @@ spent_id None c = refl
 spent_id (Some key) c = refl
 
 -- the same keys given
-spent_given : (leaving : Option NodeKey) (f : Forest) (key : NodeKey) → given (with_spent leaving f) key ≡ given f key
+spent_given : (leaving : Option NodeKey) (f : Forest) (key : NodeKey) → given (with_place (spent_place leaving) f) key ≡ given f key
 spent_given None f key = refl
 spent_given (Some spent) f key = refl
 
@@ -153,7 +153,7 @@ module _ (f : Forest) (id : ℕ) (leaving : Option NodeKey) (amid : IsAmid f id 
       subst IsTidy (sym same) (amid.tidy from.0 from.1 elsewhere)
 
   -- so it is enough to look at that one
-  pub forgets_all : without_over_in id (with_spent leaving f).collections ≡ without_over (with_spent leaving f).collections
+  pub forgets_all : without_over_in id (with_place (spent_place leaving) f).collections ≡ without_over (with_place (spent_place leaving) f).collections
   forgets_all =
       rw (spent_is leaving f)
       (others_tidy id (map (spent_in_one leaving) f.collections) (subst Rise (sym (spent_ids leaving f.collections)) amid.rising) tidy_spent)
@@ -162,10 +162,10 @@ module _ (f : Forest) (id : ℕ) (leaving : Option NodeKey) (amid : IsAmid f id 
 pub known_more : (Known More : NodeKey → Type 0) (id : ℕ) (leaving : Option NodeKey) (n : Node) → (Known n.key → More n.key) → IsFit Known id leaving n → IsFit More id leaving n
 known_more Known More id leaving n more fit = record { key = more fit.key; collection = fit.collection; failed = fit.failed; left = fit.left }
 
-module _ (f g : Forest) (id : ℕ) (leaving : Option NodeKey) (amid : IsAmid f id leaving) (same : SameKeys (with_spent leaving f) g)
-    (collections : g.collections ≡ without_over_in id (with_spent leaving f).collections) where
+module _ (f g : Forest) (id : ℕ) (leaving : Option NodeKey) (amid : IsAmid f id leaving) (same : SameKeys (with_place (spent_place leaving) f) g)
+    (collections : g.collections ≡ without_over_in id (with_place (spent_place leaving) f).collections) where
   -- the collections are those that are left
-  pub are_left : g.collections ≡ without_over (with_spent leaving f).collections
+  pub are_left : g.collections ≡ without_over (with_place (spent_place leaving) f).collections
   are_left = collections ∙ forgets_all f id leaving amid
 
   -- the same, over the collections one by one
@@ -222,6 +222,16 @@ module _ (f g : Forest) (id : ℕ) (leaving : Option NodeKey) (amid : IsAmid f i
       sym (ap (λ (k : Node). k.key) x.2 ∙ spent_key leaving x.0) ∙ (key ∙ (ap (λ (k : Node). k.key) y.2 ∙ spent_key leaving y.0)) in
       left_id c a.0 a.2 ∙ (amid.apart a.0 b.0 a.1 b.1 x.0 y.0 x.1 y.1 keys ∙ sym (left_id d b.0 b.2))
 
+  -- nor twice in one
+  once_left : (c : Collection) → In c g.collections → AreOnce c.nodes
+  once_left c there n m n_in m_in key =
+      let old = left_from c there in
+      let x = node_from c old.0 old.2 n n_in in
+      let y = node_from c old.0 old.2 m m_in in
+      let keys : x.0.key ≡ y.0.key =
+      sym (ap (λ (k : Node). k.key) x.2 ∙ spent_key leaving x.0) ∙ (key ∙ (ap (λ (k : Node). k.key) y.2 ∙ spent_key leaving y.0)) in
+      x.2 ∙ (ap (spent_node leaving) (amid.once old.0 old.1 x.0 y.0 x.1 y.1 keys) ∙ sym y.2)
+
   -- all that is left is tidy
   tidy_left : (c : Collection) → In c g.collections → IsTidy c
   tidy_left c there =
@@ -240,6 +250,7 @@ module _ (f g : Forest) (id : ℕ) (leaving : Option NodeKey) (amid : IsAmid f i
         (rises_left (map (spent_in_one leaving) f.collections) (subst Rise (sym (spent_ids leaving f.collections)) amid.rising));
     fit = fit_left;
     apart = apart_left;
+    once = once_left;
     tidy = tidy_left;
   }
 
@@ -248,6 +259,6 @@ module _ (f g : Forest) (id : ℕ) (leaving : Option NodeKey) (amid : IsAmid f i
   id_from c there = let old = left_from c there in (old.0, old.1, left_id c old.0 old.2)
 
 -- spending an end changes no key and no limit
-pub same_worked : (leaving : Option NodeKey) (f g : Forest) → SameKeys (with_spent leaving f) g → SameKeys f g
+pub same_worked : (leaving : Option NodeKey) (f g : Forest) → SameKeys (with_place (spent_place leaving) f) g → SameKeys f g
 same_worked None f g same = same
 same_worked (Some key) f g same = record { limit = same.limit; keys = same.keys }

@@ -1,5 +1,6 @@
 -- Lists that are mapped, filtered and turned round.
-use Rattle.std.proofs.Common.{ℕ, ◌≡◌, refl, ap, sym, ◌∙◌, Bool, true, false, cond, ◌||◌, ◌&&◌, inl, inr, List, [], ◌∷◌, ◌++◌, map, reverse, Some, None}
+use Rattle.std.proofs.Common.{ℕ, ◌≡◌, refl, ap, sym, ◌∙◌, Bool, true, false, cond, ◌||◌, ◌&&◌, ◌==◌, inl, inr, List, [], ◌∷◌, ◌++◌, map, reverse, Some, None}
+use Rattle.std.proofs.lemmas.Bool.{eqb-true}
 use Rattle.std.proofs.lemmas.List.{map-append}
 use Rattle.std.specs.List.{filter, find, list_any, flat_map}
 use Rattle.std.specs.Option.{option_map}
@@ -122,6 +123,14 @@ find_only p (y ∷ ys) x on is only =
 pub find_none : {A : Type 0} (p : A → Bool) (xs : List A) → ((y : A) → In y xs → p y ≡ false) → find p xs ≡ None
 find_none p [] none = refl
 find_none p (y ∷ ys) none = rw (none y (inl refl)) (find_none p ys (λ z on. none z (inr on)))
+
+-- a number is found if it is there
+pub find_number : (n : ℕ) (ns : List ℕ) → find (λ m. m == n) ns ≡ cond (list_any (λ m. m == n) ns) (Some n) None
+find_number n [] = refl
+find_number n (m ∷ ms) = elim (either_way (m == n)) [
+  | inl e ↦ rw e (ap Some (eqb-true m n e))
+  | inr e ↦ rw e (find_number n ms)
+]
 
 -- and none is counted
 pub times_none : {A : Type 0} (p : A → Bool) (xs : List A) → ((y : A) → In y xs → p y ≡ false) → times p xs ≡ 0

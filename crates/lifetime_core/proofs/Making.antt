@@ -1,34 +1,21 @@
--- A task, from its change to what is forgotten.
-use Rattle.std.proofs.Common.{ℕ, ◌≡◌, refl, ap, sym, ◌∙◌, subst, ◌≤◌, inl, inr, Option, Some, None, IfSome, List, [], is_some, true}
+-- What the change of a task leaves of the forest.
+use Rattle.std.proofs.Common.{ℕ, ◌≡◌, refl, sym, ◌∙◌, subst, ◌≤◌, inl, inr, Option, Some, None, IfSome, is_some, true}
 use Rattle.std.specs.Option.{option_map}
-use Rattle.sm_names.specs.declared.keys.BufferName.{BufferName}
 use Rattle.sm_names.specs.declared.keys.NodeKey.{NodeKey}
-use Rattle.sm_names.specs.declared.keys.Strength.{Strength}
 use Rattle.sm_names.proofs.ListLaws.{In}
 use Rattle.sm_names.proofs.SettledLaws.{map-Some}
-use Rattle.buffer_holds.specs.Counts.{Counts, total}
 use Rattle.alloc_event.specs.declared.change.Change.{Change}
 use Rattle.alloc_event.specs.declared.node.Node.{Node}
-use Rattle.alloc_event.specs.Forest.{Collection, Forest, SameKeys, all_held, node_at, without_over_in}
+use Rattle.alloc_event.specs.Forest.{Forest, node_at}
 use Rattle.alloc_event.specs.Settling.{Handles, Settled}
 use Rattle.lifetime_core.specs.declared.task.Task.{Task}
-use Rattle.lifetime_core.specs.Reads.{handles}
-use Rattle.lifetime_core.specs.Tasks.{Does, MayDo, Reworked, released_by, work_in}
-use Rattle.lifetime_core.specs.Whole.{AreUpTo, IsAmid, IsClosed, IsSound}
-use Rattle.lifetime_core.specs.Steps.{Work, with_spent}
-use Rattle.lifetime_core.proofs.Forgetting.{are_left, id_from, same_held, same_worked, sound_left}
-use Rattle.lifetime_core.proofs.Putting.{all_tidy}
+use Rattle.lifetime_core.specs.Tasks.{MayDo, Reworked, released_by, work_in}
+use Rattle.lifetime_core.specs.Whole.{AreUpTo, CanFinish, IsAmid, IsSound}
+use Rattle.lifetime_core.specs.Steps.{Work}
 use Rattle.lifetime_core.proofs.Reworking.{IsThere, amid_same, amid_settled, worked_id, key_is_there, node_with_key}
 
--- where nothing is open, no handle is
-pub none_open : (h : Counts) → IsClosed h → total h ≡ handles
-none_open h closed = λ i buffer strength. none buffer strength i
-  where
-    none : (buffer : BufferName) (strength : Strength) → total h buffer strength ≡ 0
-    none buffer strength = rw (closed.rows, closed.parcels) refl
-
 -- the end that the task spends is of a node of its collection
-may_spend : (f : Forest) (t : Task) → IsSound f → MayDo f t → IsThere f t.collection t.spends
+pub may_spend : (f : Forest) (t : Task) → IsSound f → MayDo f t → IsThere f t.collection t.spends
 may_spend f t sound may key is =
     let at : option_map (λ (n : Node). n.collection) (node_at f key) ≡ Some t.collection =
     subst (λ (o : Option NodeKey). IfSome o (λ k. option_map (λ (n : Node). n.collection) (node_at f k) ≡ Some t.collection)) is may.there in
@@ -37,38 +24,38 @@ may_spend f t sound may key is =
     (c.0, n.0, c.1, c.2, c.3, sym (sound.fit c.0 c.1 n.0 c.2).collection ∙ n.2)
 
 -- a release spends the end
-may_release : (f : Forest) (t : Task) (change : Change) → MayDo f t → t.change ≡ Some change → (key : NodeKey) → released_by change ≡ Some key → t.spends ≡ Some key
+pub may_release : (f : Forest) (t : Task) (change : Change) → MayDo f t → t.change ≡ Some change → (key : NodeKey) → released_by change ≡ Some key → t.spends ≡ Some key
 may_release f t change may is key releases =
     let each : IfSome (released_by change) (λ k. t.spends ≡ Some k) =
     subst (λ (o : Option Change). IfSome o (λ x. IfSome (released_by x) (λ k. t.spends ≡ Some k))) is may.spends in
     subst (λ (o : Option NodeKey). IfSome o (λ k. t.spends ≡ Some k)) releases each
 
 -- the forest once the change is made, and all that it forces
-pub amid_worked : (pool : ℕ) (f worked : Forest) (t : Task) (key : Option NodeKey) → IsSound f → MayDo f t → Reworked pool f (work_in (Some t)) key worked →
+pub amid_worked : (pool : ℕ) (handles : Handles) (f worked : Forest) (t : Task) (key : Option NodeKey) → IsSound f → MayDo f t → Reworked pool handles f (work_in (Some t)) key worked →
     IsAmid worked t.collection t.spends
-amid_worked pool f worked t key sound may work = by t.change refl
+amid_worked pool handles f worked t key sound may work = by t.change refl
   where
     by : (o : Option Change) → t.change ≡ o → IsAmid worked t.collection t.spends
     by None is =
-        let same : worked ≡ f = (subst (λ (o : Option Change). Reworked pool f (option_map (λ x. record { collection = t.collection; change = x }) o) key worked) is work).0 in
+        let same : worked ≡ f = (subst (λ (o : Option Change). Reworked pool handles f (option_map (λ x. record { collection = t.collection; change = x }) o) key worked) is work).0 in
         subst (λ (x : Forest). IsAmid x t.collection t.spends) (sym same) (amid_same f t.collection t.spends sound (may_spend f t sound may))
     by (Some change) is =
         let settled : Settled pool handles f worked t.collection change key =
-        subst (λ (o : Option Change). Reworked pool f (option_map (λ x. record { collection = t.collection; change = x }) o) key worked) is work in
+        subst (λ (o : Option Change). Reworked pool handles f (option_map (λ x. record { collection = t.collection; change = x }) o) key worked) is work in
         amid_settled pool handles f worked t.collection change key t.spends sound (may_spend f t sound may) (may_release f t change may is) settled
 
 -- no id is above the others and that of the change
-worked_up_to : (pool : ℕ) (f worked : Forest) (t : Task) (key : Option NodeKey) (most : ℕ) → IsSound f → MayDo f t → Reworked pool f (work_in (Some t)) key worked →
+worked_up_to : (pool : ℕ) (handles : Handles) (f worked : Forest) (t : Task) (key : Option NodeKey) (most : ℕ) → IsSound f → MayDo f t → Reworked pool handles f (work_in (Some t)) key worked →
     AreUpTo most f → IfSome (work_in (Some t)) (λ w. w.collection ≤ most) → AreUpTo most worked
-worked_up_to pool f worked t key most sound may work before here = by t.change refl
+worked_up_to pool handles f worked t key most sound may work before here = by t.change refl
   where
     by : (o : Option Change) → t.change ≡ o → AreUpTo most worked
     by None is c on =
-        let same : worked ≡ f = (subst (λ (o : Option Change). Reworked pool f (option_map (λ x. record { collection = t.collection; change = x }) o) key worked) is work).0 in
+        let same : worked ≡ f = (subst (λ (o : Option Change). Reworked pool handles f (option_map (λ x. record { collection = t.collection; change = x }) o) key worked) is work).0 in
         before c (subst (λ (x : Forest). In c x.collections) same on)
     by (Some change) is c on =
         let settled : Settled pool handles f worked t.collection change key =
-        subst (λ (o : Option Change). Reworked pool f (option_map (λ x. record { collection = t.collection; change = x }) o) key worked) is work in
+        subst (λ (o : Option Change). Reworked pool handles f (option_map (λ x. record { collection = t.collection; change = x }) o) key worked) is work in
         let within : t.collection ≤ most = subst (λ (o : Option Change). IfSome (option_map (λ x. record { collection = t.collection; change = x }) o) (λ (w : Work). w.collection ≤ most)) is here in
         elim (worked_id pool handles f worked t.collection change key t.spends sound (may_spend f t sound may) (may_release f t change may is) settled c on) [
           | inl one ↦ rw one within
@@ -86,48 +73,14 @@ pub ends_are_there : (f : Forest) (id : ℕ) (leaving : Option NodeKey) → IsAm
 ends_are_there f id None amid = tt
 ends_are_there f id (Some key) amid = end_is_there f id (Some key) key amid refl
 
--- no task
-pub nothing_done : (pool : ℕ) (f : Forest) → IsSound f → Does pool f f None None
-nothing_done pool f sound = record {
-  worked = f;
-  work = (refl, refl);
-  collections = sym (all_tidy f.collections sound.tidy);
-  keys = record { limit = refl; keys = λ key. refl };
-}
+-- the event can be finished
+pub can_finish : (pool : ℕ) (handles : Handles) (f worked : Forest) (task : Option Task) (key : Option NodeKey) → IsSound f → IfSome task (MayDo f) →
+    Reworked pool handles f (work_in task) key worked → CanFinish worked task
+can_finish pool handles f worked None key sound may work = subst IsSound (sym work.0) sound
+can_finish pool handles f worked (Some t) key sound may work = amid_worked pool handles f worked t key sound may work
 
-module _ (pool : ℕ) (f worked spent g : Forest) (t : Task) (key : Option NodeKey) (sound : IsSound f) (may : MayDo f t) (work : Reworked pool f (work_in (Some t)) key worked)
-    (spent_is : spent ≡ with_spent t.spends worked) (collections : g.collections ≡ without_over_in t.collection spent.collections) (same : SameKeys spent g) where
-  -- in the midst of it
-  amid : IsAmid worked t.collection t.spends
-  amid = amid_worked pool f worked t key sound may work
-
-  -- the keys stay
-  same_keys : SameKeys (with_spent t.spends worked) g
-  same_keys = subst (λ (x : Forest). SameKeys x g) spent_is same
-
-  -- one collection lost what was over
-  one_less : g.collections ≡ without_over_in t.collection (with_spent t.spends worked).collections
-  one_less = subst (λ (x : Forest). g.collections ≡ without_over_in t.collection x.collections) spent_is collections
-
-  -- the task is done
-  pub all_done : Does pool f g (Some t) key
-  all_done = record {
-    worked = worked;
-    work = work;
-    collections = are_left worked g t.collection t.spends amid same_keys one_less;
-    keys = same_worked t.spends worked g same_keys;
-  }
-
-  -- the forest is sound
-  pub done_sound : IsSound g
-  done_sound = sound_left worked g t.collection t.spends amid same_keys one_less
-
-  -- and holds the pages that it held
-  pub done_held : all_held g ≡ all_held worked
-  done_held = same_held worked g t.collection t.spends amid same_keys one_less
-
-  -- and no id is above the others and that of the change
-  pub done_up_to : (most : ℕ) → AreUpTo most f → IfSome (work_in (Some t)) (λ work. work.collection ≤ most) → AreUpTo most g
-  done_up_to most before here c on =
-      let old = id_from worked g t.collection t.spends amid same_keys one_less c on in
-      rw old.2 (worked_up_to pool f worked t key most sound may work before here old.0 old.1)
+-- no id is above the others and that of the change
+pub up_to_worked : (pool : ℕ) (handles : Handles) (f worked : Forest) (task : Option Task) (key : Option NodeKey) (most : ℕ) → IsSound f → IfSome task (MayDo f) →
+    Reworked pool handles f (work_in task) key worked → AreUpTo most f → IfSome (work_in task) (λ w. w.collection ≤ most) → AreUpTo most worked
+up_to_worked pool handles f worked None key most sound may work before here = subst (AreUpTo most) (sym work.0) before
+up_to_worked pool handles f worked (Some t) key most sound may work before here = worked_up_to pool handles f worked t key most sound may work before here

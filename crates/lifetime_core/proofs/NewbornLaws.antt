@@ -1,59 +1,52 @@
 -- What a birth makes of the nodes of a collection.
-use Rattle.std.proofs.Common.{ℕ, ◌≡◌, ◌+◌, refl, ap, ◌∙◌, subst, Bool, true, false, ◌||◌, ◌==◌, List, [], ◌∷◌, ◌++◌, map, Some, None}
+use Rattle.std.proofs.Common.{ℕ, ◌≡◌, ◌+◌, refl, ap, ◌∙◌, subst, Bool, true, false, ◌||◌, ◌==◌, List, [], ◌∷◌, ◌++◌, map, Option, Some, None}
 use Rattle.std.proofs.lemmas.Bool.{eq-eqb}
 use Rattle.std.proofs.lemmas.List.{reverse-append, map-append}
 use Rattle.std.specs.List.{list_any, filter}
+use Rattle.std.specs.Option.{option_map_or}
 use Rattle.sm_names.specs.declared.keys.NodeKey.{NodeKey}
 use Rattle.sm_names.specs.declared.messages.Call.{Call}
 use Rattle.sm_names.specs.declared.messages.Reply.{Reply}
 use Rattle.sm_names.specs.Births.{Birth, births, birth_at, was_born, head}
-use Rattle.sm_names.specs.Ends.{holder, collector}
+use Rattle.sm_names.specs.Bounds.{Bound}
+use Rattle.sm_names.specs.Ends.{binds, spent, holder, collector, in_transit}
 use Rattle.sm_names.specs.Losses.{allocated, is_allocation}
 use Rattle.sm_names.specs.Marks.{Mark, Timeline, Called, events}
 use Rattle.sm_names.specs.Members.{births_in}
 use Rattle.sm_names.specs.Sameness.{same_key}
 use Rattle.sm_names.specs.Weakness.{weak, covered, covers_children, sets_weak, sets_weak_ok}
+use Rattle.sm_names.proofs.GrowthLaws.{Grows}
 use Rattle.sm_names.proofs.ListLaws.{In, In-filter, In-reverse, map-In}
 use Rattle.sm_names.proofs.ReachLaws.{other_key}
 use Rattle.sm_names.proofs.SamenessLaws.{or_false, same_key-refl}
 use Rattle.sm_names.proofs.SettledLaws.{In-was_born}
+use Rattle.event_laws.proofs.TransitLaws.{end_at}
 use Rattle.alloc_event.specs.declared.node.End.{End}
 use Rattle.alloc_event.specs.declared.node.Node.{Node}
 use Rattle.alloc_event.specs.Nodes.{new_root, new_child}
-use Rattle.lifetime_core.specs.Shown.{IsQuiet, node_after, nodes_after, end_after}
-use Rattle.lifetime_core.proofs.CalledLaws.{not_moving}
-use Rattle.lifetime_core.proofs.UnsaidLaws.{IsUnsaid}
+use Rattle.lifetime_core.specs.Shown.{node_after, nodes_after, end_after}
+use Rattle.lifetime_core.proofs.UnsaidLaws.{IsUnsaid, unsaid}
 
 -- ---- the nodes that were there
-
--- what is there is that
-some_is : {c d : Birth} → Some c ≡ Some d → c ≡ d
-some_is e = cc
 
 -- a birth changes no other node
 pub old_node : (marks : Timeline) (client : ℕ) (reply : Reply) (call : Call) (b x : Birth) → birth_at (events marks + 1) (Called client reply call) ≡ Some b → same_key b.node x.node ≡ false →
     node_after (Called client reply call ∷ marks) x ≡ node_after marks x
 old_node marks client (Reply.Token key collection) Call.OpenRoot b x h other =
     let called : Timeline = Called client (Reply.Token key collection) Call.OpenRoot ∷ marks in
-    let new : Birth = record { node = key; parent = None; attached = false; collection = collection; event = events marks + 1; client = client } in
-    let is : new ≡ b = some_is h in
-    let other' : same_key key x.node ≡ false = ap (λ (c : Birth). same_key c.node x.node) is ∙ other in
+    let other' : same_key key x.node ≡ false = ap (λ (o : Option Birth). option_map_or (λ (c : Birth). same_key c.node x.node) o false) h ∙ other in
     let heads : head (births called) x.node ≡ head (births marks) x.node = rw other' refl in
     let allocates : allocated called x.node ≡ allocated marks x.node = ap (λ (k : NodeKey). list_any (is_allocation k) marks) heads in
     rw other' (λ i. record (node_after marks x) { allocated = allocates i })
 old_node marks client (Reply.Token key collection) (Call.Duplicate parent) b x h other =
     let called : Timeline = Called client (Reply.Token key collection) (Call.Duplicate parent) ∷ marks in
-    let new : Birth = record { node = key; parent = Some parent; attached = false; collection = collection; event = events marks + 1; client = client } in
-    let is : new ≡ b = some_is h in
-    let other' : same_key key x.node ≡ false = ap (λ (c : Birth). same_key c.node x.node) is ∙ other in
+    let other' : same_key key x.node ≡ false = ap (λ (o : Option Birth). option_map_or (λ (c : Birth). same_key c.node x.node) o false) h ∙ other in
     let heads : head (births called) x.node ≡ head (births marks) x.node = rw other' refl in
     let allocates : allocated called x.node ≡ allocated marks x.node = ap (λ (k : NodeKey). list_any (is_allocation k) marks) heads in
     rw other' (λ i. record (node_after marks x) { allocated = allocates i })
 old_node marks client (Reply.Token key collection) (Call.AttachToken parent) b x h other =
     let called : Timeline = Called client (Reply.Token key collection) (Call.AttachToken parent) ∷ marks in
-    let new : Birth = record { node = key; parent = Some parent; attached = true; collection = collection; event = events marks + 1; client = client } in
-    let is : new ≡ b = some_is h in
-    let other' : same_key key x.node ≡ false = ap (λ (c : Birth). same_key c.node x.node) is ∙ other in
+    let other' : same_key key x.node ≡ false = ap (λ (o : Option Birth). option_map_or (λ (c : Birth). same_key c.node x.node) o false) h ∙ other in
     let heads : head (births called) x.node ≡ head (births marks) x.node = rw other' refl in
     let allocates : allocated called x.node ≡ allocated marks x.node = ap (λ (k : NodeKey). list_any (is_allocation k) marks) heads in
     rw other' (λ i. record (node_after marks x) { allocated = allocates i })
@@ -61,8 +54,16 @@ old_node marks client reply call b x h other = cc
 
 -- ---- the new one
 
-module _ (marks : Timeline) (quiet : IsQuiet marks) (client : ℕ) (key : NodeKey) (collection : ℕ) (u : IsUnsaid marks key)
-    (uncollected : collector marks key ≡ None) where
+module _ (pool : ℕ) (limits : Bound) (marks : Timeline) (grown : Grows pool limits [] marks) (client : ℕ) (key : NodeKey) (collection : ℕ)
+    (fresh : was_born (births marks) key ≡ false) where
+  -- nothing was said of it
+  blank : IsUnsaid marks key
+  blank = unsaid pool limits marks grown key fresh
+
+  -- and nobody had its end
+  idle : (spent marks key ≡ false) × (collector marks key ≡ None) × (in_transit marks key ≡ false) × (list_any (binds key) marks ≡ false)
+  idle = (end_at pool limits marks grown key).unborn fresh
+
   -- a root that is new
   abbrev pub root : Birth
   root = record { node = key; parent = None; attached = false; collection = collection; event = events marks + 1; client = client }
@@ -72,12 +73,12 @@ module _ (marks : Timeline) (quiet : IsQuiet marks) (client : ℕ) (key : NodeKe
   new_root_is =
       let called : Timeline = Called client (Reply.Token key collection) Call.OpenRoot ∷ marks in
       let heads : head (births called) key ≡ key = rw (same_key-refl key) refl in
-      let allocates : allocated called key ≡ false = ap (λ (k : NodeKey). list_any (is_allocation k) marks) heads ∙ u.heads_none in
-      let weakens : weak called key ≡ false = rw (same_key-refl key) u.not_weak in
-      let allows : (list_any (sets_weak key) marks || (list_any (sets_weak_ok key) marks || covered called key)) ≡ false = rw (u.not_set_weak, u.not_weak_ok, same_key-refl key) u.not_covered in
-      let covers : (list_any (covers_children key) marks || covered called key) ≡ false = rw (u.not_covering, same_key-refl key) u.not_covered in
-      let held_by : holder called key ≡ client = rw (uncollected, same_key-refl key) refl in
-      let end_is : end_after called key ≡ End.Held client = rw (u.not_spent, not_moving marks quiet key, held_by) refl in
+      let allocates : allocated called key ≡ false = ap (λ (k : NodeKey). list_any (is_allocation k) marks) heads ∙ blank.heads_none in
+      let weakens : weak called key ≡ false = rw (same_key-refl key) blank.not_weak in
+      let allows : (list_any (sets_weak key) marks || (list_any (sets_weak_ok key) marks || covered called key)) ≡ false = rw (blank.not_set_weak, blank.not_weak_ok, same_key-refl key) blank.not_covered in
+      let covers : (list_any (covers_children key) marks || covered called key) ≡ false = rw (blank.not_covering, same_key-refl key) blank.not_covered in
+      let held_by : holder called key ≡ client = rw (idle.1, same_key-refl key) refl in
+      let end_is : end_after called key ≡ End.Held client = rw (idle.0, idle.2, held_by) refl in
       λ i. record {
         key = key;
         parent = None;
@@ -86,17 +87,17 @@ module _ (marks : Timeline) (quiet : IsQuiet marks) (client : ℕ) (key : NodeKe
         event = events marks + 1;
         head = heads i;
         allocated = allocates i;
-        gone = u.not_gone i;
-        fault = u.no_fault i;
-        released = u.not_released i;
-        dispensable = u.not_dispensable i;
+        gone = blank.not_gone i;
+        fault = blank.no_fault i;
+        released = blank.not_released i;
+        dispensable = blank.not_dispensable i;
         weak = weakens i;
         weak_ok = allows i;
         covers = covers i;
-        constraints = u.not_constrained i;
-        took = u.not_taken i;
-        trackers = u.not_tracked i;
-        bound = u.not_bound i;
+        constraints = blank.not_constrained i;
+        took = blank.not_taken i;
+        trackers = blank.not_tracked i;
+        bound = idle.3 i;
         end = end_is i;
       }
 
@@ -112,12 +113,12 @@ module _ (marks : Timeline) (quiet : IsQuiet marks) (client : ℕ) (key : NodeKe
       let heads : head (births called) key ≡ head (births marks) p.node = rw (same_key-refl key) refl in
       let allocates : allocated called key ≡ allocated marks p.node = ap (λ (k : NodeKey). list_any (is_allocation k) marks) heads in
       let covering : Bool = list_any (covers_children p.node) marks || covered marks p.node in
-      let weakens : weak called key ≡ weak marks p.node = rw (same_key-refl key, u.not_weak) (or_false (weak marks p.node)) in
-      let covers_it : covered called key ≡ covering = rw (same_key-refl key, u.not_covered) (or_false covering) in
-      let allows : (list_any (sets_weak key) marks || (list_any (sets_weak_ok key) marks || covered called key)) ≡ covering = rw (u.not_set_weak, u.not_weak_ok) covers_it in
-      let covers : (list_any (covers_children key) marks || covered called key) ≡ covering = rw u.not_covering covers_it in
-      let held_by : holder called key ≡ client = rw (uncollected, same_key-refl key) refl in
-      let end_is : end_after called key ≡ End.Held client = rw (u.not_spent, not_moving marks quiet key, held_by) refl in
+      let weakens : weak called key ≡ weak marks p.node = rw (same_key-refl key, blank.not_weak) (or_false (weak marks p.node)) in
+      let covers_it : covered called key ≡ covering = rw (same_key-refl key, blank.not_covered) (or_false covering) in
+      let allows : (list_any (sets_weak key) marks || (list_any (sets_weak_ok key) marks || covered called key)) ≡ covering = rw (blank.not_set_weak, blank.not_weak_ok) covers_it in
+      let covers : (list_any (covers_children key) marks || covered called key) ≡ covering = rw blank.not_covering covers_it in
+      let held_by : holder called key ≡ client = rw (idle.1, same_key-refl key) refl in
+      let end_is : end_after called key ≡ End.Held client = rw (idle.0, idle.2, held_by) refl in
       λ i. record {
         key = key;
         parent = Some p.node;
@@ -126,17 +127,17 @@ module _ (marks : Timeline) (quiet : IsQuiet marks) (client : ℕ) (key : NodeKe
         event = events marks + 1;
         head = heads i;
         allocated = allocates i;
-        gone = u.not_gone i;
-        fault = u.no_fault i;
-        released = u.not_released i;
-        dispensable = u.not_dispensable i;
+        gone = blank.not_gone i;
+        fault = blank.no_fault i;
+        released = blank.not_released i;
+        dispensable = blank.not_dispensable i;
         weak = weakens i;
         weak_ok = allows i;
         covers = covers i;
-        constraints = u.not_constrained i;
-        took = u.not_taken i;
-        trackers = u.not_tracked i;
-        bound = u.not_bound i;
+        constraints = blank.not_constrained i;
+        took = blank.not_taken i;
+        trackers = blank.not_tracked i;
+        bound = idle.3 i;
         end = end_is i;
       }
 
@@ -150,14 +151,14 @@ module _ (marks : Timeline) (quiet : IsQuiet marks) (client : ℕ) (key : NodeKe
   new_attached_is p ours =
       let called : Timeline = Called client (Reply.Token key collection) (Call.AttachToken p.node) ∷ marks in
       let heads : head (births called) key ≡ key = rw (same_key-refl key) refl in
-      let allocates : allocated called key ≡ false = ap (λ (k : NodeKey). list_any (is_allocation k) marks) heads ∙ u.heads_none in
+      let allocates : allocated called key ≡ false = ap (λ (k : NodeKey). list_any (is_allocation k) marks) heads ∙ blank.heads_none in
       let covering : Bool = list_any (covers_children p.node) marks || covered marks p.node in
-      let weakens : weak called key ≡ weak marks p.node = rw (same_key-refl key, u.not_weak) (or_false (weak marks p.node)) in
-      let covers_it : covered called key ≡ covering = rw (same_key-refl key, u.not_covered) (or_false covering) in
-      let allows : (list_any (sets_weak key) marks || (list_any (sets_weak_ok key) marks || covered called key)) ≡ covering = rw (u.not_set_weak, u.not_weak_ok) covers_it in
-      let covers : (list_any (covers_children key) marks || covered called key) ≡ covering = rw u.not_covering covers_it in
-      let held_by : holder called key ≡ client = rw (uncollected, same_key-refl key) refl in
-      let end_is : end_after called key ≡ End.Held client = rw (u.not_spent, not_moving marks quiet key, held_by) refl in
+      let weakens : weak called key ≡ weak marks p.node = rw (same_key-refl key, blank.not_weak) (or_false (weak marks p.node)) in
+      let covers_it : covered called key ≡ covering = rw (same_key-refl key, blank.not_covered) (or_false covering) in
+      let allows : (list_any (sets_weak key) marks || (list_any (sets_weak_ok key) marks || covered called key)) ≡ covering = rw (blank.not_set_weak, blank.not_weak_ok) covers_it in
+      let covers : (list_any (covers_children key) marks || covered called key) ≡ covering = rw blank.not_covering covers_it in
+      let held_by : holder called key ≡ client = rw (idle.1, same_key-refl key) refl in
+      let end_is : end_after called key ≡ End.Held client = rw (idle.0, idle.2, held_by) refl in
       λ i. record {
         key = key;
         parent = Some p.node;
@@ -166,17 +167,17 @@ module _ (marks : Timeline) (quiet : IsQuiet marks) (client : ℕ) (key : NodeKe
         event = events marks + 1;
         head = heads i;
         allocated = allocates i;
-        gone = u.not_gone i;
-        fault = u.no_fault i;
-        released = u.not_released i;
-        dispensable = u.not_dispensable i;
+        gone = blank.not_gone i;
+        fault = blank.no_fault i;
+        released = blank.not_released i;
+        dispensable = blank.not_dispensable i;
         weak = weakens i;
         weak_ok = allows i;
         covers = covers i;
-        constraints = u.not_constrained i;
-        took = u.not_taken i;
-        trackers = u.not_tracked i;
-        bound = u.not_bound i;
+        constraints = blank.not_constrained i;
+        took = blank.not_taken i;
+        trackers = blank.not_tracked i;
+        bound = idle.3 i;
         end = end_is i;
       }
 

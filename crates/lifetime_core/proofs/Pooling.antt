@@ -1,9 +1,8 @@
 -- The pages that the forest holds.
-use Rattle.std.proofs.Common.{ℕ, ◌≡◌, ◌+◌, ◌-◌, refl, ap, sym, ◌∙◌, Bool, true, false, not, nat_lt, List, [], ◌∷◌, ◌++◌, map, arith, inl, inr}
+use Rattle.std.proofs.Common.{ℕ, ◌≡◌, ◌+◌, refl, nat_lt, List, [], ◌∷◌, map, arith, inl, inr}
 use Rattle.std.proofs.lemmas.List.Sums.{sum_by-cons}
-use Rattle.std.specs.List.{filter, flat_map, sum_by}
+use Rattle.std.specs.List.{sum_by}
 use Rattle.sm_names.specs.Words.{insert_by, sorted_by}
-use Rattle.sm_names.specs.Timelines.{HeldPages}
 use Rattle.sm_names.proofs.SamenessLaws.{either_way}
 
 -- a sum is the same with the element in its place

@@ -1,11 +1,10 @@
 -- Collections by their ids.
-use Rattle.std.proofs.Common.{ℕ, ◌≡◌, ◌≢◌, ◌<◌, ◌≤◌, ◌+◌, refl, ap, sym, ◌∙◌, subst, Bool, true, false, ◌==◌, ◌||◌, ◌&&◌, not, nat_lt, if◌then◌else◌, List, [], ◌∷◌, ◌++◌, map, Option, Some, None, ◌⊎◌, inl, inr, arith}
+use Rattle.std.proofs.Common.{ℕ, ◌≡◌, ◌≢◌, ◌<◌, ◌≤◌, refl, ap, sym, ◌∙◌, subst, Bool, true, false, ◌==◌, not, nat_lt, if◌then◌else◌, List, [], ◌∷◌, map, Some, ◌⊎◌, inl, inr, arith}
 use Rattle.std.proofs.lemmas.Bool.{eqb-true, eqb-false, eq-eqb, ltb-true, ltb-false}
-use Rattle.std.specs.List.{find, filter, flat_map, AllByRecursion}
-use Rattle.sm_names.proofs.ListLaws.{In, In-find}
-use Rattle.sm_names.proofs.SamenessLaws.{either_way, false_if, both_ways}
-use Rattle.alloc_event.specs.declared.node.Node.{Node}
-use Rattle.alloc_event.specs.Forest.{Collection, Forest, is_left, tidied, without_over_in}
+use Rattle.std.specs.List.{find, AllByRecursion}
+use Rattle.sm_names.proofs.ListLaws.{In}
+use Rattle.sm_names.proofs.SamenessLaws.{either_way, false_if}
+use Rattle.alloc_event.specs.Forest.{Collection, is_left, tidied, without_over_in}
 use Rattle.alloc_event.specs.Settling.{put}
 use Rattle.lifetime_core.specs.Steps.{without_over}
 use Rattle.lifetime_core.specs.Whole.{Rise, IsTidy}
@@ -57,8 +56,20 @@ put_from new (d ∷ cs) c there =
     at_behind : In c (d ∷ put new cs) → (c ≡ d) ⊎ In c (put new cs)
     at_behind h = h
 
+-- another is found as before
+pub put_other : (new : Collection) (cs : List Collection) (id : ℕ) → (new.id == id) ≡ false → find (λ (c : Collection). c.id == id) (put new cs) ≡ find (λ (c : Collection). c.id == id) cs
+put_other new [] id other = rw other refl
+put_other new (c ∷ cs) id other =
+    elim (either_way (c.id == new.id)) [
+      | inl same ↦ let apart : (c.id == id) ≡ false = ap (λ n. n == id) (eqb-true c.id new.id same) ∙ other in rw (same, other, apart) refl
+      | inr apart ↦ elim (either_way (nat_lt new.id c.id)) [
+        | inl before ↦ rw (apart, before, other) refl
+        | inr behind ↦ rw (apart, behind) (ap (λ o. if c.id == id then Some c else o) (put_other new cs id other))
+      ]
+    ]
+
 -- what follows of each number
-weaken : (P Q : ℕ → Type 0) → ((n : ℕ) → P n → Q n) → (ns : List ℕ) → AllByRecursion P ns → AllByRecursion Q ns
+pub weaken : (P Q : ℕ → Type 0) → ((n : ℕ) → P n → Q n) → (ns : List ℕ) → AllByRecursion P ns → AllByRecursion Q ns
 weaken P Q more [] all = tt
 weaken P Q more (n ∷ ns) all = (more n all.0, weaken P Q more ns all.1)
 

@@ -1,29 +1,32 @@
 -- What answers read of a core's state is what they read of the marks, so they are the same.
-use Rattle.std.proofs.Common.{ℕ, ◌≡◌, refl, ap, sym, ◌∙◌, Bool, true, false, ◌&&◌, ◌||◌, ◌==◌, inl, inr, List, [], ◌∷◌, ◌++◌, reverse, length, Option, Some, None, is_none}
+use Rattle.std.proofs.Common.{ℕ, ◌≡◌, refl, ap, sym, ◌∙◌, Bool, true, false, cond, ◌&&◌, ◌||◌, ◌==◌, inl, inr, List, [], ◌∷◌, ◌++◌, reverse, length, Option, Some, None, is_none}
 use Rattle.std.proofs.lemmas.List.{reverse-append, length-map, length-reverse}
 use Rattle.std.proofs.lemmas.List.Sums.{length-filter}
-use Rattle.std.specs.List.{filter, list_any, count_by}
-use Rattle.std.specs.Option.{option_map_or}
+use Rattle.std.specs.List.{find, filter, list_any}
+use Rattle.std.specs.Option.{option_map, option_map_or}
 use Rattle.sm_names.specs.declared.keys.NodeKey.{NodeKey}
 use Rattle.sm_names.specs.declared.messages.Call.{Call}
 use Rattle.sm_names.specs.declared.messages.Reply.{Reply}
 use Rattle.sm_names.specs.Answers.{Readings, IsAnswer, answer, new_key, key_told}
 use Rattle.sm_names.specs.Births.{Birth, births}
 use Rattle.sm_names.specs.Bounds.{Bound}
-use Rattle.sm_names.specs.Ends.{has_joined, clients}
+use Rattle.sm_names.specs.Ends.{has_joined, clients, is_shut, parcels}
 use Rattle.sm_names.specs.Kept.{is_kept, is_kept_collection, kept_nodes, kept_collections}
 use Rattle.sm_names.specs.Marks.{Timeline}
 use Rattle.sm_names.specs.Reading.{readings}
 use Rattle.sm_names.specs.Sameness.{same_key}
-use Rattle.sm_names.specs.Trackers.{Tracked, unfired, fired_at}
+use Rattle.sm_names.specs.Trackers.{unfired}
 use Rattle.sm_names.proofs.GrowthLaws.{Grows}
 use Rattle.sm_names.proofs.ListLaws.{is_some-find}
 use Rattle.sm_names.proofs.SamenessLaws.{either_way, both_ways}
+use Rattle.event_laws.proofs.ParcelEventLaws.{stranger_waits_for_none}
+use Rattle.event_laws.proofs.WaitingLaws.{counted}
 use Rattle.alloc_event.specs.Forest.{kept}
-use Rattle.lifetime_core.specs.Reads.{readings_of}
-use Rattle.lifetime_core.specs.Shown.{IsAfter, node_after, collection_after, kept_ids}
-use Rattle.lifetime_core.specs.State.{State}
-use Rattle.lifetime_core.proofs.Lists.{filter-reverse}
+use Rattle.lifetime_core.specs.Reads.{client_in, readings_of}
+use Rattle.lifetime_core.specs.Shown.{IsAfter, node_after, collection_after, kept_ids, client_after, tracked_as}
+use Rattle.lifetime_core.specs.State.{Client, State}
+use Rattle.lifetime_core.proofs.ClientLaws.{stranger_not_shut}
+use Rattle.lifetime_core.proofs.Lists.{filter-reverse, find-map, find_number, list_any-map}
 use Rattle.lifetime_core.proofs.Mixing.{length-mixed}
 use Rattle.lifetime_core.proofs.ReadingEnds.{end_is}
 use Rattle.lifetime_core.proofs.ReadingNodes.{kept_births, kept_by_collection, all_nodes_are, mixed_births}
@@ -56,8 +59,23 @@ any-reverse p (x ∷ xs) =
 
 module _ (s : State) (marks : Timeline) (shown : IsAfter s marks) where
   -- who joined
-  joined_is : (client : ℕ) → list_any (λ c. c == client) s.clients ≡ has_joined marks client
-  joined_is client = ap (list_any (λ c. c == client)) shown.clients ∙ any-reverse (λ c. c == client) (clients marks)
+  joined_is : (client : ℕ) → list_any (λ (c : Client). c.id == client) s.clients ≡ has_joined marks client
+  joined_is client =
+      ap (list_any (λ (c : Client). c.id == client)) shown.clients
+      ∙ (list_any-map (λ (c : Client). c.id == client) (client_after marks) (reverse (clients marks)) ∙ any-reverse (λ c. c == client) (clients marks))
+
+  -- who joined is as the marks make it, and is found
+  client_is : (client : ℕ) → client_in s client ≡ cond (has_joined marks client) (Some (client_after marks client)) None
+  client_is client =
+      ap (find (λ (c : Client). c.id == client)) shown.clients
+      ∙ (find-map (λ (c : Client). c.id == client) (client_after marks) (reverse (clients marks))
+      ∙ (ap (option_map (client_after marks))
+      (find_number client (reverse (clients marks)) ∙ ap (λ (b : Bool). cond b (Some client) None) (any-reverse (λ c. c == client) (clients marks)))
+      ∙ inside (has_joined marks client)))
+    where
+      inside : (b : Bool) → option_map (client_after marks) (cond b (Some client) None) ≡ cond b (Some (client_after marks client)) None
+      inside true = refl
+      inside false = refl
 
   -- how many collections are kept
   collections_are : length s.forest.collections ≡ kept_collections marks
@@ -69,9 +87,9 @@ module _ (s : State) (marks : Timeline) (shown : IsAfter s marks) where
       ∙ (ap length (filter-reverse test (births marks))
       ∙ (length-reverse (filter test (births marks)) ∙ length-filter test (births marks)))))
 
-  -- no tracker is there that has not fired
-  unfired_is : unfired marks ≡ 0
-  unfired_is = ap (count_by (λ (t : Tracked). is_none (fired_at marks t))) shown.quiet.not_tracked
+  -- how many trackers wait
+  unfired_is : length s.trackers.unfired ≡ unfired marks
+  unfired_is = sym (length-map s.trackers.unfired tracked_as) ∙ (ap length shown.trackers.waiting ∙ sym (counted marks))
 
   -- a key that was given to a node was given
   pub was_given : (key : NodeKey) → (readings marks).was_given key ≡ true → (readings_of s).was_given key ≡ true
@@ -86,20 +104,36 @@ module _ (s : State) (marks : Timeline) (shown : IsAfter s marks) where
         ∙ (length-mixed (kept_births marks) (kept_by_collection marks) (mixed_births s marks shown limits grown)
         ∙ length-filter (λ (b : Birth). is_kept marks b.node) (births marks)))
 
+    -- who was shut
+    shut_is : (client : ℕ) → (readings_of s).is_shut client ≡ is_shut marks client
+    shut_is client = ap (λ (o : Option Client). option_map_or (λ (c : Client). c.shut) o false) (client_is client) ∙ from (has_joined marks client) refl
+      where
+        from : (b : Bool) → has_joined marks client ≡ b → option_map_or (λ (c : Client). c.shut) (cond b (Some (client_after marks client)) None) false ≡ is_shut marks client
+        from true h = refl
+        from false h = sym (stranger_not_shut s.pool limits marks grown client h)
+
+    -- and what waits for whom
+    waiting_is : (client : ℕ) → (readings_of s).waiting client ≡ parcels marks client
+    waiting_is client = ap (λ (o : Option Client). option_map_or (λ (c : Client). c.waiting) o []) (client_is client) ∙ from (has_joined marks client) refl
+      where
+        from : (b : Bool) → has_joined marks client ≡ b → option_map_or (λ (c : Client). c.waiting) (cond b (Some (client_after marks client)) None) [] ≡ parcels marks client
+        from true h = refl
+        from false h = sym (stranger_waits_for_none s.pool limits marks grown client h)
+
     -- the state reads as the marks, but for which keys were given
     pub readings_are : record (readings_of s) { was_given = (readings marks).was_given } ≡ readings marks
     readings_are = λ i. record {
       events = shown.events i;
       has_joined = λ client. joined_is client i;
-      is_shut = λ client. sym (shown.quiet.not_shut client) i;
+      is_shut = λ client. shut_is client i;
       end_of = λ key. end_is s marks shown limits grown key i;
-      waiting = λ client. sym (shown.quiet.not_given client) i;
-      open_of = λ client buffer strength. sym (shown.quiet.not_open client buffer strength) i;
-      open_total = λ buffer strength. sym (shown.quiet.not_counted buffer strength) i;
+      waiting = λ client. waiting_is client i;
+      open_of = (shown.handles i).of;
+      open_total = (shown.handles i).total;
       was_given = (readings marks).was_given;
       kept_nodes = kept_is i;
       kept_collections = collections_are i;
-      unfired = sym unfired_is i;
+      unfired = unfired_is i;
     }
 
 -- ---- the answers

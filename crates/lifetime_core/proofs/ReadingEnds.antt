@@ -1,6 +1,5 @@
 -- The ends that a core keeps read as those of the marks.
-use Rattle.std.proofs.Common.{ℕ, ◌≡◌, refl, ap, sym, ◌∙◌, Bool, true, false, cond, not, ◌&&◌, ◌||◌, ◌==◌, List, [], Option, Some, None, is_some}
-use Rattle.std.proofs.lemmas.Bool.{eq-eqb}
+use Rattle.std.proofs.Common.{ℕ, ◌≡◌, refl, ap, sym, ◌∙◌, Bool, true, false, cond, not, ◌&&◌, ◌||◌, List, [], Option, Some, None, is_some}
 use Rattle.std.specs.List.{filter, list_any, range_with_len}
 use Rattle.std.specs.Option.{option_map, option_map_or, option_and_then}
 use Rattle.sm_names.specs.declared.keys.BufferName.{BufferName}
@@ -22,16 +21,17 @@ use Rattle.sm_names.specs.Words.{times}
 use Rattle.sm_names.proofs.BirthLaws.{birth_is}
 use Rattle.sm_names.proofs.GrowthLaws.{Grows}
 use Rattle.sm_names.proofs.ListLaws.{In, In-map, filter-In}
-use Rattle.sm_names.proofs.SamenessLaws.{or_left, and_both}
+use Rattle.buffer_holds.specs.Counts.{total}
 use Rattle.alloc_event.specs.declared.node.End.{End}
 use Rattle.alloc_event.specs.declared.node.Node.{Node}
 use Rattle.alloc_event.specs.Forest.{node_at}
 use Rattle.alloc_event.specs.Nodes.{is_over, is_spent, member_of, members_of}
 use Rattle.lifetime_core.specs.Reads.{holder_of, is_moving, buffers_in, to_open_in, open_end_of, end_in}
 use Rattle.lifetime_core.specs.Shown.{IsAfter, end_after, node_after, nodes_after, collection_after}
-use Rattle.lifetime_core.specs.State.{State}
-use Rattle.lifetime_core.proofs.Lists.{list_any-map, any_kept, any_of}
+use Rattle.lifetime_core.specs.State.{HandleCounts, State}
+use Rattle.lifetime_core.proofs.Lists.{list_any-map, any_kept}
 use Rattle.lifetime_core.proofs.ReadingNodes.{spent_end, node_kept, node_forgotten, node_unknown, collection_kept}
+use Rattle.lifetime_core.proofs.Rooting.{collection_of_kept}
 
 -- ---- the nodes that are live and strong
 
@@ -73,32 +73,37 @@ moving_is marks node e = rw e (elim (in_transit marks node) as (λ (b : Bool). i
 
 -- ---- what can be opened
 
--- of a collection that was given buffers, and on which no handle is open, those are doomed that no strong live node keeps
-doomed_is : (marks : Timeline) (collection : ℕ) (given : Buffers) → buffers_of marks collection ≡ Some given → ((buffer : BufferName) (strength : Strength) → open_total marks buffer strength ≡ 0) →
-    (name : BufferName) → In name (names collection given.count) → doomed marks name ≡ is_doomed 0 (some_strong_live (members marks collection))
-doomed_is marks collection given e none name on =
+-- of a collection that was given buffers, those are doomed that neither a strong handle nor a strong live node keeps
+doomed_is : (marks : Timeline) (collection : ℕ) (given : Buffers) → buffers_of marks collection ≡ Some given →
+    (name : BufferName) → In name (names collection given.count) → doomed marks name ≡ is_doomed (open_total marks name Strength.Strong) (some_strong_live (members marks collection))
+doomed_is marks collection given e name on =
     let r = In-map (λ i. record { collection = collection; index = i }) (range_with_len 0 given.count) name on in
     let is : name.collection ≡ collection = ap (λ (x : BufferName). x.collection) r.2 in
-    λ i. is_some ((ap (buffers_of marks) is ∙ e) i) && is_doomed (none name Strength.Strong i) (some_strong_live (members marks (is i)))
+    λ i. is_some ((ap (buffers_of marks) is ∙ e) i) && is_doomed (open_total marks name Strength.Strong) (some_strong_live (members marks (is i)))
 
 module _ (s : State) (marks : Timeline) (shown : IsAfter s marks) (limits : Bound) (grown : Grows s.pool limits [] marks) where
   -- the buffers of a kept collection
   buffers_are : (collection : ℕ) → is_kept_collection marks collection ≡ true → buffers_in s collection ≡ buffers_of marks collection
   buffers_are collection kept = rw (collection_kept s marks shown limits grown collection kept) refl
 
+  -- the handles that are open
+  pub totals_are : total s.holds ≡ open_total marks
+  totals_are = ap (λ (h : HandleCounts). h.total) shown.handles
+
   -- and those of them that can be opened
   to_open_is : (collection : ℕ) → is_kept_collection marks collection ≡ true → to_open_in s collection ≡ filter (λ name. not (doomed marks name)) (buffer_names marks collection)
   to_open_is collection kept = rw (collection_kept s marks shown limits grown collection kept) (by (buffers_of marks collection) refl)
     where
       by : (o : Option Buffers) → buffers_of marks collection ≡ o →
-          filter (λ b. not (is_doomed 0 (some_strong_live (members_of (collection_after s.pool marks collection).nodes)))) (option_map_or (λ (b : Buffers). names collection b.count) o [])
+          filter (λ b. not (is_doomed (total s.holds b Strength.Strong) (some_strong_live (members_of (collection_after s.pool marks collection).nodes)))) (option_map_or (λ (b : Buffers). names collection b.count) o [])
           ≡ filter (λ name. not (doomed marks name)) (option_map_or (λ (b : Buffers). names collection b.count) o [])
       by None e = refl
       by (Some given) e =
-          filter-In (λ b. not (is_doomed 0 (some_strong_live (members_of (collection_after s.pool marks collection).nodes)))) (λ name. not (doomed marks name)) (names collection given.count)
+          filter-In (λ b. not (is_doomed (total s.holds b Strength.Strong) (some_strong_live (members_of (collection_after s.pool marks collection).nodes)))) (λ name. not (doomed marks name))
+          (names collection given.count)
           (λ name on.
-          ap (λ (b : Bool). not (is_doomed 0 b)) (strong_live_is s.pool marks collection)
-          ∙ ap not (sym (doomed_is marks collection given e shown.quiet.not_counted name on)))
+          (λ i. not (is_doomed (totals_are i name Strength.Strong) (strong_live_is s.pool marks collection i)))
+          ∙ ap not (sym (doomed_is marks collection given e name on)))
 
   -- ---- the end of a node
 
@@ -110,16 +115,10 @@ module _ (s : State) (marks : Timeline) (shown : IsAfter s marks) (limits : Boun
       always true = refl
       always false = refl
 
-  -- and so is its collection
-  pub collection_of_kept : (b : Birth) → In b (births marks) → is_kept marks b.node ≡ true → is_kept_collection marks b.collection ≡ true
-  collection_of_kept b on kept =
-      or_left _ _ (any_of (λ (c : Birth). c.collection == b.collection && is_kept marks c.node) (births marks) b on
-      (and_both (b.collection == b.collection) (is_kept marks b.node) (eq-eqb b.collection b.collection refl) kept))
-
   -- the end of a node that is not spent reads the same
   pub open_end_is : (b : Birth) → In b (births marks) → spent marks b.node ≡ false → open_end_of s (node_after marks b) ≡ open_end marks b
   open_end_is b on e =
-      let kept : is_kept_collection marks b.collection ≡ true = collection_of_kept b on (unspent_kept b.node e) in
+      let kept : is_kept_collection marks b.collection ≡ true = collection_of_kept marks b on (unspent_kept b.node e) in
       λ i. record {
         holder = holder_is marks b.node e i;
         in_transit = moving_is marks b.node e i;

@@ -1,8 +1,7 @@
 -- The nodes and collections that a core keeps, as the marks make them.
 use Rattle.std.proofs.Common.{ℕ, ◌≡◌, refl, ap, sym, ◌∙◌, Bool, true, false, cond, not, ◌&&◌, ◌||◌, ◌==◌, ◌⊎◌, inl, inr, List, [], map, reverse, Option, Some, None}
-use Rattle.std.proofs.lemmas.Bool.{eqb-true, eq-eqb}
 use Rattle.std.proofs.lemmas.List.Folds.{flat_map-map}
-use Rattle.std.specs.List.{find, filter, list_any, flat_map}
+use Rattle.std.specs.List.{find, filter, flat_map}
 use Rattle.std.specs.Option.{option_map}
 use Rattle.sm_names.specs.declared.keys.NodeKey.{NodeKey}
 use Rattle.sm_names.specs.Births.{Birth, births, birth_of}
@@ -16,10 +15,10 @@ use Rattle.sm_names.specs.Sameness.{same_key}
 use Rattle.sm_names.proofs.BirthLaws.{birth_is}
 use Rattle.sm_names.proofs.GrowthLaws.{Grows}
 use Rattle.sm_names.proofs.LifeLaws.{ordered}
-use Rattle.sm_names.proofs.ListLaws.{In, In-filter, In-filter-back, In-list_any, filter-swap}
+use Rattle.sm_names.proofs.ListLaws.{In, In-filter, In-filter-back, filter-swap}
 use Rattle.sm_names.proofs.SamenessLaws.{either_way, both_ways, same_key-true, same_key-refl}
 use Rattle.sm_names.proofs.SettledLaws.{find_birth}
-use Rattle.sm_names.proofs.SumLaws.{one, any_one}
+use Rattle.sm_names.proofs.SumLaws.{any_one}
 use Rattle.alloc_event.specs.declared.node.End.{End}
 use Rattle.alloc_event.specs.declared.node.Node.{Node}
 use Rattle.alloc_event.specs.Forest.{Collection, collection_at, node_at, all_nodes}
@@ -27,7 +26,7 @@ use Rattle.alloc_event.specs.Nodes.{is_of, is_over, is_spent}
 use Rattle.lifetime_core.specs.Shown.{IsAfter, end_after, node_after, collection_after, kept_ids}
 use Rattle.lifetime_core.specs.State.{State}
 use Rattle.lifetime_core.proofs.Gathering.{mixed_turned}
-use Rattle.lifetime_core.proofs.Lists.{filter-map, filter-reverse, map-flat_map, flat_map-same, find-map, find_only, find_none, any_of}
+use Rattle.lifetime_core.proofs.Lists.{filter-map, filter-reverse, map-flat_map, flat_map-same, find-map, find_only, find_none, find_number}
 use Rattle.lifetime_core.proofs.Mixing.{Mixed, In-mixed, In-mixed_back}
 use Rattle.lifetime_core.proofs.Rooting.{listed_once, listed_kept}
 
@@ -164,26 +163,17 @@ module _ (s : State) (marks : Timeline) (shown : IsAfter s marks) where
     -- ---- collections by id
 
     -- an id is found among the kept ones if it is one
-    found_id : (id : ℕ) (k : Bool) → is_kept_collection marks id ≡ k → find (λ n. n == id) (kept_ids marks) ≡ cond k (Some id) None
-    found_id id true kept =
-        let some : list_any (λ n. n == id) (kept_ids marks) ≡ true = any_one (λ n. n == id) (kept_ids marks) true (listed_once s.pool limits marks grown id ∙ ap one kept) in
-        let x = In-list_any (λ n. n == id) (kept_ids marks) some in
-        let is : x.0 ≡ id = eqb-true x.0 id x.2 in
-        find_only (λ n. n == id) (kept_ids marks) id (rw is at x.1) (eq-eqb id id refl) (λ n on h. eqb-true n id h)
-    found_id id false lost =
-        let none : list_any (λ n. n == id) (kept_ids marks) ≡ false = any_one (λ n. n == id) (kept_ids marks) false (listed_once s.pool limits marks grown id ∙ ap one lost) in
-        find_none (λ n. n == id) (kept_ids marks) (λ n on. fails none n on (either_way (n == id)))
-      where
-        fails : list_any (λ n. n == id) (kept_ids marks) ≡ false → (n : ℕ) → In n (kept_ids marks) → ((n == id) ≡ true) ⊎ ((n == id) ≡ false) → (n == id) ≡ false
-        fails none n on (inr h) = h
-        fails none n on (inl h) = both_ways (list_any (λ m. m == id) (kept_ids marks)) (any_of (λ m. m == id) (kept_ids marks) n on h) none
+    found_id : (id : ℕ) → find (λ n. n == id) (kept_ids marks) ≡ cond (is_kept_collection marks id) (Some id) None
+    found_id id =
+        find_number id (kept_ids marks)
+        ∙ ap (λ (b : Bool). cond b (Some id) None) (any_one (λ n. n == id) (kept_ids marks) (is_kept_collection marks id) (listed_once s.pool limits marks grown id))
 
     -- the collection with an id is as the marks make it, if it is kept
     pub collection_is : (id : ℕ) → collection_at s.forest id ≡ cond (is_kept_collection marks id) (Some (collection_after s.pool marks id)) None
     collection_is id =
         ap (find (λ (c : Collection). c.id == id)) shown.collections
         ∙ (find-map (λ (c : Collection). c.id == id) (collection_after s.pool marks) (kept_ids marks)
-        ∙ (ap (option_map (collection_after s.pool marks)) (found_id id (is_kept_collection marks id) refl) ∙ inside (is_kept_collection marks id)))
+        ∙ (ap (option_map (collection_after s.pool marks)) (found_id id) ∙ inside (is_kept_collection marks id)))
       where
         inside : (k : Bool) → option_map (collection_after s.pool marks) (cond k (Some id) None) ≡ cond k (Some (collection_after s.pool marks id)) None
         inside true = refl

@@ -1,28 +1,25 @@
 -- What the whole event tells and makes.
-use Rattle.std.proofs.Common.{ℕ, ◌≡◌, ◌<◌, ◌≤◌, ◌+◌, refl, ap, sym, ◌∙◌, subst, Bool, true, false, List, [], ◌∷◌, ◌++◌, Option, Some, None, IfSome, is_some, ◌⊎◌, inl, inr, arith}
-use Rattle.std.specs.List.{AllByRecursion}
-use Rattle.std.specs.Option.{option_map, option_map_or, option_and_then, unwrap_or}
+use Rattle.std.proofs.Common.{ℕ, ◌≡◌, ◌≤◌, ◌+◌, refl, ap, sym, ◌∙◌, subst, true, false, List, Option, Some, None, IfSome, is_some}
+use Rattle.std.specs.Option.{option_map_or}
 use Rattle.sm_names.specs.declared.keys.NodeKey.{NodeKey}
 use Rattle.sm_names.specs.declared.messages.Call.{Call}
 use Rattle.sm_names.specs.declared.messages.Reply.{Reply}
-use Rattle.sm_names.specs.declared.outcomes.Buffers.{Buffers}
 use Rattle.sm_names.specs.declared.outcomes.Refusal.{Refusal}
-use Rattle.sm_names.specs.Answers.{IsAnswer, OpenEnd, Readings, answer, closing, effect, key_told, makes_node, new_key, of_end}
+use Rattle.sm_names.specs.Answers.{IsAnswer, OpenEnd, Readings, answer, closing, effect, makes_node, new_key}
 use Rattle.sm_names.specs.Bounds.{Bound}
+use Rattle.sm_names.specs.Marks.{Called}
 use Rattle.sm_names.proofs.AnswerLaws.{TookEffect, took_effect_all}
-use Rattle.sm_names.proofs.SamenessLaws.{both_ways, none_or_some}
+use Rattle.sm_names.proofs.SamenessLaws.{both_ways}
 use Rattle.alloc_event.specs.declared.change.Change.{Change}
 use Rattle.alloc_event.specs.Forest.{Forest, given}
-use Rattle.alloc_event.specs.Settling.{MayChange, Settled, is_birth, no_key}
+use Rattle.alloc_event.specs.Settling.{Handles, MayChange, no_key}
 use Rattle.lifetime_core.specs.declared.task.Task.{Task}
-use Rattle.lifetime_core.specs.Reads.{handles, readings_of}
-use Rattle.lifetime_core.specs.State.{State}
-use Rattle.lifetime_core.specs.Steps.{Follows, Work, Worked, joined_by, spent_by, with_spent, without_over, work_of}
-use Rattle.lifetime_core.specs.Tasks.{Does, MayDo, Reworked, SpendsThere, keyed, released_by, spent_in, work_in, work_on}
-use Rattle.lifetime_core.specs.Whole.{Rise}
-use Rattle.lifetime_core.proofs.Answering.{passed}
-use Rattle.lifetime_core.proofs.Rising.{Rise-push}
+use Rattle.lifetime_core.specs.Reads.{readings_of}
+use Rattle.lifetime_core.specs.State.{Client, HandleCounts, State}
+use Rattle.lifetime_core.specs.Steps.{Work, Worked, clients_by, end_by, handles_by, tracker_by, work_of}
+use Rattle.lifetime_core.specs.Tasks.{MayDo, Reworked, SpendsThere, keyed, released_by, spent_by, spent_in, work_in, work_on}
 use Rattle.lifetime_core.proofs.Stepping.{Known, Well, well}
+use Rattle.lifetime_core.proofs.KindLaws.{reply-fits}
 
 -- ---- the task
 
@@ -62,58 +59,9 @@ within limits s client call asked task known work = by (work_in task) refl
 
 -- ---- the reply
 
--- a token is neither of these
-not_done : (key : NodeKey) (c : ℕ) → Reply.Token key c ≡ Reply.Done → ⊥
-not_done key c is = cc
-
-not_joined : (key : NodeKey) (c client : ℕ) → Reply.Token key c ≡ Reply.Joined client → ⊥
-not_joined key c client is = cc
-
-not_checked : (key : NodeKey) (c : ℕ) (o : Option OpenEnd) →
-    Reply.Token key c ≡ option_map_or (λ (e : OpenEnd). option_map_or (λ (b : Buffers). Reply.Allocated b.count b.size) e.buffers Reply.Pending) o (Reply.Refused Refusal.NoSuchEnd) → ⊥
-not_checked key c None is = cc
-not_checked key c (Some e) is = by e.buffers is
-  where
-    by : (b : Option Buffers) → Reply.Token key c ≡ option_map_or (λ (b : Buffers). Reply.Allocated b.count b.size) b Reply.Pending → ⊥
-    by None is = cc
-    by (Some b) is = cc
-
--- nor is a new client
-joined_done : (made : ℕ) → Reply.Joined made ≡ Reply.Done → ⊥
-joined_done made is = cc
-
-joined_token : (key : NodeKey) (c made : ℕ) → Reply.Joined made ≡ Reply.Token key c → ⊥
-joined_token key c made is = cc
-
-joined_below : (key : NodeKey) (made : ℕ) (o : Option OpenEnd) → Reply.Joined made ≡ option_map_or (λ (e : OpenEnd). Reply.Token key e.collection) o (Reply.Refused Refusal.NoSuchEnd) → ⊥
-joined_below key made None is = cc
-joined_below key made (Some e) is = cc
-
-joined_checked : (made : ℕ) (o : Option OpenEnd) →
-    Reply.Joined made ≡ option_map_or (λ (e : OpenEnd). option_map_or (λ (b : Buffers). Reply.Allocated b.count b.size) e.buffers Reply.Pending) o (Reply.Refused Refusal.NoSuchEnd) → ⊥
-joined_checked made None is = cc
-joined_checked made (Some e) is = by e.buffers is
-  where
-    by : (b : Option Buffers) → Reply.Joined made ≡ option_map_or (λ (b : Buffers). Reply.Allocated b.count b.size) b Reply.Pending → ⊥
-    by None is = cc
-    by (Some b) is = cc
-
 -- a call that makes no node is not answered with a token
 no_token : (limits : Bound) (s : State) (client : ℕ) (call : Call) (key : NodeKey) (c : ℕ) → Known limits s client call (Reply.Token key c) → makes_node call ≡ false → ⊥
-no_token limits s client Call.OpenRoot key c known makes = both_ways true refl makes
-no_token limits s client (Call.Duplicate above) key c known makes = both_ways true refl makes
-no_token limits s client (Call.AttachToken above) key c known makes = both_ways true refl makes
-no_token limits s client Call.Join key c known makes = not_joined key c (s.events + 1) (took_effect_all limits (readings_of s) client no_key Call.Join (Reply.Token key c) refl refl known.told).answered
-no_token limits s client (Call.Sync node) key c known makes = not_done key c (took_effect_all limits (readings_of s) client no_key (Call.Sync node) (Reply.Token key c) refl refl known.told).answered
-no_token limits s client (Call.Bind node) key c known makes = not_done key c (took_effect_all limits (readings_of s) client no_key (Call.Bind node) (Reply.Token key c) refl refl known.told).answered
-no_token limits s client (Call.SetDispensable node) key c known makes = not_done key c (took_effect_all limits (readings_of s) client no_key (Call.SetDispensable node) (Reply.Token key c) refl refl known.told).answered
-no_token limits s client (Call.SetWeak node) key c known makes = not_done key c (took_effect_all limits (readings_of s) client no_key (Call.SetWeak node) (Reply.Token key c) refl refl known.told).answered
-no_token limits s client (Call.SetWeakOk node children) key c known makes = not_done key c (took_effect_all limits (readings_of s) client no_key (Call.SetWeakOk node children) (Reply.Token key c) refl refl known.told).answered
-no_token limits s client (Call.SetConstraints node demand) key c known makes = not_done key c (took_effect_all limits (readings_of s) client no_key (Call.SetConstraints node demand) (Reply.Token key c) refl refl known.told).answered
-no_token limits s client (Call.Release node) key c known makes = not_done key c (took_effect_all limits (readings_of s) client no_key (Call.Release node) (Reply.Token key c) refl refl known.told).answered
-no_token limits s client (Call.Check node) key c known makes = not_checked key c ((readings_of s).end_of node) (took_effect_all limits (readings_of s) client no_key (Call.Check node) (Reply.Token key c) refl refl known.told).answered
-no_token limits s client (Call.Close node) key c known makes = not_done key c ((passed limits (readings_of s) client no_key (Call.Close node) (Reply.Token key c) node known.told refl refl).closed Reply.Done refl)
-no_token limits s client _ key c known makes = absurd known.served
+no_token limits s client call key c known makes = both_ways (makes_node call) (reply-fits limits (readings_of s) client no_key call (Reply.Token key c) known.told) makes
 
 -- where the call took effect, the answer is that of the effect, whatever the key
 passes : (limits : Bound) (r : Readings) (client : ℕ) (new key : NodeKey) (call : Call) (reply : Reply) → TookEffect limits r client new call reply → closing call ≡ None →
@@ -162,11 +110,11 @@ untold limits s client call (Reply.Token key c) known none = absurd (no_token li
 untold limits s client call _ known none = refl
 
 -- the key is as the answer wants it
-pub is_keyed : (limits : Bound) (s : State) (client : ℕ) (call : Call) (asked : Reply) (task : Option Task) (key : Option NodeKey) (worked : Forest) → Known limits s client call asked →
-    work_in task ≡ work_of s client call asked → Reworked s.pool s.forest (work_in task) key worked → IsKeyed s asked key
-is_keyed limits s client call asked task key worked known work done = by (work_in task) refl done
+pub is_keyed : (limits : Bound) (handles : Handles) (s : State) (client : ℕ) (call : Call) (asked : Reply) (task : Option Task) (key : Option NodeKey) (worked : Forest) → Known limits s client call asked →
+    work_in task ≡ work_of s client call asked → Reworked s.pool handles s.forest (work_in task) key worked → IsKeyed s asked key
+is_keyed limits handles s client call asked task key worked known work done = by (work_in task) refl done
   where
-    by : (o : Option Work) → work_in task ≡ o → Reworked s.pool s.forest o key worked → IsKeyed s asked key
+    by : (o : Option Work) → work_in task ≡ o → Reworked s.pool handles s.forest o key worked → IsKeyed s asked key
     by None is done = record {
       both = ap is_some done.1 ∙ sym (untold limits s client call asked known (sym work ∙ is));
       fresh = subst (λ (o : Option NodeKey). IfSome o (λ k. given s.forest k ≡ false)) (sym done.1) tt;
@@ -202,110 +150,46 @@ same_work s client (Call.AttachToken above) (Reply.Token first c) (Some key) = r
 same_work s client _ (Reply.Token first c) (Some key) = refl
 same_work s client call _ key = refl
 
--- nor does the end that is spent
-pub same_spent : (call : Call) (asked : Reply) (key : Option NodeKey) → spent_by call (keyed asked key) ≡ spent_by call asked
-same_spent call (Reply.Token first c) None = refl
-same_spent (Call.Close node) (Reply.Token first c) (Some key) = refl
-same_spent (Call.Release node) (Reply.Token first c) (Some key) = refl
-same_spent _ (Reply.Token first c) (Some key) = refl
-same_spent call _ key = refl
-
 -- the work is done
-pub worked_is : (s : State) (client : ℕ) (call : Call) (asked : Reply) (task : Option Task) (key : Option NodeKey) (worked : Forest) →
-    work_in task ≡ work_of s client call asked → IsKeyed s asked key → Reworked s.pool s.forest (work_in task) key worked →
-    Worked s (work_of s client call (keyed asked key)) (new_key (keyed asked key)) worked
-worked_is s client call asked task key worked work made done =
+pub worked_is : (handles : Handles) (s : State) (client : ℕ) (call : Call) (asked : Reply) (task : Option Task) (key : Option NodeKey) (worked : Forest) →
+    work_in task ≡ work_of s client call asked → IsKeyed s asked key → Reworked s.pool handles s.forest (work_in task) key worked →
+    Worked s handles (work_of s client call (keyed asked key)) (new_key (keyed asked key)) worked
+worked_is handles s client call asked task key worked work made done =
     rw (same_work s client call asked key, new_is s asked key made, ← work) (by (work_in task) done)
   where
-    by : (o : Option Work) → Reworked s.pool s.forest o key worked → Worked s o key worked
+    by : (o : Option Work) → Reworked s.pool handles s.forest o key worked → Worked s handles o key worked
     by None done = done.0
     by (Some w) settled = settled
 
--- ---- who joined
+-- nor where an end goes
+pub same_end : (client : ℕ) (call : Call) (asked : Reply) (key : Option NodeKey) → end_by client call (keyed asked key) ≡ end_by client call asked
+same_end client call (Reply.Token first c) None = refl
+same_end client (Call.Close node) (Reply.Token first c) (Some key) = refl
+same_end client (Call.Release node) (Reply.Token first c) (Some key) = refl
+same_end client (Call.Give node to) (Reply.Token first c) (Some key) = refl
+same_end client Call.Collect (Reply.Token first c) (Some key) = refl
+same_end client _ (Reply.Token first c) (Some key) = refl
+same_end client call _ key = refl
 
--- a client that the answer tells of is numbered by the event
-joined_number : (limits : Bound) (s : State) (client : ℕ) (call : Call) (made : ℕ) → Known limits s client call (Reply.Joined made) → made ≡ s.events + 1
-joined_number limits s client Call.Join made known = number (took_effect_all limits (readings_of s) client no_key Call.Join (Reply.Joined made) refl refl known.told).answered
-  where
-    number : Reply.Joined made ≡ Reply.Joined (s.events + 1) → made ≡ s.events + 1
-    number is = cc
-joined_number limits s client Call.OpenRoot made known =
-    absurd (joined_token no_key (s.events + 1) made (took_effect_all limits (readings_of s) client no_key Call.OpenRoot (Reply.Joined made) refl refl known.told).answered)
-joined_number limits s client (Call.Duplicate above) made known =
-    absurd (joined_below no_key made ((readings_of s).end_of above) (took_effect_all limits (readings_of s) client no_key (Call.Duplicate above) (Reply.Joined made) refl refl known.told).answered)
-joined_number limits s client (Call.AttachToken above) made known =
-    absurd (joined_below no_key made ((readings_of s).end_of above) (took_effect_all limits (readings_of s) client no_key (Call.AttachToken above) (Reply.Joined made) refl refl known.told).answered)
-joined_number limits s client (Call.Sync node) made known = absurd (joined_done made (took_effect_all limits (readings_of s) client no_key (Call.Sync node) (Reply.Joined made) refl refl known.told).answered)
-joined_number limits s client (Call.Bind node) made known = absurd (joined_done made (took_effect_all limits (readings_of s) client no_key (Call.Bind node) (Reply.Joined made) refl refl known.told).answered)
-joined_number limits s client (Call.SetDispensable node) made known = absurd (joined_done made (took_effect_all limits (readings_of s) client no_key (Call.SetDispensable node) (Reply.Joined made) refl refl known.told).answered)
-joined_number limits s client (Call.SetWeak node) made known = absurd (joined_done made (took_effect_all limits (readings_of s) client no_key (Call.SetWeak node) (Reply.Joined made) refl refl known.told).answered)
-joined_number limits s client (Call.SetWeakOk node children) made known = absurd (joined_done made (took_effect_all limits (readings_of s) client no_key (Call.SetWeakOk node children) (Reply.Joined made) refl refl known.told).answered)
-joined_number limits s client (Call.SetConstraints node demand) made known = absurd (joined_done made (took_effect_all limits (readings_of s) client no_key (Call.SetConstraints node demand) (Reply.Joined made) refl refl known.told).answered)
-joined_number limits s client (Call.Check node) made known =
-    absurd (joined_checked made ((readings_of s).end_of node) (took_effect_all limits (readings_of s) client no_key (Call.Check node) (Reply.Joined made) refl refl known.told).answered)
-joined_number limits s client (Call.Release node) made known = absurd (joined_done made (took_effect_all limits (readings_of s) client no_key (Call.Release node) (Reply.Joined made) refl refl known.told).answered)
-joined_number limits s client (Call.Close node) made known = absurd (joined_done made ((passed limits (readings_of s) client no_key (Call.Close node) (Reply.Joined made) node known.told refl refl).closed Reply.Done refl))
-joined_number limits s client _ made known = absurd known.served
+-- nor what becomes of clients
+pub same_clients : (client : ℕ) (call : Call) (asked : Reply) (key : Option NodeKey) (clients : List Client) →
+    clients_by (Called client (keyed asked key) call) clients ≡ clients_by (Called client asked call) clients
+same_clients client call (Reply.Token first c) None clients = refl
+same_clients client call (Reply.Token first c) (Some key) clients = refl
+same_clients client call _ key clients = refl
 
--- no number is above the newest event
-up_to_next : (events : ℕ) (clients : List ℕ) → AllByRecursion (λ (n : ℕ). n ≤ events) clients → AllByRecursion (λ (n : ℕ). n ≤ events + 1) clients
-up_to_next events [] all = tt
-up_to_next events (n ∷ clients) all = let less : n ≤ events = all.0 in (omega arith, up_to_next events clients all.1)
+-- nor of handles
+pub same_handles : (client : ℕ) (call : Call) (asked : Reply) (key : Option NodeKey) (handles : HandleCounts) →
+    handles_by (Called client (keyed asked key) call) handles ≡ handles_by (Called client asked call) handles
+same_handles client call (Reply.Token first c) None handles = refl
+same_handles client call (Reply.Token first c) (Some key) handles = refl
+same_handles client call _ key handles = refl
 
--- all numbers are below that of the next event
-below_next : (events : ℕ) (clients : List ℕ) → AllByRecursion (λ (n : ℕ). n ≤ events) clients → AllByRecursion (λ (n : ℕ). n < events + 1) clients
-below_next events [] all = tt
-below_next events (n ∷ clients) all = let less : n ≤ events = all.0 in (omega arith, below_next events clients all.1)
-
--- one more number that is not above it
-push_next : (events : ℕ) (clients : List ℕ) → AllByRecursion (λ (n : ℕ). n ≤ events) clients → AllByRecursion (λ (n : ℕ). n ≤ events + 1) (clients ++ (events + 1) ∷ [])
-push_next events [] all = (omega arith, tt)
-push_next events (n ∷ clients) all = let less : n ≤ events = all.0 in (omega arith, push_next events clients all.1)
-
--- the clients still stand by their numbers
-pub clients_rise : (limits : Bound) (s : State) (client : ℕ) (call : Call) (asked : Reply) → Known limits s client call asked → Rise s.clients →
-    AllByRecursion (λ (n : ℕ). n ≤ s.events) s.clients → Rise (joined_by s.clients asked) × AllByRecursion (λ (n : ℕ). n ≤ s.events + 1) (joined_by s.clients asked)
-clients_rise limits s client call (Reply.Joined made) known rise all =
-    rw (joined_number limits s client call made known)
-    (Rise-push s.clients (s.events + 1) rise (below_next s.events s.clients all), push_next s.events s.clients all)
-clients_rise limits s client call _ known rise all = (rise, up_to_next s.events s.clients all)
-
--- ---- the limit
-
--- the limit stays
-pub same_limit : (pool : ℕ) (f worked : Forest) (o : Option Work) (key : Option NodeKey) → Reworked pool f o key worked → worked.limit ≡ f.limit
-same_limit pool f worked None key done = ap (λ (x : Forest). x.limit) done.0
-same_limit pool f worked (Some w) key settled = settled.limit
-
--- a client is told of alike
-pub same_joined : (clients : List ℕ) (asked : Reply) (key : Option NodeKey) → joined_by clients (keyed asked key) ≡ joined_by clients asked
-same_joined clients (Reply.Token first c) None = refl
-same_joined clients (Reply.Token first c) (Some key) = refl
-same_joined clients _ key = refl
-
--- ---- the event
-
-module _ (s new : State) (client : ℕ) (call : Call) (asked : Reply) (task : Option Task) (key : Option NodeKey) (known : Known s.limits s client call asked)
-    (work : work_in task ≡ work_of s client call asked) (spends : spent_in task ≡ spent_by call asked) (done : Does s.pool s.forest new.forest task key) where
-  -- the key is as the answer wants it
-  made : IsKeyed s asked key
-  made = is_keyed s.limits s client call asked task key done.worked known work done.work
-
-  -- the reply is the answer
-  pub step_answers : IsAnswer s.limits (readings_of s) client call (keyed asked key)
-  step_answers = is_answer s.limits s client call asked key known made
-
-  -- the new state follows
-  pub step_follows : new.pool ≡ s.pool → new.limits ≡ s.limits → new.events ≡ s.events + 1 → new.clients ≡ joined_by s.clients (keyed asked key) →
-      Follows s new client call (keyed asked key)
-  step_follows pool limits events clients = record {
-    pool = pool;
-    limits = limits;
-    events = events;
-    clients = clients;
-    worked = done.worked;
-    work = worked_is s client call asked task key done.worked work made done.work;
-    collections = done.collections
-        ∙ ap (λ (o : Option NodeKey). without_over (with_spent o done.worked).collections) (spends ∙ sym (same_spent call asked key));
-    keys = done.keys;
-  }
+-- nor which tracker is made
+pub same_tracker : (f : Forest) (call : Call) (asked : Reply) (key : Option NodeKey) → tracker_by f call (keyed asked key) ≡ tracker_by f call asked
+same_tracker f call (Reply.Token first c) None = refl
+same_tracker f (Call.TrackNode node) (Reply.Token first c) (Some key) = refl
+same_tracker f (Call.TrackLifetime node most) (Reply.Token first c) (Some key) = refl
+same_tracker f (Call.TrackWeak buffer) (Reply.Token first c) (Some key) = refl
+same_tracker f _ (Reply.Token first c) (Some key) = refl
+same_tracker f call _ key = refl

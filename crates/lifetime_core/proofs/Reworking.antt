@@ -1,8 +1,8 @@
 -- What an event does to the forest, before ends are spent.
-use Rattle.std.proofs.Common.{ℕ, ◌≡◌, ◌<◌, refl, ap, sym, ◌∙◌, subst, Bool, true, false, ◌==◌, ◌||◌, ◌&&◌, not, List, [], ◌∷◌, ◌++◌, map, Option, Some, None, is_some, IfSome, ◌⊎◌, inl, inr, arith}
-use Rattle.std.proofs.lemmas.Bool.{eqb-true, eqb-false, eq-eqb}
-use Rattle.std.specs.List.{find, flat_map, list_any}
-use Rattle.std.specs.Option.{option_map, option_map_or, unwrap_or}
+use Rattle.std.proofs.Common.{ℕ, ◌≡◌, refl, ap, sym, ◌∙◌, subst, Bool, true, false, ◌==◌, ◌||◌, List, [], ◌∷◌, ◌++◌, Option, Some, None, is_some, IfSome, ◌⊎◌, inl, inr}
+use Rattle.std.proofs.lemmas.Bool.{eqb-true, eq-eqb}
+use Rattle.std.specs.List.{flat_map, list_any}
+use Rattle.std.specs.Option.{option_map_or, unwrap_or}
 use Rattle.sm_names.specs.declared.keys.NodeKey.{NodeKey}
 use Rattle.sm_names.specs.Sameness.{same_key}
 use Rattle.sm_names.proofs.ListLaws.{In, In-append, In-find, is_some-find}
@@ -11,9 +11,9 @@ use Rattle.alloc_event.specs.declared.change.Change.{Change}
 use Rattle.alloc_event.specs.declared.node.Node.{Node}
 use Rattle.alloc_event.specs.Forest.{Collection, Forest, all_nodes, collection_at, beside, given, node_at}
 use Rattle.alloc_event.specs.Nodes.{is_of, is_spent}
-use Rattle.alloc_event.specs.Settling.{Handles, Settled, collection_or_new, given_back, is_birth, no_key, put}
+use Rattle.alloc_event.specs.Settling.{Handles, Settled, collection_or_new, given_back, is_birth, no_key}
 use Rattle.lifetime_core.specs.Tasks.{released_by}
-use Rattle.lifetime_core.specs.Whole.{AreFit, IsAmid, IsFit, IsSound, IsTidy, Rise, is_leaving}
+use Rattle.lifetime_core.specs.Whole.{AreFit, AreOnce, IsAmid, IsFit, IsSound, IsTidy, Rise, is_leaving}
 use Rattle.lifetime_core.proofs.Fitting.{Keeps, event_keeps, in_front}
 use Rattle.lifetime_core.proofs.Forgetting.{known_more}
 use Rattle.lifetime_core.proofs.Putting.{ids, found_by_id, put_from, put_rises, put_there}
@@ -79,6 +79,7 @@ amid_same f id leaving sound there = record {
   rising = sound.rising;
   fit = λ c on n n_in. leaves_more (λ key. given f key ≡ true) c.id leaving n (sound.fit c on n n_in);
   apart = sound.apart;
+  once = sound.once;
   tidy = λ c on apart. sound.tidy c on;
   there = there;
 }
@@ -109,6 +110,14 @@ or_new_fit f id leaving Known sound known = by (collection_at f id) refl
         known_more (λ key. given f key ≡ true) Known id leaving n (λ before. known n.key (c, n, found.0, n_in, refl, here))
         (leaves_more (λ key. given f key ≡ true) id leaving n fit)
 
+-- and each has a key of its own
+or_new_once : (f : Forest) (id : ℕ) → IsSound f → AreOnce (collection_or_new f id).nodes
+or_new_once f id sound = by (collection_at f id) refl
+  where
+    by : (o : Option Collection) → collection_at f id ≡ o → AreOnce (unwrap_or o (record { id = id; nodes = []; buffers = None; held = [] })).nodes
+    by None is n m n_in m_in = absurd n_in
+    by (Some c) is n m n_in m_in = sound.once c (In-find (λ (x : Collection). x.id == id) f.collections c is).0 n m n_in m_in
+
 module _ (pool : ℕ) (handles : Handles) (f worked : Forest) (id : ℕ) (change : Change) (key : Option NodeKey) (leaving : Option NodeKey)
     (sound : IsSound f) (there : IsThere f id leaving) (spends : (k : NodeKey) → released_by change ≡ Some k → leaving ≡ Some k)
     (settled : Settled pool handles f worked id change key) where
@@ -121,7 +130,7 @@ module _ (pool : ℕ) (handles : Handles) (f worked : Forest) (id : ℕ) (change
   new = given_back handles settled.after
 
   -- a key that was given still is
-  given_more : (k : NodeKey) → given f k ≡ true → given worked k ≡ true
+  pub given_more : (k : NodeKey) → given f k ≡ true → given worked k ≡ true
   given_more k before = settled.keys k ∙ or_right (option_map_or (λ x. same_key x k) key false) (given f k) before
 
   -- a node of the collection has a key that was given
@@ -130,15 +139,24 @@ module _ (pool : ℕ) (handles : Handles) (f worked : Forest) (id : ℕ) (change
       let before : given f old.1.key ≡ true = (sound.fit old.0 old.2 old.1 old.3).key in
       (given_more k (subst (λ (x : NodeKey). given f x ≡ true) old.4 before), inl old)
 
+  -- a key that was given to no node is that of none in the collection
+  own : (k : NodeKey) → given f k ≡ false → (n : Node) → In n (collection_or_new f id).nodes → n.key ≡ k → ⊥
+  own k fresh n n_in is =
+      let fit = or_new_fit f id None (λ (x : NodeKey). given f x ≡ true) sound (λ x old. subst (λ (y : NodeKey). given f y ≡ true) old.4 (sound.fit old.0 old.2 old.1 old.3).key) n n_in in
+      both_ways (given f k) (subst (λ (x : NodeKey). given f x ≡ true) is fit.key) fresh
+
   -- a new node has a new key
-  birth_known : is_birth change ≡ true → Known (unwrap_or key no_key)
+  birth_known : is_birth change ≡ true → Known (unwrap_or key no_key) × ((n : Node) → In n (collection_or_new f id).nodes → n.key ≡ unwrap_or key no_key → ⊥)
   birth_known birth = by key refl
     where
-      by : (o : Option NodeKey) → key ≡ o → Known (unwrap_or o no_key)
+      by : (o : Option NodeKey) → key ≡ o → Known (unwrap_or o no_key) × ((n : Node) → In n (collection_or_new f id).nodes → n.key ≡ unwrap_or o no_key → ⊥)
       by None is = let not_told : is_some key ≡ false = ap is_some is in both_ways (is_some key) (settled.told ∙ birth) not_told
       by (Some k) is = (
-        settled.keys k ∙ (ap (λ (o : Option NodeKey). option_map_or (λ x. same_key x k) o false || given f k) is ∙ or_left (same_key k k) (given f k) (same_key-refl k)),
-        inr (fresh is settled.fresh),
+        (
+          settled.keys k ∙ (ap (λ (o : Option NodeKey). option_map_or (λ x. same_key x k) o false || given f k) is ∙ or_left (same_key k k) (given f k) (same_key-refl k)),
+          inr (fresh is settled.fresh),
+        ),
+        own k (fresh is settled.fresh),
       )
         where
           fresh : key ≡ Some k → IfSome key (λ x. given f x ≡ false) → given f k ≡ false
@@ -149,7 +167,7 @@ module _ (pool : ℕ) (handles : Handles) (f worked : Forest) (id : ℕ) (change
   keeps = event_keeps Known id leaving pool handles (beside f id) change (unwrap_or key no_key) (collection_or_new f id) settled.after (or_new_id f id) birth_known spends settled.settles
 
   -- it has the same id
-  new_id : new.id ≡ id
+  pub new_id : new.id ≡ id
   new_id = keeps.same_id ∙ or_new_id f id
 
   -- and its nodes are fit
@@ -163,6 +181,15 @@ module _ (pool : ℕ) (handles : Handles) (f worked : Forest) (id : ℕ) (change
   -- or, where only ids matter
   pub worked_id : (c : Collection) → In c worked.collections → (c.id ≡ id) ⊎ In c f.collections
   worked_id c on = elim (worked_from c on) [ inl is ↦ inl (ap (λ (x : Collection). x.id) is ∙ new_id) | inr old ↦ inr old ]
+
+  -- each node has the key that one of its collection had, or one that was given to none
+  pub key_from : (c : Collection) → In c worked.collections → (n : Node) → In n c.nodes → IsOld f c.id n.key ⊎ (given f n.key ≡ false)
+  key_from c on n n_in = elim (worked_from c on) [
+    | inl is ↦
+        let here : c.id ≡ id = ap (λ (x : Collection). x.id) is ∙ new_id in
+        subst (λ (i : ℕ). IsOld f i n.key ⊎ (given f n.key ≡ false)) (sym here) (new_fit n (subst (λ (x : Collection). In n x.nodes) is n_in)).key.1
+    | inr old ↦ inl (c, n, old, n_in, refl, refl)
+  ]
 
   -- all nodes are fit
   all_fit : (c : Collection) → In c worked.collections → AreFit (λ k. given worked k ≡ true) c.id leaving c.nodes
@@ -199,6 +226,14 @@ module _ (pool : ℕ) (handles : Handles) (f worked : Forest) (id : ℕ) (change
           new_apart c m n c_old (subst (λ (x : Collection). In m x.nodes) d_is m_in) n_in (sym same) ∙ sym (ap (λ (x : Collection). x.id) d_is ∙ new_id)
       by (inr c_old) (inr d_old) = sound.apart c d c_old d_old n m n_in m_in same
 
+  -- nor twice in one
+  all_once : (c : Collection) → In c worked.collections → AreOnce c.nodes
+  all_once c on = by (worked_from c on)
+    where
+      by : (c ≡ new) ⊎ In c f.collections → AreOnce c.nodes
+      by (inl is) = subst (λ (x : Collection). AreOnce x.nodes) (sym is) (keeps.once (or_new_once f id sound))
+      by (inr old) = sound.once c old
+
   -- all others are tidy
   others_are : (c : Collection) → In c worked.collections → (c.id == id) ≡ false → IsTidy c
   others_are c on apart = by (worked_from c on)
@@ -222,6 +257,7 @@ module _ (pool : ℕ) (handles : Handles) (f worked : Forest) (id : ℕ) (change
     rising = subst (λ (cs : List Collection). Rise (ids cs)) (sym settled.collections) (put_rises new f.collections sound.rising);
     fit = all_fit;
     apart = all_apart;
+    once = all_once;
     tidy = others_are;
     there = still_there;
   }

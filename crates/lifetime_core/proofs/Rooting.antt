@@ -22,6 +22,12 @@ use Rattle.sm_names.proofs.SumLaws.{one}
 use Rattle.lifetime_core.specs.Shown.{kept_ids}
 use Rattle.lifetime_core.proofs.Lists.{times_none, any_of}
 
+-- the collection of a kept node is kept
+pub collection_of_kept : (marks : Timeline) (b : Birth) → In b (births marks) → is_kept marks b.node ≡ true → is_kept_collection marks b.collection ≡ true
+collection_of_kept marks b on kept =
+    or_left _ _ (any_of (λ (c : Birth). c.collection == b.collection && is_kept marks c.node) (births marks) b on
+    (and_both (b.collection == b.collection) (is_kept marks b.node) (eq-eqb b.collection b.collection refl) kept))
+
 -- ---- roots
 
 -- the root of a collection, among these births
@@ -159,7 +165,4 @@ module _ (pool : ℕ) (limits : Bound) (marks : Timeline) (grown : Grows pool li
 
   -- so the collection of a kept node stands once among them
   pub listed_kept : (b : Birth) → In b (births marks) → is_kept marks b.node ≡ true → times (λ k. k == b.collection) (kept_ids marks) ≡ 1
-  listed_kept b on kept = listed_once b.collection ∙ ap one kept_here
-    where
-      kept_here : is_kept_collection marks b.collection ≡ true
-      kept_here = or_left _ (not (left marks b.collection == 0)) (any_of (λ (c : Birth). c.collection == b.collection && is_kept marks c.node) (births marks) b on (and_both (b.collection == b.collection) (is_kept marks b.node) (eq-eqb b.collection b.collection refl) kept))
+  listed_kept b on kept = listed_once b.collection ∙ ap one (collection_of_kept marks b on kept)

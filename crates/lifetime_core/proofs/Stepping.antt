@@ -1,35 +1,37 @@
 -- What an answered call may do to the forest.
-use Rattle.std.proofs.Common.{ℕ, ◌≡◌, ◌<◌, ◌≤◌, ◌+◌, refl, ap, sym, ◌∙◌, subst, Bool, true, false, ◌==◌, ◌||◌, ◌&&◌, not, nat_le, List, [], ◌∷◌, Option, Some, None, IfSome, is_some, is_none, if◌then◌else◌, ◌⊎◌, inl, inr, arith}
+use Rattle.std.proofs.Common.{ℕ, ◌≡◌, ◌<◌, ◌≤◌, ◌+◌, refl, ap, sym, ◌∙◌, subst, Bool, true, false, ◌==◌, ◌||◌, ◌&&◌, nat_le, Option, Some, None, is_some, if◌then◌else◌, ◌⊎◌, inl, inr, arith}
 use Rattle.std.proofs.lemmas.Bool.{eqb-true, eq-eqb, leb-false}
-use Rattle.std.specs.List.{find}
-use Rattle.std.specs.Option.{option_map, option_map_or, option_and_then}
+use Rattle.std.specs.Option.{option_map_or}
+use Rattle.sm_names.specs.declared.keys.BufferName.{BufferName}
 use Rattle.sm_names.specs.declared.keys.NodeKey.{NodeKey}
+use Rattle.sm_names.specs.declared.keys.Strength.{Strength}
 use Rattle.sm_names.specs.declared.messages.Call.{Call}
 use Rattle.sm_names.specs.declared.messages.Reply.{Reply}
 use Rattle.sm_names.specs.declared.outcomes.Cause.{Cause}
 use Rattle.sm_names.specs.declared.outcomes.Fault.{Fault}
 use Rattle.sm_names.specs.declared.outcomes.Misuse.{Misuse}
 use Rattle.sm_names.specs.declared.outcomes.Refusal.{Refusal}
-use Rattle.sm_names.specs.Answers.{OpenEnd, Readings, answer, closing, effect, makes_node, new_key, of_end, refused_if}
+use Rattle.sm_names.specs.Answers.{OpenEnd, answer, closing, effect, makes_node, new_key, of_end}
 use Rattle.sm_names.specs.Bounds.{Bound}
 use Rattle.sm_names.specs.Marks.{took_effect}
 use Rattle.sm_names.specs.Timelines.{key_of}
-use Rattle.sm_names.proofs.AnswerLaws.{TookEffect, took_effect_all}
+use Rattle.sm_names.specs.Words.{when}
+use Rattle.sm_names.proofs.AnswerLaws.{took_effect_all}
 use Rattle.sm_names.proofs.ListLaws.{In, In-find}
 use Rattle.sm_names.proofs.RejectLaws.{is_refusal}
-use Rattle.sm_names.proofs.SamenessLaws.{both_ways, none_or_some, or_first}
-use Rattle.sm_names.proofs.SettledLaws.{and_then-Some}
+use Rattle.sm_names.proofs.SamenessLaws.{none_or_some}
+use Rattle.sm_names.proofs.SettledLaws.{and_then-Some, map-Some}
+use Rattle.buffer_pool.specs.Holdings.{Holdings}
 use Rattle.alloc_event.specs.declared.change.Change.{Change}
 use Rattle.alloc_event.specs.declared.node.Node.{Node}
 use Rattle.alloc_event.specs.Forest.{Collection, Forest, collection_at, kept, node_at}
 use Rattle.alloc_event.specs.Nodes.{is_spent}
 use Rattle.alloc_event.specs.Settling.{MayChange, is_birth, is_there, no_key}
 use Rattle.lifetime_core.specs.Reads.{end_in, open_end_of, readings_of}
-use Rattle.lifetime_core.specs.Served.{IsServed}
 use Rattle.lifetime_core.specs.State.{State}
-use Rattle.lifetime_core.specs.Steps.{Work, at_node, done_to, losing, spent_by, work_of}
-use Rattle.lifetime_core.specs.Tasks.{released_by}
-use Rattle.lifetime_core.specs.Whole.{AreUpTo, IsSound}
+use Rattle.lifetime_core.specs.Steps.{Work, at_collection, at_node, done_to, losing, work_of}
+use Rattle.lifetime_core.specs.Tasks.{released_by, spent_by}
+use Rattle.lifetime_core.specs.Whole.{AreUpTo, IsSound, IsWhole}
 use Rattle.lifetime_core.proofs.Answering.{Passed, is_closed, passed}
 use Rattle.lifetime_core.proofs.Putting.{found_by_id}
 use Rattle.lifetime_core.proofs.Reworking.{node_with_key}
@@ -42,7 +44,7 @@ pub record Named (s : State) (call : Call) (reply : Reply) (key : NodeKey) : Typ
   pub unfailed : closing call ≡ None → is_closed reply ≡ false → node.fault ≡ None
 
 -- what stands behind an end that is read
-end_at : (s : State) (n : Node) (e : OpenEnd) → (if is_spent n.end then None else Some (open_end_of s n)) ≡ Some e → (is_spent n.end ≡ false) × (e ≡ open_end_of s n)
+pub end_at : (s : State) (n : Node) (e : OpenEnd) → (if is_spent n.end then None else Some (open_end_of s n)) ≡ Some e → (is_spent n.end ≡ false) × (e ≡ open_end_of s n)
 end_at s n e is = by (is_spent n.end) refl
   where
     by : (b : Bool) → is_spent n.end ≡ b → (is_spent n.end ≡ false) × (e ≡ open_end_of s n)
@@ -125,10 +127,8 @@ pub record Well (s : State) (call : Call) (asked : Reply) (w : Work) : Type 0 wh
 
 -- what is known of a core where the call is answered
 pub record Known (limits : Bound) (s : State) (client : ℕ) (call : Call) (asked : Reply) : Type 0 where
-  pub served : IsServed call
-  pub sound : IsSound s.forest
-  pub opened : AreUpTo s.events s.forest
-  pub limit : s.forest.limit ≡ limits.nodes
+  pub pool : Holdings
+  pub whole : IsWhole pool limits s.events s.clients s.forest s.holds s.trackers
   pub told : asked ≡ answer limits (readings_of s) client no_key call
 
 module _ (limits : Bound) (s : State) (client : ℕ) (call : Call) (asked : Reply) (known : Known limits s client call asked) where
@@ -137,22 +137,22 @@ module _ (limits : Bound) (s : State) (client : ℕ) (call : Call) (asked : Repl
       (n : Node) × (node_at s.forest key ≡ Some n) × (is_there s.forest n.collection key ≡ true) × (n.collection ≤ s.events + 1)
   on_node key stands_so alive going is =
       let named_so : Named s call asked key = named limits s client no_key call asked key known.told stands_so is in
-      let stands_there : Stands s key named_so.node = stands s key named_so.node known.sound named_so.at in
+      let stands_there : Stands s key named_so.node = stands s key named_so.node known.whole.sound named_so.at in
       let gone : named_so.node.gone ≡ false = stands_there.gone named_so.unspent (named_so.unfailed going alive) in
-      let less : stands_there.collection.id ≤ s.events = known.opened stands_there.collection stands_there.there in
+      let less : stands_there.collection.id ≤ s.events = known.whole.opened stands_there.collection stands_there.there in
       let same : stands_there.collection.id ≡ named_so.node.collection = stands_there.id in
       (named_so.node, named_so.at, is_in s.forest key named_so.node named_so.at gone, omega arith)
 
   -- a call that takes effect on its node
   effect_well : (key : NodeKey) → is_refusal asked ≡ false → is_closed asked ≡ false → closing call ≡ None → key_of call ≡ Some key → new_key asked ≡ None →
       ((k : NodeKey) → released_by (Change.Effect call) ≡ Some k → spent_by call asked ≡ Some k) →
-      ((k : NodeKey) → Change.Effect call ≡ Change.Effect (Call.TrackNode k) → ⊥) →
+      ((k : NodeKey) (n : Node) → Change.Effect call ≡ Change.Effect (Call.TrackNode k) → node_at s.forest k ≡ Some n → n.trackers < 64) →
       (w : Work) → at_node s.forest key (λ n. Change.Effect call) ≡ Some w → Well s call asked w
   effect_well key stands_so alive going is none releases tracks w work =
       let on = on_node key stands_so alive going is in
       let w_is : record { collection = on.0.collection; change = Change.Effect call } ≡ w = some_is (rw on.1 at work) in
       subst (Well s call asked) w_is (record {
-        may = record { named = rw is on.2; room = λ h. cc; heads = refl; trackers = λ k n h. absurd (tracks k h) };
+        may = record { named = rw is on.2; room = λ h. cc; heads = refl; trackers = tracks };
         within = on.3;
         releases = releases;
         births = rw none refl;
@@ -177,12 +177,12 @@ close_well : (limits : Bound) (s : State) (client : ℕ) (key : NodeKey) → Kno
 close_well limits s client key known w work =
     let named_so : Named s (Call.Close key) Reply.Done key = named limits s client no_key (Call.Close key) Reply.Done key known.told refl refl in
     let n : Node = named_so.node in
-    let stands_there : Stands s key n = stands s key n known.sound named_so.at in
-    let less : stands_there.collection.id ≤ s.events = known.opened stands_there.collection stands_there.there in
+    let stands_there : Stands s key n = stands s key n known.whole.sound named_so.at in
+    let less : stands_there.collection.id ≤ s.events = known.whole.opened stands_there.collection stands_there.there in
     let same : stands_there.collection.id ≡ n.collection = stands_there.id in
     let w_is : record { collection = n.collection; change = losing key Cause.Lost n } ≡ w = some_is (rw named_so.at at work) in
     let found : collection_at s.forest n.collection ≡ Some stands_there.collection =
-    found_by_id s.forest.collections stands_there.collection n.collection known.sound.rising stands_there.there same in
+    found_by_id s.forest.collections stands_there.collection n.collection known.whole.sound.rising stands_there.there same in
     subst (Well s (Call.Close key) Reply.Done) w_is (by n stands_there.collection named_so.at found (omega arith) n.gone refl)
   where
     by : (n : Node) (c : Collection) → node_at s.forest key ≡ Some n → collection_at s.forest n.collection ≡ Some c → n.collection ≤ s.events + 1 →
@@ -200,19 +200,19 @@ close_well limits s client key known w work =
       births = refl;
     }
 
--- what is refused under a test that does not hold
-not_met : (b : Bool) (refusal : Refusal) → refused_if b refusal ≡ None → b ≡ false
-not_met true refusal none = cc
-not_met false refusal none = refl
+-- what is answered under a test that does not hold
+not_met : (b : Bool) (reply : Reply) → when b reply ≡ None → b ≡ false
+not_met true reply none = cc
+not_met false reply none = refl
 
 -- room for one more node
 has_room : (limits : Bound) (s : State) (client : ℕ) (call : Call) (asked : Reply) → Known limits s client call asked → took_effect asked ≡ true → closing call ≡ None →
     makes_node call ≡ true → kept s.forest < s.forest.limit
 has_room limits s client call asked known effective going makes =
     let all = took_effect_all limits (readings_of s) client no_key call asked effective going known.told in
-    let test : nat_le limits.nodes (kept s.forest) ≡ false = not_met (nat_le limits.nodes (kept s.forest)) Refusal.TooManyNodes (rw makes at all.nodes_fit) in
+    let test : nat_le limits.nodes (kept s.forest) ≡ false = not_met (nat_le limits.nodes (kept s.forest)) (Reply.Refused Refusal.TooManyNodes) (rw makes at all.nodes_fit) in
     let less : kept s.forest < limits.nodes = leb-false limits.nodes (kept s.forest) test in
-    rw known.limit less
+    rw known.whole.limit less
 
 -- a new collection
 root_well : (limits : Bound) (s : State) (client : ℕ) (key : NodeKey) (c : ℕ) → Known limits s client Call.OpenRoot (Reply.Token key c) →
@@ -220,7 +220,7 @@ root_well : (limits : Bound) (s : State) (client : ℕ) (key : NodeKey) (c : ℕ
 root_well limits s client key c known w work =
     let all = took_effect_all limits (readings_of s) client no_key Call.OpenRoot (Reply.Token key c) refl refl known.told in
     let new : c ≡ s.events + 1 = token_is all.answered in
-    let none : collection_at s.forest c ≡ None = not_there s.forest s.events c known.opened (omega arith) in
+    let none : collection_at s.forest c ≡ None = not_there s.forest s.events c known.whole.opened (omega arith) in
     let room : kept s.forest < s.forest.limit = has_room limits s client Call.OpenRoot (Reply.Token key c) known refl refl refl in
     subst (Well s Call.OpenRoot (Reply.Token key c)) (some_is work) (record {
       may = record { named = rw none refl; room = λ h. room; heads = refl; trackers = λ k n h. cc };
@@ -263,45 +263,71 @@ child_well limits s client call attached above key c is going makes tells known 
     no_root true = refl
     no_root false = refl
 
--- a Close is no misuse
-close_misuse : (limits : Bound) (s : State) (client : ℕ) (key : NodeKey) (m : Misuse) → Known limits s client (Call.Close key) (Reply.Misused m) → ⊥
-close_misuse limits s client key m known =
+-- a call that is answered as a misuse is no Close
+not_closing : (limits : Bound) (s : State) (client : ℕ) (call : Call) (key : NodeKey) (m : Misuse) → Known limits s client call (Reply.Misused m) → key_of call ≡ Some key → closing call ≡ None
+not_closing limits s client (Call.Close key) key' m known is =
     let p : Passed (readings_of s) (Call.Close key) (Reply.Misused m) key = passed limits (readings_of s) client no_key (Call.Close key) (Reply.Misused m) key known.told refl refl in
-    let is : Reply.Misused m ≡ Reply.Done = p.closed Reply.Done refl in
+    let done : Reply.Misused m ≡ Reply.Done = p.closed Reply.Done refl in
     cc
+not_closing limits s client _ key m known is = refl
+
+-- what a misuse changes
+misused_well : (limits : Bound) (s : State) (client : ℕ) (call : Call) (m : Misuse) → Known limits s client call (Reply.Misused m) →
+    (w : Work) → work_of s client call (Reply.Misused m) ≡ Some w → Well s call (Reply.Misused m) w
+misused_well limits s client call m known w work =
+    let found = and_then-Some (λ key. at_node s.forest key (λ n. Change.Loss key (Cause.Misused m))) (key_of call) w work in
+    misuse_well limits s client call (Reply.Misused m) known found.0 m refl refl (not_closing limits s client call found.0 m known found.1) found.1 refl w found.2
+
+-- what a drop of a handle changes
+drop_well : (limits : Bound) (s : State) (client : ℕ) (buffer : BufferName) (strength : Strength) → Known limits s client (Call.DropHandle buffer strength) Reply.Done →
+    (w : Work) → at_collection s.forest buffer.collection Change.Nothing ≡ Some w → Well s (Call.DropHandle buffer strength) Reply.Done w
+drop_well limits s client buffer strength known w work =
+    let found = map-Some (λ (c : Collection). record { collection = buffer.collection; change = Change.Nothing }) (collection_at s.forest buffer.collection) w work in
+    let here = In-find (λ (c : Collection). c.id == buffer.collection) s.forest.collections found.0 found.1 in
+    let same : found.0.id ≡ buffer.collection = eqb-true found.0.id buffer.collection here.1 in
+    let less : found.0.id ≤ s.events = known.whole.opened found.0 here.0 in
+    subst (Well s (Call.DropHandle buffer strength) Reply.Done) found.2 (record {
+      may = record { named = rw found.1 refl; room = λ h. cc; heads = refl; trackers = λ k n h. cc };
+      within = omega arith;
+      releases = λ k h. cc;
+      births = refl;
+    })
+
+-- a node on which one more tracker is made has fewer than 64
+few_trackers : (limits : Bound) (s : State) (client : ℕ) (key : NodeKey) (id : ℕ) → Known limits s client (Call.TrackNode key) (Reply.Tracker id) →
+    (n : Node) → node_at s.forest key ≡ Some n → n.trackers < 64
+few_trackers limits s client key id known n at =
+    let all = took_effect_all limits (readings_of s) client no_key (Call.TrackNode key) (Reply.Tracker id) refl refl known.told in
+    let named_so : Named s (Call.TrackNode key) (Reply.Tracker id) key = named limits s client no_key (Call.TrackNode key) (Reply.Tracker id) key known.told refl refl in
+    let same : named_so.node ≡ n = some_is (sym named_so.at ∙ at) in
+    let unspent : is_spent n.end ≡ false = subst (λ (m : Node). is_spent m.end ≡ false) same named_so.unspent in
+    let none : when (nat_le 64 n.trackers) (Reply.Misused Misuse.TooManyNodeTrackers) ≡ None = rw (read_end s key n at unspent) at all.no_misuse in
+    leb-false 64 n.trackers (not_met (nat_le 64 n.trackers) (Reply.Misused Misuse.TooManyNodeTrackers) none)
+
+-- what a call that was answered Done changes
+done_well : (limits : Bound) (s : State) (client : ℕ) (call : Call) → Known limits s client call Reply.Done → (w : Work) → done_to s.forest call ≡ Some w → Well s call Reply.Done w
+done_well limits s client (Call.Bind key) known w work = effect_well limits s client (Call.Bind key) Reply.Done known key refl refl refl refl refl (λ k h. cc) (λ k n h. cc) w work
+done_well limits s client (Call.SetDispensable key) known w work = effect_well limits s client (Call.SetDispensable key) Reply.Done known key refl refl refl refl refl (λ k h. cc) (λ k n h. cc) w work
+done_well limits s client (Call.SetWeak key) known w work = effect_well limits s client (Call.SetWeak key) Reply.Done known key refl refl refl refl refl (λ k h. cc) (λ k n h. cc) w work
+done_well limits s client (Call.SetWeakOk key children) known w work = effect_well limits s client (Call.SetWeakOk key children) Reply.Done known key refl refl refl refl refl (λ k h. cc) (λ k n h. cc) w work
+done_well limits s client (Call.SetConstraints key demand) known w work = effect_well limits s client (Call.SetConstraints key demand) Reply.Done known key refl refl refl refl refl (λ k h. cc) (λ k n h. cc) w work
+done_well limits s client (Call.Release key) known w work = effect_well limits s client (Call.Release key) Reply.Done known key refl refl refl refl refl (λ k h. h) (λ k n h. cc) w work
+done_well limits s client (Call.Close key) known w work = close_well limits s client key known w work
+done_well limits s client (Call.DropHandle buffer strength) known w work = drop_well limits s client buffer strength known w work
+done_well limits s client _ known w work = none_some work
 
 -- what an answered call changes, it may change
 pub well : (limits : Bound) (s : State) (client : ℕ) (call : Call) (asked : Reply) → Known limits s client call asked → (w : Work) → work_of s client call asked ≡ Some w → Well s call asked w
-well limits s client Call.Shut asked known w work = absurd known.served
-well limits s client (Call.Give key to) asked known w work = absurd known.served
-well limits s client Call.Collect asked known w work = absurd known.served
-well limits s client (Call.Take key) asked known w work = absurd known.served
-well limits s client (Call.DupHandle buffer strength) asked known w work = absurd known.served
-well limits s client (Call.DropHandle buffer strength) asked known w work = absurd known.served
-well limits s client (Call.GiveHandle buffer strength to) asked known w work = absurd known.served
-well limits s client (Call.TrackNode key) asked known w work = absurd known.served
-well limits s client (Call.TrackLifetime key most) asked known w work = absurd known.served
-well limits s client (Call.TrackWeak buffer) asked known w work = absurd known.served
 well limits s client Call.OpenRoot (Reply.Token key c) known w work = root_well limits s client key c known w work
 well limits s client (Call.Duplicate above) (Reply.Token key c) known w work = child_well limits s client (Call.Duplicate above) false above key c refl refl refl refl known w work
 well limits s client (Call.AttachToken above) (Reply.Token key c) known w work = child_well limits s client (Call.AttachToken above) true above key c refl refl refl refl known w work
-well limits s client (Call.Duplicate key) (Reply.Misused m) known w work = misuse_well limits s client (Call.Duplicate key) (Reply.Misused m) known key m refl refl refl refl refl w work
-well limits s client (Call.AttachToken key) (Reply.Misused m) known w work = misuse_well limits s client (Call.AttachToken key) (Reply.Misused m) known key m refl refl refl refl refl w work
-well limits s client (Call.SetDispensable key) (Reply.Misused m) known w work = misuse_well limits s client (Call.SetDispensable key) (Reply.Misused m) known key m refl refl refl refl refl w work
-well limits s client (Call.SetWeak key) (Reply.Misused m) known w work = misuse_well limits s client (Call.SetWeak key) (Reply.Misused m) known key m refl refl refl refl refl w work
-well limits s client (Call.SetWeakOk key children) (Reply.Misused m) known w work = misuse_well limits s client (Call.SetWeakOk key children) (Reply.Misused m) known key m refl refl refl refl refl w work
-well limits s client (Call.Sync key) (Reply.Misused m) known w work = misuse_well limits s client (Call.Sync key) (Reply.Misused m) known key m refl refl refl refl refl w work
-well limits s client (Call.Bind key) (Reply.Misused m) known w work = misuse_well limits s client (Call.Bind key) (Reply.Misused m) known key m refl refl refl refl refl w work
-well limits s client (Call.SetConstraints key demand) (Reply.Misused m) known w work = misuse_well limits s client (Call.SetConstraints key demand) (Reply.Misused m) known key m refl refl refl refl refl w work
-well limits s client (Call.Check key) (Reply.Misused m) known w work = misuse_well limits s client (Call.Check key) (Reply.Misused m) known key m refl refl refl refl refl w work
-well limits s client (Call.Release key) (Reply.Misused m) known w work = misuse_well limits s client (Call.Release key) (Reply.Misused m) known key m refl refl refl refl refl w work
-well limits s client (Call.Close key) (Reply.Misused m) known w work = absurd (close_misuse limits s client key m known)
-well limits s client (Call.Bind key) Reply.Done known w work = effect_well limits s client (Call.Bind key) Reply.Done known key refl refl refl refl refl (λ k h. cc) (λ k h. cc) w work
-well limits s client (Call.SetDispensable key) Reply.Done known w work = effect_well limits s client (Call.SetDispensable key) Reply.Done known key refl refl refl refl refl (λ k h. cc) (λ k h. cc) w work
-well limits s client (Call.SetWeak key) Reply.Done known w work = effect_well limits s client (Call.SetWeak key) Reply.Done known key refl refl refl refl refl (λ k h. cc) (λ k h. cc) w work
-well limits s client (Call.SetWeakOk key children) Reply.Done known w work = effect_well limits s client (Call.SetWeakOk key children) Reply.Done known key refl refl refl refl refl (λ k h. cc) (λ k h. cc) w work
-well limits s client (Call.SetConstraints key demand) Reply.Done known w work = effect_well limits s client (Call.SetConstraints key demand) Reply.Done known key refl refl refl refl refl (λ k h. cc) (λ k h. cc) w work
-well limits s client (Call.Release key) Reply.Done known w work = effect_well limits s client (Call.Release key) Reply.Done known key refl refl refl refl refl (λ k h. h) (λ k h. cc) w work
-well limits s client (Call.Close key) Reply.Done known w work = close_well limits s client key known w work
-well limits s client Call.Join (Reply.Misused m) known w work = none_some work
+well limits s client call (Reply.Misused m) known w work = misused_well limits s client call m known w work
+well limits s client call Reply.Done known w work = done_well limits s client call known w work
+well limits s client (Call.Take key) (Reply.Taken c strength set) known w work =
+    effect_well limits s client (Call.Take key) (Reply.Taken c strength set) known key refl refl refl refl refl (λ k h. cc) (λ k n h. cc) w work
+well limits s client (Call.TrackNode key) (Reply.Tracker id) known w work =
+    effect_well limits s client (Call.TrackNode key) (Reply.Tracker id) known key refl refl refl refl refl (λ k h. cc) (λ k n is at. few k n is at) w work
+  where
+    few : (k : NodeKey) (n : Node) → Change.Effect (Call.TrackNode key) ≡ Change.Effect (Call.TrackNode k) → node_at s.forest k ≡ Some n → n.trackers < 64
+    few k n is at = let same : key ≡ k = cc in few_trackers limits s client key id known n (rw same at)
 well limits s client _ _ known w work = none_some work

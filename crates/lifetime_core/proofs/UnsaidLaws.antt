@@ -8,7 +8,6 @@ use Rattle.sm_names.specs.Answers.{IsAnswer}
 use Rattle.sm_names.specs.Births.{Birth, births, birth_at, was_born}
 use Rattle.sm_names.specs.Bounds.{Bound}
 use Rattle.sm_names.specs.Demands.{Demand}
-use Rattle.sm_names.specs.Ends.{binds, spends, spent}
 use Rattle.sm_names.specs.Losses.{is_allocation, is_dispensable, is_release, released, gone, fault}
 use Rattle.sm_names.specs.Marks.{Mark, Timeline, Called, Loss, Allocated, Ended, events, is_event}
 use Rattle.sm_names.specs.Members.{constraints_at, constraints}
@@ -28,59 +27,47 @@ use Rattle.sm_names.proofs.SettledLaws.{In-was_born, Why, Initial, Logical, forc
 -- ---- which node a mark speaks of
 
 -- the call names the node and is not refused
-abbrev pub Names : Call → Reply → NodeKey → Type 0
+abbrev Names : Call → Reply → NodeKey → Type 0
 Names call reply node = (key_of call ≡ Some node) × (is_refusal reply ≡ false)
 
 -- a call that releases a node
-pub releases_it : (node : NodeKey) (client : ℕ) (reply : Reply) (call : Call) → is_release node (Called client reply call) ≡ true → Names call reply node
+releases_it : (node : NodeKey) (client : ℕ) (reply : Reply) (call : Call) → is_release node (Called client reply call) ≡ true → Names call reply node
 releases_it node client Reply.Done (Call.Release key) h = (ap Some (same_key-true key node h), refl)
 releases_it node client _ _ h = cc
 
 -- one that makes it dispensable
-pub dispenses_it : (node : NodeKey) (client : ℕ) (reply : Reply) (call : Call) → is_dispensable node (Called client reply call) ≡ true → Names call reply node
+dispenses_it : (node : NodeKey) (client : ℕ) (reply : Reply) (call : Call) → is_dispensable node (Called client reply call) ≡ true → Names call reply node
 dispenses_it node client Reply.Done (Call.SetDispensable key) h = (ap Some (same_key-true key node h), refl)
 dispenses_it node client _ _ h = cc
 
 -- weak
-pub weakens_it : (node : NodeKey) (client : ℕ) (reply : Reply) (call : Call) → sets_weak node (Called client reply call) ≡ true → Names call reply node
+weakens_it : (node : NodeKey) (client : ℕ) (reply : Reply) (call : Call) → sets_weak node (Called client reply call) ≡ true → Names call reply node
 weakens_it node client Reply.Done (Call.SetWeak key) h = (ap Some (same_key-true key node h), refl)
 weakens_it node client _ _ h = cc
 
 -- weak_ok
-pub allows_it : (node : NodeKey) (client : ℕ) (reply : Reply) (call : Call) → sets_weak_ok node (Called client reply call) ≡ true → Names call reply node
+allows_it : (node : NodeKey) (client : ℕ) (reply : Reply) (call : Call) → sets_weak_ok node (Called client reply call) ≡ true → Names call reply node
 allows_it node client Reply.Done (Call.SetWeakOk key children) h = (ap Some (same_key-true key node h), refl)
 allows_it node client _ _ h = cc
 
 -- with children
-pub covers_it : (node : NodeKey) (client : ℕ) (reply : Reply) (call : Call) → covers_children node (Called client reply call) ≡ true → Names call reply node
+covers_it : (node : NodeKey) (client : ℕ) (reply : Reply) (call : Call) → covers_children node (Called client reply call) ≡ true → Names call reply node
 covers_it node client Reply.Done (Call.SetWeakOk key true) h = (ap Some (same_key-true key node h), refl)
 covers_it node client Reply.Done (Call.SetWeakOk key false) h = cc
 covers_it node client _ _ h = cc
 
--- one that binds its token
-pub binds_it : (node : NodeKey) (client : ℕ) (reply : Reply) (call : Call) → binds node (Called client reply call) ≡ true → Names call reply node
-binds_it node client Reply.Done (Call.Bind key) h = (ap Some (same_key-true key node h), refl)
-binds_it node client _ _ h = cc
-
--- spends its end
-pub spends_it : (node : NodeKey) (client : ℕ) (reply : Reply) (call : Call) → spends node (Called client reply call) ≡ true → Names call reply node
-spends_it node client Reply.Done (Call.Close key) h = (ap Some (same_key-true key node h), refl)
-spends_it node client Reply.Done (Call.Release key) h = (ap Some (same_key-true key node h), refl)
-spends_it node client (Reply.PeerClosed cause origin) (Call.Release key) h = (ap Some (same_key-true key node h), refl)
-spends_it node client _ _ h = cc
-
 -- takes handles through it
-pub takes_it : (node : NodeKey) (client : ℕ) (reply : Reply) (call : Call) → is_taking node (Called client reply call) ≡ true → Names call reply node
+takes_it : (node : NodeKey) (client : ℕ) (reply : Reply) (call : Call) → is_taking node (Called client reply call) ≡ true → Names call reply node
 takes_it node client (Reply.Taken collection strength set) (Call.Take key) h = (ap Some (same_key-true key node h), refl)
 takes_it node client _ _ h = cc
 
 -- tracks it
-pub tracks_it : (node : NodeKey) (client : ℕ) (reply : Reply) (call : Call) → is_tracking node (Called client reply call) ≡ true → Names call reply node
+tracks_it : (node : NodeKey) (client : ℕ) (reply : Reply) (call : Call) → is_tracking node (Called client reply call) ≡ true → Names call reply node
 tracks_it node client (Reply.Tracker id) (Call.TrackNode key) h = (ap Some (same_key-true key node h), refl)
 tracks_it node client _ _ h = cc
 
 -- or sets its constraints
-pub constrains_it : (node : NodeKey) (client : ℕ) (reply : Reply) (call : Call) → is_some (constraints_at node (Called client reply call)) ≡ true → Names call reply node
+constrains_it : (node : NodeKey) (client : ℕ) (reply : Reply) (call : Call) → is_some (constraints_at node (Called client reply call)) ≡ true → Names call reply node
 constrains_it node client Reply.Done (Call.SetConstraints key demand) h =
     elim (either_way (same_key key node)) [
       | inl e ↦ (ap Some (same_key-true key node e), refl)
@@ -89,19 +76,19 @@ constrains_it node client Reply.Done (Call.SetConstraints key demand) h =
 constrains_it node client _ _ h = cc
 
 -- what is not there is None
-pub is_none_if : (o : Option Demand) → is_some o ≡ false → o ≡ None
+is_none_if : (o : Option Demand) → is_some o ≡ false → o ≡ None
 is_none_if None h = refl
 is_none_if (Some x) h = cc
 
 -- a mark that is not the node's birth tells no parent of it
-pub not_born_to : (older : List Birth) (event : ℕ) (mark : Mark) (node : NodeKey) → was_born (cons_option (birth_at event mark) older) node ≡ false → born_to node mark ≡ None
+not_born_to : (older : List Birth) (event : ℕ) (mark : Mark) (node : NodeKey) → was_born (cons_option (birth_at event mark) older) node ≡ false → born_to node mark ≡ None
 not_born_to older event (Called client (Reply.Token key collection) Call.OpenRoot) node h = let e : same_key key node ≡ false = or_none_left _ _ h in rw e refl
 not_born_to older event (Called client (Reply.Token key collection) (Call.Duplicate parent)) node h = let e : same_key key node ≡ false = or_none_left _ _ h in rw e refl
 not_born_to older event (Called client (Reply.Token key collection) (Call.AttachToken parent)) node h = let e : same_key key node ≡ false = or_none_left _ _ h in rw e refl
 not_born_to older event _ node h = refl
 
 -- a node that is not among more births is not among fewer
-pub not_older : (o : Option Birth) (older : List Birth) (node : NodeKey) → was_born (cons_option o older) node ≡ false → was_born older node ≡ false
+not_older : (o : Option Birth) (older : List Birth) (node : NodeKey) → was_born (cons_option o older) node ≡ false → was_born older node ≡ false
 not_older None older node h = h
 not_older (Some b) older node h = or_none_right (same_key b.node node) _ h
 
@@ -122,8 +109,6 @@ pub record IsUnsaid (marks : Timeline) (node : NodeKey) : Type 0 where
   pub not_constrained : constraints marks node ≡ None
   pub not_taken : list_any (is_taking node) marks ≡ false
   pub not_tracked : times (is_tracking node) marks ≡ 0
-  pub not_bound : list_any (binds node) marks ≡ false
-  pub not_spent : spent marks node ≡ false
 
 -- a unit that is allocated has a head that was born
 allocated_born : (pool collection : ℕ) (marks : Timeline) (head : NodeKey) → Why pool collection marks (Allocated head) → was_born (births marks) head ≡ true
@@ -159,8 +144,6 @@ unsaid_called limits before client reply call answer node h u =
       not_constrained = rw constrains u.not_constrained;
       not_taken = or_both (is_taking node mark) _ (never (is_taking node mark) (takes_it node client reply call)) u.not_taken;
       not_tracked = rw tracks u.not_tracked;
-      not_bound = or_both (binds node mark) _ (never (binds node mark) (binds_it node client reply call)) u.not_bound;
-      not_spent = or_both (spends node mark) _ (never (spends node mark) (spends_it node client reply call)) u.not_spent;
     }
 
 -- a node that is not gone has no fault
@@ -187,8 +170,6 @@ unsaid_mark before (Loss origin cause) node h other here u = record {
   not_constrained = u.not_constrained;
   not_taken = u.not_taken;
   not_tracked = u.not_tracked;
-  not_bound = u.not_bound;
-  not_spent = u.not_spent;
 }
 unsaid_mark before (Allocated head) node h other here u = record {
   heads_none = or_both _ _ other u.heads_none;
@@ -204,8 +185,6 @@ unsaid_mark before (Allocated head) node h other here u = record {
   not_constrained = u.not_constrained;
   not_taken = u.not_taken;
   not_tracked = u.not_tracked;
-  not_bound = u.not_bound;
-  not_spent = u.not_spent;
 }
 unsaid_mark before (Ended top) node h other here u = record {
   heads_none = or_both _ _ other u.heads_none;
@@ -221,8 +200,6 @@ unsaid_mark before (Ended top) node h other here u = record {
   not_constrained = u.not_constrained;
   not_taken = u.not_taken;
   not_tracked = u.not_tracked;
-  not_bound = u.not_bound;
-  not_spent = u.not_spent;
 }
 
 -- a node that was not born is not gone
@@ -246,8 +223,6 @@ unsaid pool limits _ Stays node h = record {
   not_constrained = refl;
   not_taken = refl;
   not_tracked = refl;
-  not_bound = refl;
-  not_spent = refl;
 }
 unsaid pool limits _ (Answers before client reply call g answer) node h =
     unsaid_called limits before client reply call answer node h (unsaid pool limits before g node (not_older (birth_at (events before + 1) (Called client reply call)) (births before) node h))

@@ -1,28 +1,14 @@
 -- What is seen of a core's state is what is seen of the marks.
-use Rattle.std.proofs.Common.{ℕ, ◌≡◌, ◌-◌, refl, ap, sym, ◌∙◌, List, [], ◌∷◌, reverse}
-use Rattle.std.specs.List.{flat_map}
+use Rattle.std.proofs.Common.{ℕ, ◌≡◌, ◌-◌, ap, []}
 use Rattle.sm_names.specs.Bounds.{Bound}
-use Rattle.sm_names.specs.Marks.{Timeline, events}
-use Rattle.sm_names.specs.Trackers.{fired, fired_in, moments}
+use Rattle.sm_names.specs.Marks.{Timeline}
 use Rattle.sm_names.specs.Views.{views, free_pages}
 use Rattle.sm_names.proofs.GrowthLaws.{Grows}
 use Rattle.lifetime_core.specs.Reads.{views_of}
-use Rattle.lifetime_core.specs.Shown.{IsAfter, IsQuiet}
+use Rattle.lifetime_core.specs.Shown.{IsAfter}
 use Rattle.lifetime_core.specs.State.{State}
 use Rattle.lifetime_core.proofs.ViewingHeld.{HavePages, held_pages_are, held_by_page_is}
 use Rattle.lifetime_core.proofs.ViewingNodes.{live_keys_are}
-
--- nothing is put together of nothing
-flat_map-nothing : {A B : Type 0} (xs : List A) → flat_map {X = A} {A = B} (λ x. []) xs ≡ []
-flat_map-nothing [] = refl
-flat_map-nothing (x ∷ xs) = flat_map-nothing xs
-
--- where there is no tracker, none fired
-pub none_fired : (marks : Timeline) → IsQuiet marks → fired marks ≡ []
-none_fired marks quiet = (λ i. flat_map (λ moment. none_in (events moment) i) (reverse (moments marks))) ∙ flat_map-nothing (reverse (moments marks))
-  where
-    none_in : (event : ℕ) → fired_in marks event ≡ []
-    none_in event = rw quiet.not_tracked refl
 
 module _ (s : State) (marks : Timeline) (shown : IsAfter s marks) (limits : Bound) (grown : Grows s.pool limits [] marks) where
   -- the free pages of the state are those of the marks
@@ -34,6 +20,6 @@ module _ (s : State) (marks : Timeline) (shown : IsAfter s marks) (limits : Boun
   views_are paged = λ i. record {
     live = live_keys_are s marks shown limits grown i;
     held = held_by_page_is s marks shown limits grown paged i;
-    fired = sym (none_fired marks shown.quiet) i;
+    fired = shown.trackers.fired i;
     free = free_is i;
   }

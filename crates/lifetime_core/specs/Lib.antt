@@ -1,6 +1,8 @@
+pub mod ClientRows
+pub mod Hands
+pub mod Kinds
 pub mod Lines
 pub mod Reads
-pub mod Served
 pub mod Shown
 pub mod State
 pub mod Steps

@@ -1,5 +1,5 @@
 -- What answers and views read of a core's state.
-use Rattle.std.specs.Prelude.{ℕ, ◌-◌, Bool, true, false, ◌&&◌, ◌==◌, not, if◌then◌else◌, List, [], map, length, Option, Some, None, is_some}
+use Rattle.std.specs.Prelude.{ℕ, ◌-◌, Bool, true, false, ◌&&◌, ◌==◌, not, if◌then◌else◌, List, [], length, Option, Some, None, is_some}
 use Rattle.std.specs.List.{find, filter, list_any, sum_by}
 use Rattle.std.specs.Option.{option_map_or, option_and_then}
 use Rattle.sm_names.specs.declared.keys.BufferName.{BufferName}
@@ -12,17 +12,15 @@ use Rattle.sm_names.specs.Answers.{OpenEnd, Readings}
 use Rattle.sm_names.specs.Handles.{is_doomed}
 use Rattle.sm_names.specs.Members.{some_strong_live}
 use Rattle.sm_names.specs.Timelines.{HeldPages}
+use Rattle.sm_names.specs.Trackers.{World}
 use Rattle.sm_names.specs.Views.{Views}
+use Rattle.buffer_holds.specs.Counts.{of, total}
 use Rattle.alloc_event.specs.declared.node.End.{End}
 use Rattle.alloc_event.specs.declared.node.Node.{Node}
-use Rattle.alloc_event.specs.Forest.{Collection, collection_at, node_at, kept, given, live_keys, held_by_page, all_held}
+use Rattle.alloc_event.specs.Forest.{Collection, Forest, collection_at, node_at, kept, given, live_keys, held_by_page, all_held}
 use Rattle.alloc_event.specs.Nodes.{members_of, is_spent}
 use Rattle.alloc_event.specs.Settling.{Handles, buffer_names}
-use Rattle.lifetime_core.specs.State.{State}
-
--- how many handles are open: none can be opened yet
-abbrev pub handles : Handles
-handles buffer strength = 0
+use Rattle.lifetime_core.specs.State.{Client, State}
 
 -- who holds the end, or held it last
 abbrev pub holder_of : End → ℕ
@@ -43,7 +41,7 @@ buffers_in s collection = option_map_or (λ (c : Collection). c.buffers) (collec
 abbrev pub to_open_in : State → ℕ → List BufferName
 to_open_in s collection = option_map_or
     (λ (c : Collection).
-    filter (λ b. not (is_doomed (handles b Strength.Strong) (some_strong_live (members_of c.nodes)))) (buffer_names c))
+    filter (λ b. not (is_doomed (total s.holds b Strength.Strong) (some_strong_live (members_of c.nodes)))) (buffer_names c))
     (collection_at s.forest collection) []
 
 -- the end of the node, as answers read it
@@ -67,20 +65,24 @@ open_end_of s n = record {
 abbrev pub end_in : State → NodeKey → Option OpenEnd
 end_in s key = option_and_then (λ (n : Node). if is_spent n.end then None else Some (open_end_of s n)) (node_at s.forest key)
 
--- what answers read of the state: no client is shut, no parcel waits, and no handle or tracker is there yet
+-- the client with this number, if it joined
+abbrev pub client_in : State → ℕ → Option Client
+client_in s client = find (λ (c : Client). c.id == client) s.clients
+
+-- what answers read of the state
 abbrev pub readings_of : State → Readings
 readings_of s = record {
   events = s.events;
-  has_joined = λ client. list_any (λ c. c == client) s.clients;
-  is_shut = λ client. false;
+  has_joined = λ client. list_any (λ (c : Client). c.id == client) s.clients;
+  is_shut = λ client. option_map_or (λ (c : Client). c.shut) (client_in s client) false;
   end_of = end_in s;
-  waiting = λ client. [];
-  open_of = λ client. handles;
-  open_total = handles;
+  waiting = λ client. option_map_or (λ (c : Client). c.waiting) (client_in s client) [];
+  open_of = of s.holds;
+  open_total = total s.holds;
   was_given = given s.forest;
   kept_nodes = kept s.forest;
   kept_collections = length s.forest.collections;
-  unfired = 0;
+  unfired = length s.trackers.unfired;
 }
 
 -- why and where the node with this key failed, if it is kept and did
@@ -96,6 +98,19 @@ abbrev pub views_of : State → Views
 views_of s = record {
   live = live_keys s.forest;
   held = held_by_page s.forest;
-  fired = [];
+  fired = s.trackers.fired;
   free = s.pool - sum_by (λ (h : HeldPages). h.pages.pages) (all_held s.forest);
+}
+
+-- what trackers look at: a node that was forgotten is taken for gone and its unit for allocated, and of a collection that was
+-- forgotten no buffer is left, so that none is to be doomed
+abbrev pub world_in : Forest → Handles → World
+world_in f handles = record {
+  gone = λ key. option_map_or (λ (n : Node). n.gone) (node_at f key) true;
+  allocated = λ key. option_map_or (λ (n : Node). n.allocated) (node_at f key) true;
+  left = λ collection. option_map_or (λ (c : Collection). length c.held) (collection_at f collection) 0;
+  doomed = λ buffer. option_map_or
+      (λ (c : Collection).
+      is_some c.buffers && is_doomed (handles buffer Strength.Strong) (some_strong_live (members_of c.nodes)))
+      (collection_at f buffer.collection) false;
 }

@@ -1,12 +1,10 @@
 -- Which history a core's state shows.
-use Rattle.std.specs.Prelude.{ℕ, Bool, true, false, ◌||◌, ◌&&◌, ◌==◌, not, if◌then◌else◌, List, [], map, reverse, Option, ◌≡◌, is_none}
+use Rattle.std.specs.Prelude.{ℕ, true, ◌||◌, ◌&&◌, ◌==◌, not, if◌then◌else◌, List, map, reverse, ◌≡◌, is_none}
 use Rattle.std.specs.List.{filter, list_any}
-use Rattle.sm_names.specs.declared.keys.BufferName.{BufferName}
 use Rattle.sm_names.specs.declared.keys.NodeKey.{NodeKey}
-use Rattle.sm_names.specs.declared.keys.Strength.{Strength}
 use Rattle.sm_names.specs.Births.{Birth, births, head, was_born}
 use Rattle.sm_names.specs.Ends.{binds, spent, holder, in_transit, clients, is_shut, parcels}
-use Rattle.sm_names.specs.Handles.{open_of, open_total}
+use Rattle.sm_names.specs.Handles.{open_of, moving, open_total}
 use Rattle.sm_names.specs.Kept.{is_kept_collection}
 use Rattle.sm_names.specs.Legality.{IsLegal}
 use Rattle.sm_names.specs.Losses.{allocated, fault, gone, released, is_dispensable}
@@ -15,14 +13,16 @@ use Rattle.sm_names.specs.Members.{births_in, constraints}
 use Rattle.sm_names.specs.Reading.{is_taking, is_tracking}
 use Rattle.sm_names.specs.Handles.{buffers_of}
 use Rattle.sm_names.specs.Timelines.{HeldPages, held, timeline}
-use Rattle.sm_names.specs.Trackers.{tracked}
+use Rattle.sm_names.specs.Trackers.{Tracked, tracked, fired}
 use Rattle.sm_names.specs.Weakness.{weak, weak_ok, covered, covers_children}
 use Rattle.sm_names.specs.Words.{times}
+use Rattle.event_laws.specs.Waiting.{waiting}
+use Rattle.trackers.specs.Table.{Table, Waiting, is_untaken}
 use Rattle.alloc_event.specs.declared.node.End.{End}
 use Rattle.alloc_event.specs.declared.node.Node.{Node}
-use Rattle.alloc_event.specs.Forest.{Collection, collection_at, given}
+use Rattle.alloc_event.specs.Forest.{Collection, given}
 use Rattle.alloc_event.specs.Nodes.{is_over}
-use Rattle.lifetime_core.specs.State.{State}
+use Rattle.lifetime_core.specs.State.{Client, HandleCounts, State, counts_of}
 
 -- where the end of the node is
 abbrev pub end_after : Timeline → NodeKey → End
@@ -76,21 +76,32 @@ abbrev pub kept_ids : Timeline → List ℕ
 kept_ids marks = map (λ (b : Birth). b.collection)
     (filter (λ (b : Birth). is_none b.parent && is_kept_collection marks b.collection) (reverse (births marks)))
 
--- what no served call makes: no client is shut, no parcel waits, no handle is open, no tracker is there
-pub record IsQuiet (marks : Timeline) : Type 0 where
-  pub not_shut : (client : ℕ) → is_shut marks client ≡ false
-  pub not_given : (client : ℕ) → parcels marks client ≡ []
-  pub not_open : (client : ℕ) (buffer : BufferName) (strength : Strength) → open_of marks client buffer strength ≡ 0
-  pub not_counted : (buffer : BufferName) (strength : Strength) → open_total marks buffer strength ≡ 0
-  pub not_tracked : tracked marks ≡ []
+-- the client, as the marks make it
+abbrev pub client_after : Timeline → ℕ → Client
+client_after marks client = record { id = client; shut = is_shut marks client; waiting = parcels marks client }
+
+-- the counts of handles, as the marks make them
+abbrev pub handles_after : Timeline → HandleCounts
+handles_after marks = record { of = open_of marks; moving = moving marks; total = open_total marks }
+
+-- a tracker that waits, but for where it is filed
+abbrev pub tracked_as : Waiting → Tracked
+tracked_as t = record { id = t.id; condition = t.condition }
+
+-- the trackers are those of the marks: those that fired, those that wait, and each that is still to be taken was attached
+pub record AreTrackers (t : Table) (marks : Timeline) : Type 0 where
+  pub fired : t.fired ≡ fired marks
+  pub waiting : map tracked_as t.unfired ≡ waiting marks
+  pub untaken : (id : ℕ) → is_untaken t.untaken id ≡ true → list_any (λ (u : Tracked). u.id == id) (tracked marks) ≡ true
 
 -- the state is what the marks make of it, where a core forgets the nodes that are over and the collections that are not kept
 pub record IsAfter (s : State) (marks : Timeline) : Type 0 where
   pub events : s.events ≡ events marks
-  pub clients : s.clients ≡ reverse (clients marks)
+  pub clients : s.clients ≡ map (client_after marks) (reverse (clients marks))
   pub collections : s.forest.collections ≡ map (collection_after s.pool marks) (kept_ids marks)
   pub given : (key : NodeKey) → was_born (births marks) key ≡ true → given s.forest key ≡ true
-  pub quiet : IsQuiet marks
+  pub handles : counts_of s.holds ≡ handles_after marks
+  pub trackers : AreTrackers s.trackers marks
 
 -- the state shows the history, which is legal
 pub record Shows (s : State) (history : List Entry) : Type 0 where

@@ -1,13 +1,41 @@
 -- What a core keeps, as plain data.
-use Rattle.std.specs.Prelude.{ℕ, List}
+use Rattle.std.specs.Prelude.{ℕ, Bool, List, ◌≡◌}
+use Rattle.sm_names.specs.declared.keys.BufferName.{BufferName}
+use Rattle.sm_names.specs.declared.keys.Strength.{Strength}
+use Rattle.sm_names.specs.declared.messages.Parcel.{Parcel}
 use Rattle.sm_names.specs.Bounds.{Bound}
+use Rattle.buffer_holds.specs.Counts.{Counts, of, moving, total}
+use Rattle.trackers.specs.Table.{Table}
 use Rattle.alloc_event.specs.Forest.{Forest}
 
--- a pool of so many pages, the limits, how many events there were, who joined, the earliest first, and the collections with
--- their nodes and buffers
+-- a client that joined: its number, whether it was shut, and the parcels that wait for it, the first one first
+pub record Client : Type 0 where
+  pub id : ℕ
+  pub shut : Bool
+  pub waiting : List Parcel
+
+-- a pool of so many pages, the limits, how many events there were, the clients, the earliest first, the collections with their
+-- nodes and buffers, the open handles, and the trackers
 pub record State : Type 0 where
   pub pool : ℕ
   pub limits : Bound
   pub events : ℕ
-  pub clients : List ℕ
+  pub clients : List Client
   pub forest : Forest
+  pub holds : Counts
+  pub trackers : Table
+
+-- how many handles of a buffer and strength a client has open, how many are in parcels, and how many are open in all
+pub record HandleCounts : Type 0 where
+  pub of : ℕ → BufferName → Strength → ℕ
+  pub moving : BufferName → Strength → ℕ
+  pub total : BufferName → Strength → ℕ
+
+-- what the rows of handles say
+abbrev pub counts_of : Counts → HandleCounts
+counts_of holds = record { of = of holds; moving = moving holds; total = total holds }
+
+-- the two states are the same, but for the order in which the rows of handles stand
+pub record IsSame (old new : State) : Type 0 where
+  pub rest : new ≡ record old { holds = new.holds }
+  pub counts : counts_of new.holds ≡ counts_of old.holds

@@ -1,16 +1,23 @@
 -- What an event does to a collection, and to the forest.
-use Rattle.std.specs.Prelude.{◌≡◌, ℕ, List, Option, Some, None, IfSome}
-use Rattle.std.specs.Option.{option_map, option_and_then}
+use Rattle.std.specs.Prelude.{◌≡◌, ℕ, Bool, true, false, List, ◌||◌, Option, Some, None, is_some, IfSome}
+use Rattle.std.specs.Option.{option_map, option_and_then, option_or}
 use Rattle.sm_names.specs.declared.keys.NodeKey.{NodeKey}
 use Rattle.sm_names.specs.declared.messages.Call.{Call}
 use Rattle.sm_names.specs.declared.messages.Reply.{Reply}
 use Rattle.alloc_event.specs.declared.change.Change.{Change}
+use Rattle.alloc_event.specs.declared.node.End.{End}
 use Rattle.alloc_event.specs.declared.node.Node.{Node}
-use Rattle.alloc_event.specs.Forest.{Forest, SameKeys, node_at}
-use Rattle.alloc_event.specs.Settling.{MayChange, Settled}
+use Rattle.sm_names.specs.Marks.{Called}
+use Rattle.alloc_event.specs.Forest.{Forest, node_at}
+use Rattle.alloc_event.specs.Settling.{Handles, MayChange, Settled}
+use Rattle.buffer_holds.specs.Counts.{Counts, total}
+use Rattle.trackers.specs.Table.{Table, Waiting}
+use Rattle.lifetime_core.specs.declared.sweeping.Tracking.{Tracking}
+use Rattle.lifetime_core.specs.declared.task.Carried.{Carried}
 use Rattle.lifetime_core.specs.declared.task.Task.{Task}
-use Rattle.lifetime_core.specs.Reads.{handles}
-use Rattle.lifetime_core.specs.Steps.{Work, with_spent, without_over}
+use Rattle.lifetime_core.specs.Hands.{Moves}
+use Rattle.lifetime_core.specs.State.{Client}
+use Rattle.lifetime_core.specs.Steps.{Gains, Place, Work, clients_by}
 
 -- the change to this collection, if there is one
 abbrev pub work_on : ℕ → Option Change → Option Work
@@ -20,6 +27,17 @@ work_on collection change = option_map (λ c. record { collection = collection; 
 abbrev pub work_in : Option Task → Option Work
 work_in None = None
 work_in (Some t) = work_on t.collection t.change
+
+-- the node whose end the event spends: a Close or a Release that was answered Done, or a Release of a node that was gone
+abbrev pub spent_by : Call → Reply → Option NodeKey
+spent_by (Call.Close key) Reply.Done = Some key
+spent_by (Call.Release key) Reply.Done = Some key
+spent_by (Call.Release key) (Reply.PeerClosed cause origin) = Some key
+spent_by _ _ = None
+
+-- the end of the node, spent
+abbrev pub spent_place : Option NodeKey → Option Place
+spent_place key = option_map (λ k. record { key = k; end = End.Spent }) key
 
 -- the node whose end the task spends
 abbrev pub spent_in : Option Task → Option NodeKey
@@ -34,6 +52,18 @@ released_by _ = None
 abbrev pub SpendsThere : Forest → Task → Type 0
 SpendsThere f t = IfSome t.spends (λ key. option_map (λ (n : Node). n.collection) (node_at f key) ≡ Some t.collection)
 
+-- the task changes something or spends an end
+abbrev pub DoesSome : Task → Type 0
+DoesSome t = (is_some t.change || is_some t.spends) ≡ true
+
+-- where a carried end goes
+abbrev pub place_as : Carried → Place
+place_as c = record { key = c.key; end = c.end }
+
+-- where the event puts an end, by its task or by what it carries
+abbrev pub placed : Option Task → Option Carried → Option Place
+placed task carried = option_or (spent_place (spent_in task)) (option_map place_as carried)
+
 -- the task may be done: its change may be made, the end that it spends is one of its collection, and a release spends
 -- the end
 pub record MayDo (f : Forest) (t : Task) : Type 0 where
@@ -42,23 +72,44 @@ pub record MayDo (f : Forest) (t : Task) : Type 0 where
   pub spends : IfSome t.change (λ change. IfSome (released_by change) (λ key. t.spends ≡ Some key))
 
 -- the forest once the work is done, with all that it forces
-abbrev pub Reworked : ℕ → Forest → Option Work → Option NodeKey → Forest → Type 0
-Reworked pool f None key after = (after ≡ f) × (key ≡ None)
-Reworked pool f (Some work) key after = Settled pool handles f after work.collection work.change key
-
--- the forest once the task is done, with all that it forces, and what is over is forgotten
-pub record Does (pool : ℕ) (old new : Forest) (task : Option Task) (key : Option NodeKey) : Type 0 where
-  pub worked : Forest
-  pub work : Reworked pool old (work_in task) key worked
-  pub collections : new.collections ≡ without_over (with_spent (spent_in task) worked).collections
-  pub keys : SameKeys worked new
+abbrev pub Reworked : ℕ → Handles → Forest → Option Work → Option NodeKey → Forest → Type 0
+Reworked pool handles f None key after = (after ≡ f) × (key ≡ None)
+Reworked pool handles f (Some work) key after = Settled pool handles f after work.collection work.change key
 
 -- the reply, where a new node has this key
 abbrev pub keyed : Reply → Option NodeKey → Reply
 keyed (Reply.Token key collection) (Some new) = Reply.Token new collection
 keyed reply new = reply
 
--- how many clients the reply tells of
-abbrev pub room_for : Reply → ℕ
-room_for (Reply.Joined client) = 1
-room_for _ = 0
+-- the event needs room for a client or a parcel more
+abbrev pub takes_room : Call → Reply → Bool
+takes_room Call.Join (Reply.Joined made) = true
+takes_room (Call.Give key to) Reply.Done = true
+takes_room (Call.GiveHandle buffer strength to) Reply.Done = true
+takes_room _ _ = false
+
+-- the tracker that is to be attached, as the table of trackers sees it
+abbrev pub waiting_as : Tracking → Waiting
+waiting_as t = record { id = t.id; place = t.collection; condition = t.condition }
+
+-- the end that the event carries: a Give puts one into a parcel, and a Collect gets one out
+abbrev pub carried_by : ℕ → Call → Reply → Option Place
+carried_by client (Call.Give key to) Reply.Done = Some (record { key = key; end = End.InTransit client })
+carried_by client Call.Collect (Reply.Collected key kind collection) = Some (record { key = key; end = End.Held client })
+carried_by client _ _ = None
+
+-- what a core keeps that an event changes
+pub record Parts : Type 0 where
+  pub clients : List Client
+  pub forest : Forest
+  pub holds : Counts
+  pub trackers : Table
+
+-- the call that was answered so took effect, but for the trackers that fire and for what is forgotten; a new node has this key
+pub record TakesEffect (pool : ℕ) (old new : Parts) (client : ℕ) (call : Call) (asked : Reply) (task : Option Task) (tracking : Option Tracking) (reply : Reply) : Type 0 where
+  pub key : Option NodeKey
+  pub told : reply ≡ keyed asked key
+  pub clients : new.clients ≡ clients_by (Called client asked call) old.clients
+  pub handles : Moves old.holds new.holds (Called client asked call)
+  pub work : Reworked pool (total new.holds) old.forest (work_in task) key new.forest
+  pub trackers : Gains old.trackers (option_map waiting_as tracking) new.trackers

@@ -1,10 +1,8 @@
 -- What a core promises of whole histories.
 use Rattle.std.specs.Prelude.{ℕ, List, [], ◌∷◌, ◌++◌}
-use Rattle.std.specs.List.{All}
 use Rattle.sm_names.specs.declared.messages.Call.{Call}
 use Rattle.sm_names.specs.declared.messages.Reply.{Reply}
 use Rattle.sm_names.specs.Marks.{Entry}
-use Rattle.lifetime_core.specs.Served.{IsServed}
 use Rattle.lifetime_core.specs.Shown.{Shows}
 use Rattle.lifetime_core.specs.State.{State}
 
@@ -16,7 +14,3 @@ GoesOn old new entries = (history : List Entry) → Shows old history → Shows 
 abbrev pub entries : List (ℕ × Call) → List Reply → List Entry
 entries (c ∷ cs) (r ∷ rs) = (c.0, c.1, r) ∷ entries cs rs
 entries _ _ = []
-
--- each call is one that is served
-abbrev pub AreServed : List (ℕ × Call) → Type 0
-AreServed calls = All (λ (c : ℕ × Call). IsServed c.1) calls

@@ -2,8 +2,13 @@
 #![tactic(auto)]
 
 mod clients;
+mod event;
+mod hands;
 pub mod machine;
+mod opening;
 mod order;
+mod sight;
+mod sweeping;
 mod table;
 mod task;
 #[cfg(test)]

@@ -1,41 +1,55 @@
 //! Every call on one state.
 ghost use Rattle.std.specs.Prelude.{◌≡◌, ◌+◌, ◌≤◌, ◌↔◌, ◌∷◌, ◌==◌, ◌&&◌, not, nat_le, [], List};
-ghost use Rattle.std.specs.Prelude.{map, length, option_map, if◌then◌else◌, IfOk, IfErr, IfSome};
-ghost use Rattle.std.specs.Prelude.{AllPairs, OnErr, false, None};
+ghost use Rattle.std.specs.Prelude.{map, length, slice_get, option_map, if◌then◌else◌, IfOk, IfErr, IfSome};
+ghost use Rattle.std.specs.Prelude.{AllPairs, OnErr, false, true, None, is_some};
 ghost use Rattle.sm_names.specs.declared.outcomes.Fault.{Fault};
-ghost use Rattle.sm_names.specs.Answers.{IsAnswer};
+ghost use Rattle.sm_names.specs.declared.keys.Strength.{Strength};
+ghost use Rattle.sm_names.specs.Answers.{IsAnswer, is_at_limit};
+ghost use Rattle.sm_names.specs.Handles.{is_doomed};
 ghost use Rattle.sm_names.specs.Kept.{is_kept};
 ghost use Rattle.sm_names.specs.Losses.{live as is_live_after, fault as fault_after};
 ghost use Rattle.sm_names.specs.Marks.{Entry};
+ghost use Rattle.sm_names.specs.Members.{some_strong_live};
 ghost use Rattle.sm_names.specs.Timelines.{timeline};
+ghost use Rattle.sm_names.specs.Trackers.{Tracked, tracked, fired as fired_after};
 ghost use Rattle.sm_names.specs.Views.{live_nodes, held_by_page as held_after};
 ghost use Rattle.sm_names.specs.Views.{free_pages as free_after};
+ghost use Rattle.std.specs.List.{list_any};
 ghost use Rattle.std.specs.Option.{option_map_or};
+ghost use Rattle.trackers.specs.Table.{empty, is_untaken, reader_of, cell_of, without};
 ghost use Rattle.alloc_event.specs.declared.held.HeldBuffer.{HeldBuffer as Held};
 ghost use Rattle.alloc_event.specs.declared.node.Node.{Node as Kept};
 ghost use Rattle.alloc_event.specs.Forest.{empty_forest, kept, live_keys, node_at, held_by_page};
 ghost use Rattle.alloc_event.specs.Forest.{held_buffer};
-ghost use Rattle.alloc_event.specs.Nodes.{is_spent};
+ghost use Rattle.alloc_event.specs.Forest.{Collection as Shelved, collection_at};
+ghost use Rattle.alloc_event.specs.Nodes.{is_spent, members_of};
+ghost use Rattle.buffer_holds.specs.Counts.{total};
+ghost use Rattle.lifetime_core.specs.Kinds.{fits_call};
 ghost use Rattle.lifetime_core.specs.Reads.{buffers_in, end_in, open_end_of, readings_of};
 ghost use Rattle.lifetime_core.specs.Reads.{is_live_in, fault_in, views_of};
-ghost use Rattle.lifetime_core.specs.Served.{IsServed};
 ghost use Rattle.lifetime_core.specs.Shown.{Shows};
 ghost use Rattle.lifetime_core.specs.Steps.{Follows};
-ghost use Rattle.lifetime_core.specs.Theorem.{AreServed, GoesOn, entries};
+ghost use Rattle.lifetime_core.specs.State.{IsSame};
+ghost use Rattle.lifetime_core.specs.Theorem.{GoesOn, entries};
 
-use crate::clients::{admit, has_joined, make_room};
-use crate::table::{answer, keyed};
-use crate::task::{make, task_of};
+use crate::clients::{Client, count_waiting, first_waiting, has_joined, is_shut};
+use crate::event::take_effect;
+use crate::sweeping::{sweep, tracking_of};
+use crate::table::answer;
+use crate::task::{carried_end, concerned_by, finish, task_of};
 use alloc_event::{End, Forest, HeldBuffer, Node};
 use buffer_holds::Holds;
 use buffer_pool::Pool;
 use sm_names::{
-    Buffers, Call, Cause, ClientId, CollectionId, Limits, NoMemory, NodeKey, Reply, StepFault,
+    BufferName, Buffers, Call, Cause, ClientId, CollectionId, Fired, Limits, NoMemory, NodeKey,
+    Parcel, Reply, StepFault, Strength, TrackerId,
 };
 use std::alloc::Global;
 use std::marker::Model;
+use trackers::{Tracker, Trackers};
 
-/// A core: the clients, the collections with their nodes and buffers, and the pool.
+/// A core: the clients, the collections with their nodes and buffers, the open handles, the trackers,
+/// and the pool.
 ///
 /// A contract sees the state of `specs/State`, and names the histories that the state shows
 /// (`specs/Shown`): whoever knows one of them knows each reply and all that is seen.
@@ -45,10 +59,10 @@ pub struct Core {
     limits: Limits,
     events: u64,
     // The earliest first, so that their numbers rise.
-    clients: Vec<ClientId>,
+    clients: Vec<Client>,
     forest: Forest,
-    // No handle is open yet.
     holds: Holds,
+    trackers: Trackers,
 }
 
 impl Model for Core {
@@ -64,9 +78,12 @@ impl Model for Core {
       events = c.events;
       clients = c.clients.items;
       forest = c.forest;
+      holds = c.holds;
+      trackers = c.trackers;
     } };
 
-    ghost invariant = { λ c. IsWhole c.pool c.limits c.events c.clients.items c.forest c.holds };
+    ghost invariant = { λ c. IsWhole c.pool c.limits c.events c.clients.items
+        c.forest c.holds c.trackers };
 }
 
 // Whether the node is there and live.
@@ -113,6 +130,8 @@ impl Core {
           events = 0;
           clients = [];
           forest = empty_forest limits.nodes;
+          holds = record { limit = limits.handles; rows = []; parcels = [] };
+          trackers = empty limits.trackers;
         }) }
         ensures shows { IfOk result (λ core. Shows core []) }
     {
@@ -124,6 +143,7 @@ impl Core {
             clients: Vec::new(alloc),
             forest: Forest::new(alloc, limits.nodes() as usize),
             holds: Holds::new(alloc, limits.handles()),
+            trackers: Trackers::new(alloc, limits.trackers()),
         })
     }
 
@@ -142,6 +162,65 @@ impl Core {
         ensures { result ≡ self.now.events + 1 }
     {
         self.events + 1
+    }
+
+    // Whether the client was shut.
+    pub(crate) fn is_shut(&self, client: ClientId) -> bool
+        ensures { result ≡ (readings_of self.now).is_shut client }
+    {
+        is_shut(&self.clients, client)
+    }
+
+    // How many parcels wait for the client.
+    pub(crate) fn count_waiting(&self, client: ClientId) -> usize
+        ensures { result ≡ length ((readings_of self.now).waiting client) }
+    {
+        count_waiting(&self.clients, client)
+    }
+
+    // The parcel that the client collects next.
+    pub(crate) fn first_waiting(&self, client: ClientId) -> Option<Parcel>
+        ensures { result ≡ slice_get ((readings_of self.now).waiting client) 0 }
+    {
+        first_waiting(&self.clients, client)
+    }
+
+    // How many of these handles the client has open.
+    pub(crate) fn open_of(&self, client: ClientId, buffer: BufferName, strength: Strength) -> u32
+        ensures { result ≡ (readings_of self.now).open_of client buffer strength }
+    {
+        self.holds.of(client, buffer, strength)
+    }
+
+    // Whether as many of these handles are open as may be.
+    pub(crate) fn has_all_handles(&self, buffer: BufferName, strength: Strength) -> bool
+        ensures { result ≡ is_at_limit self.now.limits (readings_of self.now) strength buffer }
+    {
+        self.limits.handles() <= self.holds.total(buffer, strength)
+    }
+
+    // Whether as many trackers wait as may.
+    pub(crate) fn has_all_trackers(&self) -> bool
+        ensures { result
+            ≡ nat_le self.now.limits.trackers (readings_of self.now).unfired }
+    {
+        self.limits.trackers() as usize <= self.trackers.waiting()
+    }
+
+    // Whether a strong node of the collection is live.
+    pub(crate) fn strong_live(&self, id: CollectionId) -> bool
+        ensures { result ≡ option_map_or
+            (λ (c : Shelved). some_strong_live (members_of c.nodes))
+            (collection_at self.now.forest id) false }
+    {
+        self.forest.strong_live(id)
+    }
+
+    // Whether nothing strong keeps the buffer, where this says whether a strong node is live.
+    pub(crate) fn is_doomed(&self, buffer: BufferName, strong_live: bool) -> bool
+        ensures { result ≡ is_doomed (total self.now.holds buffer Strength.Strong) strong_live }
+    {
+        self.holds.doomed(buffer, strong_live)
     }
 
     // Whether the client joined.
@@ -170,9 +249,17 @@ impl Core {
         }
     }
 
+    // Whether the collection is there.
+    pub(crate) fn has_collection(&self, id: CollectionId) -> bool
+        ensures { result ≡ is_some (collection_at self.now.forest id) }
+    {
+        self.forest.collection(id).is_some()
+    }
+
     // What the collection was given.
     pub(crate) fn buffers_of(&self, id: CollectionId) -> Option<Buffers>
-        ensures { result ≡ buffers_in self.now id }
+        ensures value { result ≡ buffers_in self.now id }
+        ensures few { IfSome result (λ b. b.count ≤ 64) }
     {
         self.forest.collection(id)?.buffers
     }
@@ -199,17 +286,21 @@ impl Core {
     /// `HistoryFull` exactly where as many events were made as may be, whatever the call is, and
     /// `NoMemory` where memory is refused. Either leaves the core as it was.
     ///
-    /// It costs a binary search among the clients, a few look-ups of a node and of a collection,
-    /// and the work on one collection: that of the node that the call names, or the new one. A call
-    /// that changes nothing there costs only the look-ups.
+    /// It costs a binary search among the clients, a few look-ups of a node, of a collection and of
+    /// handles, and the work on one collection: that of the node or the buffer that the call names,
+    /// or the new one. A call that changes nothing there costs only the look-ups. A Take costs two
+    /// look-ups more for each buffer, and an event that changes something in a collection a test of
+    /// each tracker that waits for something there.
     pub fn step(&mut self, client: ClientId, call: Call) -> Result<Reply, StepFault>
-        requires { IsServed call }
         ensures answer { IfOk result (λ reply.
             IsAnswer self.old.limits (readings_of self.old) client call reply) }
+        ensures kind { IfOk result (λ reply. fits_call call reply ≡ true) }
         ensures after { IfOk result (λ reply. Follows self.old self.new client call reply) }
         ensures goes_on { IfOk result (λ reply.
             GoesOn self.old self.new ((client, call, reply) ∷ [])) }
-        ensures kept { OnErr result (self.new ≡ self.old) }
+        ensures kept { OnErr result (IsSame self.old self.new) }
+        ensures stays { OnErr result ((history : List Entry) →
+            Shows self.old history → Shows self.new history) }
         ensures full { (result ≡ Err StepFault.HistoryFull)
             ↔ (self.old.limits.events ≤ self.old.events) }
     {
@@ -218,15 +309,30 @@ impl Core {
         }
         let asked = answer(self, client, NO_KEY, &call);
         let task = task_of(self, client, &call, &asked);
-        let Ok(()) = make_room(&mut self.clients, &asked) else {
+        let tracking = tracking_of(self, &call, &asked);
+        let Ok(reply) = take_effect(
+            &mut self.clients,
+            &mut self.forest,
+            &mut self.pool,
+            &mut self.holds,
+            &mut self.trackers,
+            client,
+            &call,
+            &asked,
+            &task,
+            tracking,
+        ) else {
             return Err(StepFault::NoMemory);
         };
-        let Ok(key) = make(&mut self.forest, &mut self.pool, &self.holds, task) else {
-            return Err(StepFault::NoMemory);
-        };
-        let reply = keyed(asked, key);
-        admit(&mut self.clients, &reply);
         self.events += 1;
+        sweep(
+            &mut self.trackers,
+            self.events,
+            concerned_by(&task, tracking),
+            &self.forest,
+            &self.holds,
+        );
+        finish(&mut self.forest, &task, carried_end(client, &call, &asked));
         Ok(reply)
     }
 
@@ -241,7 +347,6 @@ impl Core {
         alloc: Global,
         calls: &[(ClientId, Call)],
     ) -> Result<Vec<Reply>, (Vec<Reply>, StepFault)>
-        requires { AreServed calls.now }
         ensures all { IfOk result (λ replies. length replies.items ≡ length calls.now) }
         ensures goes_on { IfOk result (λ replies.
             GoesOn self.old self.new (entries calls.now replies.items)) }
@@ -264,6 +369,34 @@ impl Core {
             }
         }
         Ok(replies)
+    }
+
+    /// The reader of the tracker with this id: `Some` once for each that a reply told of, and else
+    /// `None`. It takes no memory, and costs a binary search among all trackers that were made.
+    pub fn take_tracker(&mut self, id: TrackerId) -> Option<Tracker>
+        ensures tracker { result ≡ (if is_untaken self.old.trackers.untaken id
+            then Some (reader_of self.old.trackers id) else None) }
+        ensures cell { IfSome result (λ t. cell_of self.old.trackers.cells id ≡ Some t.cell) }
+        ensures taken { self.new ≡ record self.old {
+          trackers = record self.old.trackers { untaken = without self.old.trackers.untaken id };
+        } }
+        ensures shows { (history : List Entry) → Shows self.old history →
+            Shows self.new history }
+        ensures attached { (history : List Entry) → Shows self.old history →
+            IfSome result (λ t. list_any (λ (u : Tracked). u.id == id)
+            (tracked (timeline self.old.pool history)) ≡ true) }
+    {
+        self.trackers.take_tracker(id)
+    }
+
+    /// The trackers that fired, by event, and by rising id within one. It costs a constant and takes
+    /// no memory.
+    pub fn fired(&self) -> &[Fired]
+        ensures value { result.now ≡ self.now.trackers.fired }
+        ensures shown { (history : List Entry) → Shows self.now history →
+            result.now ≡ fired_after (timeline self.now.pool history) }
+    {
+        self.trackers.fired()
     }
 
     /// Whether the node is live: neither gone nor released. A key that was given to no node, or to

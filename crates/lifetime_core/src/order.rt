@@ -1,24 +1,27 @@
 //! The order of answers: a call is answered by the first line that has an answer, and takes effect
 //! where none has.
-ghost use Rattle.std.specs.Prelude.{◌≡◌, ◌∷◌, [], false};
+ghost use Rattle.std.specs.Prelude.{◌≡◌, ◌∷◌, [], false, if◌then◌else◌};
 ghost use Rattle.sm_names.specs.Answers.{answers_first, closing as closing_of, misuse_of};
 ghost use Rattle.sm_names.specs.Answers.{unknown_client as unknown_client_of, no_end};
+ghost use Rattle.sm_names.specs.Answers.{shut_client as shut_client_of, acquires as acquires_by};
 ghost use Rattle.sm_names.specs.Answers.{end_in_transit, peer_closed as peer_closed_of};
 ghost use Rattle.sm_names.specs.Answers.{wrong_kind as wrong_kind_of, misuse as misuse_in};
-ghost use Rattle.sm_names.specs.Answers.{limits_met, receiver_of as receiver_in};
+ghost use Rattle.sm_names.specs.Answers.{no_handle as no_handle_of, limits_met};
+ghost use Rattle.sm_names.specs.Answers.{too_many_handles, receiver_of as receiver_in};
 ghost use Rattle.sm_names.specs.Answers.{kind_for as kind_asked, makes_node as is_node_made};
 ghost use Rattle.sm_names.specs.Answers.{makes_collection as is_collection_made};
+ghost use Rattle.sm_names.specs.Answers.{makes_tracker as is_tracker_made};
 ghost use Rattle.sm_names.specs.Timelines.{key_of as key_in};
 ghost use Rattle.sm_names.specs.Words.{first_some};
 ghost use Rattle.alloc_event.specs.Nodes.{is_spent};
 ghost use Rattle.lifetime_core.specs.Lines.{another_of, transit_of, peer_of, kind_line};
 ghost use Rattle.lifetime_core.specs.Reads.{open_end_of, readings_of};
-ghost use Rattle.lifetime_core.specs.Served.{IsServed};
 ghost use Rattle.lifetime_core.specs.State.{State};
 
 use crate::machine::Core;
+use crate::opening::{is_one_full, strength_of};
 use alloc_event::{End, Node};
-use sm_names::{Call, ClientId, Kind, Misuse, NodeKey, Refusal, Reply};
+use sm_names::{Call, ClientId, Kind, Misuse, NodeKey, Refusal, Reply, Strength};
 
 /// The node that the call names.
 pub(crate) fn key_of(call: &Call) -> Option<NodeKey>
@@ -54,6 +57,21 @@ fn receiver_of(call: &Call) -> Option<ClientId>
     }
 }
 
+// Whether the call makes an end or a tracker for its caller.
+fn acquires(call: &Call) -> bool
+    ensures { result ≡ acquires_by call.now }
+{
+    match *call {
+        Call::OpenRoot
+        | Call::Duplicate(_)
+        | Call::AttachToken(_)
+        | Call::TrackNode(_)
+        | Call::TrackLifetime(_, _)
+        | Call::TrackWeak(_) => true,
+        _ => false,
+    }
+}
+
 // The only kind of end on which the call is made, if there is one.
 fn kind_for(call: &Call) -> Option<Kind>
     ensures { result ≡ kind_asked call.now }
@@ -66,6 +84,17 @@ fn kind_for(call: &Call) -> Option<Kind>
         | Call::Take(_)
         | Call::TrackLifetime(_, _) => Some(Kind::Collection),
         _ => None,
+    }
+}
+
+/// The kind of the node's end.
+pub(crate) fn kind_of(node: &Node) -> Kind
+    ensures { result ≡ (if node.now.bound then Kind.Collection else Kind.Token) }
+{
+    if node.bound {
+        Kind::Collection
+    } else {
+        Kind::Token
     }
 }
 
@@ -85,6 +114,16 @@ fn makes_collection(call: &Call) -> bool
 {
     match *call {
         Call::OpenRoot => true,
+        _ => false,
+    }
+}
+
+// Whether the call makes a tracker.
+fn makes_tracker(call: &Call) -> bool
+    ensures { result ≡ is_tracker_made call.now }
+{
+    match *call {
+        Call::TrackNode(_) | Call::TrackLifetime(_, _) | Call::TrackWeak(_) => true,
         _ => false,
     }
 }
@@ -109,6 +148,21 @@ fn unknown_client(core: &Core, client: ClientId, call: &Call) -> Option<Reply>
         None
     } else {
         Some(Reply::Refused(Refusal::NoSuchClient))
+    }
+}
+
+// Nothing is given to a shut client, and it acquires nothing.
+fn shut_client(core: &Core, client: ClientId, call: &Call) -> Option<Reply>
+    ensures { result ≡ shut_client_of (readings_of core.now) client call.now }
+{
+    let is_receiver_shut = match receiver_of(call) {
+        Some(to) => core.is_shut(to),
+        None => false,
+    };
+    if acquires(call) && core.is_shut(client) || is_receiver_shut {
+        Some(Reply::Refused(Refusal::ClientShut))
+    } else {
+        None
     }
 }
 
@@ -160,13 +214,8 @@ fn peer_closed(node: &Node) -> Option<Reply>
 fn wrong_kind(node: &Node, call: &Call) -> Option<Reply>
     ensures { result ≡ kind_line node.now.bound call.now }
 {
-    let kind = if node.bound {
-        Kind::Collection
-    } else {
-        Kind::Token
-    };
     match kind_for(call) {
-        Some(asked) if asked != kind => Some(Reply::Refused(Refusal::WrongKind)),
+        Some(asked) if asked != kind_of(node) => Some(Reply::Refused(Refusal::WrongKind)),
         _ => None,
     }
 }
@@ -213,28 +262,72 @@ fn answer_of_end(core: &Core, client: ClientId, call: &Call) -> Option<Reply>
         .or(misuse(&node, call))
 }
 
-// As many nodes or collections are kept as may be.
-fn limit_met(core: &Core, call: &Call) -> Option<Reply>
-    requires { IsServed call.now }
-    ensures { result ≡ first_some (limits_met core.now.limits (readings_of core.now) call.now) }
+// The caller has no such handle open.
+fn no_handle(core: &Core, client: ClientId, call: &Call) -> Option<Reply>
+    ensures { result ≡ no_handle_of (readings_of core.now) client call.now }
 {
-    if makes_node(call) && core.has_all_nodes() {
-        Some(Reply::Refused(Refusal::TooManyNodes))
-    } else if makes_collection(call) && core.has_all_collections() {
-        Some(Reply::Refused(Refusal::TooManyCollections))
+    let (buffer, strength) = match *call {
+        Call::DupHandle(buffer, strength)
+        | Call::DropHandle(buffer, strength)
+        | Call::GiveHandle(buffer, strength, _) => (buffer, strength),
+        Call::TrackWeak(buffer) => (buffer, Strength::Weak),
+        _ => {
+            return None;
+        }
+    };
+    if core.open_of(client, buffer, strength) == 0 {
+        Some(Reply::Refused(Refusal::NoSuchHandle))
     } else {
         None
     }
 }
 
-/// The first answer that stands before the effect, if there is one. No client is shut yet, and no
-/// served call is made on a handle, so that those lines have no answer.
+// Whether the handles that the call would open are too many.
+fn opens_too_many(core: &Core, call: &Call) -> bool
+    ensures { result ≡ too_many_handles core.now.limits (readings_of core.now) call.now }
+{
+    match *call {
+        Call::DupHandle(buffer, strength) => core.has_all_handles(buffer, strength),
+        Call::Take(key) => match core.node_with_end(key) {
+            Some(node) => {
+                node.allocated && is_one_full(core, node.collection, strength_of(node.weak))
+            }
+            None => false,
+        },
+        _ => false,
+    }
+}
+
+// As many nodes or collections are kept, trackers wait or handles are open as may be.
+fn limit_met(core: &Core, call: &Call) -> Option<Reply>
+    ensures { result ≡ first_some (limits_met core.now.limits (readings_of core.now) call.now) }
+{
+    let refusal = if makes_node(call) && core.has_all_nodes() {
+        Refusal::TooManyNodes
+    } else if makes_collection(call) && core.has_all_collections() {
+        Refusal::TooManyCollections
+    } else if makes_tracker(call) && core.has_all_trackers() {
+        Refusal::TrackersFull
+    } else if opens_too_many(core, call) {
+        Refusal::TooManyHandles
+    } else {
+        return None;
+    };
+    Some(Reply::Refused(refusal))
+}
+
+/// The first answer that stands before the effect, if there is one. Only a call that meets none of
+/// the other lines is looked at for its limits, since a Take costs a walk over its buffers there.
 pub(crate) fn first_answer(core: &Core, client: ClientId, call: &Call) -> Option<Reply>
-    requires { IsServed call.now }
     ensures { result ≡ first_some (
         answers_first core.now.limits (readings_of core.now) client call.now) }
 {
-    unknown_client(core, client, call)
+    let sooner = unknown_client(core, client, call)
+        .or(shut_client(core, client, call))
         .or(answer_of_end(core, client, call))
-        .or(limit_met(core, call))
+        .or(no_handle(core, client, call));
+    match sooner {
+        Some(_) => sooner,
+        None => limit_met(core, call),
+    }
 }

@@ -1,13 +1,14 @@
 //! The answer table: what is answered to a call that takes effect.
 ghost use Rattle.std.specs.Prelude.{◌≡◌};
 ghost use Rattle.sm_names.specs.Answers.{answer as answer_of, effect as effect_of, of_end};
+ghost use Rattle.sm_names.specs.Answers.{collected};
 ghost use Rattle.lifetime_core.specs.Reads.{readings_of};
-ghost use Rattle.lifetime_core.specs.Served.{IsServed};
 ghost use Rattle.lifetime_core.specs.Tasks.{keyed as keyed_by};
 
 use crate::machine::Core;
-use crate::order::first_answer;
-use sm_names::{Call, ClientId, NodeKey, Refusal, Reply};
+use crate::opening::{set_to_open, strength_of};
+use crate::order::{first_answer, kind_of};
+use sm_names::{Call, ClientId, NodeKey, Parcel, Refusal, Reply};
 
 // The new token below a node.
 fn token_below(core: &Core, key: NodeKey, new: NodeKey) -> Reply
@@ -41,26 +42,65 @@ fn check(core: &Core, client: ClientId, key: NodeKey, new: NodeKey) -> Reply
     }
 }
 
+// What a Take gives: nothing until the node's unit is allocated.
+fn take(core: &Core, client: ClientId, key: NodeKey, new: NodeKey) -> Reply
+    ensures { result ≡ effect_of (readings_of core.now) client new (Call.Take key) }
+{
+    let Some(node) = core.node_with_end(key) else {
+        return Reply::Refused(Refusal::NoSuchEnd);
+    };
+    if !node.allocated || core.buffers_of(node.collection).is_none() {
+        return Reply::Pending;
+    }
+    Reply::Taken {
+        collection: node.collection,
+        strength: strength_of(node.weak),
+        set: set_to_open(core, node.collection),
+    }
+}
+
+// The first parcel that waits for the client, if one does.
+fn collect(core: &Core, client: ClientId) -> Reply
+    ensures { result ≡ collected (readings_of core.now) ((readings_of core.now).waiting client) }
+{
+    match core.first_waiting(client) {
+        Some(Parcel::End(key)) => match core.node_with_end(key) {
+            Some(node) => Reply::Collected {
+                key,
+                kind: kind_of(&node),
+                collection: node.collection,
+            },
+            None => Reply::Empty,
+        },
+        Some(Parcel::Handle(buffer, strength)) => Reply::CollectedHandle { buffer, strength },
+        None => Reply::Empty,
+    }
+}
+
 // The answer of a call that takes effect; a new node gets this key.
 fn effect(core: &Core, client: ClientId, new: NodeKey, call: &Call) -> Reply
-    requires { IsServed call.now }
     ensures { result ≡ effect_of (readings_of core.now) client new call.now }
 {
     match *call {
         Call::Join => Reply::Joined(core.next_event()),
+        Call::Shut => Reply::Shut(core.count_waiting(client) as u64),
         Call::OpenRoot => Reply::Token {
             key: new,
             collection: core.next_event(),
         },
         Call::Duplicate(key) | Call::AttachToken(key) => token_below(core, key, new),
+        Call::Collect => collect(core, client),
         Call::Check(key) => check(core, client, key, new),
+        Call::Take(key) => take(core, client, key, new),
+        Call::TrackNode(_) | Call::TrackLifetime(_, _) | Call::TrackWeak(_) => {
+            Reply::Tracker(core.next_event())
+        }
         _ => Reply::Done,
     }
 }
 
 /// What is answered, if a new node gets this key.
 pub(crate) fn answer(core: &Core, client: ClientId, new: NodeKey, call: &Call) -> Reply
-    requires { IsServed call.now }
     ensures { result
         ≡ answer_of core.now.limits (readings_of core.now) client new call.now }
 {

@@ -1,19 +1,25 @@
 //! What an event does to a collection.
-ghost use Rattle.std.specs.Prelude.{◌≡◌, ◌≤◌, ℕ, IfOk, IfSome, OnErr, is_some, true};
+ghost use Rattle.std.specs.Prelude.{◌≡◌, ℕ, IfOk, IfSome, OnErr, is_some, true, None};
+ghost use Rattle.std.specs.Option.{option_map, option_or};
 ghost use Rattle.sm_names.specs.declared.keys.NodeKey.{NodeKey as Key};
 ghost use Rattle.sm_names.specs.Answers.{answer as answer_of};
 ghost use Rattle.sm_names.specs.Timelines.{key_of as key_in};
-ghost use Rattle.alloc_event.specs.Forest.{IsPoolOf, node_at};
-ghost use Rattle.alloc_event.specs.Settling.{MayChange, no_key};
+ghost use Rattle.buffer_holds.specs.Counts.{total};
+ghost use Rattle.alloc_event.specs.declared.change.Change.{Change as Changed};
+ghost use Rattle.alloc_event.specs.Forest.{IsPoolOf, SameKeys, all_held, node_at};
+ghost use Rattle.alloc_event.specs.Settling.{no_key};
+ghost use Rattle.lifetime_core.specs.declared.sweeping.Tracking.{Tracking as Tracked};
+ghost use Rattle.lifetime_core.specs.declared.task.Task.{Task as Done};
 ghost use Rattle.lifetime_core.specs.Reads.{readings_of};
-ghost use Rattle.lifetime_core.specs.Served.{IsServed};
-ghost use Rattle.lifetime_core.specs.Steps.{work_of, spent_by, with_spent};
-ghost use Rattle.lifetime_core.specs.Tasks.{Does, MayDo, Reworked, SpendsThere, work_in, work_on};
-ghost use Rattle.lifetime_core.specs.Tasks.{spent_in};
-ghost use Rattle.lifetime_core.specs.Whole.{AreUpTo, IsClosed, IsSound};
+ghost use Rattle.lifetime_core.specs.Steps.{at_collection, at_node as change_at, birth_by, done_to};
+ghost use Rattle.lifetime_core.specs.Steps.{work_of, with_place, without_over};
+ghost use Rattle.lifetime_core.specs.Tasks.{DoesSome, MayDo, Reworked, SpendsThere, carried_by};
+ghost use Rattle.lifetime_core.specs.Tasks.{place_as, placed, spent_by, spent_in, spent_place, work_in};
+ghost use Rattle.lifetime_core.specs.Whole.{AreUpTo, CanCarry, CanFinish, IsSound};
 
 use crate::machine::Core;
 use crate::order::key_of;
+use crate::sweeping::Tracking;
 use alloc_event::{Change, End, Forest};
 use buffer_holds::Holds;
 use buffer_pool::Pool;
@@ -29,12 +35,11 @@ pub(crate) struct Task {
 
 // The birth of a node.
 fn birth(core: &Core, client: ClientId, call: &Call, collection: CollectionId) -> Option<Task>
-    requires { IsServed call.now }
-    ensures work { (key : Key) → work_in result
-        ≡ work_of core.now client call.now (Reply.Token key collection) }
+    ensures work { work_in result ≡ birth_by core.now client call.now collection }
     ensures spends { (key : Key) → spent_in result
         ≡ spent_by call.now (Reply.Token key collection) }
     ensures there { IfSome result (SpendsThere core.now.forest) }
+    ensures some { IfSome result DoesSome }
 {
     let (parent, attached) = match *call {
         Call::OpenRoot => (None, false),
@@ -56,15 +61,36 @@ fn birth(core: &Core, client: ClientId, call: &Call, collection: CollectionId) -
     })
 }
 
-// A call that was answered Done.
-fn done(core: &Core, client: ClientId, call: &Call) -> Option<Task>
-    requires served { IsServed call.now }
+// What is asked of the collection where a handle of it was dropped: its buffers may be home now.
+fn dropped(core: &Core, collection: CollectionId) -> Option<Task>
+    ensures work { work_in result
+        ≡ at_collection core.now.forest collection Changed.Nothing }
+    ensures spends { spent_in result ≡ None }
+    ensures there { IfSome result (SpendsThere core.now.forest) }
+    ensures some { IfSome result DoesSome }
+{
+    if !core.has_collection(collection) {
+        return None;
+    }
+    Some(Task {
+        collection,
+        change: Some(Change::Nothing),
+        spends: None,
+    })
+}
+
+// A call on a node that was answered Done.
+fn done(core: &Core, call: &Call) -> Option<Task>
     requires there { IfSome (key_in call.now) (λ key.
         is_some (node_at core.now.forest key) ≡ true) }
-    ensures work { work_in result ≡ work_of core.now client call.now Reply.Done }
+    ensures work { work_in result ≡ done_to core.now.forest call.now }
     ensures spends { spent_in result ≡ spent_by call.now Reply.Done }
     ensures there { IfSome result (SpendsThere core.now.forest) }
+    ensures some { IfSome result DoesSome }
 {
+    if let Call::DropHandle(buffer, _) = *call {
+        return dropped(core, buffer.collection);
+    }
     let key = key_of(call)?;
     let node = core.node(key)?;
     let lost = Change::Loss(key, Cause::Lost);
@@ -88,31 +114,44 @@ fn done(core: &Core, client: ClientId, call: &Call) -> Option<Task>
     })
 }
 
+// The change to the node's collection, if the node is there.
+fn at_node(core: &Core, key: NodeKey, change: Change) -> Option<Task>
+    ensures work { work_in result ≡ change_at core.now.forest key (λ n. change) }
+    ensures spends { spent_in result ≡ None }
+    ensures there { IfSome result (SpendsThere core.now.forest) }
+    ensures some { IfSome result DoesSome }
+{
+    let node = core.node(key)?;
+    Some(Task {
+        collection: node.collection,
+        change: Some(change),
+        spends: None,
+    })
+}
+
 /// What the call, answered so, does to a collection, if it does anything there.
 pub(crate) fn task_of(core: &Core, client: ClientId, call: &Call, reply: &Reply) -> Option<Task>
-    requires served { IsServed call.now }
     requires answered { reply.now
         ≡ answer_of core.now.limits (readings_of core.now) client no_key call.now }
     ensures work { work_in result ≡ work_of core.now client call.now reply.now }
     ensures spends { spent_in result ≡ spent_by call.now reply.now }
     ensures there { IfSome result (SpendsThere core.now.forest) }
+    ensures some { IfSome result DoesSome }
 {
-    match *reply {
-        Reply::Token { collection, .. } => birth(core, client, call, collection),
-        Reply::Done => done(core, client, call),
-        Reply::Misused(misuse) => {
+    match (*call, *reply) {
+        (_, Reply::Token { collection, .. }) => birth(core, client, call, collection),
+        (_, Reply::Done) => done(core, call),
+        (_, Reply::Misused(misuse)) => {
             let key = key_of(call)?;
-            let node = core.node(key)?;
-            Some(Task {
-                collection: node.collection,
-                change: Some(Change::Loss(key, Cause::Misused(misuse))),
-                spends: None,
-            })
+            at_node(core, key, Change::Loss(key, Cause::Misused(misuse)))
         }
-        Reply::PeerClosed { .. } => {
-            let Call::Release(key) = *call else {
-                return None;
-            };
+        (Call::Take(key), Reply::Taken { .. }) => {
+            at_node(core, key, Change::Effect(Call::Take(key)))
+        }
+        (Call::TrackNode(key), Reply::Tracker(_)) => {
+            at_node(core, key, Change::Effect(Call::TrackNode(key)))
+        }
+        (Call::Release(key), Reply::PeerClosed { .. }) => {
             let node = core.node(key)?;
             Some(Task {
                 collection: node.collection,
@@ -124,72 +163,106 @@ pub(crate) fn task_of(core: &Core, client: ClientId, call: &Call, reply: &Reply)
     }
 }
 
-// Makes the change, if there is one, with all that it forces.
-fn rework(
+/// Makes the task's change, if it has one, with all that this forces.
+///
+/// `NoMemory` where memory is refused; then the forest and the pool are as they were.
+pub(crate) fn make(
     forest: &mut Forest,
     pool: &mut Pool,
     holds: &Holds,
-    collection: CollectionId,
-    change: Option<Change>,
+    task: &Option<Task>,
 ) -> Result<Option<NodeKey>, NoMemory>
-    requires may { IfSome change (MayChange forest.old collection) }
+    requires may { IfSome task.now (MayDo forest.old) }
     requires pool { IsPoolOf pool.old forest.old }
-    requires closed { IsClosed holds.now }
     ensures work { IfOk result (λ key.
-        Reworked pool.old.size forest.old (work_on collection change) key forest.new) }
+        Reworked pool.old.size (total holds.now) forest.old (work_in task.now) key forest.new) }
     ensures pool { IsPoolOf pool.new forest.new }
     ensures size { pool.new.size ≡ pool.old.size }
     ensures kept { OnErr result ((forest.new ≡ forest.old) × (pool.new ≡ pool.old)) }
 {
-    match change {
-        Some(change) => forest.settle(pool, holds, collection, change),
-        None => Ok(None),
+    let Some(task) = *task else {
+        return Ok(None);
+    };
+    let change = task.change;
+    let Some(change) = change else {
+        return Ok(None);
+    };
+    forest.settle(pool, holds, task.collection, change)
+}
+
+/// An end that goes to another client or to a parcel.
+#[derive(Clone, Copy, Debug)]
+pub(crate) struct Carried {
+    pub(crate) key: NodeKey,
+    pub(crate) end: End,
+}
+
+/// The end that a Give or a Collect, answered so, carries.
+pub(crate) fn carried_end(client: ClientId, call: &Call, reply: &Reply) -> Option<Carried>
+    ensures { option_map place_as result ≡ carried_by client call.now reply.now }
+{
+    match (*call, *reply) {
+        (Call::Give(key, _), Reply::Done) => Some(Carried {
+            key,
+            end: End::InTransit(client),
+        }),
+        (Call::Collect, Reply::Collected { key, .. }) => Some(Carried {
+            key,
+            end: End::Held(client),
+        }),
+        _ => None,
+    }
+}
+
+/// The collection that the event concerns, if it changes anything that a tracker may wait for.
+pub(crate) fn concerned_by(task: &Option<Task>, tracking: Option<Tracking>) -> Option<CollectionId>
+    ensures { result ≡ option_or (option_map (λ (t : Done). t.collection) task.now)
+        (option_map (λ (t : Tracked). t.collection) tracking) }
+{
+    match (*task, tracking) {
+        (Some(task), _) => Some(task.collection),
+        (None, Some(tracking)) => Some(tracking.collection),
+        (None, None) => None,
+    }
+}
+
+// Puts the end there, if one is carried.
+fn carry(forest: &mut Forest, carried: Option<Carried>)
+    requires { CanCarry forest.old carried }
+    ensures { forest.new ≡ with_place (option_map place_as carried) forest.old }
+{
+    if let Some(Carried { key, end }) = carried {
+        forest.set_end(key, end);
     }
 }
 
 // Spends the end, if one is to be spent.
 fn spend(forest: &mut Forest, end: Option<NodeKey>)
     requires { IfSome end (λ key. is_some (node_at forest.old key) ≡ true) }
-    ensures { forest.new ≡ with_spent end forest.old }
+    ensures { forest.new ≡ with_place (spent_place end) forest.old }
 {
     if let Some(key) = end {
         forest.set_end(key, End::Spent);
     }
 }
 
-/// Does the task with all that it forces, and forgets what is over then.
-///
-/// Where it gets no memory, the forest and the pool are as they were.
-pub(crate) fn make(
-    forest: &mut Forest,
-    pool: &mut Pool,
-    holds: &Holds,
-    task: Option<Task>,
-) -> Result<Option<NodeKey>, NoMemory>
-    requires may { IfSome task (MayDo forest.old) }
-    requires pool { IsPoolOf pool.old forest.old }
-    requires sound { IsSound forest.old }
-    requires closed { IsClosed holds.now }
-    ensures done { IfOk result (λ key. Does pool.old.size forest.old forest.new task key) }
+/// Puts an end where the event puts it, and forgets what is over then. It takes no memory, and costs
+/// a pass over the nodes of the task's collection.
+pub(crate) fn finish(forest: &mut Forest, task: &Option<Task>, carried: Option<Carried>)
+    requires task { CanFinish forest.old task.now }
+    requires carried { CanCarry forest.old carried }
+    requires one { is_some task.now ≡ true → carried ≡ None }
+    ensures collections { forest.new.collections
+        ≡ without_over (with_place (placed task.now carried) forest.old).collections }
+    ensures keys { SameKeys forest.old forest.new }
     ensures sound { IsSound forest.new }
-    ensures ids { (most : ℕ) → AreUpTo most forest.old
-        → IfSome (work_in task) (λ work. work.collection ≤ most) → AreUpTo most forest.new }
-    ensures pool { IsPoolOf pool.new forest.new }
-    ensures size { pool.new.size ≡ pool.old.size }
-    ensures kept { OnErr result ((forest.new ≡ forest.old) × (pool.new ≡ pool.old)) }
+    ensures held { all_held forest.new ≡ all_held forest.old }
+    ensures ids { (most : ℕ) → AreUpTo most forest.old → AreUpTo most forest.new }
 {
-    let Some(
-        Task {
-            collection,
-            change,
-            spends,
-        },
-    ) = task
-    else {
-        return Ok(None);
+    let Some(task) = *task else {
+        carry(forest, carried);
+        return;
     };
-    let key = rework(forest, pool, holds, collection, change)?;
-    spend(forest, spends);
-    forest.forget_over(collection);
-    Ok(key)
+    spend(forest, task.spends);
+    forest.forget_over(task.collection);
 }

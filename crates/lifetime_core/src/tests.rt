@@ -1,5 +1,14 @@
 //! What no contract says: that calls succeed, and how events follow on one another.
-mod failures;
-mod fixture;
-mod paths;
-mod refusals;
+mod acts;
+mod failing;
+mod giving;
+mod holding;
+mod holdings;
+mod limits;
+mod placing;
+mod player;
+mod plays;
+mod scripts;
+mod strangers;
+mod tracking;
+mod views;

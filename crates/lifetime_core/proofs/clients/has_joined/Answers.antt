@@ -1,6 +1,6 @@
-use Rattle.std.proofs.Common.{◌∙◌}
-use Rattle.lifetime_core.proofs.Rising.{search_tells}
+use Rattle.std.proofs.Common.{◌∙◌, ap, is_some}
+use Rattle.lifetime_core.proofs.ClientRows.{place_tells}
 use Rattle.lifetime_core.proofs.clients.has_joined.Goals as goal
 
 pub returns : goal.returns
-returns c = c.is_ok.ensures.value ∙ search_tells c.args.clients.now c.args.client c.binary_search.result c.requires c.binary_search.ensures.position
+returns c = c.is_some.ensures ∙ ap is_some c.place_of.ensures ∙ place_tells c.args.client c.args.clients.now

@@ -1,85 +1,92 @@
-use Rattle.std.proofs.Common.{◌≡◌, ◌<◌, ◌≤◌, ◌+◌, refl, ap, sym, ◌∙◌, subst, ℕ, List, IfSome, arith, rules}
-use Rattle.sm_names.specs.Answers.{answer}
-use Rattle.alloc_event.specs.Settling.{no_key}
+use Rattle.std.proofs.Common.{◌<◌, arith, rules}
+use Rattle.sm_names.specs.Answers.{key_told}
 use Rattle.lifetime_core.specs.Reads.{readings_of}
 use Rattle.lifetime_core.specs.State.{State}
-use Rattle.lifetime_core.specs.Steps.{joined_by, work_of}
-use Rattle.lifetime_core.specs.Tasks.{SpendsThere, keyed, work_in}
+use Rattle.lifetime_core.specs.Tasks.{Parts, placed}
+use Rattle.lifetime_core.proofs.Following.{Begins, after, alone, begins, can_carry, finishes, one, step_answers, step_follows}
+use Rattle.lifetime_core.proofs.KindLaws.{reply-fits}
 use Rattle.lifetime_core.proofs.GoesOnLaws.{goes_on}
-use Rattle.lifetime_core.proofs.Replying.{clients_rise, may_do, same_joined, same_limit, step_answers, step_follows, within}
-use Rattle.lifetime_core.proofs.Stepping.{Known}
+use Rattle.lifetime_core.proofs.Keeping.{above, fits, moves, none_elsewhere, whole_same, whole_then}
 use Rattle.lifetime_core.proofs.machine.Core.step.Goals as goal
 
--- what the call does, it may do
-pub make-requires-clause-may : goal.make-requires-clause-may
-make-requires-clause-may c =
-    let s : State = record { pool = c.self.inside.pool.size; limits = c.self.inside.limits; events = c.self.inside.events; clients = c.self.inside.clients.items; forest = c.self.inside.forest } in
-    let known : Known s.limits s c.args.client c.args.call c.answer-asked.result = record {
-      served = c.requires;
-      sound = c.self.invariant.sound;
-      opened = c.self.invariant.opened;
-      limit = c.self.invariant.limit;
-      told = subst (λ (x : State). c.answer-asked.result ≡ answer x.limits (readings_of x) c.args.client no_key c.args.call) (sym c.self.view_is) c.answer-asked.ensures;
-    } in
-    let work : work_in c.task_of-task.result ≡ work_of s c.args.client c.args.call c.answer-asked.result =
-    subst (λ (x : State). work_in c.task_of-task.result ≡ work_of x c.args.client c.args.call c.answer-asked.result) (sym c.self.view_is) c.task_of-task.ensures.work in
-    may_do s.limits s c.args.client c.args.call c.answer-asked.result c.task_of-task.result known work c.task_of-task.ensures.spends
-    (subst (λ (x : State). IfSome c.task_of-task.result (SpendsThere x.forest)) (sym c.self.view_is) c.task_of-task.ensures.there)
+-- what the call does may be done
+pub take_effect-requires : goal.take_effect-requires
+take_effect-requires c =
+    let s : State = record { pool = c.self.inside.pool.size; limits = c.self.inside.limits; events = c.self.inside.events; clients = c.self.inside.clients.items; forest = c.self.inside.forest; holds = c.self.inside.holds; trackers = c.self.inside.trackers } in
+    let b : Begins s c.args.client c.args.call c.answer-asked.result c.task_of-task.result c.tracking_of-tracking.result =
+    begins c.self.inside.pool s c.args.self.now c.args.client c.args.call c.answer-asked.result c.task_of-task.result c.tracking_of-tracking.result c.self.view_is c.self.invariant c.answer-asked.ensures
+    c.task_of-task.ensures.work c.task_of-task.ensures.spends c.task_of-task.ensures.there c.task_of-task.ensures.some c.tracking_of-tracking.ensures in
+    record {
+      clients = c.self.invariant.rising;
+      handles = moves s c.args.client c.args.call c.answer-asked.result c.answer-asked.result c.task_of-task.result c.tracking_of-tracking.result b;
+      may = b.may;
+      pool = c.self.invariant.pages;
+      rising = above s c.args.client c.args.call c.answer-asked.result c.answer-asked.result c.task_of-task.result c.tracking_of-tracking.result b;
+      room = fits s c.args.client c.args.call c.answer-asked.result c.answer-asked.result c.task_of-task.result c.tracking_of-tracking.result b;
+      alone = alone s c.args.client c.args.call c.answer-asked.result c.answer-asked.result c.task_of-task.result c.tracking_of-tracking.result b;
+    }
+
+-- memory was refused, and the fields are as they were
+pub invariant_of-self : goal.invariant_of-self
+invariant_of-self c =
+    let kept = c.in_default.ensures.err in
+    whole_same c.self.inside.pool c.take_effect.new.pool c.self.inside.limits c.self.inside.events c.self.inside.clients.items c.take_effect.new.clients.items c.self.inside.forest c.take_effect.new.forest
+    c.self.inside.holds c.take_effect.new.holds c.self.inside.trackers c.take_effect.new.trackers kept.0 kept.1 kept.2 kept.3 kept.4 c.take_effect.ensures.limit c.self.invariant
+
+-- trackers elsewhere are not due
+pub sweep-requires : goal.sweep-requires
+sweep-requires c =
+    let s : State = record { pool = c.self.inside.pool.size; limits = c.self.inside.limits; events = c.self.inside.events; clients = c.self.inside.clients.items; forest = c.self.inside.forest; holds = c.self.inside.holds; trackers = c.self.inside.trackers } in
+    let b : Begins s c.args.client c.args.call c.answer-asked.result c.task_of-task.result c.tracking_of-tracking.result =
+    begins c.self.inside.pool s c.args.self.now c.args.client c.args.call c.answer-asked.result c.task_of-task.result c.tracking_of-tracking.result c.self.view_is c.self.invariant c.answer-asked.ensures
+    c.task_of-task.ensures.work c.task_of-task.ensures.spends c.task_of-task.ensures.there c.task_of-task.ensures.some c.tracking_of-tracking.ensures in
+    let parts : Parts = record { clients = c.take_effect.new.clients.items; forest = c.take_effect.new.forest; holds = c.take_effect.new.holds; trackers = c.take_effect.new.trackers } in
+    record { elsewhere = rw c.concerned_by.ensures (none_elsewhere s c.args.client c.args.call c.answer-asked.result c.in-Ok.reply c.task_of-task.result c.tracking_of-tracking.result b parts c.in-Ok.ensures.ok) }
+
+-- what is over can be forgotten
+pub finish-requires : goal.finish-requires
+finish-requires c =
+    let s : State = record { pool = c.self.inside.pool.size; limits = c.self.inside.limits; events = c.self.inside.events; clients = c.self.inside.clients.items; forest = c.self.inside.forest; holds = c.self.inside.holds; trackers = c.self.inside.trackers } in
+    let b : Begins s c.args.client c.args.call c.answer-asked.result c.task_of-task.result c.tracking_of-tracking.result =
+    begins c.self.inside.pool s c.args.self.now c.args.client c.args.call c.answer-asked.result c.task_of-task.result c.tracking_of-tracking.result c.self.view_is c.self.invariant c.answer-asked.ensures
+    c.task_of-task.ensures.work c.task_of-task.ensures.spends c.task_of-task.ensures.there c.task_of-task.ensures.some c.tracking_of-tracking.ensures in
+    let parts : Parts = record { clients = c.take_effect.new.clients.items; forest = c.take_effect.new.forest; holds = c.take_effect.new.holds; trackers = c.take_effect.new.trackers } in
+    record {
+      task = finishes s c.args.client c.args.call c.answer-asked.result c.in-Ok.reply c.task_of-task.result c.tracking_of-tracking.result b parts c.in-Ok.ensures.ok;
+      carried = can_carry s c.args.client c.args.call c.answer-asked.result c.in-Ok.reply c.task_of-task.result c.tracking_of-tracking.result b parts c.in-Ok.ensures.ok c.carried_end.result c.carried_end.ensures;
+      one = one s c.args.client c.args.call c.answer-asked.result c.in-Ok.reply c.task_of-task.result c.tracking_of-tracking.result b parts c.in-Ok.ensures.ok c.carried_end.result c.carried_end.ensures;
+    }
 
 -- the fields are whole again
 pub invariant_of-self-2 : goal.invariant_of-self-2
 invariant_of-self-2 c =
-    let s : State = record { pool = c.self.inside.pool.size; limits = c.self.inside.limits; events = c.self.inside.events; clients = c.self.inside.clients.items; forest = c.self.inside.forest } in
-    let known : Known s.limits s c.args.client c.args.call c.answer-asked.result = record {
-      served = c.requires;
-      sound = c.self.invariant.sound;
-      opened = c.self.invariant.opened;
-      limit = c.self.invariant.limit;
-      told = subst (λ (x : State). c.answer-asked.result ≡ answer x.limits (readings_of x) c.args.client no_key c.args.call) (sym c.self.view_is) c.answer-asked.ensures;
-    } in
-    let work : work_in c.task_of-task.result ≡ work_of s c.args.client c.args.call c.answer-asked.result =
-    subst (λ (x : State). work_in c.task_of-task.result ≡ work_of x c.args.client c.args.call c.answer-asked.result) (sym c.self.view_is) c.task_of-task.ensures.work in
-    let risen = clients_rise s.limits s c.args.client c.args.call c.answer-asked.result known c.self.invariant.rising c.self.invariant.joined in
-    let clients : c.admit.new.clients.items ≡ joined_by s.clients c.answer-asked.result =
-    c.admit.ensures ∙ (ap (λ (cs : List ℕ). joined_by cs c.keyed-reply.result) c.make_room.ensures.items
-    ∙ (ap (joined_by s.clients) c.keyed-reply.ensures ∙ same_joined s.clients c.answer-asked.result c.in-Ok-make.key)) in
-    record {
-      sized = rw c.make.ensures.size c.self.invariant.sized;
-      pages = c.make.ensures.pool;
-      in_time = omega arith;
-      few = omega arith;
-      rising = rw clients risen.0;
-      joined = rw clients risen.1;
-      limit = c.in-Ok-make.ensures.done.keys.limit
-          ∙ (same_limit s.pool s.forest c.in-Ok-make.ensures.done.worked (work_in c.task_of-task.result) c.in-Ok-make.key c.in-Ok-make.ensures.done.work ∙ c.self.invariant.limit);
-      opened = c.make.ensures.ids (s.events + 1) (λ x on. let less : x.id ≤ s.events = c.self.invariant.opened x on in omega arith)
-          (within s.limits s c.args.client c.args.call c.answer-asked.result c.task_of-task.result known work);
-      sound = c.make.ensures.sound;
-      closed = c.self.invariant.closed;
-    }
+    let s : State = record { pool = c.self.inside.pool.size; limits = c.self.inside.limits; events = c.self.inside.events; clients = c.self.inside.clients.items; forest = c.self.inside.forest; holds = c.self.inside.holds; trackers = c.self.inside.trackers } in
+    let b : Begins s c.args.client c.args.call c.answer-asked.result c.task_of-task.result c.tracking_of-tracking.result =
+    begins c.self.inside.pool s c.args.self.now c.args.client c.args.call c.answer-asked.result c.task_of-task.result c.tracking_of-tracking.result c.self.view_is c.self.invariant c.answer-asked.ensures
+    c.task_of-task.ensures.work c.task_of-task.ensures.spends c.task_of-task.ensures.there c.task_of-task.ensures.some c.tracking_of-tracking.ensures in
+    let parts : Parts = record { clients = c.take_effect.new.clients.items; forest = c.take_effect.new.forest; holds = c.take_effect.new.holds; trackers = c.take_effect.new.trackers } in
+    whole_then s c.args.client c.args.call c.answer-asked.result c.in-Ok.reply c.task_of-task.result c.tracking_of-tracking.result b parts c.in-Ok.ensures.ok c.self.inside.pool c.take_effect.new.pool c.finish.new.forest
+    (placed c.task_of-task.result c.carried_end.result) c.sweep.new.trackers c.self.invariant c.take_effect.ensures.size c.take_effect.ensures.pool c.finish.ensures.held c.take_effect.ensures.limit
+    (omega arith) (omega arith) c.finish.ensures.collections c.finish.ensures.keys c.finish.ensures.sound c.finish.ensures.ids c.sweep.ensures
 
 -- the reply is the answer, and the new state follows
 pub returns : goal.returns
 returns c =
-    let s : State = record { pool = c.self.inside.pool.size; limits = c.self.inside.limits; events = c.self.inside.events; clients = c.self.inside.clients.items; forest = c.self.inside.forest } in
-    let known : Known s.limits s c.args.client c.args.call c.answer-asked.result = record {
-      served = c.requires;
-      sound = c.self.invariant.sound;
-      opened = c.self.invariant.opened;
-      limit = c.self.invariant.limit;
-      told = subst (λ (x : State). c.answer-asked.result ≡ answer x.limits (readings_of x) c.args.client no_key c.args.call) (sym c.self.view_is) c.answer-asked.ensures;
-    } in
-    let work : work_in c.task_of-task.result ≡ work_of s c.args.client c.args.call c.answer-asked.result =
-    subst (λ (x : State). work_in c.task_of-task.result ≡ work_of x c.args.client c.args.call c.answer-asked.result) (sym c.self.view_is) c.task_of-task.ensures.work in
-    let new : State = record { pool = c.make.new.pool.size; limits = c.self.inside.limits; events = c.self.inside.events + 1; clients = c.admit.new.clients.items; forest = c.make.new.forest } in
-    let answers = step_answers s new c.args.client c.args.call c.answer-asked.result c.task_of-task.result c.in-Ok-make.key known work c.task_of-task.ensures.spends c.in-Ok-make.ensures.done in
-    let follows = step_follows s new c.args.client c.args.call c.answer-asked.result c.task_of-task.result c.in-Ok-make.key known work c.task_of-task.ensures.spends c.in-Ok-make.ensures.done
-    c.make.ensures.size refl refl (c.admit.ensures ∙ (ap (λ (cs : List ℕ). joined_by cs c.keyed-reply.result) c.make_room.ensures.items ∙ ap (joined_by s.clients) c.keyed-reply.ensures)) in
+    let s : State = record { pool = c.self.inside.pool.size; limits = c.self.inside.limits; events = c.self.inside.events; clients = c.self.inside.clients.items; forest = c.self.inside.forest; holds = c.self.inside.holds; trackers = c.self.inside.trackers } in
+    let b : Begins s c.args.client c.args.call c.answer-asked.result c.task_of-task.result c.tracking_of-tracking.result =
+    begins c.self.inside.pool s c.args.self.now c.args.client c.args.call c.answer-asked.result c.task_of-task.result c.tracking_of-tracking.result c.self.view_is c.self.invariant c.answer-asked.ensures
+    c.task_of-task.ensures.work c.task_of-task.ensures.spends c.task_of-task.ensures.there c.task_of-task.ensures.some c.tracking_of-tracking.ensures in
+    let parts : Parts = record { clients = c.take_effect.new.clients.items; forest = c.take_effect.new.forest; holds = c.take_effect.new.holds; trackers = c.take_effect.new.trackers } in
+    let answers = step_answers s c.args.client c.args.call c.answer-asked.result c.in-Ok.reply c.task_of-task.result c.tracking_of-tracking.result b parts c.in-Ok.ensures.ok in
+    let follows = step_follows s c.args.client c.args.call c.answer-asked.result c.in-Ok.reply c.task_of-task.result c.tracking_of-tracking.result b parts c.in-Ok.ensures.ok c.carried_end.result c.carried_end.ensures c.finish.new.forest c.sweep.new.trackers
+    c.finish.ensures.collections c.finish.ensures.keys c.sweep.ensures in
     let room : s.events < s.limits.events = omega arith in
     record {
-      answer = rw (← c.self.view_is, c.keyed-reply.ensures) answers;
-      after = rw (← c.self.view_is, c.keyed-reply.ensures) follows;
-      goes_on = rw (← c.self.view_is, c.keyed-reply.ensures) (goes_on s new c.args.client c.args.call (keyed c.answer-asked.result c.in-Ok-make.key) c.requires answers follows room);
+      answer = rw (← c.self.view_is) answers;
+      kind = reply-fits s.limits (readings_of s) c.args.client (key_told c.in-Ok.reply) c.args.call c.in-Ok.reply answers.told;
+      after = rw (← c.self.view_is, c.take_effect.ensures.size) follows;
+      goes_on = rw (← c.self.view_is, c.take_effect.ensures.size) (goes_on s (after s c.args.client c.args.call c.answer-asked.result c.in-Ok.reply c.task_of-task.result c.tracking_of-tracking.result b parts c.in-Ok.ensures.ok c.carried_end.result c.carried_end.ensures c.finish.new.forest c.sweep.new.trackers c.finish.ensures.collections c.finish.ensures.keys c.sweep.ensures) c.args.client c.args.call c.in-Ok.reply answers follows room);
       kept = search rules;
+      stays = search rules;
       full = search rules;
     }

@@ -1,0 +1,49 @@
+use Rattle.std.proofs.Common.{◌≡◌, refl, ap, subst, Option, Some, None, is_some}
+use Rattle.std.specs.Option.{option_or}
+use Rattle.alloc_event.specs.Forest.{Forest, SameKeys, without_over_in}
+use Rattle.lifetime_core.specs.declared.task.Task.{Task}
+use Rattle.lifetime_core.specs.Steps.{Place, with_place}
+use Rattle.lifetime_core.specs.Tasks.{placed, spent_place}
+use Rattle.lifetime_core.specs.Whole.{CanFinish, IsAmid, IsSound}
+use Rattle.lifetime_core.proofs.Carrying.{carries}
+use Rattle.lifetime_core.proofs.Forgetting.{are_left, id_from, same_held, same_worked, sound_left}
+use Rattle.lifetime_core.proofs.Making.{ends_are_there}
+use Rattle.lifetime_core.proofs.task.finish.Goals as goal
+
+-- there is no task
+pub returns-in_default : goal.returns-in_default
+returns-in_default c =
+    let sound : IsSound c.args.forest.now = subst (CanFinish c.args.forest.now) c.in_default.is c.requires.task in
+    let done = carries c.args.forest.now c.args.carried sound c.requires.carried in
+    rw (c.in_default.is, c.carry.ensures)
+    (record { collections = done.tidy; keys = done.same; sound = done.sound; held = done.held; ids = done.ids })
+
+pub spend-requires : goal.spend-requires
+spend-requires c =
+    let amid : IsAmid c.args.forest.now c.in-Some.task.collection c.in-Some.task.spends = subst (CanFinish c.args.forest.now) c.in-Some.is c.requires.task in
+    ends_are_there c.args.forest.now c.in-Some.task.collection c.in-Some.task.spends amid
+
+pub returns : goal.returns
+returns c =
+    let f : Forest = c.args.forest.now in
+    let t : Task = c.in-Some.task in
+    let amid : IsAmid f t.collection t.spends = subst (CanFinish f) c.in-Some.is c.requires.task in
+    let same : SameKeys (with_place (spent_place t.spends) f) c.forget_over.new.self = subst (λ (x : Forest). SameKeys x c.forget_over.new.self) c.spend.ensures c.forget_over.ensures.keys in
+    let less : c.forget_over.new.self.collections ≡ without_over_in t.collection (with_place (spent_place t.spends) f).collections =
+    subst (λ (x : Forest). c.forget_over.new.self.collections ≡ without_over_in t.collection x.collections) c.spend.ensures c.forget_over.ensures.collections in
+    let none : c.args.carried ≡ None = c.requires.one (ap is_some c.in-Some.is) in
+    let place : placed c.args.task.now c.args.carried ≡ spent_place t.spends =
+    rw (c.in-Some.is, none) (first (spent_place t.spends)) in
+    record {
+      collections = rw place (are_left f c.forget_over.new.self t.collection t.spends amid same less);
+      keys = same_worked t.spends f c.forget_over.new.self same;
+      sound = sound_left f c.forget_over.new.self t.collection t.spends amid same less;
+      held = same_held f c.forget_over.new.self t.collection t.spends amid same less;
+      ids = λ most up d on.
+          let old = id_from f c.forget_over.new.self t.collection t.spends amid same less d on in
+          rw old.2 (up old.0 old.1);
+    }
+  where
+    first : (o : Option Place) → option_or o None ≡ o
+    first None = refl
+    first (Some place) = refl

@@ -1,0 +1,56 @@
+//! The handles that a Take opens: one on each buffer of its collection that is not doomed.
+ghost use Rattle.std.specs.Prelude.{◌≡◌};
+ghost use Rattle.std.specs.List.{list_any};
+ghost use Rattle.sm_names.specs.Answers.{is_at_limit, set_of, strength_of as strength_for};
+ghost use Rattle.lifetime_core.specs.Reads.{readings_of, to_open_in};
+
+use crate::machine::Core;
+use sm_names::{BufferName, CollectionId, Strength};
+
+/// The strength of handles taken through a node that is weak or not.
+pub(crate) fn strength_of(weak: bool) -> Strength
+    ensures { result ≡ strength_for weak }
+{
+    if weak {
+        Strength::Weak
+    } else {
+        Strength::Strong
+    }
+}
+
+/// Whether as many handles of this strength as may be are open on one of the buffers that would be
+/// opened. It costs two look-ups for each buffer.
+pub(crate) fn is_one_full(core: &Core, collection: CollectionId, strength: Strength) -> bool
+    ensures { result ≡ list_any (is_at_limit core.now.limits (readings_of core.now) strength)
+        (to_open_in core.now collection) }
+{
+    let Some(buffers) = core.buffers_of(collection) else {
+        return false;
+    };
+    let strong_live = core.strong_live(collection);
+    for index in 0..buffers.count as u8 {
+        let buffer = BufferName { collection, index };
+        if !core.is_doomed(buffer, strong_live) && core.has_all_handles(buffer, strength) {
+            return true;
+        }
+    }
+    false
+}
+
+/// The buffers that are opened, as a set: bit i stands for buffer i. It costs a look-up for each
+/// buffer.
+pub(crate) fn set_to_open(core: &Core, collection: CollectionId) -> u64
+    ensures { result ≡ set_of (to_open_in core.now collection) }
+{
+    let Some(buffers) = core.buffers_of(collection) else {
+        return 0;
+    };
+    let strong_live = core.strong_live(collection);
+    let mut set = 0;
+    for index in 0..buffers.count as u8 {
+        if !core.is_doomed(BufferName { collection, index }, strong_live) {
+            set += 1 << index;
+        }
+    }
+    set
+}

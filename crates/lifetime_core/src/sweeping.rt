@@ -1,0 +1,122 @@
+//! Trackers: those that an event attaches, and those that it fires.
+ghost use Rattle.std.specs.Prelude.{◌≡◌, ◌<◌, OnOk, OnErr, IfSome, Some, false, length};
+ghost use Rattle.std.specs.List.{All};
+ghost use Rattle.trackers.specs.Table.{Cell, Table, Waiting, is_due};
+ghost use Rattle.alloc_event.specs.declared.node.Node.{Node as Kept};
+ghost use Rattle.std.specs.Option.{option_map};
+ghost use Rattle.lifetime_core.specs.Reads.{world_in};
+ghost use Rattle.lifetime_core.specs.Steps.{Gains, swept, tracker_by};
+ghost use Rattle.lifetime_core.specs.Tasks.{waiting_as};
+ghost use Rattle.buffer_holds.specs.Counts.{total};
+
+use crate::machine::Core;
+use crate::order::key_of;
+use crate::sight::Sight;
+use alloc_event::{Forest, Node};
+use buffer_holds::Holds;
+use sm_names::{Call, CollectionId, Condition, NoMemory, Reply, TrackerId};
+use trackers::Trackers;
+
+/// A tracker that an event attaches, and the collection that it concerns.
+#[derive(Clone, Copy, Debug)]
+pub(crate) struct Tracking {
+    pub(crate) id: TrackerId,
+    pub(crate) collection: CollectionId,
+    pub(crate) condition: Condition,
+}
+
+// The collection of the node, if it is there.
+fn collection_of(node: Option<Node>) -> Option<CollectionId>
+    ensures { result ≡ option_map (λ (n : Kept). n.collection) node }
+{
+    match node {
+        Some(node) => Some(node.collection),
+        None => None,
+    }
+}
+
+/// The tracker that the call, answered so, attaches, if it attaches one. One look-up.
+pub(crate) fn tracking_of(core: &Core, call: &Call, reply: &Reply) -> Option<Tracking>
+    ensures { option_map waiting_as result ≡ tracker_by core.now.forest call.now reply.now }
+{
+    let Reply::Tracker(id) = *reply else {
+        return None;
+    };
+    if let Call::TrackWeak(buffer) = *call {
+        return Some(Tracking {
+            id,
+            collection: buffer.collection,
+            condition: Condition::Weak(buffer),
+        });
+    }
+    let key = key_of(call)?;
+    let collection = collection_of(core.node(key))?;
+    let condition = match *call {
+        Call::TrackNode(_) => Condition::Node(key),
+        Call::TrackLifetime(_, most) => Condition::Lifetime(key, collection, most),
+        _ => {
+            return None;
+        }
+    };
+    Some(Tracking {
+        id,
+        collection,
+        condition,
+    })
+}
+
+/// Attaches the tracker, if there is one, where one more may wait.
+///
+/// `NoMemory` where memory is refused; then the trackers are as they were.
+pub(crate) fn attach(trackers: &mut Trackers, tracking: Option<Tracking>) -> Result<(), NoMemory>
+    requires rising { IfSome tracking (λ t. All (λ (c : Cell). c.id < t.id) trackers.old.cells) }
+    requires room { IfSome tracking (λ t. length trackers.old.unfired < trackers.old.limit) }
+    ensures ok { OnOk result (Gains trackers.old (option_map waiting_as tracking) trackers.new) }
+    ensures err { OnErr result (trackers.new ≡ trackers.old) }
+{
+    let Some(
+        Tracking {
+            id,
+            collection,
+            condition,
+        },
+    ) = tracking
+    else {
+        return Ok(());
+    };
+    match trackers.attach(id, collection, condition) {
+        Ok(()) => Ok(()),
+        Err(_) => Err(NoMemory),
+    }
+}
+
+/// Takes the tracker out again that was attached just now, if one was. It takes no memory.
+pub(crate) fn detach(trackers: &mut Trackers, tracking: Option<Tracking>)
+    requires { (before : Table) × Gains before (option_map waiting_as tracking) trackers.old }
+    ensures { (before : Table) →
+        Gains before (option_map waiting_as tracking) trackers.old → trackers.new ≡ before }
+{
+    if let Some(Tracking { collection, .. }) = tracking {
+        trackers.detach(collection);
+    }
+}
+
+/// Fires the trackers that are due at this event, which concerned this collection, if any: under
+/// another none is due. It takes no memory. It costs a test of each tracker that waits under the
+/// collection.
+pub(crate) fn sweep(
+    trackers: &mut Trackers,
+    event: u64,
+    collection: Option<CollectionId>,
+    forest: &Forest,
+    holds: &Holds,
+)
+    requires elsewhere { All (λ (t : Waiting). (collection ≡ Some t.place → ⊥) →
+        is_due (world_in forest.now (total holds.now)) t ≡ false) trackers.old.unfired }
+    ensures { trackers.new
+        ≡ swept (world_in forest.now (total holds.now)) event trackers.old }
+{
+    if let Some(id) = collection {
+        trackers.sweep(event, id, &Sight { forest, holds });
+    }
+}

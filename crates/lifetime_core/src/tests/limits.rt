@@ -1,0 +1,169 @@
+//! As much is taken as may be, and no more.
+use crate::Core;
+use sm_names::{Call, Limits, NodeKey, Refusal, Reply, StepFault};
+use std::alloc::Global;
+
+// A core in which client 1 joined.
+fn joined(alloc: Global, limits: Limits) -> Option<Core> {
+    let mut core = Core::new(alloc, 16, limits).ok()?;
+    if core.step(0, Call::Join) == Ok(Reply::Joined(1)) {
+        Some(core)
+    } else {
+        None
+    }
+}
+
+// The token that the call of client 1 makes.
+fn token(core: &mut Core, call: Call) -> Option<NodeKey> {
+    match core.step(1, call) {
+        Ok(Reply::Token { key, .. }) => Some(key),
+        _ => None,
+    }
+}
+
+// Whether so many tokens are made, and the next is so refused.
+fn makes(core: &mut Core, call: &Call, count: usize, refusal: Refusal) -> bool {
+    for _ in 0..count {
+        if token(core, *call).is_none() {
+            return false;
+        }
+    }
+    core.step(1, *call) == Ok(Reply::Refused(refusal))
+}
+
+fn collections_are_full(alloc: Global) -> bool {
+    match joined(alloc, Limits::full()) {
+        Some(mut core) => makes(&mut core, &Call::OpenRoot, 256, Refusal::TooManyCollections),
+        None => false,
+    }
+}
+
+fn has_children(core: &mut Core) -> bool {
+    match token(core, Call::OpenRoot) {
+        Some(root) => makes(core, &Call::Duplicate(root), 1023, Refusal::TooManyNodes),
+        None => false,
+    }
+}
+
+fn nodes_are_full(alloc: Global) -> bool {
+    match joined(alloc, Limits::full()) {
+        Some(mut core) => has_children(&mut core),
+        None => false,
+    }
+}
+
+// Whether a new child of the node gets 64 trackers.
+fn tracks_child(core: &mut Core, parent: NodeKey) -> bool {
+    let Some(child) = token(core, Call::Duplicate(parent)) else {
+        return false;
+    };
+    for _ in 0..64 {
+        let Ok(Reply::Tracker(_)) = core.step(1, Call::TrackNode(child)) else {
+            return false;
+        };
+    }
+    true
+}
+
+fn has_trackers(core: &mut Core) -> bool {
+    let Some(root) = token(core, Call::OpenRoot) else {
+        return false;
+    };
+    for _ in 0..64 {
+        if !tracks_child(core, root) {
+            return false;
+        }
+    }
+    core.step(1, Call::TrackNode(root)) == Ok(Reply::Refused(Refusal::TrackersFull))
+}
+
+fn trackers_are_full(alloc: Global) -> bool {
+    match joined(alloc, Limits::full()) {
+        Some(mut core) => has_trackers(&mut core),
+        None => false,
+    }
+}
+
+// Whether the root that is opened next has a new key, and is closed.
+fn opens_anew(core: &mut Core, seen: &mut Vec<NodeKey>) -> bool {
+    let Some(root) = token(core, Call::OpenRoot) else {
+        return false;
+    };
+    let is_new = !seen.as_slice().contains(&root);
+    is_new && seen.push(root).is_ok() && core.step(1, Call::Close(root)) == Ok(Reply::Done)
+}
+
+fn has_rounds(alloc: Global, core: &mut Core) -> bool {
+    let mut seen = Vec::new(alloc);
+    for _ in 0..3000 {
+        if !opens_anew(core, &mut seen) {
+            return false;
+        }
+    }
+    true
+}
+
+fn keys_are_new(alloc: Global) -> bool {
+    let Some(limits) = Limits::new(10_000, 2, 9, 9, 9) else {
+        return false;
+    };
+    match joined(alloc, limits) {
+        Some(mut core) => has_rounds(alloc, &mut core),
+        None => false,
+    }
+}
+
+// Whether calls run in order until one is not taken.
+fn stops(alloc: Global, core: &mut Core) -> bool {
+    match core.run(
+        alloc,
+        &[(0, Call::Join), (2, Call::OpenRoot), (1, Call::Shut)],
+    ) {
+        Ok(_) => false,
+        Err((made, fault)) => {
+            fault == StepFault::HistoryFull
+                && made.len() == 2
+                && made.first() == Some(&Reply::Joined(2))
+                && core.events() == 3
+        }
+    }
+}
+
+fn history_is_full(alloc: Global) -> bool {
+    let Some(limits) = Limits::new(3, 9, 9, 9, 9) else {
+        return false;
+    };
+    let Some(mut core) = joined(alloc, limits) else {
+        return false;
+    };
+    stops(alloc, &mut core)
+        && core.step(1, Call::Shut) == Err(StepFault::HistoryFull)
+        && core.step(99, Call::Collect) == Err(StepFault::HistoryFull)
+}
+
+// Each once more where memory was refused.
+
+#[test]
+fn collections_up_to_the_limit(rt: HostRuntime) {
+    assert!(rt; collections_are_full(rt.alloc()) || collections_are_full(rt.alloc()));
+}
+
+#[test]
+fn nodes_up_to_the_limit(rt: HostRuntime) {
+    assert!(rt; nodes_are_full(rt.alloc()) || nodes_are_full(rt.alloc()));
+}
+
+#[test]
+fn trackers_up_to_the_limit(rt: HostRuntime) {
+    assert!(rt; trackers_are_full(rt.alloc()) || trackers_are_full(rt.alloc()));
+}
+
+#[test]
+fn no_key_comes_back(rt: HostRuntime) {
+    assert!(rt; keys_are_new(rt.alloc()) || keys_are_new(rt.alloc()));
+}
+
+#[test]
+fn nothing_is_taken_after_the_last_event(rt: HostRuntime) {
+    assert!(rt; history_is_full(rt.alloc()) || history_is_full(rt.alloc()));
+}

@@ -1,0 +1,180 @@
+//! A core that is asked row by row.
+use super::acts::{Act, Row, Said};
+use super::holdings::Holdings;
+use crate::{Core, HeldBuffer};
+use sm_names::{Call, ClientId, Limits, NodeKey, Parcel, Reply};
+use std::alloc::Global;
+
+/// A core of 16 pages, the node of each call that made one, and what its clients hold.
+#[derive(Drop)]
+pub struct Player {
+    pub core: Core,
+    nodes: Vec<(u64, NodeKey)>,
+    holdings: Holdings,
+    // How many clients joined, all before any other call.
+    pub clients: ClientId,
+    // Whether memory was refused.
+    pub refused: bool,
+}
+
+// So many nodes have room from the first.
+const ROOM: usize = 16;
+
+// A player of a core that has seen nothing, which says that memory was refused or that it was not.
+fn fresh(alloc: Global, limits: Limits, refused: bool) -> Option<Player> {
+    let nodes = Vec::with_capacity(alloc, ROOM).ok()?;
+    let holdings = Holdings::new(alloc)?;
+    let core = Core::new(alloc, 16, limits).ok()?;
+    Some(Player {
+        core,
+        nodes,
+        holdings,
+        clients: 0,
+        refused,
+    })
+}
+
+impl Player {
+    /// A player of a core that has seen nothing. Where memory is refused, it is asked for again.
+    pub fn new(alloc: Global, limits: Limits) -> Option<Player> {
+        match fresh(alloc, limits, false) {
+            Some(player) => Some(player),
+            None => fresh(alloc, limits, true),
+        }
+    }
+
+    /// The nodes that were made, each with the number of its call.
+    pub fn nodes(&self) -> &[(u64, NodeKey)] {
+        self.nodes.as_slice()
+    }
+
+    /// The key of the node that this call made; where it made none, a key that no node has.
+    pub fn key_of(&self, number: u64) -> NodeKey {
+        for (made, key) in self.nodes.as_slice() {
+            if *made == number {
+                return *key;
+            }
+        }
+        NodeKey {
+            slot: u32::MAX,
+            generation: u32::MAX,
+        }
+    }
+
+    /// The number of the call that made the node, or 0.
+    pub fn number_of(&self, key: NodeKey) -> u64 {
+        for (number, made) in self.nodes.as_slice() {
+            if *made == key {
+                return *number;
+            }
+        }
+        0
+    }
+
+    /// Makes the call, and answers the reply. `None` where the call is not taken, where a new node
+    /// has the key of another, and where a client lost what it did not hold.
+    pub fn ask(&mut self, client: ClientId, call: Call) -> Option<Reply> {
+        let reply = self.core.step(client, call).ok()?;
+        match reply {
+            Reply::Joined(newest) => {
+                self.clients = newest;
+            }
+            Reply::Token { key, .. } => self.name(key)?,
+            _ => {}
+        }
+        if self.holdings.note(client, &call, &reply) {
+            Some(reply)
+        } else {
+            None
+        }
+    }
+
+    // Notes the new node. `None` where it has the key of another.
+    fn name(&mut self, key: NodeKey) -> Option<()> {
+        if self.number_of(key) != 0 {
+            return None;
+        }
+        let event = self.core.events();
+        self.nodes.push((event, key)).ok()
+    }
+
+    // The reply, with the numbers of the nodes that it names.
+    fn said(&self, reply: Reply) -> Said {
+        match reply {
+            Reply::Token { collection, .. } => Said::Token(collection),
+            Reply::Collected {
+                key,
+                kind,
+                collection,
+            } => Said::End(self.number_of(key), kind, collection),
+            Reply::PeerClosed { cause, origin } => Said::Closed(cause, self.number_of(origin)),
+            _ => Said::Just(reply),
+        }
+    }
+
+    /// Makes the call, and answers what was said.
+    pub fn answer(&mut self, client: ClientId, act: Act) -> Option<Said> {
+        let call = act.call(self.key_of(act.node()))?;
+        let reply = self.ask(client, call)?;
+        Some(self.said(reply))
+    }
+
+    /// Makes the calls of so many rows, and whether they are answered as the rows say.
+    pub fn keeps_to(&mut self, rows: &[Row], count: usize) -> bool {
+        for (client, act, said) in rows.iter().take(count) {
+            if self.answer(*client, *act) != Some(*said) {
+                return false;
+            }
+        }
+        true
+    }
+
+    /// Makes the calls of a client that vanishes: it is shut, collects what waits for it, closes
+    /// each end that it holds and drops each handle. Answers whether each took effect.
+    pub fn vanishes(&mut self, client: ClientId) -> bool {
+        let Some(Reply::Shut(waiting)) = self.ask(client, Call::Shut) else {
+            return false;
+        };
+        for _ in 0..waiting {
+            let Some(Reply::Collected { .. } | Reply::CollectedHandle { .. }) = self.ask(
+                client,
+                Call::Collect,
+            ) else {
+                return false;
+            };
+        }
+        for _ in 0..self.holdings.len() {
+            let call = match self.holdings.first_of(client) {
+                Some(Parcel::End(key)) => Call::Close(key),
+                Some(Parcel::Handle(buffer, strength)) => Call::DropHandle(buffer, strength),
+                None => return true,
+            };
+            if self.ask(client, call) != Some(Reply::Done) {
+                return false;
+            }
+        }
+        self.holdings.first_of(client).is_none()
+    }
+
+    /// The live nodes. Where memory is refused, it is asked for again.
+    pub fn live(&mut self) -> Option<Vec<NodeKey>> {
+        match self.core.live() {
+            Ok(live) => Some(live),
+            Err(_) => {
+                self.refused = true;
+                self.core.live().ok()
+            }
+        }
+    }
+
+    /// The buffers that hold pages. Where memory is refused, it is asked for again.
+    pub fn held(&mut self) -> Option<Vec<HeldBuffer>> {
+        match self.core.held() {
+            Ok(held) => Some(held),
+            Err(_) => {
+                self.refused = true;
+                self.core.held().ok()
+            }
+        }
+    }
+}

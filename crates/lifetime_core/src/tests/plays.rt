@@ -1,0 +1,197 @@
+//! Each script is answered, and leaves, as it says. So it does where memory is refused to one of its
+//! calls, which is then made again, and wherever it is cut, all clients vanish cleanly.
+use super::acts::Row;
+use super::failing::{
+    CLOSED_AFTER_A_LOSS, FAILING_SUBTREES, LOSS_PAST_A_RELEASED_PARENT, NESTED_LOSS, ORPHAN_SHARE,
+    SECOND_CONSTRAINTS, TREE_LOSS,
+};
+use super::giving::{
+    HANDLE_OF_ONE_THAT_VANISHES, HANDLE_PARCEL, HANDLE_TO_A_SHUT_CLIENT, LOST_PARCEL, PARCEL,
+    REFUSALS, SHUT_RECEIVER,
+};
+use super::holding::{ONE_COLLECTION, ONE_HANDLE, ONE_NODE, ONE_TRACKER, WEAK_HOLDERS};
+use super::placing::{HOLES, RELEASED_PARENT, RELEASED_TREE, TWO_BUFFERS};
+use super::player::Player;
+use super::scripts::Script;
+use super::views::{ends_so, is_over, looks_so, see_the_same};
+use sm_names::Limits;
+use std::alloc::Global;
+
+fn limits_of(script: &Script) -> Option<Limits> {
+    let [events, nodes, collections, trackers, handles] = script.limits;
+    Limits::new(events, nodes, collections, trackers, handles)
+}
+
+// Whether the player sees what one sees that made so many of the calls.
+fn has_made(alloc: Global, limits: Limits, player: &mut Player, rows: &[Row], made: usize) -> bool {
+    let Some(mut other) = Player::new(alloc, limits) else {
+        return false;
+    };
+    other.keeps_to(rows, made)
+        && player.core.events() == other.core.events()
+        && see_the_same(player, &mut other)
+}
+
+// Whether the next call is answered as the row says. Where memory is refused, nothing is changed and
+// the call is made again.
+fn takes(alloc: Global, limits: Limits, player: &mut Player, rows: &[Row], place: usize) -> bool {
+    let Some((client, act, wanted)) = rows.get(place) else {
+        return false;
+    };
+    match player.answer(*client, *act) {
+        Some(said) => said == *wanted,
+        None => {
+            player.refused = true;
+            has_made(alloc, limits, player, rows, place)
+                && player.answer(*client, *act) == Some(*wanted)
+        }
+    }
+}
+
+// A player that went through the script. `None` where something is not as the script says.
+fn play(alloc: Global, script: &Script) -> Option<Player> {
+    let limits = limits_of(script)?;
+    let mut player = Player::new(alloc, limits)?;
+    for place in 0..script.rows.len() {
+        if !takes(alloc, limits, &mut player, script.rows, place)
+            || !looks_so(&mut player, script.looks)
+        {
+            return None;
+        }
+    }
+    if ends_so(&mut player, script) {
+        Some(player)
+    } else {
+        None
+    }
+}
+
+// What came of the script: whether memory was refused, where all is as the script says.
+fn outcome(alloc: Global, script: &Script) -> Option<bool> {
+    match play(alloc, script) {
+        Some(player) => Some(player.refused),
+        None => None,
+    }
+}
+
+// Whether all clients vanish cleanly after so many calls.
+fn is_cut(alloc: Global, script: &Script, count: usize) -> bool {
+    let Some(limits) = limits_of(script) else {
+        return false;
+    };
+    let Some(mut player) = Player::new(alloc, limits) else {
+        return false;
+    };
+    if !player.keeps_to(script.rows, count) {
+        return false;
+    }
+    for client in [1, 2] {
+        if client <= player.clients && !player.vanishes(client) {
+            return false;
+        }
+    }
+    is_over(&mut player)
+}
+
+// Whether all clients vanish cleanly wherever the script is cut.
+fn is_cut_anywhere(alloc: Global, script: &Script) -> bool {
+    for count in 0..script.rows.len() {
+        if !is_cut(alloc, script, count) {
+            return false;
+        }
+    }
+    is_cut(alloc, script, script.rows.len())
+}
+
+// Whether all is as the script says. Where memory was refused, that is printed.
+fn told(rt: &HostRuntime, script: &Script) -> bool {
+    let outcome = outcome(rt.alloc(), script);
+    if outcome == Some(true) {
+        let _ = println!(rt; "memory was refused");
+    }
+    outcome.is_some()
+}
+
+#[test]
+fn a_nested_loss_goes_no_further(rt: HostRuntime) {
+    assert!(rt; told(&rt, &NESTED_LOSS));
+}
+
+#[test]
+fn an_attached_subtree_fails_alone(rt: HostRuntime) {
+    assert!(rt; told(&rt, &FAILING_SUBTREES));
+}
+
+#[test]
+fn a_share_of_an_orphan_is_kept(rt: HostRuntime) {
+    assert!(rt; told(&rt, &ORPHAN_SHARE));
+}
+
+#[test]
+fn weak_holders_are_told(rt: HostRuntime) {
+    assert!(rt; told(&rt, &WEAK_HOLDERS));
+}
+
+#[test]
+fn pages_come_back_as_one_hole(rt: HostRuntime) {
+    assert!(rt; told(&rt, &HOLES));
+}
+
+#[test]
+fn a_client_gives_to_itself(rt: HostRuntime) {
+    assert!(rt; told(&rt, &SHUT_RECEIVER));
+}
+
+#[test]
+fn an_end_in_a_parcel_is_nobodys(rt: HostRuntime) {
+    assert!(rt; told(&rt, &PARCEL));
+}
+
+#[test]
+fn a_handle_in_a_parcel_is_nobodys(rt: HostRuntime) {
+    assert!(rt; told(&rt, &HANDLE_PARCEL));
+}
+
+#[test]
+fn scripts_are_answered_as_they_say(rt: HostRuntime) {
+    let scripts = [
+        TREE_LOSS,
+        CLOSED_AFTER_A_LOSS,
+        LOSS_PAST_A_RELEASED_PARENT,
+        SECOND_CONSTRAINTS,
+        TWO_BUFFERS,
+        RELEASED_TREE,
+        RELEASED_PARENT,
+        ONE_TRACKER,
+        ONE_HANDLE,
+        ONE_COLLECTION,
+        ONE_NODE,
+        LOST_PARCEL,
+        HANDLE_TO_A_SHUT_CLIENT,
+        HANDLE_OF_ONE_THAT_VANISHES,
+        REFUSALS,
+    ];
+    for (place, script) in scripts.iter().enumerate() {
+        assert!(rt; outcome(rt.alloc(), script).is_some(), "script {place}");
+    }
+}
+
+#[test]
+fn clients_vanish_cleanly_after_any_call(rt: HostRuntime) {
+    let scripts = [
+        NESTED_LOSS,
+        FAILING_SUBTREES,
+        ORPHAN_SHARE,
+        WEAK_HOLDERS,
+        HOLES,
+        SHUT_RECEIVER,
+        PARCEL,
+        HANDLE_PARCEL,
+        HANDLE_OF_ONE_THAT_VANISHES,
+    ];
+    for (place, script) in scripts.iter().enumerate() {
+        // Once more where memory was refused.
+        let is_clean = is_cut_anywhere(rt.alloc(), script) || is_cut_anywhere(rt.alloc(), script);
+        assert!(rt; is_clean, "script {place}");
+    }
+}

@@ -1,0 +1,178 @@
+//! Forged keys, names of no handle, and callers who never joined: all is refused, and nothing changes.
+use super::acts::{Act, Deed, Row, Said};
+use super::player::Player;
+use super::scripts::{DONE, ONE_PAGE, STRONG, WEAK};
+use super::views::see_the_same;
+use sm_names::{ClientId, Limits, Refusal, Reply};
+use std::alloc::Global;
+
+// Client 1 has a released node below which one is live, and a lost one. Client 2 has a token, and a
+// collection with a buffer.
+const BEFORE: &[Row] = &[
+    (0, Act::Join, Said::Just(Reply::Joined(1))),
+    (0, Act::Join, Said::Just(Reply::Joined(2))),
+    (1, Act::Open, Said::Token(3)),
+    (1, Act::On(3, Deed::Duplicate), Said::Token(3)),
+    (1, Act::On(3, Deed::Release), DONE),
+    (1, Act::Open, Said::Token(6)),
+    (
+        1,
+        Act::On(6, Deed::TrackNode),
+        Said::Just(Reply::Tracker(7)),
+    ),
+    (1, Act::On(6, Deed::Close), DONE),
+    (2, Act::Open, Said::Token(9)),
+    (2, Act::Open, Said::Token(10)),
+    (2, Act::On(10, Deed::Bind), DONE),
+    (2, Act::On(10, ONE_PAGE), DONE),
+];
+
+// Each call that takes a key.
+const DEEDS: &[Deed] = &[
+    Deed::Duplicate,
+    Deed::Attach,
+    Deed::Sync,
+    Deed::Give(1),
+    Deed::Give(2),
+    Deed::Bind,
+    Deed::Dispensable,
+    Deed::Weak,
+    Deed::WeakOk(false),
+    Deed::WeakOk(true),
+    ONE_PAGE,
+    Deed::Check,
+    Deed::Take,
+    Deed::Release,
+    Deed::Close,
+    Deed::TrackNode,
+    Deed::TrackLifetime(0),
+];
+
+// Each call that names a handle.
+const HANDLES: &[Act] = &[
+    Act::DupHandle(0, 63, STRONG),
+    Act::DupHandle(0, 63, WEAK),
+    Act::DropHandle(0, 63, STRONG),
+    Act::DropHandle(0, 63, WEAK),
+    Act::GiveHandle(0, 63, STRONG, 2),
+    Act::GiveHandle(0, 63, WEAK, 2),
+    Act::TrackWeak(0, 63),
+];
+
+// The calls that name neither, but Join.
+const OTHERS: &[Act] = &[Act::Shut, Act::Open, Act::Collect];
+
+// Gifts to nobody, of a token and of a handle.
+const TO_NOBODY: &[Act] = &[
+    Act::On(4, Deed::Give(0)),
+    Act::On(4, Deed::Give(99)),
+    Act::GiveHandle(0, 63, STRONG, 0),
+    Act::GiveHandle(0, 63, STRONG, 99),
+];
+
+// A player, and one who makes no further call.
+#[derive(Drop)]
+struct Pair {
+    player: Player,
+    idle: Player,
+}
+
+fn begun(alloc: Global) -> Option<Player> {
+    let mut player = Player::new(alloc, Limits::full())?;
+    if player.keeps_to(BEFORE, BEFORE.len()) {
+        Some(player)
+    } else {
+        None
+    }
+}
+
+fn two_players(alloc: Global) -> Option<Pair> {
+    let player = begun(alloc)?;
+    let idle = begun(alloc)?;
+    Some(Pair { player, idle })
+}
+
+impl Pair {
+    // Whether the client is so refused, and nothing changes.
+    fn is_refused(&mut self, client: ClientId, act: Act, refusal: Refusal) -> bool {
+        self.player.answer(client, act) == Some(Said::Just(Reply::Refused(refusal)))
+            && see_the_same(&mut self.player, &mut self.idle)
+    }
+
+    // Whether each of the calls is so refused.
+    fn are_refused(&mut self, client: ClientId, acts: &[Act], refusal: Refusal) -> bool {
+        for act in acts {
+            if !self.is_refused(client, *act, refusal) {
+                return false;
+            }
+        }
+        true
+    }
+
+    // Whether all that may be asked of the node is so refused.
+    fn is_out_of_reach(&mut self, client: ClientId, number: u64, refusal: Refusal) -> bool {
+        for deed in DEEDS {
+            if !self.is_refused(client, Act::On(number, *deed), refusal) {
+                return false;
+            }
+        }
+        true
+    }
+
+    // Whether the caller is nobody, whatever is asked.
+    fn is_nobody(&mut self, client: ClientId) -> bool {
+        self.are_refused(client, OTHERS, Refusal::NoSuchClient)
+            && self.are_refused(client, HANDLES, Refusal::NoSuchClient)
+            && self.is_out_of_reach(client, 4, Refusal::NoSuchClient)
+    }
+}
+
+// Keys of no node, of spent ends, and of ends of another.
+fn keys_are_refused(alloc: Global) -> bool {
+    let Some(mut pair) = two_players(alloc) else {
+        return false;
+    };
+    for number in [0, 3, 6, 9, 10] {
+        if !pair.is_out_of_reach(1, number, Refusal::NoSuchEnd) {
+            return false;
+        }
+    }
+    true
+}
+
+fn handles_are_refused(alloc: Global) -> bool {
+    match two_players(alloc) {
+        Some(mut pair) => pair.are_refused(1, HANDLES, Refusal::NoSuchHandle),
+        None => false,
+    }
+}
+
+fn clients_are_refused(alloc: Global) -> bool {
+    match two_players(alloc) {
+        Some(mut pair) => {
+            pair.is_nobody(0)
+                && pair.is_nobody(99)
+                && pair.is_refused(99, Act::Join, Refusal::NoSuchClient)
+                && pair.is_refused(1, Act::Join, Refusal::NoSuchClient)
+                && pair.are_refused(1, TO_NOBODY, Refusal::NoSuchClient)
+        }
+        None => false,
+    }
+}
+
+// Each once more where memory was refused.
+
+#[test]
+fn forged_keys_name_no_end(rt: HostRuntime) {
+    assert!(rt; keys_are_refused(rt.alloc()) || keys_are_refused(rt.alloc()));
+}
+
+#[test]
+fn forged_names_are_of_no_handle(rt: HostRuntime) {
+    assert!(rt; handles_are_refused(rt.alloc()) || handles_are_refused(rt.alloc()));
+}
+
+#[test]
+fn strangers_are_nobody(rt: HostRuntime) {
+    assert!(rt; clients_are_refused(rt.alloc()) || clients_are_refused(rt.alloc()));
+}

@@ -1,0 +1,99 @@
+//! Trackers that are taken before and after they fire.
+use super::acts::{Act, Deed, Row, Said};
+use super::player::Player;
+use super::scripts::DONE;
+use crate::Core;
+use sm_names::{Fired, Limits, Reply, TrackerId};
+use std::alloc::Global;
+use trackers::Tracker;
+
+const TRACKED: &[Row] = &[
+    (0, Act::Join, Said::Just(Reply::Joined(1))),
+    (1, Act::Open, Said::Token(2)),
+    (1, Act::Open, Said::Token(3)),
+    (
+        1,
+        Act::On(2, Deed::TrackNode),
+        Said::Just(Reply::Tracker(4)),
+    ),
+    (
+        1,
+        Act::On(3, Deed::TrackNode),
+        Said::Just(Reply::Tracker(5)),
+    ),
+    (
+        1,
+        Act::On(3, Deed::TrackNode),
+        Said::Just(Reply::Tracker(6)),
+    ),
+];
+
+const CLOSED: &[Row] = &[
+    (1, Act::On(3, Deed::Close), DONE),
+    (1, Act::On(2, Deed::Close), DONE),
+];
+
+const FIRED: [Fired; 3] = [
+    Fired {
+        tracker: 5,
+        event: 7,
+    },
+    Fired {
+        tracker: 6,
+        event: 7,
+    },
+    Fired {
+        tracker: 4,
+        event: 8,
+    },
+];
+
+// Whether these trackers were taken before, or were never made.
+fn are_taken(core: &mut Core, ids: &[TrackerId]) -> bool {
+    for id in ids {
+        if core.take_tracker(*id).is_some() {
+            return false;
+        }
+    }
+    true
+}
+
+// Whether the tracker that is taken now fired so.
+fn is_taken_fired(core: &mut Core, fired: Fired) -> bool {
+    match core.take_tracker(fired.tracker) {
+        Some(mut tracker) => tracker.poll() == Some(fired),
+        None => false,
+    }
+}
+
+// Whether a tracker that was taken before it fires fires with the next calls.
+fn fires(player: &mut Player, mut early: Tracker) -> bool {
+    let was_quiet = early.poll().is_none();
+    was_quiet
+        && player.keeps_to(CLOSED, CLOSED.len())
+        && early.poll() == Some(FIRED[0])
+        && early.poll() == Some(FIRED[0])
+        && is_taken_fired(&mut player.core, FIRED[1])
+        && is_taken_fired(&mut player.core, FIRED[2])
+        && are_taken(&mut player.core, &[4, 5, 6])
+        && player.core.fired() == FIRED.as_slice()
+}
+
+fn trackers_fire(alloc: Global) -> bool {
+    let Some(mut player) = Player::new(alloc, Limits::full()) else {
+        return false;
+    };
+    if !player.keeps_to(TRACKED, TRACKED.len()) || !are_taken(&mut player.core, &[0, 2, 7, 99]) {
+        return false;
+    }
+    match player.core.take_tracker(5) {
+        Some(early) => fires(&mut player, early),
+        None => false,
+    }
+}
+
+#[test]
+fn a_tracker_is_taken_once_and_told_of_its_firing(rt: HostRuntime) {
+    // Once more where memory was refused.
+    assert!(rt; trackers_fire(rt.alloc()) || trackers_fire(rt.alloc()));
+}

@@ -1,0 +1,101 @@
+//! What is seen of a core.
+use super::player::Player;
+use super::scripts::{Look, Script};
+use sm_names::{BufferName, Cause, Fired, NodeKey};
+
+fn are_held(player: &mut Player, wanted: &[(u64, u8, u32, u32)]) -> bool {
+    let Some(held) = player.held() else {
+        return false;
+    };
+    for (buffer, (collection, index, start, pages)) in held.iter().zip(wanted.iter()) {
+        let name = BufferName {
+            collection: *collection,
+            index: *index,
+        };
+        if buffer.buffer != name || buffer.start != *start || buffer.pages != *pages {
+            return false;
+        }
+    }
+    held.len() == wanted.len()
+}
+
+/// Whether all is seen that is to be seen after so many calls.
+pub fn looks_so(player: &mut Player, looks: &[Look]) -> bool {
+    for (event, free, held) in looks {
+        if *event == player.core.events()
+            && (player.core.free_pages() != *free || !are_held(player, held))
+        {
+            return false;
+        }
+    }
+    true
+}
+
+fn are_live(player: &mut Player, wanted: &[u64]) -> bool {
+    let Some(live) = player.live() else {
+        return false;
+    };
+    for (key, number) in live.iter().zip(wanted.iter()) {
+        if player.number_of(*key) != *number {
+            return false;
+        }
+    }
+    live.len() == wanted.len()
+}
+
+// Why and where the node failed, by the script.
+fn failure_of(player: &Player, script: &Script, number: u64) -> Option<(Cause, NodeKey)> {
+    for (failed, cause, origin) in script.failed {
+        if *failed == number {
+            return Some((*cause, player.key_of(*origin)));
+        }
+    }
+    None
+}
+
+// Whether each node is live, and failed, as the script says.
+fn are_nodes(player: &Player, script: &Script) -> bool {
+    for (number, key) in player.nodes() {
+        if player.core.is_live(*key) != script.live.contains(number)
+            || player.core.cause(*key) != failure_of(player, script, *number)
+        {
+            return false;
+        }
+    }
+    true
+}
+
+fn have_fired(fired: &[Fired], wanted: &[(u64, u64)]) -> bool {
+    for (firing, (tracker, event)) in fired.iter().zip(wanted.iter()) {
+        if firing.tracker != *tracker || firing.event != *event {
+            return false;
+        }
+    }
+    fired.len() == wanted.len()
+}
+
+/// Whether the core ends as the script says.
+pub fn ends_so(player: &mut Player, script: &Script) -> bool {
+    are_live(player, script.live)
+        && are_nodes(player, script)
+        && have_fired(player.core.fired(), script.fired)
+}
+
+/// Whether two players see the same, but for the number of events.
+pub fn see_the_same(player: &mut Player, other: &mut Player) -> bool {
+    let (Some(live), Some(held)) = (player.live(), player.held()) else {
+        return false;
+    };
+    let (Some(other_live), Some(other_held)) = (other.live(), other.held()) else {
+        return false;
+    };
+    live == other_live
+        && held == other_held
+        && player.core.fired() == other.core.fired()
+        && player.core.free_pages() == other.core.free_pages()
+}
+
+/// Whether nothing is live and nothing held.
+pub fn is_over(player: &mut Player) -> bool {
+    are_live(player, &[]) && are_held(player, &[]) && player.core.free_pages() == 16
+}
