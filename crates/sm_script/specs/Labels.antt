@@ -1,4 +1,4 @@
--- What a script calls its clients and nodes.
+-- What a script calls its clients, nodes and trackers.
 use Rattle.std.specs.Prelude.{ℕ, ◌-◌, Bool, false, ◌&&◌, ◌||◌, nat_le, if◌then◌else◌, List, [], ◌∷◌, ◌++◌, length, take, replicate, Option, Some, None}
 use Rattle.std.specs.List.{list_all}
 use Rattle.sm_script.specs.declared.label.Label.{Label}
@@ -11,7 +11,7 @@ is_letter byte = nat_le 97 byte && nat_le byte 122
 abbrev pub is_digit : ℕ → Bool
 is_digit byte = nat_le 48 byte && nat_le byte 57
 
--- the word may stand for a client or a node: a letter, and up to fifteen letters or digits
+-- the word may stand for a client, a node or a tracker: a letter, and up to fifteen letters or digits
 abbrev pub is_label : List ℕ → Bool
 is_label [] = false
 is_label (first ∷ others) =

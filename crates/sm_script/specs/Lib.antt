@@ -1,3 +1,4 @@
+pub mod BufferLabels
 pub mod Faults
 pub mod Labels
 pub mod Lines

@@ -1,12 +1,15 @@
--- What a line of bytes says. A call that is not among these is no line yet.
+-- What a line of bytes says.
 use Rattle.std.specs.Prelude.{ℕ, ◌^◌, Bool, true, false, ◌==◌, ◌&&◌, nat_le, nat_lt, if◌then◌else◌, List, [], ◌∷◌, length, codes, Option, Some, None}
-use Rattle.std.specs.Option.{option_map, option_and_then}
+use Rattle.std.specs.Option.{option_map, option_map_or, option_and_then}
 use Rattle.std.specs.Str.{bytes_eq}
+use Rattle.sm_names.specs.declared.keys.Strength.{Strength}
 use Rattle.sm_names.specs.Demands.{Demand}
 use Rattle.sm_script.specs.declared.label.Label.{Label}
+use Rattle.sm_script.specs.declared.line.BufferVerb.{BufferVerb}
 use Rattle.sm_script.specs.declared.line.Line.{Line}
 use Rattle.sm_script.specs.declared.line.Verb.{Verb}
 use Rattle.sm_script.specs.declared.line.View.{View}
+use Rattle.sm_script.specs.BufferLabels.{buffer_label_of}
 use Rattle.sm_script.specs.Labels.{label_of}
 use Rattle.sm_script.specs.Numbers.{number_of}
 use Rattle.sm_script.specs.Words.{words}
@@ -20,7 +23,8 @@ at_end (next ∷ rest) said = None
 abbrev pub view_of : List ℕ → Option View
 view_of word =
     let free : Option View = if bytes_eq word (codes "free") then Some View.Free else None in
-    let held : Option View = if bytes_eq word (codes "held") then Some View.Held else free in
+    let fired : Option View = if bytes_eq word (codes "fired") then Some View.Fired else free in
+    let held : Option View = if bytes_eq word (codes "held") then Some View.Held else fired in
     if bytes_eq word (codes "live") then Some View.Live else held
 
 -- what is shown, by the words behind `show`: exactly one
@@ -28,12 +32,13 @@ abbrev pub show_of : List (List ℕ) → Option Line
 show_of [] = None
 show_of (what ∷ rest) = at_end rest (option_map (λ view. Line.Show view) (view_of what))
 
--- the verb of this name, for what a client asks of one node
-abbrev pub verb_of : List ℕ → Option Verb
-verb_of word =
+-- the verb of this name, where nothing follows the node
+abbrev pub plain_verb_of : List ℕ → Option Verb
+plain_verb_of word =
     let close : Option Verb = if bytes_eq word (codes "close") then Some Verb.Close else None in
     let release : Option Verb = if bytes_eq word (codes "release") then Some Verb.Release else close in
-    let check : Option Verb = if bytes_eq word (codes "check") then Some Verb.Check else release in
+    let take : Option Verb = if bytes_eq word (codes "take") then Some Verb.Take else release in
+    let check : Option Verb = if bytes_eq word (codes "check") then Some Verb.Check else take in
     let weakok : Option Verb = if bytes_eq word (codes "weakok") then Some (Verb.WeakOk false) else check in
     let weak : Option Verb = if bytes_eq word (codes "weak") then Some Verb.Weak else weakok in
     let dispensable : Option Verb = if bytes_eq word (codes "dispensable") then Some Verb.Dispensable else weak in
@@ -53,47 +58,90 @@ demand_of camping at_least size =
     option_and_then (λ c. option_and_then (λ l. option_and_then (demand_in_range c l) (number_of size)) (number_of at_least))
     (number_of camping)
 
--- constraints of the node: exactly two more words follow the first number
-abbrev pub sized_of : Label → Label → List ℕ → List ℕ → List (List ℕ) → Option Line
-sized_of client node camping at_least [] = None
-sized_of client node camping at_least (size ∷ rest) =
-    at_end rest (option_map (Line.Constrain client node) (demand_of camping at_least size))
+-- constraints: exactly two more words follow the first number
+abbrev pub sized_of : List ℕ → List ℕ → List (List ℕ) → Option Verb
+sized_of camping at_least [] = None
+sized_of camping at_least (size ∷ rest) = at_end rest (option_map Verb.Constrain (demand_of camping at_least size))
 
-abbrev pub constrain_of : Label → Label → List ℕ → List (List ℕ) → Option Line
-constrain_of client node camping [] = None
-constrain_of client node camping (at_least ∷ rest) = sized_of client node camping at_least rest
-
--- a duplicate of the node under the label that this word is, the last one
-abbrev pub duplicate_of : Label → Label → List ℕ → List (List ℕ) → Option Line
-duplicate_of client above word rest = at_end rest (option_map (Line.Duplicate client above) (label_of word))
-
--- a token attached to the node under the label that this word is, the last one
-abbrev pub attach_of : Label → Label → List ℕ → List (List ℕ) → Option Line
-attach_of client above word rest = at_end rest (option_map (Line.Attach client above) (label_of word))
+abbrev pub constrain_of : List ℕ → List (List ℕ) → Option Verb
+constrain_of camping [] = None
+constrain_of camping (at_least ∷ rest) = sized_of camping at_least rest
 
 -- weak handles for the node and its children to come: this word says so, the last one
-abbrev pub weak_ok_of : Label → Label → List ℕ → List (List ℕ) → Option Line
-weak_ok_of client node word rest =
-    at_end rest (if bytes_eq word (codes "children") then Some (Line.Ask client (Verb.WeakOk true) node) else None)
+abbrev pub weak_ok_of : List ℕ → List (List ℕ) → Option Verb
+weak_ok_of word rest = at_end rest (if bytes_eq word (codes "children") then Some (Verb.WeakOk true) else None)
 
--- what the client asks, by the call's word, a node's label and the words behind it
+-- the label that this word is, the last one
+abbrev pub last_label_of : List ℕ → List (List ℕ) → Option Label
+last_label_of word rest = at_end rest (label_of word)
+
+-- a tracker of a lifetime: this word is a number, and one label follows
+abbrev pub lifetime_of : List ℕ → List (List ℕ) → Option Verb
+lifetime_of most [] = None
+lifetime_of most (tracker ∷ rest) =
+    option_and_then (λ n. option_map (Verb.TrackLifetime n) (last_label_of tracker rest)) (number_of most)
+
+-- the verb of this name, where one label follows the node
+abbrev pub paired_verb_of : List ℕ → Label → Option Verb
+paired_verb_of word label =
+    let track : Option Verb = if bytes_eq word (codes "tracknode") then Some (Verb.TrackNode label) else None in
+    let give : Option Verb = if bytes_eq word (codes "give") then Some (Verb.Give label) else track in
+    let attach : Option Verb = if bytes_eq word (codes "attach") then Some (Verb.Attach label) else give in
+    if bytes_eq word (codes "dup") then Some (Verb.Duplicate label) else attach
+
+-- what is asked of a node, by the call's word and the words behind the node
+abbrev pub verb_of : List ℕ → List (List ℕ) → Option Verb
+verb_of word [] = plain_verb_of word
+verb_of word (next ∷ rest) =
+    let paired : Option Verb = option_and_then (paired_verb_of word) (last_label_of next rest) in
+    let lifetime : Option Verb = if bytes_eq word (codes "tracklife") then lifetime_of next rest else paired in
+    let constrain : Option Verb = if bytes_eq word (codes "constrain") then constrain_of next rest else lifetime in
+    if bytes_eq word (codes "weakok") then weak_ok_of next rest else constrain
+
+-- what the client asks, by the call's word, a label and the words behind it
 abbrev pub about_of : Label → List ℕ → Label → List (List ℕ) → Option Line
-about_of client word node [] =
-    let ask : Option Line = option_map (λ verb. Line.Ask client verb node) (verb_of word) in
-    if bytes_eq word (codes "open") then Some (Line.Open client node) else ask
-about_of client word node (next ∷ rest) =
-    let constrain : Option Line =
-    if bytes_eq word (codes "constrain") then constrain_of client node next rest else None in
-    let weakok : Option Line =
-    if bytes_eq word (codes "weakok") then weak_ok_of client node next rest else constrain in
-    let attach : Option Line =
-    if bytes_eq word (codes "attach") then attach_of client node next rest else weakok in
-    if bytes_eq word (codes "dup") then duplicate_of client node next rest else attach
+about_of client word label rest =
+    let ask : Option Line = option_map (λ verb. Line.Ask client verb label) (verb_of word rest) in
+    let poll : Option Line = if bytes_eq word (codes "poll") then at_end rest (Some (Line.Poll client label)) else ask in
+    let collect : Option Line =
+    if bytes_eq word (codes "collect") then at_end rest (Some (Line.Collect client label)) else poll in
+    if bytes_eq word (codes "open") then at_end rest (Some (Line.Open client label)) else collect
 
--- what the client asks, by the call's word and the words behind it
+-- the strength of this name
+abbrev pub strength_of : List ℕ → Option Strength
+strength_of word =
+    let weak : Option Strength = if bytes_eq word (codes "weak") then Some Strength.Weak else None in
+    if bytes_eq word (codes "strong") then Some Strength.Strong else weak
+
+-- what is asked of a handle, by the words behind its strength
+abbrev pub handle_verb_of : List ℕ → Strength → List (List ℕ) → Option BufferVerb
+handle_verb_of word strength [] =
+    let drop : Option BufferVerb = if bytes_eq word (codes "droph") then Some (BufferVerb.Drop strength) else None in
+    if bytes_eq word (codes "duph") then Some (BufferVerb.Duplicate strength) else drop
+handle_verb_of word strength (to ∷ rest) =
+    if bytes_eq word (codes "giveh") then option_map (BufferVerb.Give strength) (last_label_of to rest) else None
+
+-- what is asked of a buffer, by the words behind it
+abbrev pub buffer_verb_of : List ℕ → List (List ℕ) → Option BufferVerb
+buffer_verb_of word [] = None
+buffer_verb_of word (next ∷ rest) =
+    let handle : Option BufferVerb =
+    option_and_then (λ strength. handle_verb_of word strength rest) (strength_of next) in
+    if bytes_eq word (codes "trackweak") then option_map BufferVerb.Track (last_label_of next rest) else handle
+
+-- what the client asks by one word
+abbrev pub bare_of : Label → List ℕ → Option Line
+bare_of client word =
+    let shut : Option Line = if bytes_eq word (codes "shut") then Some (Line.Shut client) else None in
+    if bytes_eq word (codes "join") then Some (Line.Join client) else shut
+
+-- what the client asks, by the call's word and the words behind it: the next one is a label or a buffer
 abbrev pub call_of : Label → List ℕ → List (List ℕ) → Option Line
-call_of client word [] = if bytes_eq word (codes "join") then Some (Line.Join client) else None
-call_of client word (first ∷ rest) = option_and_then (λ node. about_of client word node rest) (label_of first)
+call_of client word [] = bare_of client word
+call_of client word (first ∷ rest) = option_map_or
+    (λ label. about_of client word label rest) (label_of first)
+    (option_and_then (λ buffer. option_map (λ verb. Line.AskBuffer client verb buffer) (buffer_verb_of word rest))
+    (buffer_label_of first))
 
 -- what a client asks, by the words behind its label
 abbrev pub asked_of : Label → List (List ℕ) → Option Line

@@ -1,15 +1,17 @@
 -- What the lines of a script make happen, one after another.
-use Rattle.std.specs.Prelude.{ℕ, ◌≡◌, List, [], ◌∷◌, ◌++◌, Some}
+use Rattle.std.specs.Prelude.{ℕ, ◌≡◌, ◌⊎◌, List, [], ◌∷◌, ◌++◌, codes, Some}
+use Rattle.std.specs.List.{Contains}
 use Rattle.sm_names.specs.declared.messages.Call.{Call}
 use Rattle.sm_names.specs.declared.messages.Reply.{Reply}
 use Rattle.sm_names.specs.Bounds.{Bound}
 use Rattle.sm_names.specs.Legality.{IsLegal}
-use Rattle.sm_names.specs.Marks.{Entry}
+use Rattle.sm_names.specs.Marks.{Entry, Timeline}
 use Rattle.sm_names.specs.Timelines.{timeline}
+use Rattle.sm_names.specs.Trackers.{fired}
 use Rattle.sm_script.specs.declared.act.Act.{Act}
 use Rattle.sm_script.specs.declared.act.Binds.{Binds}
 use Rattle.sm_script.specs.Names.{Names, no_names, names_after, act_in}
-use Rattle.sm_script.specs.Texts.{reply_text, view_text}
+use Rattle.sm_script.specs.Texts.{reply_text, poll_text, view_text}
 
 -- what happened so far, and what the labels stand for
 pub record Scene : Type 0 where
@@ -29,11 +31,20 @@ next_scene scene client call binds reply =
 abbrev pub as_line : List ℕ → List ℕ
 as_line text = text ++ 10 ∷ []
 
--- the act gives this text and leads to the next scene: a call gives the text of its reply, and a view that of what is seen
+-- what a poll of the tracker may read after these marks, without the end of its line: that it fired, at the event at
+-- which it did, or nothing yet. That a reader sees each firing is no law of its cell
+abbrev pub IsPolled : Timeline → ℕ → List ℕ → Type 0
+IsPolled marks tracker text = (text ≡ codes "quiet")
+    ⊎ (event : ℕ) × Contains (fired marks) (record { tracker = tracker; event = event }) × (text ≡ poll_text event)
+
+-- the act gives this text and leads to the next scene: a call gives the text of its reply, a poll that of what is read, and
+-- a view that of what is seen
 abbrev pub Gives : ℕ → Scene → Act → List ℕ → Scene → Type 0
 Gives pool scene Act.Nothing text next = (text ≡ []) × (next ≡ scene)
 Gives pool scene (Act.Ask client call binds) text next = (reply : Reply)
     × (text ≡ as_line (reply_text scene.names binds reply)) × (next ≡ next_scene scene client call binds reply)
+Gives pool scene (Act.Poll tracker) text next =
+    (read : List ℕ) × IsPolled (timeline pool scene.history) tracker read × (text ≡ as_line read) × (next ≡ scene)
 Gives pool scene (Act.Show view) text next =
     (text ≡ as_line (view_text pool (timeline pool scene.history) scene.names view)) × (next ≡ scene)
 

@@ -1,32 +1,50 @@
--- The text of a reply and of a view. Labels stand for nodes; keys are never shown.
-use Rattle.std.specs.Prelude.{ℕ, List, [], ◌∷◌, ◌++◌, map, codes, Option, Some, None}
+-- The text of a reply, of a poll and of a view. Labels stand for nodes and trackers; keys are never shown.
+use Rattle.std.specs.Prelude.{ℕ, ◌==◌, if◌then◌else◌, List, [], ◌∷◌, ◌++◌, map, codes, Option, Some, None}
 use Rattle.std.specs.Fmt.{decimal}
+use Rattle.std.specs.Int.{bit_at}
 use Rattle.std.specs.List.{flat_map}
 use Rattle.alloc_event.specs.declared.held.HeldBuffer.{HeldBuffer}
 use Rattle.alloc_event.specs.Forest.{held_buffer}
 use Rattle.sm_names.specs.declared.keys.BufferName.{BufferName}
+use Rattle.sm_names.specs.declared.keys.Kind.{Kind}
 use Rattle.sm_names.specs.declared.keys.NodeKey.{NodeKey}
+use Rattle.sm_names.specs.declared.keys.Strength.{Strength}
 use Rattle.sm_names.specs.declared.messages.Reply.{Reply}
 use Rattle.sm_names.specs.declared.outcomes.Cause.{Cause}
 use Rattle.sm_names.specs.declared.outcomes.Failure.{Failure}
+use Rattle.sm_names.specs.declared.tracking.Fired.{Fired}
+use Rattle.sm_names.specs.Handles.{names as names_of}
 use Rattle.sm_names.specs.Marks.{Timeline}
 use Rattle.sm_names.specs.Numbers.{refusal_number, refusal_name, misuse_number, misuse_name}
+use Rattle.sm_names.specs.Trackers.{fired}
 use Rattle.sm_names.specs.Views.{live_nodes, held_by_page, free_pages}
 use Rattle.sm_script.specs.declared.act.Binds.{Binds}
 use Rattle.sm_script.specs.declared.label.Label.{Label}
 use Rattle.sm_script.specs.declared.line.View.{View}
 use Rattle.sm_script.specs.Labels.{text_of_label}
-use Rattle.sm_script.specs.Names.{Names, label_of_node, label_of_root}
+use Rattle.sm_script.specs.Names.{Names, label_of_node, label_of_root, label_of_tracker}
 
 -- the label, if there is one
 abbrev pub label_text : Option Label → List ℕ
 label_text None = []
 label_text (Some label) = text_of_label label
 
--- the label that the line binds to a node; any other line binds none
+-- the label that the line binds, if it binds any
 abbrev pub bound_text : Binds → List ℕ
+bound_text Binds.Nothing = []
+bound_text (Binds.Client label) = text_of_label label
 bound_text (Binds.Node label) = text_of_label label
-bound_text _ = []
+bound_text (Binds.Tracker label) = text_of_label label
+
+-- the name of what an end is
+abbrev pub kind_name : Kind → List ℕ
+kind_name Kind.Token = codes "token"
+kind_name Kind.Collection = codes "collection"
+
+-- the name of a strength
+abbrev pub strength_name : Strength → List ℕ
+strength_name Strength.Strong = codes "strong"
+strength_name Strength.Weak = codes "weak"
 
 -- the name of a failure of an allocation
 abbrev pub failure_name : Failure → List ℕ
@@ -48,20 +66,6 @@ cause_text Cause.NoStrong = codes "nostrong"
 abbrev pub numbered : ℕ → List ℕ → List ℕ
 numbered number name = decimal number ++ 32 ∷ name
 
--- the reply to a call that was to bind this, without the end of its line. The replies that tell of handles, parcels,
--- shut clients and trackers get their texts with the lines of the calls that they answer
-abbrev pub reply_text : Names → Binds → Reply → List ℕ
-reply_text names binds Reply.Done = codes "done"
-reply_text names binds (Reply.Joined client) = codes "joined"
-reply_text names binds (Reply.Token key collection) = codes "token " ++ bound_text binds
-reply_text names binds Reply.Pending = codes "pending"
-reply_text names binds (Reply.Allocated count size) = codes "allocated " ++ numbered count (decimal size)
-reply_text names binds (Reply.Refused refusal) = codes "refused " ++ numbered (refusal_number refusal) (refusal_name refusal)
-reply_text names binds (Reply.Misused misuse) = codes "misused " ++ numbered (misuse_number misuse) (misuse_name misuse)
-reply_text names binds (Reply.PeerClosed cause origin) =
-    codes "closed " ++ cause_text cause ++ 32 ∷ label_text (label_of_node names origin)
-reply_text names binds _ = []
-
 -- a node behind a space
 abbrev pub node_text : Names → NodeKey → List ℕ
 node_text names node = 32 ∷ label_text (label_of_node names node)
@@ -70,12 +74,45 @@ node_text names node = 32 ∷ label_text (label_of_node names node)
 abbrev pub buffer_text : Names → BufferName → List ℕ
 buffer_text names buffer = 32 ∷ label_text (label_of_root names buffer.collection) ++ 46 ∷ decimal buffer.index
 
+-- the buffer behind a space, if it is in the set: bit i stands for buffer i
+abbrev pub member_text : Names → ℕ → BufferName → List ℕ
+member_text names set buffer = if bit_at set buffer.index == 1 then buffer_text names buffer else []
+
+-- the reply to a call that was to bind this, without the end of its line
+abbrev pub reply_text : Names → Binds → Reply → List ℕ
+reply_text names binds Reply.Done = codes "done"
+reply_text names binds (Reply.Joined client) = codes "joined"
+reply_text names binds (Reply.Shut waiting) = codes "shut " ++ decimal waiting
+reply_text names binds (Reply.Token key collection) = codes "token" ++ 32 ∷ bound_text binds
+reply_text names binds (Reply.Collected key kind collection) = kind_name kind ++ 32 ∷ bound_text binds
+reply_text names binds (Reply.CollectedHandle buffer strength) =
+    codes "handle" ++ buffer_text names buffer ++ 32 ∷ strength_name strength
+reply_text names binds Reply.Empty = codes "empty"
+reply_text names binds Reply.Pending = codes "pending"
+reply_text names binds (Reply.Allocated count size) = codes "allocated " ++ numbered count (decimal size)
+reply_text names binds (Reply.Taken collection strength set) =
+    codes "taken " ++ strength_name strength ++ flat_map (member_text names set) (names_of collection 64)
+reply_text names binds (Reply.Tracker id) = codes "tracker" ++ 32 ∷ bound_text binds
+reply_text names binds (Reply.Refused refusal) = codes "refused " ++ numbered (refusal_number refusal) (refusal_name refusal)
+reply_text names binds (Reply.Misused misuse) = codes "misused " ++ numbered (misuse_number misuse) (misuse_name misuse)
+reply_text names binds (Reply.PeerClosed cause origin) =
+    codes "closed " ++ cause_text cause ++ 32 ∷ label_text (label_of_node names origin)
+
+-- what is read of a tracker that fired at this event
+abbrev pub poll_text : ℕ → List ℕ
+poll_text event = codes "fired " ++ decimal event
+
 -- a held buffer behind a space, its first page, and how many pages
 abbrev pub held_text : Names → HeldBuffer → List ℕ
 held_text names held = buffer_text names held.buffer ++ 32 ∷ numbered held.start (decimal held.pages)
+
+-- a firing behind a space: the label of its tracker, and the event
+abbrev pub fired_text : Names → Fired → List ℕ
+fired_text names firing = 32 ∷ label_text (label_of_tracker names firing.tracker) ++ 32 ∷ decimal firing.event
 
 -- what is shown after these marks, without the end of its line
 abbrev pub view_text : ℕ → Timeline → Names → View → List ℕ
 view_text pool marks names View.Live = codes "live" ++ flat_map (node_text names) (live_nodes marks)
 view_text pool marks names View.Held = codes "held" ++ flat_map (held_text names) (map held_buffer (held_by_page pool marks))
+view_text pool marks names View.Fired = codes "fired" ++ flat_map (fired_text names) (fired marks)
 view_text pool marks names View.Free = codes "free " ++ decimal (free_pages pool marks)

@@ -1,7 +1,7 @@
 //! What a line asks for, once its labels are looked up.
 use crate::label::Label;
 use crate::line::View;
-use sm_names::{Call, ClientId};
+use sm_names::{Call, ClientId, TrackerId};
 
 /// What a label is to stand for, if the call makes it.
 #[derive(Clone, Copy, Debug, PartialEq, Eq)]
@@ -9,6 +9,7 @@ pub enum Binds {
     Nothing,
     Client(Label),
     Node(Label),
+    Tracker(Label),
 }
 
 /// What a line asks for.
@@ -21,6 +22,8 @@ pub enum Act {
         call: Call,
         binds: Binds,
     },
+    /// A look at the reader of this tracker. It is no event.
+    Poll(TrackerId),
     /// A look at the state. It is no event.
     Show(View),
 }

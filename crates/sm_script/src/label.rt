@@ -1,11 +1,13 @@
-//! What a script calls its clients and nodes.
+//! What a script calls its clients, nodes and trackers.
 ghost use Rattle.std.specs.Prelude.{◌≡◌, ◌||◌, IfSome};
 ghost use Rattle.std.specs.List.{list_all};
 ghost use Rattle.sm_script.specs.Labels.{is_label as is_label_word, is_letter as is_letter_byte, is_digit as is_digit_byte, label_of, text_of_label};
 
-/// A name of a client or a node in a script: a letter from `a` to `z`, then up to fifteen letters
-/// or digits.
-#[derive(Clone, Copy, Debug, PartialEq, Eq, Hash)]
+use std::hash::{Hash, Hasher};
+
+/// A name of a client, a node or a tracker in a script: a letter from `a` to `z`, then up to
+/// fifteen letters or digits.
+#[derive(Clone, Copy, Debug, PartialEq, Eq)]
 pub struct Label {
     // The text, filled up with zeros.
     bytes: [u8; 16],
@@ -41,6 +43,21 @@ impl Label {
     }
 }
 
+impl Hash for Label {
+    ghost use Rattle.std.proofs.Common.{rules};
+    ghost use Rattle.std.specs.Cmp.Rules.{hashing};
+    ghost use Rattle.std.specs.Prelude.{[], ◌∷◌};
+
+    ghost hash_input = { λ label. label.bytes ∷ [] };
+
+    ghost respects_eq = { Prim.search (hashing, rules) };
+
+    // All bytes at once: the zeros behind the text tell its length.
+    fn hash<H: Hasher>(&self, state: &mut H) {
+        state.write(&self.bytes);
+    }
+}
+
 // Whether the byte is a letter from `a` to `z`.
 pub(crate) fn is_letter(byte: u8) -> bool
     ensures { result ≡ is_letter_byte byte }
@@ -55,7 +72,7 @@ pub(crate) fn is_digit(byte: u8) -> bool
     b'0' <= byte && byte <= b'9'
 }
 
-// Whether the word may stand for a client or a node.
+// Whether the word may stand for a client, a node or a tracker.
 fn is_label(word: &[u8]) -> bool
     ensures { result ≡ is_label_word word.now }
 {

@@ -1,7 +1,8 @@
-//! Scripts: lines in, one line out for each call and view.
+//! Scripts: lines in, one line out for each call, poll and view.
 #![tactic(auto)]
 
 mod act;
+mod buffer_label;
 mod fault;
 mod label;
 mod line;

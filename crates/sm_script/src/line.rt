@@ -1,8 +1,9 @@
 //! What a line of a script says.
+use crate::buffer_label::BufferLabel;
 use crate::label::Label;
-use sm_names::Constraints;
+use sm_names::{Constraints, Strength};
 
-/// What a client asks of one node, where nothing else is named.
+/// What a client asks of a node.
 #[derive(Clone, Copy, Debug, PartialEq, Eq)]
 pub enum Verb {
     Sync,
@@ -12,8 +13,31 @@ pub enum Verb {
     /// For children too, or for the node alone.
     WeakOk { children: bool },
     Check,
+    Take,
     Release,
     Close,
+    /// A child token is to have this label.
+    Duplicate { child: Label },
+    /// An attached child token is to have this label.
+    Attach { child: Label },
+    /// For the client of this label.
+    Give { to: Label },
+    Constrain { constraints: Constraints },
+    /// A tracker is to have this label.
+    TrackNode { tracker: Label },
+    /// A tracker is to have this label, for so many buffers.
+    TrackLifetime { most: u32, tracker: Label },
+}
+
+/// What a client asks of a buffer.
+#[derive(Clone, Copy, Debug, PartialEq, Eq)]
+pub enum BufferVerb {
+    Duplicate { strength: Strength },
+    Drop { strength: Strength },
+    /// For the client of this label.
+    Give { strength: Strength, to: Label },
+    /// A tracker is to have this label.
+    Track { tracker: Label },
 }
 
 /// What a script may look at. It is no event.
@@ -23,6 +47,8 @@ pub enum View {
     Live,
     /// The held buffers.
     Held,
+    /// The trackers that fired.
+    Fired,
     /// The free pages.
     Free,
 }
@@ -36,34 +62,36 @@ pub enum Line {
     Join {
         client: Label,
     },
+    /// `C shut`
+    Shut {
+        client: Label,
+    },
     /// `C open N`
     Open {
         client: Label,
         root: Label,
     },
-    /// `C dup N M`
-    Duplicate {
+    /// `C collect M`
+    Collect {
         client: Label,
-        above: Label,
-        child: Label,
+        node: Label,
     },
-    /// `C attach N M`
-    Attach {
-        client: Label,
-        above: Label,
-        child: Label,
-    },
-    /// `C sync N` and the like, and `C weakok N children`
+    /// `C sync N` and the like
     Ask {
         client: Label,
         verb: Verb,
         node: Label,
     },
-    /// `C constrain N CAMPING AT_LEAST SIZE`
-    Constrain {
+    /// `C duph B S` and the like
+    AskBuffer {
         client: Label,
-        node: Label,
-        constraints: Constraints,
+        verb: BufferVerb,
+        buffer: BufferLabel,
+    },
+    /// `C poll T`
+    Poll {
+        client: Label,
+        tracker: Label,
     },
     /// `show live` and the like
     Show {

@@ -18,8 +18,9 @@ use std::io::{Read, Write};
 const BLOCK: usize = 65_536;
 
 /// Runs the script that the reader holds against a new core with a pool of `pages` pages, and
-/// writes one line for each call and view. All whole lines that were read are answered before the
-/// next read, and the writer is flushed at the end.
+/// writes one line for each call, poll and view. All whole lines that were read are answered before
+/// the next read, and the writer is flushed at the end. It keeps a reader of each tracker that is
+/// made; a poll tells what the reader knows, if the core knows it too.
 ///
 /// What went out is the text of all lines where the run comes to the end of the script. Else:
 /// - `ReadFault`: the reader failed, or the script has more than `MOST_BYTES` bytes. What went out
@@ -31,7 +32,8 @@ const BLOCK: usize = 65_536;
 /// - `NoMemory`: memory was refused. What went out is the text of some first lines.
 ///
 /// Each line takes a time in proportion to its length and that of its text, a look into a table
-/// for each label, and the time of its call.
+/// for each label, and the time of its call; a poll takes a look for its reader, and a binary
+/// search among the firings.
 pub fn run_script<R: Read, W: Write>(
     alloc: Global,
     reader: &mut R,

@@ -1,9 +1,12 @@
 //! A script's core, and what its labels stand for.
 ghost use Rattle.std.specs.Prelude.{◌≡◌, ◌≢◌, ◌≤◌, ◌++◌, List, IfOk, IfErr, IfSome, OnOk};
+ghost use Rattle.std.specs.Bool.{OnTrue};
+ghost use Rattle.std.specs.List.{Contains};
 ghost use Rattle.sm_names.specs.Marks.{Entry};
 ghost use Rattle.sm_names.specs.Timelines.{timeline};
-ghost use Rattle.lifetime_core.specs.Served.{IsServed};
-ghost use Rattle.sm_script.specs.Names.{AsksServed, act_in};
+ghost use Rattle.sm_names.specs.Trackers.{fired};
+ghost use Rattle.lifetime_core.specs.Shown.{Shows};
+ghost use Rattle.sm_script.specs.Names.{act_in};
 ghost use Rattle.sm_script.specs.Scenes.{Scene, as_line, first_scene};
 ghost use Rattle.sm_script.specs.Sessions.{IsAt, Advances, Gains, IsStopped};
 ghost use Rattle.sm_script.specs.Texts.{view_text};
@@ -13,17 +16,20 @@ use crate::line::View;
 use crate::parser;
 use crate::stop::Stop;
 use crate::tables::Tables;
-use crate::texts::{push, push_reply};
+use crate::texts::{push, push_poll, push_reply};
 use crate::views::push_view;
 use lifetime_core::Core;
-use sm_names::{Call, ClientId, Limits, NoMemory, StepFault};
-use std::alloc::Global;
+use sm_names::{Call, ClientId, Fired, Limits, NoMemory, Reply, StepFault, TrackerId};
+use std::alloc::{AllocError, Global};
+use std::collections::HashMap;
+use trackers::Tracker;
 
-// A core, and what the labels of the lines so far stand for.
+// A core, what the labels of the lines so far stand for, and the readers of all trackers.
 #[derive(Drop)]
 pub(crate) struct Session {
     pub(crate) core: Core,
     pub(crate) tables: Tables,
+    readers: HashMap<TrackerId, Tracker>,
 }
 
 impl Session {
@@ -38,6 +44,7 @@ impl Session {
         Ok(Session {
             core,
             tables: Tables::new(alloc),
+            readers: HashMap::new(alloc),
         })
     }
 
@@ -58,6 +65,7 @@ impl Session {
                     binds,
                 },
             ) => self.ask(client, call, binds, reply),
+            Some(Act::Poll(tracker)) => self.poll(tracker, reply),
             Some(Act::Show(view)) => self.show(view, reply),
             None => Err(Stop::BadLine),
         }
@@ -65,9 +73,8 @@ impl Session {
 
     // What the line asks for, or `None` if it is bad.
     fn read(&self, line: &[u8]) -> Option<Act>
-        ensures value { (scene : Scene) → IsAt self.now scene →
+        ensures { (scene : Scene) → IsAt self.now scene →
             result ≡ act_in scene.names line.now }
-        ensures served { IfSome result AsksServed }
     {
         match parser::line(line) {
             Some(line) => self.tables.act(line),
@@ -83,7 +90,6 @@ impl Session {
         binds: Binds,
         text: &mut Vec<u8>,
     ) -> Result<(), Stop>
-        requires { IsServed call }
         ensures ok { OnOk result ((scene : Scene) → IsAt self.old scene →
             Gains self.old self.new (Act.Ask client call binds)
             text.old.items text.new.items scene) }
@@ -98,6 +104,21 @@ impl Session {
         push_reply(text, &self.tables, binds, reply)?;
         push(text, "\n")?;
         self.tables.bind(binds, reply)?;
+        keep_reader(&mut self.core, &mut self.readers, reply)?;
+        Ok(())
+    }
+
+    // Puts what is read of the tracker as a line behind what is there.
+    fn poll(&mut self, tracker: TrackerId, text: &mut Vec<u8>) -> Result<(), Stop>
+        ensures ok { OnOk result ((scene : Scene) → IsAt self.old scene →
+            Gains self.old self.new (Act.Poll tracker) text.old.items text.new.items scene) }
+        ensures err { IfErr result (λ stop. stop ≡ Stop.NoMemory) }
+    {
+        match firing(&mut self.readers, &self.core, tracker) {
+            Some(event) => push_poll(text, event)?,
+            None => push(text, "quiet")?,
+        }
+        push(text, "\n")?;
         Ok(())
     }
 
@@ -110,5 +131,48 @@ impl Session {
         push_view(text, &self.core, &self.tables, view)?;
         push(text, "\n")?;
         Ok(())
+    }
+}
+
+// Takes the reader of the tracker that the reply tells of, if it tells of one.
+fn keep_reader(
+    core: &mut Core,
+    readers: &mut HashMap<TrackerId, Tracker>,
+    reply: Reply,
+) -> Result<(), AllocError>
+    ensures pool { core.new.pool ≡ core.old.pool }
+    ensures limits { core.new.limits ≡ core.old.limits }
+    ensures shows { (history : List Entry) → Shows core.old history → Shows core.new history }
+{
+    if let Reply::Tracker(id) = reply {
+        if let Some(reader) = core.take_tracker(id) {
+            readers.insert(id, reader)?;
+        }
+    }
+    Ok(())
+}
+
+// The event at which the tracker fired, if its reader tells of it, and the core too.
+fn firing(readers: &mut HashMap<TrackerId, Tracker>, core: &Core, tracker: TrackerId) -> Option<u64>
+    ensures { (history : List Entry) → Shows core.now history → IfSome result (λ event.
+        Contains (fired (timeline core.now.pool history))
+        (record { tracker = tracker; event = event })) }
+{
+    let event = readers.get_mut(&tracker)?.poll()?.event;
+    if stands_in(core.fired(), Fired { tracker, event }) {
+        Some(event)
+    } else {
+        None
+    }
+}
+
+// Whether the firing is one of these, which stand by event, and then by tracker.
+fn stands_in(firings: &[Fired], firing: Fired) -> bool
+    ensures { OnTrue result (Contains firings.now firing) }
+{
+    let key = (firing.event, firing.tracker);
+    match firings.binary_search_by_key(&key, |f| (f.event, f.tracker)) {
+        Ok(at) => firings[at] == firing,
+        Err(_) => false,
     }
 }

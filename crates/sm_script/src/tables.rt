@@ -1,26 +1,29 @@
 //! What the labels of a script stand for.
-ghost use Rattle.std.specs.Prelude.{◌≡◌, IfSome, OnOk, Some, None, if◌then◌else◌};
+ghost use Rattle.std.specs.Prelude.{◌≡◌, ◌==◌, OnOk, Some, None, if◌then◌else◌};
 ghost use Rattle.std.specs.HashMap.{get};
-ghost use Rattle.std.specs.Option.{option_and_then, option_map, option_map_or};
-ghost use Rattle.lifetime_core.specs.Served.{IsServed};
-ghost use Rattle.sm_script.specs.Names.{AsksServed, Names, act_of, client_of, label_of_node, label_of_root, names_after, no_names, node_of, with_client, with_node, for_new, call_of_verb as call_of};
+ghost use Rattle.std.specs.Option.{option_map_or};
+ghost use Rattle.sm_script.specs.Names.{Names, act_of, buffer_of, client_of, label_of_node, label_of_root, label_of_tracker, names_after, no_names, node_of, place_of, tracker_of, with_client, with_node, with_tracker, for_new, for_tracker, act_on_node, act_on_buffer, plain as plain_act};
 ghost use Rattle.sm_script.specs.Tables.{Keeps};
 
 use crate::act::{Act, Binds};
+use crate::buffer_label::BufferLabel;
 use crate::label::Label;
-use crate::line::{Line, Verb};
-use sm_names::{Call, ClientId, CollectionId, NodeKey, Reply};
+use crate::line::{BufferVerb, Line, Verb};
+use sm_names::{BufferName, Call, ClientId, CollectionId, NodeKey, Reply, TrackerId};
 use std::alloc::{AllocError, Global};
 use std::collections::HashMap;
 use std::hash::Hash;
 
-// What each label stands for, and the labels of nodes and of collections' roots.
+// What each label stands for, and the labels of nodes, of collections' roots and of trackers.
 #[derive(Drop)]
 pub(crate) struct Tables {
     pub(crate) clients: HashMap<Label, ClientId>,
-    pub(crate) nodes: HashMap<Label, NodeKey>,
+    // Each node with its collection.
+    pub(crate) nodes: HashMap<Label, (NodeKey, CollectionId)>,
+    pub(crate) trackers: HashMap<Label, TrackerId>,
     pub(crate) births: HashMap<NodeKey, Label>,
     pub(crate) roots: HashMap<CollectionId, Label>,
+    pub(crate) tracked: HashMap<TrackerId, Label>,
 }
 
 impl Tables {
@@ -31,23 +34,48 @@ impl Tables {
         Tables {
             clients: HashMap::new(alloc),
             nodes: HashMap::new(alloc),
+            trackers: HashMap::new(alloc),
             births: HashMap::new(alloc),
             roots: HashMap::new(alloc),
+            tracked: HashMap::new(alloc),
         }
     }
 
     // The client of this label.
-    pub(crate) fn client(&self, label: Label) -> Option<ClientId>
+    fn client(&self, label: Label) -> Option<ClientId>
         ensures { (names : Names) → Keeps self.now names → result ≡ client_of names label }
     {
         self.clients.get(&label).copied()
     }
 
     // The node of this label.
-    pub(crate) fn node(&self, label: Label) -> Option<NodeKey>
+    fn node(&self, label: Label) -> Option<NodeKey>
         ensures { (names : Names) → Keeps self.now names → result ≡ node_of names label }
     {
-        self.nodes.get(&label).copied()
+        match self.nodes.get(&label) {
+            Some((node, _)) => Some(*node),
+            None => None,
+        }
+    }
+
+    // The buffer of this label.
+    fn buffer(&self, label: BufferLabel) -> Option<BufferName>
+        ensures { (names : Names) → Keeps self.now names → result ≡ buffer_of names label }
+    {
+        match self.nodes.get(&label.node) {
+            Some((_, collection)) => Some(BufferName {
+                collection: *collection,
+                index: label.index,
+            }),
+            None => None,
+        }
+    }
+
+    // The tracker of this label.
+    fn tracker(&self, label: Label) -> Option<TrackerId>
+        ensures { (names : Names) → Keeps self.now names → result ≡ tracker_of names label }
+    {
+        self.trackers.get(&label).copied()
     }
 
     // The label under which the node was born.
@@ -65,8 +93,16 @@ impl Tables {
         self.roots.get(&collection).copied()
     }
 
+    // The label of the tracker.
+    pub(crate) fn tracker_label(&self, tracker: TrackerId) -> Option<Label>
+        ensures { (names : Names) → Keeps self.now names →
+            result ≡ label_of_tracker names tracker }
+    {
+        self.tracked.get(&tracker).copied()
+    }
+
     // Lets the label stand for a client.
-    pub(crate) fn bind_client(&mut self, label: Label, client: ClientId) -> Result<(), AllocError>
+    fn bind_client(&mut self, label: Label, client: ClientId) -> Result<(), AllocError>
         ensures { OnOk result ((names : Names) → Keeps self.old names →
             Keeps self.new (with_client names label client)) }
     {
@@ -76,7 +112,7 @@ impl Tables {
 
     // Lets the label stand for a node. It is the node's own, and its collection's, if they have
     // none.
-    pub(crate) fn bind_node(
+    fn bind_node(
         &mut self,
         label: Label,
         node: NodeKey,
@@ -85,13 +121,23 @@ impl Tables {
         ensures { OnOk result ((names : Names) → Keeps self.old names →
             Keeps self.new (with_node names label node collection)) }
     {
-        self.nodes.insert(label, node)?;
+        self.nodes.insert(label, (node, collection))?;
         name_once(&mut self.births, node, label)?;
         name_once(&mut self.roots, collection, label)?;
         Ok(())
     }
 
-    // Binds what the reply made.
+    // Lets the label stand for a tracker.
+    fn bind_tracker(&mut self, label: Label, tracker: TrackerId) -> Result<(), AllocError>
+        ensures { OnOk result ((names : Names) → Keeps self.old names →
+            Keeps self.new (with_tracker names label tracker)) }
+    {
+        self.trackers.insert(label, tracker)?;
+        name_once(&mut self.tracked, tracker, label)?;
+        Ok(())
+    }
+
+    // Binds what the reply made, or told of for the first time.
     pub(crate) fn bind(&mut self, binds: Binds, reply: Reply) -> Result<(), AllocError>
         ensures { OnOk result ((names : Names) → Keeps self.old names →
             Keeps self.new (names_after names binds reply)) }
@@ -101,72 +147,117 @@ impl Tables {
             (Binds::Node(label), Reply::Token { key, collection }) => {
                 self.bind_node(label, key, collection)
             }
+            (
+                Binds::Node(label),
+                Reply::Collected {
+                    key,
+                    collection,
+                    ..
+                },
+            ) => self.bind_node(label, key, collection),
+            (Binds::Tracker(label), Reply::Tracker(tracker)) => self.bind_tracker(label, tracker),
             _ => Ok(()),
         }
     }
 
     // What the line asks for, or `None` if it is bad.
     pub(crate) fn act(&self, line: Line) -> Option<Act>
-        ensures value { (names : Names) → Keeps self.now names → result ≡ act_of names line }
-        ensures served { IfSome result AsksServed }
+        ensures { (names : Names) → Keeps self.now names → result ≡ act_of names line }
     {
         match line {
             Line::Nothing => Some(Act::Nothing),
             Line::Join { client } => self.join(client),
+            Line::Shut { client } => match self.client(client) {
+                Some(client) => Some(plain(client, Call::Shut)),
+                None => None,
+            },
             Line::Open { client, root } => match self.client(client) {
                 Some(client) => self.for_new(client, Call::OpenRoot, root),
                 None => None,
             },
-            Line::Duplicate {
+            Line::Collect { client, node } => match self.client(client) {
+                Some(client) => self.for_new(client, Call::Collect, node),
+                None => None,
+            },
+            Line::Ask { client, verb, node } => match (self.client(client), self.node(node)) {
+                (Some(client), Some(node)) => self.act_on_node(client, node, verb),
+                _ => None,
+            },
+            Line::AskBuffer {
                 client,
-                above,
-                child,
-            } => match self.end(client, above) {
-                Some((client, node)) => self.for_new(client, Call::Duplicate(node), child),
-                None => None,
+                verb,
+                buffer,
+            } => match (self.client(client), self.buffer(buffer)) {
+                (Some(client), Some(buffer)) => self.act_on_buffer(client, buffer, verb),
+                _ => None,
             },
-            Line::Attach {
-                client,
-                above,
-                child,
-            } => match self.end(client, above) {
-                Some((client, node)) => self.for_new(client, Call::AttachToken(node), child),
-                None => None,
-            },
-            Line::Ask { client, verb, node } => match self.end(client, node) {
-                Some((client, node)) => Some(plain(client, call_of_verb(verb, node))),
-                None => None,
-            },
-            Line::Constrain {
-                client,
-                node,
-                constraints,
-            } => match self.end(client, node) {
-                Some((client, node)) => {
-                    Some(plain(client, Call::SetConstraints(node, constraints)))
-                }
-                None => None,
-            },
+            Line::Poll { client, tracker } => self.poll(client, tracker),
             Line::Show { view } => Some(Act::Show(view)),
         }
     }
 
-    // The client and the node of these labels.
-    fn end(&self, client: Label, node: Label) -> Option<(ClientId, NodeKey)>
-        ensures { (names : Names) → Keeps self.now names → result ≡ option_and_then
-            (λ c. option_map (λ n. (c, n)) (node_of names node)) (client_of names client) }
+    // What a client asks of a node, or `None` where another label is not as it must be.
+    fn act_on_node(&self, client: ClientId, node: NodeKey, verb: Verb) -> Option<Act>
+        ensures { (names : Names) → Keeps self.now names →
+            result ≡ act_on_node names client node verb }
     {
-        match (self.client(client), self.node(node)) {
-            (Some(client), Some(node)) => Some((client, node)),
-            _ => None,
+        let call = match verb {
+            Verb::Sync => Call::Sync(node),
+            Verb::Bind => Call::Bind(node),
+            Verb::Dispensable => Call::SetDispensable(node),
+            Verb::Weak => Call::SetWeak(node),
+            Verb::WeakOk { children } => Call::SetWeakOk(node, children),
+            Verb::Check => Call::Check(node),
+            Verb::Take => Call::Take(node),
+            Verb::Release => Call::Release(node),
+            Verb::Close => Call::Close(node),
+            Verb::Constrain { constraints } => Call::SetConstraints(node, constraints),
+            Verb::Duplicate { child } => {
+                return self.for_new(client, Call::Duplicate(node), child);
+            }
+            Verb::Attach { child } => {
+                return self.for_new(client, Call::AttachToken(node), child);
+            }
+            Verb::Give { to } => match self.client(to) {
+                Some(to) => Call::Give(node, to),
+                None => return None,
+            },
+            Verb::TrackNode { tracker } => {
+                return self.for_tracker(client, Call::TrackNode(node), tracker);
+            }
+            Verb::TrackLifetime { most, tracker } => {
+                return self.for_tracker(client, Call::TrackLifetime(node, most), tracker);
+            }
+        };
+        Some(plain(client, call))
+    }
+
+    // What a client asks of a buffer, or `None` where another label is not as it must be.
+    fn act_on_buffer(&self, client: ClientId, buffer: BufferName, verb: BufferVerb) -> Option<Act>
+        ensures { (names : Names) → Keeps self.now names →
+            result ≡ act_on_buffer names client buffer verb }
+    {
+        match verb {
+            BufferVerb::Duplicate { strength } => {
+                Some(plain(client, Call::DupHandle(buffer, strength)))
+            }
+            BufferVerb::Drop { strength } => {
+                Some(plain(client, Call::DropHandle(buffer, strength)))
+            }
+            BufferVerb::Give { strength, to } => match self.client(to) {
+                Some(to) => Some(plain(client, Call::GiveHandle(buffer, strength, to))),
+                None => None,
+            },
+            BufferVerb::Track { tracker } => {
+                self.for_tracker(client, Call::TrackWeak(buffer), tracker)
+            }
         }
     }
 
     // A client joins under a label that is still free.
     fn join(&self, label: Label) -> Option<Act>
-        ensures value { (names : Names) → Keeps self.now names →
+        ensures { (names : Names) → Keeps self.now names →
             result ≡ act_of names (Line.Join label) }
-        ensures served { IfSome result AsksServed }
     {
         if self.client(label).is_some() {
             return None;
@@ -178,11 +269,20 @@ impl Tables {
         })
     }
 
-    // A call that makes a node under a label that is still free.
+    // A client looks at a tracker, its own or another's.
+    fn poll(&self, client: Label, tracker: Label) -> Option<Act>
+        ensures { (names : Names) → Keeps self.now names →
+            result ≡ act_of names (Line.Poll client tracker) }
+    {
+        match (self.client(client), self.tracker(tracker)) {
+            (Some(_), Some(tracker)) => Some(Act::Poll(tracker)),
+            _ => None,
+        }
+    }
+
+    // A call that makes or brings a node, under a label that is still free.
     fn for_new(&self, client: ClientId, call: Call, label: Label) -> Option<Act>
-        requires { IsServed call }
-        ensures served { IfSome result AsksServed }
-        ensures value { (names : Names) → Keeps self.now names →
+        ensures { (names : Names) → Keeps self.now names →
             result ≡ for_new names label (Act.Ask client call (Binds.Node label)) }
     {
         if self.node(label).is_some() {
@@ -194,33 +294,31 @@ impl Tables {
             binds: Binds::Node(label),
         })
     }
+
+    // A call that makes a tracker, under a label that is still free.
+    fn for_tracker(&self, client: ClientId, call: Call, label: Label) -> Option<Act>
+        ensures { (names : Names) → Keeps self.now names →
+            result ≡ for_tracker names label (Act.Ask client call (Binds.Tracker label)) }
+    {
+        if self.tracker(label).is_some() {
+            return None;
+        }
+        Some(Act::Ask {
+            client,
+            call,
+            binds: Binds::Tracker(label),
+        })
+    }
 }
 
 // A call that makes nothing that a label is to stand for.
 fn plain(client: ClientId, call: Call) -> Act
-    ensures { result ≡ Act.Ask client call Binds.Nothing }
+    ensures { result ≡ plain_act client call }
 {
     Act::Ask {
         client,
         call,
         binds: Binds::Nothing,
-    }
-}
-
-// The call that the verb means.
-fn call_of_verb(verb: Verb, node: NodeKey) -> Call
-    ensures value { result ≡ call_of verb node }
-    ensures served { IsServed result }
-{
-    match verb {
-        Verb::Sync => Call::Sync(node),
-        Verb::Bind => Call::Bind(node),
-        Verb::Dispensable => Call::SetDispensable(node),
-        Verb::Weak => Call::SetWeak(node),
-        Verb::WeakOk { children } => Call::SetWeakOk(node, children),
-        Verb::Check => Call::Check(node),
-        Verb::Release => Call::Release(node),
-        Verb::Close => Call::Close(node),
     }
 }
 

@@ -1,6 +1,10 @@
 //! What the contracts leave open: that the definitions say what is meant, and that scripts run.
 mod examples;
 mod faults;
+mod firings;
 mod fixture;
+mod gifts;
+mod handles;
 mod lines;
 mod runs;
+mod worked;

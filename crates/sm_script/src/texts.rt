@@ -1,15 +1,17 @@
-//! The texts of replies.
-ghost use Rattle.std.specs.Prelude.{◌≡◌, ◌∷◌, ◌++◌, OnOk, codes, decimal};
+//! The texts of replies and polls.
+ghost use Rattle.std.specs.Prelude.{◌≡◌, ◌<◌, ◌∷◌, ◌++◌, OnOk, codes, decimal};
+ghost use Rattle.std.specs.List.{flat_map};
+ghost use Rattle.sm_names.specs.Handles.{names as names_of};
 ghost use Rattle.sm_script.specs.Names.{Names, label_of_node};
 ghost use Rattle.sm_script.specs.Tables.{Keeps};
-ghost use Rattle.sm_script.specs.Texts.{bound_text, buffer_text, cause_text, failure_name as name_of_failure, held_text, label_text, node_text, numbered, reply_text};
+ghost use Rattle.sm_script.specs.Texts.{bound_text, buffer_text, cause_text, failure_name as name_of_failure, fired_text, held_text, kind_name as name_of_kind, label_text, member_text, node_text, numbered, poll_text, reply_text, strength_name as name_of_strength};
 
 use crate::act::Binds;
 use crate::label::Label;
 use crate::tables::Tables;
 use itoa::Buffer;
 use lifetime_core::HeldBuffer;
-use sm_names::{BufferName, Cause, Failure, NodeKey, Reply};
+use sm_names::{BufferName, Cause, CollectionId, Failure, Fired, Kind, NodeKey, Reply, Strength};
 use std::alloc::AllocError;
 
 // Puts the text behind what is there.
@@ -60,6 +62,26 @@ fn failure_name(failure: Failure) -> &'static str
     }
 }
 
+// The name of what an end is.
+fn kind_name(kind: Kind) -> &'static str
+    ensures { result.now ≡ name_of_kind kind }
+{
+    match kind {
+        Kind::Token => "token",
+        Kind::Collection => "collection",
+    }
+}
+
+// The name of the strength.
+fn strength_name(strength: Strength) -> &'static str
+    ensures { result.now ≡ name_of_strength strength }
+{
+    match strength {
+        Strength::Strong => "strong",
+        Strength::Weak => "weak",
+    }
+}
+
 // Puts behind it why a node failed.
 fn push_cause(text: &mut Vec<u8>, cause: Cause) -> Result<(), AllocError>
     ensures { OnOk result (text.new.items ≡ text.old.items ++ cause_text cause) }
@@ -91,9 +113,22 @@ pub(crate) fn push_reply(
     match reply {
         Reply::Done => push(text, "done"),
         Reply::Joined(_) => push(text, "joined"),
-        Reply::Token { .. } => push_token(text, binds),
+        Reply::Shut(waiting) => {
+            push(text, "shut ")?;
+            push_number(text, waiting)
+        }
+        Reply::Token { .. } => push_bound(text, "token", binds),
+        Reply::Collected { kind, .. } => push_bound(text, kind_name(kind), binds),
+        Reply::CollectedHandle { buffer, strength } => push_handle(text, tables, buffer, strength),
+        Reply::Empty => push(text, "empty"),
         Reply::Pending => push(text, "pending"),
         Reply::Allocated { count, size } => push_allocated(text, count, size),
+        Reply::Taken {
+            collection,
+            strength,
+            set,
+        } => push_taken(text, tables, collection, strength, set),
+        Reply::Tracker(_) => push_bound(text, "tracker", binds),
         Reply::Refused(refusal) => {
             push(text, "refused ")?;
             push_numbered(text, refusal.number() as u64, refusal.name())
@@ -103,20 +138,90 @@ pub(crate) fn push_reply(
             push_numbered(text, misuse.number() as u64, misuse.name())
         }
         Reply::PeerClosed { cause, origin } => push_closed(text, tables, cause, origin),
-        _ => Ok(()),
     }
 }
 
-// Puts behind it that there is a new token, of the label that was to be bound.
-fn push_token(text: &mut Vec<u8>, binds: Binds) -> Result<(), AllocError>
+// Puts a name behind it, and the label that was to be bound.
+fn push_bound(text: &mut Vec<u8>, name: &str, binds: Binds) -> Result<(), AllocError>
     ensures { OnOk result (text.new.items
-        ≡ text.old.items ++ (codes "token " ++ bound_text binds)) }
+        ≡ text.old.items ++ (name.now ++ 32 ∷ bound_text binds)) }
 {
-    push(text, "token ")?;
+    push(text, name)?;
+    push(text, " ")?;
     match binds {
+        Binds::Nothing => Ok(()),
+        Binds::Client(label) => push_label(text, Some(label)),
         Binds::Node(label) => push_label(text, Some(label)),
-        _ => Ok(()),
+        Binds::Tracker(label) => push_label(text, Some(label)),
     }
+}
+
+// Puts behind it that a handle was collected.
+fn push_handle(
+    text: &mut Vec<u8>,
+    tables: &Tables,
+    buffer: BufferName,
+    strength: Strength,
+) -> Result<(), AllocError>
+    ensures { OnOk result ((names : Names) → Keeps tables.now names →
+        text.new.items ≡ text.old.items ++ (codes "handle"
+        ++ buffer_text names buffer ++ 32 ∷ name_of_strength strength)) }
+{
+    push(text, "handle")?;
+    push_buffer(text, tables, buffer)?;
+    push(text, " ")?;
+    push(text, strength_name(strength))
+}
+
+// Puts behind it that handles of this strength were opened, on the buffers of the set.
+fn push_taken(
+    text: &mut Vec<u8>,
+    tables: &Tables,
+    collection: CollectionId,
+    strength: Strength,
+    set: u64,
+) -> Result<(), AllocError>
+    ensures { OnOk result ((names : Names) → Keeps tables.now names →
+        text.new.items ≡ text.old.items ++ (codes "taken " ++ name_of_strength strength
+        ++ flat_map (member_text names set) (names_of collection 64))) }
+{
+    push(text, "taken ")?;
+    push(text, strength_name(strength))?;
+    push_set(text, tables, collection, set)
+}
+
+// Puts the buffers of the set behind it.
+fn push_set(
+    text: &mut Vec<u8>,
+    tables: &Tables,
+    collection: CollectionId,
+    set: u64,
+) -> Result<(), AllocError>
+    ensures { OnOk result ((names : Names) → Keeps tables.now names →
+        text.new.items ≡ text.old.items
+        ++ flat_map (member_text names set) (names_of collection 64)) }
+{
+    for index in 0..64u8 {
+        push_member(text, tables, set, BufferName { collection, index })?;
+    }
+    Ok(())
+}
+
+// Puts a space and the buffer behind it, if it is in the set.
+fn push_member(
+    text: &mut Vec<u8>,
+    tables: &Tables,
+    set: u64,
+    buffer: BufferName,
+) -> Result<(), AllocError>
+    requires { buffer.index < 64 }
+    ensures { OnOk result ((names : Names) → Keeps tables.now names →
+        text.new.items ≡ text.old.items ++ member_text names set buffer) }
+{
+    if (set >> buffer.index) & 1 == 1 {
+        return push_buffer(text, tables, buffer);
+    }
+    Ok(())
 }
 
 // Puts behind it that there are so many buffers of so many bytes.
@@ -185,4 +290,27 @@ pub(crate) fn push_held(
     push_number(text, held.start as u64)?;
     push(text, " ")?;
     push_number(text, held.pages as u64)
+}
+
+// Puts a space and the firing behind it.
+pub(crate) fn push_firing(
+    text: &mut Vec<u8>,
+    tables: &Tables,
+    firing: Fired,
+) -> Result<(), AllocError>
+    ensures { OnOk result ((names : Names) → Keeps tables.now names →
+        text.new.items ≡ text.old.items ++ fired_text names firing) }
+{
+    push(text, " ")?;
+    push_label(text, tables.tracker_label(firing.tracker))?;
+    push(text, " ")?;
+    push_number(text, firing.event)
+}
+
+// Puts behind it that a tracker fired at this event.
+pub(crate) fn push_poll(text: &mut Vec<u8>, event: u64) -> Result<(), AllocError>
+    ensures { OnOk result (text.new.items ≡ text.old.items ++ poll_text event) }
+{
+    push(text, "fired ")?;
+    push_number(text, event)
 }

@@ -7,14 +7,14 @@ ghost use Rattle.sm_names.specs.Timelines.{timeline};
 ghost use Rattle.lifetime_core.specs.Shown.{Shows};
 ghost use Rattle.sm_script.specs.Names.{Names};
 ghost use Rattle.sm_script.specs.Tables.{Keeps};
-ghost use Rattle.sm_script.specs.Texts.{held_text, node_text, view_text};
+ghost use Rattle.sm_script.specs.Texts.{fired_text, held_text, node_text, view_text};
 
 use crate::line::View;
 use crate::stop::Stop;
 use crate::tables::Tables;
-use crate::texts::{push, push_held, push_node, push_number};
+use crate::texts::{push, push_firing, push_held, push_node, push_number};
 use lifetime_core::{Core, HeldBuffer};
-use sm_names::NodeKey;
+use sm_names::{Fired, NodeKey};
 use std::alloc::AllocError;
 
 // Puts the view behind what is there.
@@ -40,6 +40,11 @@ pub(crate) fn push_view(
             let buffers = core.held()?;
             push(text, "held")?;
             push_buffers(text, tables, buffers.as_slice())?;
+            Ok(())
+        }
+        View::Fired => {
+            push(text, "fired")?;
+            push_firings(text, tables, core.fired())?;
             Ok(())
         }
         View::Free => {
@@ -72,6 +77,17 @@ fn push_buffers(
 {
     for held in buffers {
         push_held(text, tables, *held)?;
+    }
+    Ok(())
+}
+
+// Puts the firings behind what is there.
+fn push_firings(text: &mut Vec<u8>, tables: &Tables, firings: &[Fired]) -> Result<(), AllocError>
+    ensures { OnOk result ((names : Names) → Keeps tables.now names →
+        text.new.items ≡ text.old.items ++ flat_map (fired_text names) firings.now) }
+{
+    for firing in firings {
+        push_firing(text, tables, *firing)?;
     }
     Ok(())
 }

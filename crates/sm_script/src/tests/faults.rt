@@ -2,6 +2,8 @@
 use crate::tests::fixture::{Slate, check, open_sink, play};
 use crate::{ScriptFault, run_script};
 use sm_names::Limits;
+use std::alloc::Global;
+use std::process::Abort;
 use std::test::Fail;
 
 #[test]
@@ -26,32 +28,93 @@ fn labels_are_bound_once_and_where_something_was_made(rt: HostRuntime) -> Result
         ),
     ];
     for (script, replies, number) in cases {
-        let outcome = Err(ScriptFault::BadLine(number));
-        check(
-            &rt,
-            rt.alloc(),
-            16,
-            Limits::full(),
-            script,
-            replies,
-            outcome,
-        )?;
+        check_bad(&rt, rt.alloc(), script, replies, number)?;
+    }
+    Ok(())
+}
+
+// Asserts that the line of this number is the first bad one, and what the lines before it give.
+fn check_bad(
+    rt: &impl Abort,
+    alloc: Global,
+    script: &str,
+    replies: &str,
+    number: u64,
+) -> Result<(), Fail> {
+    let outcome = Err(ScriptFault::BadLine(number));
+    check(rt, alloc, 16, Limits::full(), script, replies, outcome)
+}
+
+#[test]
+fn labels_of_what_was_brought_are_bound_once(rt: HostRuntime) -> Result<(), Fail> {
+    let cases = [
+        ("a shut; ", "", 1),
+        ("a join; a open r; a give r b; ", "joined; token r; ", 3),
+        ("a join; a give r a; ", "joined; ", 2),
+        ("a join; a collect m; a sync m; ", "joined; empty; ", 3),
+        ("a join; a open r; a collect r; ", "joined; token r; ", 3),
+        (
+            "a join; a open r; a give r a; a collect m; a collect m; ",
+            "joined; token r; done; token m; ",
+            5,
+        ),
+        ("a join; a duph r.0 strong; ", "joined; ", 2),
+        ("a join; a droph a.0 weak; ", "joined; ", 2),
+        (
+            "a join; a open r; a giveh r.0 strong b; ",
+            "joined; token r; ",
+            3,
+        ),
+        ("a join; b giveh r.0 strong a; ", "joined; ", 2),
+    ];
+    for (script, replies, number) in cases {
+        check_bad(&rt, rt.alloc(), script, replies, number)?;
+    }
+    Ok(())
+}
+
+#[test]
+fn trackers_have_labels_of_their_own(rt: HostRuntime) -> Result<(), Fail> {
+    let cases = [
+        ("a join; a tracknode r e; ", "joined; ", 2),
+        ("a join; a tracklife r 0 e; ", "joined; ", 2),
+        ("a join; a trackweak r.0 e; ", "joined; ", 2),
+        ("a join; a open r; a poll r; ", "joined; token r; ", 3),
+        (
+            "a join; a open r; a tracknode r r; b poll r; ",
+            "joined; token r; tracker r; ",
+            4,
+        ),
+        (
+            "a join; a open r; a tracknode r e; a tracknode r e; ",
+            "joined; token r; tracker e; ",
+            4,
+        ),
+        (
+            "a join; a open r; a tracknode r e; a trackweak r.0 e; ",
+            "joined; token r; tracker e; ",
+            4,
+        ),
+        (
+            "a join; a open r; a tracklife r 0 e; a poll e; ",
+            "joined; token r; refused 5 WrongKind; ",
+            4,
+        ),
+        (
+            "a join; a open r; a trackweak r.0 e; a poll e; ",
+            "joined; token r; refused 9 NoSuchHandle; ",
+            4,
+        ),
+    ];
+    for (script, replies, number) in cases {
+        check_bad(&rt, rt.alloc(), script, replies, number)?;
     }
     Ok(())
 }
 
 #[test]
 fn empty_lines_and_remarks_are_counted(rt: HostRuntime) -> Result<(), Fail> {
-    let outcome = Err(ScriptFault::BadLine(4));
-    check(
-        &rt,
-        rt.alloc(),
-        16,
-        Limits::full(),
-        "; # a; a join; b; ",
-        "joined; ",
-        outcome,
-    )
+    check_bad(&rt, rt.alloc(), "; # a; a join; b; ", "joined; ", 4)
 }
 
 #[test]
@@ -64,22 +127,45 @@ fn a_last_line_without_its_end_is_bad(rt: HostRuntime) {
     }
 }
 
-// A script, and how much of its replies is out once each byte was read.
-const SCRIPT: &str = "a join\n\na open r\nshow live\n";
+// A script of weak handles, with its replies: each line has one.
+const SCRIPT: &str =
+    "a join\na open r\na dup r w\na weak w\na bind r\na bind w\na constrain r 2 0 4096\n\
+    a constrain w 0 0 1\na take r\na take w\na tracklife w 0 l\na trackweak r.1 k\n\
+    a release r\na droph r.0 strong\nshow held\na take w\na droph r.1 strong\na poll k\n\
+    a check w\nshow held\na droph r.0 weak\nshow held\na droph r.1 weak\na droph r.1 weak\n\
+    show held\na poll l\n";
 
-const REPLIES: &str = "joined\ntoken r\nlive r\n";
+const REPLIES: &str =
+    "joined\ntoken r\ntoken w\ndone\ndone\ndone\ndone\ndone\ntaken strong r.0 r.1\n\
+    taken weak r.0 r.1\ntracker l\ntracker k\ndone\ndone\nheld r.0 0 1 r.1 1 1\n\
+    taken weak r.1\ndone\nfired 16\nclosed nostrong r\nheld r.0 0 1 r.1 1 1\ndone\n\
+    held r.1 1 1\ndone\ndone\nheld\nfired 20\n";
+
+// How many bytes the first lines of the text have.
+fn front(text: &[u8], lines: usize) -> usize {
+    let mut left = lines;
+    let mut bytes = 0usize;
+    for byte in text {
+        if left == 0 {
+            return bytes;
+        }
+        bytes = bytes.saturating_add(1);
+        if *byte == b'\n' {
+            left = left.saturating_sub(1);
+        }
+    }
+    bytes
+}
 
 // How many bytes of the replies are out once so many bytes were read.
 fn answered(read: usize) -> usize {
-    if 27 <= read {
-        22
-    } else if 17 <= read {
-        15
-    } else if 7 <= read {
-        7
-    } else {
-        0
+    let mut lines = 0usize;
+    for byte in SCRIPT.as_bytes().iter().take(read) {
+        if *byte == b'\n' {
+            lines = lines.saturating_add(1);
+        }
     }
+    front(REPLIES.as_bytes(), lines)
 }
 
 #[test]
@@ -151,6 +237,11 @@ fn the_greatest_size_is_read(rt: HostRuntime) -> Result<(), Fail> {
     Ok(())
 }
 
+// A script whose replies fit a slate.
+const SHORT: &str = "a join\n\na open r\nshow live\n";
+
+const SHORT_REPLIES: &str = "joined\ntoken r\nlive r\n";
+
 // With memory refused at any growth, whole replies are out or the run ends well.
 #[test]
 fn refused_memory_leaves_the_text_of_the_first_lines(rt: HostRuntime) {
@@ -158,15 +249,15 @@ fn refused_memory_leaves_the_text_of_the_first_lines(rt: HostRuntime) {
         bytes: [0; 64],
         used: 0,
     };
-    let mut reader = SCRIPT.as_bytes();
+    let mut reader = SHORT.as_bytes();
     let ended = run_script(rt.alloc(), &mut reader, &mut writer, 16, Limits::full());
     let out = writer.used.min(64);
-    let whole = [0, 7, 15, REPLIES.len()];
+    let whole = [0, 7, 15, SHORT_REPLIES.len()];
     assert!(rt; ended == Ok(()) || ended == Err(ScriptFault::NoMemory));
     assert!(rt; whole.contains(&out));
-    assert!(rt; ended != Ok(()) || out == REPLIES.len());
+    assert!(rt; ended != Ok(()) || out == SHORT_REPLIES.len());
     assert_eq!(rt;
         &writer.bytes[..out],
-        &REPLIES.as_bytes()[..out.min(REPLIES.len())]
+        &SHORT_REPLIES.as_bytes()[..out.min(SHORT_REPLIES.len())]
     );
 }

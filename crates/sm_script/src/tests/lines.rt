@@ -1,9 +1,10 @@
 //! Which lines are good.
 use crate::ScriptFault;
+use crate::buffer_label::BufferLabel;
 use crate::label::Label;
-use crate::line::{Line, Verb, View};
+use crate::line::{BufferVerb, Line, Verb, View};
 use crate::parser::line;
-use sm_names::Constraints;
+use sm_names::{Constraints, Strength};
 use std::test::Fail;
 
 // The label of this text.
@@ -16,23 +17,39 @@ fn label(text: &str) -> Result<Label, Fail> {
 
 #[test]
 fn good_lines_say_what_they_spell(rt: HostRuntime) -> Result<(), Fail> {
-    let (client, node, child) = (label("a")?, label("r")?, label("show")?);
+    let (client, node) = (label("a")?, label("show")?);
     assert_eq!(rt; line(b""), Some(Line::Nothing));
     assert_eq!(rt; line(b"# a  join \xff"), Some(Line::Nothing));
     assert_eq!(rt; line(b"a join"), Some(Line::Join { client }));
-    assert_eq!(rt; line(b"a open r"), Some(Line::Open { client, root: node }));
-    let duplicate = Line::Duplicate {
+    assert_eq!(rt; line(b"a shut"), Some(Line::Shut { client }));
+    assert_eq!(rt;
+        line(b"a open show"),
+        Some(Line::Open { client, root: node })
+    );
+    assert_eq!(rt;
+        line(b"a collect show"),
+        Some(Line::Collect { client, node })
+    );
+    let poll = Line::Poll {
         client,
-        above: node,
-        child,
+        tracker: node,
     };
-    assert_eq!(rt; line(b"a dup r show"), Some(duplicate));
-    let attach = Line::Attach {
-        client,
-        above: node,
-        child,
-    };
-    assert_eq!(rt; line(b"a attach r show"), Some(attach));
+    assert_eq!(rt; line(b"a poll show"), Some(poll));
+    let views = [
+        ("show live", View::Live),
+        ("show held", View::Held),
+        ("show fired", View::Fired),
+        ("show free", View::Free),
+    ];
+    for (text, view) in views {
+        assert_eq!(rt; line(text.as_bytes()), Some(Line::Show { view }), "{text}");
+    }
+    Ok(())
+}
+
+#[test]
+fn a_node_is_asked_by_a_verb(rt: HostRuntime) -> Result<(), Fail> {
+    let (client, node, other) = (label("a")?, label("r")?, label("join")?);
     let verbs = [
         ("a sync r", Verb::Sync),
         ("a bind r", Verb::Bind),
@@ -41,8 +58,20 @@ fn good_lines_say_what_they_spell(rt: HostRuntime) -> Result<(), Fail> {
         ("a weakok r", Verb::WeakOk { children: false }),
         ("a weakok r children", Verb::WeakOk { children: true }),
         ("a check r", Verb::Check),
+        ("a take r", Verb::Take),
         ("a release r", Verb::Release),
         ("a close r", Verb::Close),
+        ("a dup r join", Verb::Duplicate { child: other }),
+        ("a attach r join", Verb::Attach { child: other }),
+        ("a give r join", Verb::Give { to: other }),
+        ("a tracknode r join", Verb::TrackNode { tracker: other }),
+        (
+            "a tracklife r 4294967295 join",
+            Verb::TrackLifetime {
+                most: 4_294_967_295,
+                tracker: other,
+            },
+        ),
     ];
     for (text, verb) in verbs {
         assert_eq!(rt;
@@ -51,13 +80,42 @@ fn good_lines_say_what_they_spell(rt: HostRuntime) -> Result<(), Fail> {
             "{text}"
         );
     }
-    let views = [
-        ("show live", View::Live),
-        ("show held", View::Held),
-        ("show free", View::Free),
+    Ok(())
+}
+
+#[test]
+fn a_buffer_is_asked_by_a_verb(rt: HostRuntime) -> Result<(), Fail> {
+    let (client, node, other) = (label("a")?, label("r")?, label("b")?);
+    let (strong, weak) = (Strength::Strong, Strength::Weak);
+    let verbs = [
+        (
+            "a duph r.0 strong",
+            0,
+            BufferVerb::Duplicate { strength: strong },
+        ),
+        ("a droph r.63 weak", 63, BufferVerb::Drop { strength: weak }),
+        (
+            "a giveh r.9 weak b",
+            9,
+            BufferVerb::Give {
+                strength: weak,
+                to: other,
+            },
+        ),
+        (
+            "a trackweak r.10 b",
+            10,
+            BufferVerb::Track { tracker: other },
+        ),
     ];
-    for (text, view) in views {
-        assert_eq!(rt; line(text.as_bytes()), Some(Line::Show { view }), "{text}");
+    for (text, index, verb) in verbs {
+        let buffer = BufferLabel { node, index };
+        let said = Line::AskBuffer {
+            client,
+            verb,
+            buffer,
+        };
+        assert_eq!(rt; line(text.as_bytes()), Some(said), "{text}");
     }
     Ok(())
 }
@@ -73,11 +131,8 @@ fn constraints_are_in_range(rt: HostRuntime) -> Result<(), Fail> {
             return Err(Fail::from("out of range"));
         };
         let text = format!(in rt.alloc(); "a constrain r {}", texts[i])?;
-        let said = Line::Constrain {
-            client,
-            node,
-            constraints,
-        };
+        let verb = Verb::Constrain { constraints };
+        let said = Line::Ask { client, verb, node };
         assert_eq!(rt; line(text.as_bytes()), Some(said), "{text}");
     }
     for numbers in [
@@ -108,7 +163,7 @@ fn all_other_lines_are_bad(rt: HostRuntime) {
         "show",
         "show join",
         "show live now",
-        "show fired",
+        "show pages",
         "shows live",
         "a join b",
         "a open",
@@ -135,7 +190,46 @@ fn all_other_lines_are_bad(rt: HostRuntime) {
         "a weak r children",
         "a weakok r child",
         "a weakok r children now",
-        "a take r",
+        "a take r s",
+        "a take r.0",
+        "a join.0",
+        "a shut r",
+        "a open r.0",
+        "a collect",
+        "a collect m n",
+        "a give r",
+        "a give r b c",
+        "a give r.0 b",
+        "a poll",
+        "a poll e f",
+        "a tracknode r",
+        "a tracknode r e f",
+        "a tracklife r e",
+        "a tracklife r 1",
+        "a tracklife r 1 e f",
+        "a tracklife r 01 e",
+        "a tracklife r 4294967296 e",
+        "a tracklife r.0 1 e",
+        "a trackweak r e",
+        "a trackweak r.0",
+        "a trackweak r.0 e f",
+        "a trackweak r.0 strong e",
+        "a duph r.0",
+        "a duph r strong",
+        "a duph r.0 firm",
+        "a duph r.0 strong b",
+        "a droph r.0 Weak",
+        "a droph r.00 weak",
+        "a droph r.64 weak",
+        "a droph r.4294967296 weak",
+        "a droph r. weak",
+        "a droph .0 weak",
+        "a droph r.0.0 weak",
+        "a droph R.0 weak",
+        "a giveh r.0 strong",
+        "a giveh r.0 b",
+        "a giveh r.0 strong b c",
+        "a giveh r.0 strong b.0",
         "a Sync r",
         "a syncs r",
     ];

@@ -1,6 +1,6 @@
 //! Whole scripts with their replies.
 use crate::ScriptFault;
-use crate::tests::fixture::check;
+use crate::tests::fixture::{check, check_all};
 use sm_names::Limits;
 use std::test::Fail;
 
@@ -162,5 +162,32 @@ fn limits_are_told(rt: HostRuntime) -> Result<(), Fail> {
         "a join; a open r; a sync k; ",
         "joined; token r; ",
         Err(ScriptFault::BadLine(3)),
+    )
+}
+
+#[test]
+fn a_line_of_each_kind_is_answered(rt: HostRuntime) -> Result<(), Fail> {
+    check_all(
+        &rt,
+        rt.alloc(),
+        "app join; cam join; app open root; app dup root camera; app dup root watcher; \
+         app dispensable watcher; app weak watcher; app weakok watcher; \
+         app weakok watcher children; app tracknode camera gone; app give camera cam; \
+         cam collect mine; cam sync mine; app release root; cam bind mine; app bind watcher; \
+         cam constrain mine 2 0 4096; app constrain watcher 0 0 1; cam check mine; \
+         cam attach mine recorder; cam close recorder; cam take mine; app take watcher; \
+         app tracklife watcher 0 over; app trackweak root.1 doomed; cam duph mine.0 strong; \
+         cam giveh mine.0 strong app; app collect other; show live; show held; \
+         cam release mine; cam poll gone; cam droph root.1 strong; app poll doomed; \
+         cam droph root.0 strong; app droph root.0 strong; app poll gone; app check watcher; \
+         app droph root.0 weak; app droph root.1 weak; show fired; show free; \
+         app close watcher; cam shut; ",
+        "joined; joined; token root; token camera; token watcher; done; done; done; done; \
+         tracker gone; done; token mine; done; done; done; done; done; done; \
+         allocated 2 4096; token recorder; done; taken strong root.0 root.1; \
+         taken weak root.0 root.1; tracker over; tracker doomed; done; done; \
+         handle root.0 strong; live camera watcher; held root.0 0 1 root.1 1 1; done; quiet; \
+         done; fired 30; done; done; fired 32; closed nostrong root; done; done; \
+         fired doomed 30 gone 32 over 35; free 16; done; shut 0; ",
     )
 }

@@ -1,4 +1,4 @@
-use Rattle.std.proofs.Common.{◌≡◌, [], List, ℕ, Option, refl, sym}
+use Rattle.std.proofs.Common.{[], refl, sym}
 use Rattle.std.proofs.KnownBytes.{Appends-nil}
 use Rattle.sm_script.specs.Scenes.{Rests, first_scene}
 use Rattle.sm_script.proofs.player.Player.new.Goals as goal

@@ -5,7 +5,10 @@ use Rattle.sm_script.proofs.session.Session.ask.Goals as goal
 
 pub returns-clause-ok : goal.returns-clause-ok
 returns-clause-ok c = λ scene at. record {
-  setting = record { pool = c.in-Ok.ensures.after.pool; limits = c.in-Ok.ensures.after.limits };
+  setting = record {
+    pool = c.in_ok-keep_reader.ensures.pool ∙ c.in-Ok.ensures.after.pool;
+    limits = c.in_ok-keep_reader.ensures.limits ∙ c.in-Ok.ensures.after.limits;
+  };
   text = as_line (reply_text scene.names c.args.binds c.in-Ok.reply);
   gained = c.in_ok-push.ensures
       ∙ ap (λ front. front ++ 10 ∷ []) (c.in_ok-push_reply.ensures scene.names at.keeps)
@@ -13,7 +16,8 @@ returns-clause-ok c = λ scene at. record {
   next = next_scene scene c.args.client c.args.call c.args.binds c.in-Ok.reply;
   gives = (c.in-Ok.reply, refl, refl);
   is_at = record {
-    shows = c.in-Ok.ensures.goes_on scene.history at.shows;
+    shows = c.in_ok-keep_reader.ensures.shows (next_scene scene c.args.client c.args.call c.args.binds c.in-Ok.reply).history
+        (c.in-Ok.ensures.goes_on scene.history at.shows);
     keeps = c.in_ok-bind.ensures scene.names at.keeps;
   };
 }
