@@ -288,9 +288,9 @@ impl Core {
     ///
     /// It costs a binary search among the clients, a few look-ups of a node, of a collection and of
     /// handles, and the work on one collection: that of the node or the buffer that the call names,
-    /// or the new one. A call that changes nothing there costs only the look-ups. A Take costs two
-    /// look-ups more for each buffer, and an event that changes something in a collection a test of
-    /// each tracker that waits for something there.
+    /// or the new one. A call that changes nothing there costs only the look-ups. A Take costs at
+    /// most five look-ups more for each buffer, and an event that changes something in a collection
+    /// a test of each tracker that waits for something there.
     pub fn step(&mut self, client: ClientId, call: Call) -> Result<Reply, StepFault>
         ensures answer { IfOk result (λ reply.
             IsAnswer self.old.limits (readings_of self.old) client call reply) }
