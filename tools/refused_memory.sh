@@ -1,8 +1,8 @@
 #!/usr/bin/env bash
-# Runs the tests of lifetime_core with the first allocation refused, then with the second, and so on
+# Runs the trials of lifetime_core with the first allocation refused, then with the second, and so on
 # until a run meets no refusal. The argument says how many runs are made at once.
 set -u
-cd "$(dirname "$0")/../crates/lifetime_core" || exit 1
+cd "$(dirname "$0")/../crates/core_trials" || exit 1
 jobs=${1:-2}
 logs=$(mktemp -d) || exit 1
 trap 'rm -r "$logs"' EXIT

@@ -11,8 +11,6 @@ mod sight;
 mod sweeping;
 mod table;
 mod task;
-#[cfg(test)]
-mod tests;
 
 pub use alloc_event::HeldBuffer;
 pub use machine::Core;

@@ -1,4 +1,7 @@
 //! Why a script stopped.
+ghost use Rattle.std.specs.Prelude.{◌≡◌};
+ghost use Rattle.sm_script.specs.Faults.{fault_status};
+
 use std::fmt;
 use thiserror::Error;
 
@@ -15,6 +18,19 @@ pub enum ScriptFault {
     HistoryFull,
     /// Memory was refused.
     NoMemory,
+}
+
+impl ScriptFault {
+    /// The status that a program ends with on this fault.
+    pub fn status(self) -> u8
+        ensures { result ≡ fault_status self }
+    {
+        match self {
+            ScriptFault::ReadFault | ScriptFault::WriteFault => 1,
+            ScriptFault::BadLine(_) => 3,
+            ScriptFault::HistoryFull | ScriptFault::NoMemory => 4,
+        }
+    }
 }
 
 impl fmt::Display for ScriptFault {

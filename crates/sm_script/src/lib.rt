@@ -7,6 +7,7 @@ mod fault;
 mod label;
 mod line;
 mod number;
+mod pages;
 mod parser;
 mod player;
 mod reading;
@@ -20,10 +21,8 @@ mod words;
 mod writing;
 
 pub use fault::ScriptFault;
+pub use pages::Pages;
 pub use run::run_script;
 
 /// The greatest size of a script, in bytes.
 pub const MOST_BYTES: usize = 16_777_216;
-
-#[cfg(test)]
-mod tests;

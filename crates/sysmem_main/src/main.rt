@@ -1,29 +1,15 @@
 //! The program: `sysmem run` answers a script.
 #![tactic(auto)]
 
-ghost use Rattle.std.specs.Prelude.{◌≡◌, ◌≤◌};
-ghost use Rattle.sysmem_main.specs.Status.{fault_status};
-
 mod words;
 
 use clap::Error;
 use clap::error::ErrorKind;
 use sm_names::Limits;
-use sm_script::{ScriptFault, run_script};
+use sm_script::{Pages, run_script};
 use std::process::ExitCode;
 use std::{env, io};
-use words::{Job, command, job_of};
-
-/// The status that a fault ends the program with.
-fn status_of(fault: ScriptFault) -> u8
-    ensures { result ≡ fault_status fault }
-{
-    match fault {
-        ScriptFault::ReadFault | ScriptFault::WriteFault => 1,
-        ScriptFault::BadLine(_) => 3,
-        ScriptFault::HistoryFull | ScriptFault::NoMemory => 4,
-    }
-}
+use words::{command, pages_of};
 
 // What clap says: help on standard output with status 0, a refusal on standard error with 2.
 fn refuse(rt: &(impl Print + Eprint), error: Error) -> ExitCode {
@@ -44,19 +30,19 @@ fn no_memory(rt: &impl Eprint) -> ExitCode {
 }
 
 // Answers the script on standard input, on standard output.
-fn run(rt: &(impl Print + Eprint + Input + AllocGlobal), job: Job) -> ExitCode {
+fn run(rt: &(impl Print + Eprint + Input + AllocGlobal), pages: Pages) -> ExitCode {
     let outcome = run_script(
         rt.alloc(),
         &mut rt.reader(),
         &mut io::writer(rt),
-        job.pages(),
+        pages.count,
         Limits::full(),
     );
     match outcome {
         Ok(()) => ExitCode::SUCCESS,
         Err(fault) => {
             let _ = rt.eprintln(fault);
-            ExitCode::from(status_of(fault))
+            ExitCode::from(fault.status())
         }
     }
 }
@@ -78,8 +64,8 @@ fn main(rt: HostRuntime) -> ExitCode {
         Err(_) => return no_memory(&rt),
     };
     match command.try_get_matches_from(words.as_slice()) {
-        Ok(matches) => match job_of(&matches) {
-            Some(job) => run(&rt, job),
+        Ok(matches) => match pages_of(&matches) {
+            Some(pages) => run(&rt, pages),
             None => {
                 let _ = rt.eprintln("the pool has from 1 to 1048576 pages");
                 ExitCode::from(2)

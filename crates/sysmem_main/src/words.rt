@@ -1,7 +1,6 @@
 //! The words of the command line.
-ghost use Rattle.std.specs.Prelude.{◌≡◌, ◌≤◌, IfSome};
-
 use clap::{Arg, ArgAction, ArgMatches, Command, value_parser};
+use sm_script::Pages;
 use std::alloc::{AllocError, Global};
 
 const ABOUT: &str = "\
@@ -40,23 +39,6 @@ Status: 0 all lines were answered; 1 read or write fault; 2 the command line was
 refused; 3 a bad line; 4 no memory, or history full. A fault is told in one line
 on standard error, once the lines before it are answered.";
 
-/// What the command line asks for: a script on a pool of so many pages.
-#[derive(Clone, Copy, Debug)]
-pub struct Job {
-    pages: u32,
-    ghost in_range: { (1 ≤ pages) × (pages ≤ 1048576) },
-}
-
-impl Job {
-    /// The pages of the pool, from 1 to 1,048,576. It costs a constant.
-    pub fn pages(self) -> u32
-        ensures value { result ≡ self.pages }
-        ensures in_range { (1 ≤ result) × (result ≤ 1048576) }
-    {
-        self.pages
-    }
-}
-
 // The option `--pages N`.
 fn pages_word<'a>(alloc: Global) -> Arg<'a> {
     Arg::new(alloc, "pages")
@@ -82,13 +64,9 @@ pub fn command<'a>(alloc: Global) -> Result<Command<'a>, AllocError> {
         .subcommand(run)
 }
 
-/// The job that the matches of a parse ask for. The range of the pages is tested once more, since
-/// the parse of a subcommand tells nothing of its values.
-pub fn job_of(matches: &ArgMatches<'_>) -> Option<Job> {
+/// The pages that the matches of a parse ask for. The range is tested once more, since the parse of a
+/// subcommand tells nothing of its values.
+pub fn pages_of(matches: &ArgMatches<'_>) -> Option<Pages> {
     let (_, inner) = matches.subcommand()?;
-    let pages = inner.get_one::<u32>("pages")?;
-    if pages < 1 || 1_048_576 < pages {
-        return None;
-    }
-    Some(Job { pages })
+    Pages::new(inner.get_one::<u32>("pages")?)
 }

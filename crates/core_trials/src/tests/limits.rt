@@ -1,5 +1,5 @@
 //! As much is taken as may be, and no more.
-use crate::Core;
+use lifetime_core::Core;
 use sm_names::{Call, Limits, NodeKey, Refusal, Reply, StepFault};
 use std::alloc::Global;
 

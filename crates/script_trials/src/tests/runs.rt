@@ -1,7 +1,7 @@
 //! Whole scripts with their replies.
-use crate::ScriptFault;
 use crate::tests::fixture::{check, check_all};
 use sm_names::Limits;
+use sm_script::ScriptFault;
 use std::test::Fail;
 
 #[test]

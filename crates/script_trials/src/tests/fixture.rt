@@ -1,8 +1,8 @@
 //! Readers and writers that take a byte at a time and may fail.
 ghost use Rattle.std.specs.Prelude.{◌≤◌};
 
-use crate::{ScriptFault, run_script};
 use sm_names::Limits;
+use sm_script::{ScriptFault, run_script};
 use std::alloc::Global;
 use std::io;
 use std::io::{ErrorKind, Read, Write};

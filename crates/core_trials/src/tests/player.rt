@@ -1,7 +1,7 @@
 //! A core that is asked row by row.
 use super::acts::{Act, Row, Said};
 use super::holdings::Holdings;
-use crate::{Core, HeldBuffer};
+use lifetime_core::{Core, HeldBuffer};
 use sm_names::{Call, ClientId, Limits, NodeKey, Parcel, Reply};
 use std::alloc::Global;
 

@@ -1,7 +1,7 @@
 //! Scripts that stop before their end.
 use crate::tests::fixture::{Slate, check, open_sink, play};
-use crate::{ScriptFault, run_script};
 use sm_names::Limits;
+use sm_script::{ScriptFault, run_script};
 use std::alloc::Global;
 use std::process::Abort;
 use std::test::Fail;
@@ -223,8 +223,8 @@ fn a_writer_is_flushed_at_the_end(rt: HostRuntime) {
 #[test]
 fn the_greatest_size_is_read(rt: HostRuntime) -> Result<(), Fail> {
     let remark = 64;
-    let mut script = Vec::with_capacity(rt.alloc(), crate::MOST_BYTES + 1)?;
-    for _ in 0..crate::MOST_BYTES / remark {
+    let mut script = Vec::with_capacity(rt.alloc(), sm_script::MOST_BYTES + 1)?;
+    for _ in 0..sm_script::MOST_BYTES / remark {
         script.resize(script.len().saturating_add(remark - 1), b'#')?;
         script.push(b'\n')?;
     }

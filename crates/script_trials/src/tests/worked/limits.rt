@@ -1,7 +1,7 @@
 //! What lowered limits refuse.
-use crate::ScriptFault;
 use crate::tests::fixture::check;
 use sm_names::Limits;
+use sm_script::ScriptFault;
 use std::test::Fail;
 
 // Limits of so many events, nodes, collections, trackers and handles.

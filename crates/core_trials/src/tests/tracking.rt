@@ -2,7 +2,7 @@
 use super::acts::{Act, Deed, Row, Said};
 use super::player::Player;
 use super::scripts::DONE;
-use crate::Core;
+use lifetime_core::Core;
 use sm_names::{Fired, Limits, Reply, TrackerId};
 use std::alloc::Global;
 use trackers::Tracker;

@@ -1,0 +1,6 @@
+//! Trials of lifetime_core, all by its public calls: see docs/TESTING.md. A crate of their own, so that
+//! the core is proved once.
+#![tactic(auto)]
+
+#[cfg(test)]
+mod tests;

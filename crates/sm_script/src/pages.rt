@@ -1,0 +1,21 @@
+//! The pages of a pool.
+ghost use Rattle.std.specs.Prelude.{◌≡◌, ◌≤◌, IfSome};
+
+/// As many pages as a pool may have: from 1 to 1,048,576.
+#[derive(Clone, Copy, Debug)]
+pub struct Pages {
+    pub count: u32,
+    ghost in_range: { (1 ≤ count) × (count ≤ 1048576) },
+}
+
+impl Pages {
+    /// So many pages, if a pool may have as many.
+    pub fn new(count: u32) -> Option<Pages>
+        ensures { IfSome result (λ pages. pages.count ≡ count) }
+    {
+        if count < 1 || 1_048_576 < count {
+            return None;
+        }
+        Some(Pages { count })
+    }
+}
