@@ -9,7 +9,5 @@ pub mod attached;
 pub mod failures;
 pub mod parcels;
 pub mod releases;
-#[cfg(test)]
-mod tests;
 pub mod tracking;
 pub mod weak;

@@ -1,5 +1,5 @@
 //! What the proofs of sm_names can't say: that the numbers, the names and the ranges are those that
-//! are meant. They stand here since a crate with tests is proved twice, and that one has the laws.
+//! are meant.
 use sm_names::{Constraints, Limits, Misuse, Refusal};
 
 #[test]
