@@ -1,16 +1,14 @@
 -- A node that is taken out of the table, with its children cut.
-use Rattle.std.proofs.Common.{◌≡◌, ◌≢◌, ℕ, suc, ◌+◌, ◌-◌, ◌<◌, ◌≤◌, nat_lt, slice_index_or, Bool, true, false, not, List, [], ◌∷◌, length, get_or, Option, Some, None, option_map, is_some, IsSome, Contains, cond, if◌then◌else◌, refl, sym, ap, subst, ◌∙◌, inl, inr, arith}
-use Rattle.std.specs.List.{slice_get}
+use Rattle.std.proofs.Common.{◌≡◌, ◌≢◌, suc, ◌+◌, ◌<◌, ◌≤◌, nat_lt, slice_index_or, Bool, true, false, not, List, [], ◌∷◌, length, Option, Some, None, option_map, is_some, IsSome, Contains, cond, if◌then◌else◌, refl, sym, ap, subst, ◌∙◌, inl, inr, arith}
 use Rattle.std.specs.Option.{MatchOption}
-use Rattle.std.proofs.lemmas.Option.{slice_get-get_or}
 use Rattle.std.proofs.lemmas.List.{get_or_past}
 use Rattle.sm_names.specs.declared.keys.NodeKey.{NodeKey}
 use Rattle.sm_names.specs.Sameness.{same_key}
 use Rattle.node_table.specs.Table.{Row, Table, row_at, node_at, parent_at, parent_in, children_at, children_in, table_len}
 use Rattle.node_table.specs.Changes.{Cuts, Removes, SameKeys, at_parent, without_child, without_parent}
-use Rattle.node_table.specs.Forest.{IsForest}
+use Rattle.node_table.specs.Forest.{IsForest, first_key}
 use Rattle.node_table.proofs.Keys.{key_cases, same_key-true, same_key-false}
-use Rattle.node_table.proofs.Lists.{without, without_lacks}
+use Rattle.node_table.proofs.Lists.{without, without_lacks, Contains-head}
 use Rattle.alloc_event.specs.declared.node.Node.{Node}
 use Rattle.alloc_event.specs.Forest.{SameKeys as SameForest}
 use Rattle.alloc_event.specs.Forgetting.{IsChild, Unlinks, TakesOut}
@@ -79,7 +77,7 @@ Some-inj a b e = cc
 pub child_there : (t : Table Node) (parent child : NodeKey) → IsChild t parent child → IsSome (row_at t child)
 child_there t parent child is = row_of_parent (row_at t child) parent is.parent_is
 
--- the last-born child is a child
+-- a child that is listed is a child
 pub is_child : (t : Table Node) (parent child : NodeKey) → IsForest t → Contains (children_at t parent) child → IsChild t parent child
 is_child t parent child forest listed =
     let up : parent_at t child ≡ Some parent = (forest.linked parent child).1 listed in
@@ -90,21 +88,18 @@ is_child t parent child forest listed =
           let low = forest.deeper parent parent deep in omega (arith, low);
     }
 
--- the last of the keys is one of them
-last_is : (xs : List NodeKey) (o : Option NodeKey) → o ≡ slice_get xs (length xs - 1) → MatchOption o (xs ≡ []) (λ k. Contains xs k)
-last_is [] None told = refl
-last_is (x ∷ xs) None told =
-    let some = told ∙ slice_get-get_or (x ∷ xs) (length (x ∷ xs) - 1) x (omega arith) in absurd (cc)
-last_is [] (Some k) told = absurd (cc)
-last_is (x ∷ xs) (Some k) told =
-    let at : ℕ = length (x ∷ xs) - 1 in
-    let same : k ≡ get_or (x ∷ xs) at k = Some-inj k (get_or (x ∷ xs) at k) (told ∙ slice_get-get_or (x ∷ xs) at k (omega arith)) in
-    (at, omega arith, sym same)
-
--- the last of the children is one of them, if there are any
-pub last_child_is : (t : Table Node) (key : NodeKey) → IsForest t → (xs : List NodeKey) → xs ≡ children_at t key → (o : Option NodeKey) → o ≡ slice_get xs (length xs - 1) → MatchOption o (children_at t key ≡ []) (IsChild t key)
-last_child_is t key forest xs is None told = sym is ∙ last_is xs None told
-last_child_is t key forest xs is (Some k) told = is_child t key k forest (subst (λ (l : List NodeKey). Contains l k) is (last_is xs (Some k) told))
+-- the first of the children is one of them, if there are any
+pub first_child_is : (t : Table Node) (key : NodeKey) → IsForest t → (o : Option NodeKey) → o ≡ first_key (children_at t key) → MatchOption o (children_at t key ≡ []) (IsChild t key)
+first_child_is t key forest o told = by_list (children_at t key) refl o told
+  where
+    by_list : (xs : List NodeKey) → children_at t key ≡ xs → (o : Option NodeKey) → o ≡ first_key xs → MatchOption o (children_at t key ≡ []) (IsChild t key)
+    by_list [] list None told = list
+    by_list [] list (Some k) told = absurd (cc)
+    by_list (x ∷ xs) list None told = absurd (cc)
+    by_list (x ∷ xs) list (Some k) told =
+        let same : x ≡ k = Some-inj x k (sym told) in
+        let there : Contains (x ∷ xs) k = subst (λ (j : NodeKey). Contains (x ∷ xs) j) same (Contains-head x xs) in
+        is_child t key k forest (subst (λ (l : List NodeKey). Contains l k) (sym list) there)
 
 -- the children of the row without one
 fewer : (key child : NodeKey) (o : Option (Row Node)) → children_in (option_map (at_parent (Some key) (without_child child) key) o) ≡ without child (children_in o)

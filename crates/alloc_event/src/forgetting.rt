@@ -17,18 +17,18 @@ use crate::node::{End, Node};
 use node_table::NodeTable;
 use sm_names::{CollectionId, NodeKey};
 
-/// The last child of the node.
-fn last_child(table: &NodeTable<Node>, key: NodeKey) -> Option<NodeKey>
+/// The first child of the node.
+fn first_child(table: &NodeTable<Node>, key: NodeKey) -> Option<NodeKey>
     ensures { MatchOption result (children_at table.now key ≡ []) (IsChild table.now key) }
 {
-    table.child_list(key).last().copied()
+    table.first_child(key)
 }
 
-/// Cuts the children of the node, from the last to the first.
+/// Cuts the children of the node, which costs their number.
 fn cut_children(table: &mut NodeTable<Node>, key: NodeKey)
     ensures { Unlinks table.old table.new key }
 {
-    'cutting: while let Some(child) = last_child(table, key) {
+    'cutting: while let Some(child) = first_child(table, key) {
         table.cut(child);
     }
 }

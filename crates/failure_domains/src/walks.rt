@@ -11,7 +11,7 @@ use crate::found::Fall;
 use crate::link::Link;
 use node_table::NodeTable;
 use sm_names::{NoMemory, NodeKey};
-use std::alloc::{AllocError, Global};
+use std::alloc::Global;
 
 /// What a failure of `origin` takes: the node itself, the parent of each node that it takes and
 /// whose link does not block, and every child of each node that it takes.
@@ -34,9 +34,7 @@ pub fn fall<N: Link>(alloc: Global, table: &NodeTable<N>, origin: NodeKey) -> Re
         fall.visits ≤ vec_len fall.keys + depth_at table.now origin) }
 {
     let (top, steps) = climb(table, origin);
-    let Ok(below) = walk(alloc, table, top) else {
-        return Err(NoMemory);
-    };
+    let below = walk(alloc, table, top)?;
     Ok(Fall {
         keys: below.keys,
         visits: steps + below.visits,
@@ -73,7 +71,7 @@ fn way_up<N: Link>(table: &NodeTable<N>, key: NodeKey) -> Option<NodeKey>
 }
 
 /// The node and all below it. Each of them is taken once from the list, which is a visit.
-fn walk<N>(alloc: Global, table: &NodeTable<N>, top: NodeKey) -> Result<Fall, AllocError>
+fn walk<N>(alloc: Global, table: &NodeTable<N>, top: NodeKey) -> Result<Fall, NoMemory>
     ensures keys { IfOk result (λ fall. IsWalk (children_at table.now) (depth_at table.now)
         top (length fall.keys.items) fall.keys.items) }
     ensures visits { IfOk result (λ fall. fall.visits ≡ length fall.keys.items) }
@@ -81,10 +79,12 @@ fn walk<N>(alloc: Global, table: &NodeTable<N>, top: NodeKey) -> Result<Fall, Al
     ensures forest { OnOk result (IsForest table.now) }
 {
     let mut keys = Vec::new(alloc);
-    keys.push(top)?;
+    if keys.push(top).is_err() {
+        return Err(NoMemory);
+    }
     let mut visits = 0;
     'down: while visits < keys.len() {
-        keys.extend_from_slice(table.child_list(keys[visits]))?;
+        table.append_children(keys[visits], &mut keys)?;
         visits += 1;
     }
     Ok(Fall {

@@ -1,22 +1,19 @@
 -- What a birth does to a table.
-use Rattle.std.proofs.Common.{◌≡◌, ◌≢◌, ℕ, ◌+◌, ◌<◌, ◌≤◌, ◌^◌, ◌==◌, ◌&&◌, ◌||◌, nat_le, nat_lt, Bool, true, false, List, [], map, Option, Some, None, is_some, IsSome, IfSome, count_by, option_map, arith, refl, ap, sym, ◌∙◌, slice_index_or, inl, inr, subst}
+use Rattle.std.proofs.Common.{◌≡◌, ◌≢◌, ℕ, ◌+◌, ◌<◌, ◌≤◌, ◌^◌, ◌==◌, ◌&&◌, ◌||◌, nat_le, nat_lt, Bool, true, false, List, [], Option, Some, None, is_some, IsSome, IfSome, count_by, option_map, arith, refl, ap, sym, ◌∙◌, slice_index_or, inl, inr, subst}
 use Rattle.std.proofs.lemmas.Bool.{cases_eq}
 use Rattle.std.proofs.lemmas.Bool.Decides.{nat_tests}
-use Rattle.slab.specs.Slab.{Slab, Updates}
 use Rattle.sm_names.specs.declared.keys.NodeKey.{NodeKey}
 use Rattle.sm_names.specs.Sameness.{same_key}
-use Rattle.node_table.specs.Table.{Table, row_at, parent_at, parent_in, children_at, children_in, next_at, was_given}
+use Rattle.node_table.specs.Table.{Row, Table, row_at, parent_at, parent_in, children_at, children_in, next_at, was_given}
 use Rattle.node_table.specs.Changes.{Births, at_parent, with_child}
-use Rattle.node_table.specs.Sound.{row_in, row_of, table_of, IsSound, IsLinked, EditsParent, at_slot, Bumped}
-use Rattle.node_table.specs.declared.slot.Entry.{Entry}
+use Rattle.node_table.specs.Sound.{row_in, rows_of, run_in, first_in, last_in, prev_in, next_in, given_count, table_of, IsSound, IsRun, IsLinked, at_slot, Bumped}
 use Rattle.node_table.specs.declared.slot.Slot.{Slot}
-use Rattle.node_table.specs.declared.slot.Slot.TheVariants.{Taken}
 use Rattle.node_table.proofs.Rows.{count-gain}
 use Rattle.node_table.proofs.Keys.{eq-true, eq-false, same-fields, key_cases, same_key-true, same_key-false}
 use Rattle.node_table.proofs.Parents.{map-parent, map-stranger, map-up, children-with}
 use Rattle.node_table.proofs.Links.{IsLinked-birth}
 use Rattle.node_table.proofs.Depths.{none-then}
-use Rattle.node_table.proofs.Slots.{row-at, map-then, is_some-option_map, edited-row, slot_as_parent, vacant-before}
+use Rattle.node_table.proofs.Slots.{row-at, map-then, is_some-option_map, slot_as_parent, vacant-before}
 use Rattle.node_table.proofs.Readings.{given-between}
 
 -- `&&` with false is false
@@ -36,40 +33,42 @@ given-more first generation next differ = ap (λ b. nat_le first generation && b
         let more : nat_lt generation (next + 1) ≡ false = grind (arith, nat_tests) in
         more ∙ sym test
 
-module _ {N : Type 0} (old mid new : Slab (Slot N)) (nexts nexts2 : List ℕ) (first count limit : ℕ) (parent : Option NodeKey) (key : NodeKey) (e : Entry N) (node : N)
-    (sound : IsSound old.slots nexts first count limit)
+module _ {N : Type 0} (old new : List (Option (Slot N))) (nexts nexts2 : List ℕ) (first count limit : ℕ) (parent : Option NodeKey) (key : NodeKey) (node : N)
+    (sound : IsSound old nexts first count limit)
     (next : slice_index_or nexts key.slot first ≡ key.generation)
-    (was_vacant : slice_index_or old.slots key.slot None ≡ None)
-    (linked : EditsParent old mid parent (with_child key))
+    (was_vacant : slice_index_or old key.slot None ≡ None)
     (bumped : Bumped nexts nexts2 first key.slot)
-    (updates : Updates mid new key.slot (Some (Taken e)))
-    (row : row_of e ≡ record { parent = parent; children = []; node = node })
-    (there : IfSome parent (λ p. IsSome (row_at (table_of old.slots nexts first limit) p)))
+    (now_taken : is_some (slice_index_or new key.slot None) ≡ true)
+    (kinds : (i : ℕ) → i ≢ key.slot → is_some (slice_index_or new i None) ≡ is_some (slice_index_or old i None))
+    (other-row : (i : ℕ) → i ≢ key.slot → slice_index_or (rows_of new (given_count first nexts2)) i None ≡ option_map (at_slot parent (with_child key) i) (slice_index_or (rows_of old (given_count first nexts)) i None))
+    (new-row : slice_index_or (rows_of new (given_count first nexts2)) key.slot None ≡ Some (record { parent = parent; children = []; node = node }))
+    (chained : (i : ℕ) → IsRun (next_in new) (prev_in new) None (first_in new i) (run_in new (given_count first nexts2) i) (last_in new i))
+    (there : IfSome parent (λ p. IsSome (row_at (table_of old nexts first limit) p)))
     (room : count < limit)
   where
-    -- the table before and after
+    -- the rows and the table, before and after
+    abbrev old-rows : List (Option (Row N))
+    old-rows = rows_of old (given_count first nexts)
+
+    abbrev new-rows : List (Option (Row N))
+    new-rows = rows_of new (given_count first nexts2)
+
     abbrev before : Table N
-    before = table_of old.slots nexts first limit
+    before = table_of old nexts first limit
 
     abbrev after : Table N
-    after = table_of new.slots nexts2 first limit
+    after = table_of new nexts2 first limit
 
-    other-row : (i : ℕ) → i ≢ key.slot → slice_index_or (map row_in new.slots) i None ≡ option_map (at_slot parent (with_child key) i) (slice_index_or (map row_in old.slots) i None)
-    other-row i differ = row-at new.slots i ∙ ap row_in (updates.others i differ) ∙ sym (row-at mid.slots i) ∙ edited-row old mid parent (with_child key) linked i
-
-    new-row : slice_index_or (map row_in new.slots) key.slot None ≡ Some (record { parent = parent; children = []; node = node })
-    new-row = row-at new.slots key.slot ∙ ap row_in updates.changed ∙ ap Some row
-
-    no-row : slice_index_or (map row_in old.slots) key.slot None ≡ None
-    no-row = row-at old.slots key.slot ∙ ap row_in was_vacant
+    no-row : slice_index_or old-rows key.slot None ≡ None
+    no-row = row-at old (given_count first nexts) key.slot ∙ ap (row_in (next_in old) (given_count first nexts)) was_vacant
 
     absent : row_at before key ≡ None
-    absent = none-then (next_at before key.slot == key.generation + 1) (slice_index_or (map row_in old.slots) key.slot None) no-row
+    absent = none-then (next_at before key.slot == key.generation + 1) (slice_index_or old-rows key.slot None) no-row
 
-    longer : count_by is_some (map row_in new.slots) ≡ count_by is_some (map row_in old.slots) + 1
+    longer : count_by is_some new-rows ≡ count_by is_some old-rows + 1
     longer =
-        count-gain key.slot (map row_in old.slots) (map row_in new.slots) (ap is_some no-row) (ap is_some new-row)
-        (λ i differ. ap is_some (other-row i differ) ∙ is_some-option_map (at_slot parent (with_child key) i) (slice_index_or (map row_in old.slots) i None))
+        count-gain key.slot old-rows new-rows (ap is_some no-row) (ap is_some new-row)
+        (λ i differ. ap is_some (other-row i differ) ∙ is_some-option_map (at_slot parent (with_child key) i) (slice_index_or old-rows i None))
 
     fits : key.generation < 2 ^ 32
     fits = let below : slice_index_or nexts key.slot first < 2 ^ 32 = sound.vacant key.slot was_vacant in rw next at below
@@ -84,7 +83,7 @@ module _ {N : Type 0} (old mid new : Slab (Slot N)) (nexts nexts2 : List ℕ) (f
           | inl same ↦
               let apart : k.generation ≡ key.generation → ⊥ = λ generations. differ (same-fields k key same generations) in
               let at : slice_index_or nexts2 k.slot first ≡ key.generation + 1 = rw (same, bumped.at, next) refl in
-              let none : slice_index_or (map row_in old.slots) k.slot None ≡ None = rw same no-row in
+              let none : slice_index_or old-rows k.slot None ≡ None = rw same no-row in
               rw (at, eq-false (key.generation + 1) (k.generation + 1) (λ generations. apart (omega arith)), none-then _ _ none) refl
           | inr apart ↦
               rw (bumped.others k.slot apart, other-row k.slot apart)
@@ -113,14 +112,14 @@ module _ {N : Type 0} (old mid new : Slab (Slot N)) (nexts nexts2 : List ℕ) (f
         ∙ children-with key (row_at before above) (parent-row parent above there is))
         (λ above differ away. ap children_in (others above differ ∙ map-stranger parent (with_child key) above (row_at before above) away))
 
-    pub sound-born : IsSound new.slots nexts2 first (count + 1) limit
+    pub sound-born : IsSound new nexts2 first (count + 1) limit
     sound-born =
         record {
-          counted = let c : count ≡ count_by is_some (map row_in old.slots) = sound.counted in omega (arith, longer);
+          counted = let c : count ≡ count_by is_some old-rows = sound.counted in omega (arith, longer);
           within = omega arith;
           vacant = λ i none. elim (cases_eq i key.slot) [
-            | inl same ↦ let gone : slice_index_or new.slots key.slot None ≡ None = subst (λ j. slice_index_or new.slots j None ≡ None) same none in absurd (cc (updates.changed))
-            | inr differ ↦ rw (bumped.others i differ) (sound.vacant i (vacant-before _ _ (linked.kinds i) (sym (updates.others i differ) ∙ none)))
+            | inl same ↦ let gone : slice_index_or new key.slot None ≡ None = subst (λ j. slice_index_or new j None ≡ None) same none in absurd (cc (now_taken))
+            | inr differ ↦ rw (bumped.others i differ) (sound.vacant i (vacant-before _ _ (kinds i differ) none))
           ];
           rising = λ i. elim (cases_eq i key.slot) [
             | inl same ↦ rw (same, bumped.at) (omega (arith, sound.rising key.slot))
@@ -132,9 +131,10 @@ module _ {N : Type 0} (old mid new : Slab (Slot N)) (nexts nexts2 : List ℕ) (f
           ];
           begun = λ i some. elim (cases_eq i key.slot) [
             | inl same ↦ rw (same, bumped.at) (omega (arith, sound.rising key.slot))
-            | inr differ ↦ rw (bumped.others i differ) (sound.begun i (sym (is_some-option_map (at_slot parent (with_child key) i) (slice_index_or (map row_in old.slots) i None)) ∙ ap is_some (sym (other-row i differ)) ∙ some))
+            | inr differ ↦ rw (bumped.others i differ) (sound.begun i (sym (is_some-option_map (at_slot parent (with_child key) i) (slice_index_or old-rows i None)) ∙ ap is_some (sym (other-row i differ)) ∙ some))
           ];
           forest = forest-born;
+          chained = chained;
         }
 
     given : (k : NodeKey) → was_given after k ≡ (same_key key k || was_given before k)

@@ -1,12 +1,11 @@
 -- Lists of keys in which none stands twice: one more at the end, and one less.
-use Rattle.std.proofs.Common.{◌≡◌, ◌≢◌, ◌⊎◌, ℕ, zero, suc, ◌-◌, ◌<◌, ◌≤◌, true, false, not, List, [], ◌∷◌, ◌++◌, length, filter, remove, Contains, AllPairs, slice_index_or, arith, refl, sym, ap, ◌∙◌, subst, inl, inr}
-use Rattle.std.proofs.lemmas.Bool.{cases_eq}
-use Rattle.std.proofs.lemmas.List.{get_or_default, get_or_read}
+use Rattle.std.proofs.Common.{◌≡◌, ◌≢◌, ◌⊎◌, ℕ, zero, suc, ◌<◌, not, List, [], ◌∷◌, ◌++◌, length, filter, Contains, AllPairs, slice_index_or, arith, refl, sym, ap, ◌∙◌, subst, inl, inr}
+use Rattle.std.proofs.lemmas.List.{get_or_default}
 use Rattle.std.proofs.lemmas.List.Elements.{Contains-append_left, Contains-append_right, Contains-append_cases}
 use Rattle.std.proofs.lemmas.List.Kept.{AllPairs-filter}
 use Rattle.sm_names.specs.declared.keys.NodeKey.{NodeKey}
 use Rattle.sm_names.specs.Sameness.{same_key}
-use Rattle.node_table.proofs.Keys.{key_cases, same_key-true, same_key-false, true-same_key, false-same_key}
+use Rattle.node_table.proofs.Keys.{key_cases, same_key-true, same_key-false}
 
 -- no key stands twice
 abbrev pub AllDiffer : List NodeKey → Type 0
@@ -17,15 +16,15 @@ abbrev pub without : NodeKey → List NodeKey → List NodeKey
 without key keys = filter (λ other. not (same_key key other)) keys
 
 -- the head is there
-Contains-head : (key : NodeKey) (rest : List NodeKey) → Contains (key ∷ rest) key
+pub Contains-head : (key : NodeKey) (rest : List NodeKey) → Contains (key ∷ rest) key
 Contains-head key rest = (zero, omega arith, refl)
 
 -- what is in the rest is there
-Contains-tail : (head key : NodeKey) (rest : List NodeKey) → Contains rest key → Contains (head ∷ rest) key
+pub Contains-tail : (head key : NodeKey) (rest : List NodeKey) → Contains rest key → Contains (head ∷ rest) key
 Contains-tail head key rest there = (suc there.0, omega (arith, there.1), there.2)
 
 -- a key that is there is the head or in the rest
-Contains-cons_cases : (head key : NodeKey) (rest : List NodeKey) → Contains (head ∷ rest) key → (head ≡ key) ⊎ Contains rest key
+pub Contains-cons_cases : (head key : NodeKey) (rest : List NodeKey) → Contains (head ∷ rest) key → (head ≡ key) ⊎ Contains rest key
 Contains-cons_cases head key rest there = by_index there.0 there.1 there.2
   where
     by_index : (at : ℕ) → at < suc (length rest) → slice_index_or (head ∷ rest) at key ≡ key → (head ≡ key) ⊎ Contains rest key
@@ -63,11 +62,11 @@ AllDiffer-cons head rest off differ (suc i) zero d before within = absurd (omega
 AllDiffer-cons head rest off differ (suc i) (suc j) d before within = differ i j d (omega arith) (omega arith)
 
 -- the rest of a list in which no key stands twice
-AllDiffer-tail : (head : NodeKey) (rest : List NodeKey) → AllDiffer (head ∷ rest) → AllDiffer rest
+pub AllDiffer-tail : (head : NodeKey) (rest : List NodeKey) → AllDiffer (head ∷ rest) → AllDiffer rest
 AllDiffer-tail head rest differ i j d before within = differ (suc i) (suc j) d (omega arith) (omega arith)
 
 -- the head is none of the rest
-head_differs : (head key : NodeKey) (rest : List NodeKey) → AllDiffer (head ∷ rest) → Contains rest key → head ≢ key
+pub head_differs : (head key : NodeKey) (rest : List NodeKey) → AllDiffer (head ∷ rest) → Contains rest key → head ≢ key
 head_differs head key rest differ there same = absurd (differ 0 (suc there.0) key (omega arith) (omega (arith, there.1)) (same ∙ sym there.2))
 
 -- a new key at the end
@@ -86,11 +85,11 @@ pub AllDiffer-without : (key : NodeKey) (keys : List NodeKey) → AllDiffer keys
 AllDiffer-without key keys differ = AllPairs-filter (λ (a b : NodeKey). a ≢ b) (λ other. not (same_key key other)) keys differ
 
 -- the key at the head falls out
-without-same : (key head : NodeKey) (rest : List NodeKey) → key ≡ head → without key (head ∷ rest) ≡ without key rest
+pub without-same : (key head : NodeKey) (rest : List NodeKey) → key ≡ head → without key (head ∷ rest) ≡ without key rest
 without-same key head rest same = rw (same_key-true key head same) refl
 
 -- another key at the head stays
-without-other : (key head : NodeKey) (rest : List NodeKey) → key ≢ head → without key (head ∷ rest) ≡ head ∷ without key rest
+pub without-other : (key head : NodeKey) (rest : List NodeKey) → key ≢ head → without key (head ∷ rest) ≡ head ∷ without key rest
 without-other key head rest differ = rw (same_key-false key head differ) refl
 
 -- a key that is not there leaves all
@@ -138,48 +137,3 @@ without_keeps key other (head ∷ rest) differ there =
         | inr later ↦ Contains-tail head other (without key rest) (without_keeps key other rest differ later)
       ])
     ]
-
--- the one place of a key is what a removal there takes out
-pub remove_one : (key : NodeKey) (keys : List NodeKey) (at : ℕ) → at < length keys → slice_index_or keys at key ≡ key → AllDiffer keys → remove keys at ≡ without key keys
-remove_one key [] at within found differ = absurd (omega arith)
-remove_one key (head ∷ rest) zero within found differ =
-    sym (without-same key head rest (sym found) ∙ without_stranger key rest (λ there. head_differs head key rest differ there found))
-remove_one key (head ∷ rest) (suc at) within found differ =
-    ap (λ keys. head ∷ keys) (remove_one key rest at (omega arith) found (AllDiffer-tail head rest differ))
-    ∙ sym (without-other key head rest (λ same. head_differs head key rest differ (at, omega arith, found) (sym same)))
-
--- a search from the end has looked at the keys from here on, found none, and changed nothing
-pub record LookedDownTo (at : ℕ) (key : NodeKey) (old now : List NodeKey) : Type 0 where
-  pub same : now ≡ old
-  pub within : at ≤ length now
-  pub none : (place : ℕ) (d : NodeKey) → at ≤ place → place < length now → slice_index_or now place d ≢ key
-
--- a search that came to the front found nothing
-pub LookedDownTo-all : (key : NodeKey) (old now : List NodeKey) (at : ℕ) → at ≤ 0 → LookedDownTo at key old now → now ≡ without key old
-LookedDownTo-all key old now at front looked =
-    looked.same ∙ sym (without_stranger key old (λ there. elsewhere there.0 there.1 there.2))
-  where
-    elsewhere : (place : ℕ) → place < length old → slice_index_or old place key ≡ key → ⊥
-    elsewhere place within found =
-        let size : length now ≡ length old = ap length looked.same in
-        looked.none place key (omega arith) (omega arith) (ap (λ keys. slice_index_or keys place key) looked.same ∙ found)
-
--- one place more, where another key was read
-pub LookedDownTo-step : (key read : NodeKey) (old now : List NodeKey) (at : ℕ) → 0 < at → read ≡ slice_index_or now (at - 1) read → same_key read key ≡ false → LookedDownTo at key old now → LookedDownTo (at - 1) key old now
-LookedDownTo-step key read old now at more here other looked =
-    record {
-      same = looked.same;
-      within = omega (arith, looked.within);
-      none = λ place d low within. elim (cases_eq place (at - 1)) [
-        | inl is ↦ λ found. false-same_key read key other (get_or_read now (at - 1) read (omega (arith, looked.within)) here d ∙ ap (λ p. slice_index_or now p d) (sym is) ∙ found)
-        | inr above ↦ looked.none place d (omega arith) within
-      ];
-    }
-
--- the next place has the key, and its removal leaves the others
-pub LookedDownTo-found : (key read : NodeKey) (old now : List NodeKey) (at : ℕ) → 0 < at → read ≡ slice_index_or now (at - 1) read → same_key read key ≡ true → AllDiffer old → LookedDownTo at key old now → remove now (at - 1) ≡ without key old
-LookedDownTo-found key read old now at more here found differ looked =
-    remove_one key now (at - 1) (omega (arith, looked.within))
-    (sym (get_or_read now (at - 1) read (omega (arith, looked.within)) here key) ∙ true-same_key read key found)
-    (subst AllDiffer (sym looked.same) differ)
-    ∙ ap (without key) looked.same

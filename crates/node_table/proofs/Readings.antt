@@ -65,6 +65,7 @@ module _ (N : Type 0) (first limit : ℕ) where
           rank = λ key. 0;
           ranked = λ parent key above. absurd (no-parent parent key above);
         };
+        chained = λ slot. (refl, refl);
       }
     where
       no-parent : (parent key : NodeKey) → parent_at (empty_table {N = N} first limit) key ≡ Some parent → ⊥

@@ -1,11 +1,11 @@
 -- What the removal of a node without links does to a table.
-use Rattle.std.proofs.Common.{◌≡◌, ◌≢◌, ℕ, ◌+◌, ◌-◌, ◌<◌, ◌^◌, ◌==◌, true, List, [], map, Option, Some, None, is_some, IsSome, cond, count_by, option_map, arith, refl, ap, sym, ◌∙◌, slice_index_or, inl, inr, subst}
+use Rattle.std.proofs.Common.{◌≡◌, ◌≢◌, ◌⊎◌, ℕ, ◌+◌, ◌-◌, ◌<◌, ◌≤◌, Contains, length, ◌^◌, ◌==◌, true, List, [], Option, Some, None, is_some, IsSome, cond, count_by, option_map, arith, refl, ap, sym, ◌∙◌, slice_index_or, inl, inr, subst}
 use Rattle.std.proofs.lemmas.Bool.{cases_eq}
 use Rattle.slab.specs.Slab.{Slab, get}
 use Rattle.sm_names.specs.declared.keys.NodeKey.{NodeKey}
 use Rattle.node_table.specs.Table.{Row, Table, row_at, node_at, parent_at, parent_in, children_at, children_in, next_at}
 use Rattle.node_table.specs.Changes.{Cuts, Removes, without_parent}
-use Rattle.node_table.specs.Sound.{row_in, row_of, table_of, IsSound}
+use Rattle.node_table.specs.Sound.{row_in, row_of, rows_of, core_of, with_children, entry_in, link_in, run_in, first_in, last_in, prev_in, next_in, given_count, IsRun, table_of, IsSound}
 use Rattle.node_table.specs.declared.slot.Entry.{Entry}
 use Rattle.node_table.specs.declared.slot.Slot.{Slot}
 use Rattle.node_table.specs.declared.slot.Slot.TheVariants.{Taken}
@@ -13,6 +13,8 @@ use Rattle.node_table.proofs.Rows.{count-gain}
 use Rattle.node_table.proofs.Keys.{key_cases, eq-true, eq-false, same-fields}
 use Rattle.node_table.proofs.Parents.{parent-without, children-kept}
 use Rattle.node_table.proofs.Links.{IsLinked-same}
+use Rattle.node_table.proofs.Runs.{run-frame}
+use Rattle.node_table.proofs.Chains.{row-is, rows_are, chained_so, member, member-there, one_key, owner, runs_short}
 use Rattle.node_table.proofs.Depths.{next-there, none-then}
 use Rattle.node_table.proofs.Slots.{row-at, is_some-option_map}
 
@@ -27,7 +29,7 @@ module _ {N : Type 0} (whole : Table N) (old new : Slab (Slot N)) (nexts : List 
     (cut : Cuts whole (table_of old.slots nexts first limit) key)
     (sound : IsSound old.slots nexts first count limit)
     (was : get old key.slot ≡ Some (Taken e))
-    (row : row_in (get new key.slot) ≡ None)
+    (empty : entry_in (get new key.slot) ≡ None)
     (same : (i : ℕ) → i ≢ key.slot → get new i ≡ get old i)
     (retired : key.generation ≡ 4294967295 → is_some (get new key.slot) ≡ true)
     (narrow-key : key.generation < 2 ^ 32)
@@ -42,26 +44,82 @@ module _ {N : Type 0} (whole : Table N) (old new : Slab (Slot N)) (nexts : List 
     had-next : slice_index_or nexts key.slot first ≡ key.generation + 1
     had-next = next-there before key (ap is_some cut.loose ∙ is_some-option_map without_parent (row_at whole key) ∙ there)
 
-    old-row : slice_index_or (map row_in old.slots) key.slot None ≡ Some (row_of e)
-    old-row = row-at old.slots key.slot ∙ ap row_in was
+    -- how many children there may be
+    abbrev most : ℕ
+    most = given_count first nexts
 
-    new-row : slice_index_or (map row_in new.slots) key.slot None ≡ None
-    new-row = row-at new.slots key.slot ∙ row
+    -- the key has no parent
+    no-parent : parent_at before key ≡ None
+    no-parent = ap parent_in cut.loose ∙ parent-without (row_at whole key)
 
-    other-row : (i : ℕ) → i ≢ key.slot → slice_index_or (map row_in new.slots) i None ≡ slice_index_or (map row_in old.slots) i None
-    other-row i differ = row-at new.slots i ∙ ap row_in (same i differ) ∙ sym (row-at old.slots i)
+    there-now : IsSome (row_at before key)
+    there-now = ap is_some cut.loose ∙ (is_some-option_map without_parent (row_at whole key) ∙ there)
 
-    shorter : count_by is_some (map row_in old.slots) ≡ count_by is_some (map row_in new.slots) + 1
-    shorter = count-gain key.slot (map row_in new.slots) (map row_in old.slots) (ap is_some new-row) (ap is_some old-row) (λ i differ. ap is_some (sym (other-row i differ)))
+    -- so it is nobody's child
+    away : (i : ℕ) (x : NodeKey) → Contains (run_in old.slots most i) x → x.slot ≢ key.slot
+    away i x child at =
+        let is : x ≡ key = one_key old.slots nexts first count limit sound x key (member-there old.slots nexts first count limit sound i x child) there-now at in
+        let has : parent_at before x ≡ Some (owner old.slots nexts first count limit sound i) = member old.slots nexts first count limit sound i x child in
+        let none : parent_at before x ≡ None = ap (parent_at before) is ∙ no-parent in
+        absurd (cc)
+
+    -- a link of what lies in another slot stays
+    link-kept : (link : Entry N → Option NodeKey) (i : ℕ) → i ≢ key.slot → link_in link (entry_in (get new i)) ≡ link_in link (entry_in (get old i))
+    link-kept link i differ = ap (λ (o : Option (Slot N)). link_in link (entry_in o)) (same i differ)
+
+    -- the key's slot has no children now, and others have what they had
+    abbrev left : (i : ℕ) → ((i ≡ key.slot) ⊎ (i ≢ key.slot)) → List NodeKey
+    left i (inl at) = []
+    left i (inr differ) = run_in old.slots most i
+
+    abbrev lists : ℕ → List NodeKey
+    lists i = left i (cases_eq i key.slot)
+
+    each-by : (i : ℕ) (c : (i ≡ key.slot) ⊎ (i ≢ key.slot)) → IsRun (next_in new.slots) (prev_in new.slots) None (first_in new.slots i) (left i c) (last_in new.slots i)
+    each-by i (inl at) = (
+      ap (λ j. link_in (λ (e : Entry N). e.first) (entry_in (get new j))) at ∙ ap (link_in (λ (e : Entry N). e.first)) empty,
+      ap (λ j. link_in (λ (e : Entry N). e.last) (entry_in (get new j))) at ∙ ap (link_in (λ (e : Entry N). e.last)) empty,
+    )
+    each-by i (inr differ) =
+        subst (λ o. IsRun (next_in new.slots) (prev_in new.slots) None o (run_in old.slots most i) (last_in new.slots i)) (sym (link-kept (λ (e : Entry N). e.first) i differ))
+        (subst (λ o. IsRun (next_in new.slots) (prev_in new.slots) None (first_in old.slots i) (run_in old.slots most i) o) (sym (link-kept (λ (e : Entry N). e.last) i differ))
+        (run-frame (next_in old.slots) (prev_in old.slots) (next_in new.slots) (prev_in new.slots) None (first_in old.slots i) (run_in old.slots most i) (last_in old.slots i)
+        (λ x child. link-kept (λ (e : Entry N). e.next) x.slot (away i x child))
+        (λ x child. link-kept (λ (e : Entry N). e.prev) x.slot (away i x child))
+        (sound.chained i)))
+
+    short-by : (i : ℕ) (c : (i ≡ key.slot) ⊎ (i ≢ key.slot)) → length (left i c) ≤ most
+    short-by i (inl at) = omega arith
+    short-by i (inr differ) = runs_short old.slots nexts first count limit sound i
+
+    lists-other : (i : ℕ) (c : (i ≡ key.slot) ⊎ (i ≢ key.slot)) → i ≢ key.slot → left i c ≡ run_in old.slots most i
+    lists-other i (inl at) differ = absurd (differ at)
+    lists-other i (inr apart) differ = refl
+
+    old-row : slice_index_or (rows_of old.slots most) key.slot None ≡ Some (row_of (next_in old.slots) most e)
+    old-row = row-at old.slots most key.slot ∙ ap (row_in (next_in old.slots) most) was
+
+    new-row : slice_index_or (rows_of new.slots most) key.slot None ≡ None
+    new-row = row-at new.slots most key.slot ∙ ap (option_map (row_of (next_in new.slots) most)) empty
+
+    other-row : (i : ℕ) → i ≢ key.slot → slice_index_or (rows_of new.slots most) i None ≡ slice_index_or (rows_of old.slots most) i None
+    other-row i differ =
+        rows_are new.slots most lists (λ j. each-by j (cases_eq j key.slot)) (λ j. short-by j (cases_eq j key.slot)) i
+        ∙ (ap (λ (keys : List NodeKey). option_map (with_children keys) (option_map core_of (entry_in (get new i)))) (lists-other i (cases_eq i key.slot) differ)
+        ∙ (ap (λ (o : Option (Slot N)). option_map (with_children (run_in old.slots most i)) (option_map core_of (entry_in o))) (same i differ)
+        ∙ sym (row-is old.slots most i)))
+
+    shorter : count_by is_some (rows_of old.slots most) ≡ count_by is_some (rows_of new.slots most) + 1
+    shorter = count-gain key.slot (rows_of new.slots most) (rows_of old.slots most) (ap is_some new-row) (ap is_some old-row) (λ i differ. ap is_some (sym (other-row i differ)))
 
     not-retired : get new key.slot ≡ None → key.generation ≡ 4294967295 → ⊥
     not-retired none last = let held : is_some (get new key.slot) ≡ true = retired last in absurd (cc (held, none))
 
     pub some-nodes : 0 < count
-    some-nodes = let c : count ≡ count_by is_some (map row_in old.slots) = sound.counted in omega (arith, shorter)
+    some-nodes = let c : count ≡ count_by is_some (rows_of old.slots most) = sound.counted in omega (arith, shorter)
 
     gone : row_at after key ≡ None
-    gone = none-then (next_at after key.slot == key.generation + 1) (slice_index_or (map row_in new.slots) key.slot None) new-row
+    gone = none-then (next_at after key.slot == key.generation + 1) (slice_index_or (rows_of new.slots most) key.slot None) new-row
 
     others : (k : NodeKey) → k ≢ key → row_at after k ≡ row_at before k
     others k differ =
@@ -90,7 +148,7 @@ module _ {N : Type 0} (whole : Table N) (old new : Slab (Slot N)) (nexts : List 
     pub sound-removed : IsSound new.slots nexts first (count - 1) limit
     sound-removed =
         record {
-          counted = let c : count ≡ count_by is_some (map row_in old.slots) = sound.counted in omega (arith, shorter);
+          counted = let c : count ≡ count_by is_some (rows_of old.slots most) = sound.counted in omega (arith, shorter);
           within = omega (arith, sound.within);
           vacant = λ i none. elim (cases_eq i key.slot) [
             | inl at ↦
@@ -102,10 +160,11 @@ module _ {N : Type 0} (whole : Table N) (old new : Slab (Slot N)) (nexts : List 
           rising = sound.rising;
           narrow = sound.narrow;
           begun = λ i some. elim (cases_eq i key.slot) [
-            | inl at ↦ let none : slice_index_or (map row_in new.slots) i None ≡ None = ap (λ j. slice_index_or (map row_in new.slots) j None) at ∙ new-row in absurd (cc)
+            | inl at ↦ let none : slice_index_or (rows_of new.slots most) i None ≡ None = ap (λ j. slice_index_or (rows_of new.slots most) j None) at ∙ new-row in absurd (cc)
             | inr differ ↦ sound.begun i (ap is_some (sym (other-row i differ)) ∙ some)
           ];
           forest = IsLinked-same (parent_at before) (children_at before) (parent_at after) (children_at after) sound.forest ups downs;
+          chained = chained_so new.slots most lists (λ j. each-by j (cases_eq j key.slot)) (λ j. short-by j (cases_eq j key.slot));
         }
 
     pub removes : Removes whole after key e.node

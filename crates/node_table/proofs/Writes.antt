@@ -1,12 +1,12 @@
 -- What a change that keeps all links does to a table, as a write of one node.
-use Rattle.std.proofs.Common.{◌≡◌, ◌≢◌, ℕ, ◌+◌, ◌==◌, Bool, true, false, List, map, Option, Some, None, is_some, IsSome, IfSome, cond, option_map, arith, refl, ap, sym, ◌∙◌, slice_index_or, slice_set, inl, inr}
+use Rattle.std.proofs.Common.{◌≡◌, ◌≢◌, ℕ, ◌+◌, ◌==◌, Bool, true, false, List, map, Option, Some, None, is_some, IsSome, cond, option_map, arith, refl, ap, sym, ◌∙◌, slice_index_or, slice_set, inl, inr, subst}
 use Rattle.std.proofs.lemmas.Bool.{cases_eq}
 use Rattle.slab.specs.Slab.{Slab, get, with_value}
 use Rattle.sm_names.specs.declared.keys.NodeKey.{NodeKey}
 use Rattle.node_table.specs.Table.{Row, Table, row_at, node_at, parent_in, children_in, next_at}
 use Rattle.node_table.specs.Changes.{Writes, at_parent, with_node}
 use Rattle.node_table.specs.Lending.{table_with_node}
-use Rattle.node_table.specs.Sound.{row_in, table_of, IsSound, EditsParent, Edits, at_slot}
+use Rattle.node_table.specs.Sound.{row_in, rows_of, run_from, run_in, first_in, last_in, prev_in, next_in, link_in, given_count, IsRun, table_of, IsSound, EditsRows, Edits, at_slot}
 use Rattle.node_table.specs.declared.slot.Entry.{Entry}
 use Rattle.node_table.specs.declared.slot.Slot.{Slot}
 use Rattle.node_table.specs.declared.slot.Slot.TheVariants.{Taken}
@@ -15,36 +15,10 @@ use Rattle.node_table.proofs.Keys.{eq-true, eq-false, same-fields}
 use Rattle.node_table.proofs.Parents.{map-up, map-down}
 use Rattle.node_table.proofs.Links.{IsLinked-same}
 use Rattle.node_table.proofs.Depths.{next-there, slot-there}
-use Rattle.node_table.proofs.Slots.{row-at, is_some-option_map, map-write, write-same, write-other, edits_some, edited-row, edited-key, edited-count, vacant-before}
-
-module _ {N : Type 0} (old new : Slab (Slot N)) (nexts : List ℕ) (first count limit : ℕ) (parent : Option NodeKey) (f : Row N → Row N)
-    (edits : EditsParent old new parent f)
-    (sound : IsSound old.slots nexts first count limit)
-    (there : IfSome parent (λ p. IsSome (row_at (table_of old.slots nexts first limit) p)))
-    (keeps_up : (row : Row N) → (f row).parent ≡ row.parent)
-    (keeps_down : (row : Row N) → (f row).children ≡ row.children)
-  where
-    row-kept : (i : ℕ) → is_some (slice_index_or (map row_in new.slots) i None) ≡ is_some (slice_index_or (map row_in old.slots) i None)
-    row-kept i = ap is_some (edited-row old new parent f edits i) ∙ is_some-option_map (at_slot parent f i) (slice_index_or (map row_in old.slots) i None)
-
-    key-row : (key : NodeKey) → row_at (table_of new.slots nexts first limit) key ≡ option_map (at_parent parent f key) (row_at (table_of old.slots nexts first limit) key)
-    key-row = edited-key old new nexts first limit parent f edits there
-
-    -- a change that keeps all links keeps the table sound
-    pub sound-kept : IsSound new.slots nexts first count limit
-    sound-kept =
-        record {
-          counted = sound.counted ∙ sym (edited-count old new parent f edits);
-          within = sound.within;
-          vacant = λ i none. sound.vacant i (vacant-before _ _ (edits.kinds i) none);
-          rising = sound.rising;
-          narrow = sound.narrow;
-          begun = λ i some. sound.begun i (sym (row-kept i) ∙ some);
-          forest =
-              IsLinked-same _ _ _ _ sound.forest
-              (λ key. ap parent_in (key-row key) ∙ map-up parent f key (row_at (table_of old.slots nexts first limit) key) keeps_up)
-              (λ key. ap children_in (key-row key) ∙ map-down parent f key (row_at (table_of old.slots nexts first limit) key) keeps_down);
-        }
+use Rattle.node_table.proofs.Slots.{row-at, is_some-option_map, edit-one, map-write, write-same, write-other, edited-key, edited-count, vacant-before}
+use Rattle.node_table.proofs.Steps.{part-kept, kinds}
+use Rattle.node_table.proofs.Runs.{run-frame}
+use Rattle.node_table.proofs.Chains.{chained_so, runs_short}
 
 module _ {N : Type 0} (slots : Slab (Slot N)) (nexts : List ℕ) (first count limit : ℕ) (key : NodeKey) (e : Entry N) (node : N)
     (was : get slots key.slot ≡ Some (Taken e))
@@ -53,18 +27,80 @@ module _ {N : Type 0} (slots : Slab (Slot N)) (nexts : List ℕ) (first count li
     abbrev written : Slab (Slot N)
     written = with_value slots key.slot (Taken (record e { node = node }))
 
-    edits : Edits slots written key.slot (with_node node)
-    edits = record { before = e; after = record e { node = node }; was = was; becomes = refl; row = refl }
+    -- how many children there may be
+    abbrev most : ℕ
+    most = given_count first nexts
 
-    pub sound-written : IsSound slots.slots nexts first count limit → IsSome (row_at (table_of slots.slots nexts first limit) key) → IsSound written.slots nexts first count limit
-    sound-written sound there =
-        sound-kept slots written nexts first count limit (Some key) (with_node node) (edits_some slots written key (with_node node) edits) sound there (λ row. refl) (λ row. refl)
+    -- a write of the node, whatever the entry is
+    abbrev writing : Entry N → Entry N
+    writing entry = record entry { node = node }
+
+    edits : Edits slots written key.slot writing
+    edits = record { before = e; was = was; becomes = refl }
+
+    nexts_kept : (i : ℕ) → next_in written.slots i ≡ next_in slots.slots i
+    nexts_kept = part-kept slots written key.slot writing edits (link_in (λ (entry : Entry N). entry.next)) (λ entry. refl)
+
+    prevs_kept : (i : ℕ) → prev_in written.slots i ≡ prev_in slots.slots i
+    prevs_kept = part-kept slots written key.slot writing edits (link_in (λ (entry : Entry N). entry.prev)) (λ entry. refl)
+
+    firsts_kept : (i : ℕ) → first_in written.slots i ≡ first_in slots.slots i
+    firsts_kept = part-kept slots written key.slot writing edits (link_in (λ (entry : Entry N). entry.first)) (λ entry. refl)
+
+    lasts_kept : (i : ℕ) → last_in written.slots i ≡ last_in slots.slots i
+    lasts_kept = part-kept slots written key.slot writing edits (link_in (λ (entry : Entry N). entry.last)) (λ entry. refl)
+
+    -- all links are as they were
+    same-nexts : next_in written.slots ≡ next_in slots.slots
+    same-nexts = λ i slot. nexts_kept slot i
+
+    same-runs : (i : ℕ) → run_in written.slots most i ≡ run_in slots.slots most i
+    same-runs i = ap (λ next. run_from next most (first_in written.slots i)) same-nexts ∙ ap (run_from (next_in slots.slots) most) (firsts_kept i)
+
+    -- so the row is the written one
+    rows-written : rows_of written.slots most ≡ slice_set (rows_of slots.slots most) key.slot (option_map (with_node node) (slice_index_or (rows_of slots.slots most) key.slot None))
+    rows-written =
+        ap (λ next. map (row_in next most) written.slots) same-nexts
+        ∙ (map-write (row_in (next_in slots.slots) most) slots.slots key.slot (Some (Taken (record e { node = node })))
+        ∙ ap (λ (o : Option (Row N)). slice_set (rows_of slots.slots most) key.slot (option_map (with_node node) o)) (sym (row-at slots.slots most key.slot ∙ ap (row_in (next_in slots.slots) most) was)))
 
     pub table-written : table_of written.slots nexts first limit ≡ table_with_node (table_of slots.slots nexts first limit) key node
-    table-written =
-        ap (λ (rows : List (Option (Row N))). record { rows = rows; nexts = nexts; first = first; limit = limit })
-        (map-write row_in slots.slots key.slot (Some (Taken (record e { node = node })))
-        ∙ ap (λ (o : Option (Row N)). slice_set (map row_in slots.slots) key.slot (option_map (with_node node) o)) (sym (row-at slots.slots key.slot ∙ ap row_in was)))
+    table-written = ap (λ (rows : List (Option (Row N))). record { rows = rows; nexts = nexts; first = first; limit = limit }) rows-written
+
+    edits-rows : EditsRows (rows_of slots.slots most) (rows_of written.slots most) (Some key) (with_node node)
+    edits-rows i =
+        ap (λ (rows : List (Option (Row N))). slice_index_or rows i None) rows-written
+        ∙ edit-one (rows_of slots.slots most) key (with_node node) (ap is_some (row-at slots.slots most key.slot ∙ ap (row_in (next_in slots.slots) most) was)) i
+
+    module _ (sound : IsSound slots.slots nexts first count limit) (there : IsSome (row_at (table_of slots.slots nexts first limit) key)) where
+      key-row : (k : NodeKey) → row_at (table_of written.slots nexts first limit) k ≡ option_map (at_parent (Some key) (with_node node) k) (row_at (table_of slots.slots nexts first limit) k)
+      key-row = edited-key (rows_of slots.slots most) (rows_of written.slots most) nexts first limit (Some key) (with_node node) edits-rows there
+
+      row-kept : (i : ℕ) → is_some (slice_index_or (rows_of written.slots most) i None) ≡ is_some (slice_index_or (rows_of slots.slots most) i None)
+      row-kept i = ap is_some (edits-rows i) ∙ is_some-option_map (at_slot (Some key) (with_node node) i) (slice_index_or (rows_of slots.slots most) i None)
+
+      pub sound-written : IsSound written.slots nexts first count limit
+      sound-written =
+          record {
+            counted = sound.counted ∙ sym (edited-count (rows_of slots.slots most) (rows_of written.slots most) (Some key) (with_node node) edits-rows);
+            within = sound.within;
+            vacant = λ i none. sound.vacant i (vacant-before _ _ (kinds slots written key.slot writing edits i) none);
+            rising = sound.rising;
+            narrow = sound.narrow;
+            begun = λ i some. sound.begun i (sym (row-kept i) ∙ some);
+            forest =
+                IsLinked-same _ _ _ _ sound.forest
+                (λ k. ap parent_in (key-row k) ∙ map-up (Some key) (with_node node) k (row_at (table_of slots.slots nexts first limit) k) (λ row. refl))
+                (λ k. ap children_in (key-row k) ∙ map-down (Some key) (with_node node) k (row_at (table_of slots.slots nexts first limit) k) (λ row. refl));
+            chained = λ i. chained_so written.slots most (run_in slots.slots most) each (runs_short slots.slots nexts first count limit sound) i;
+          }
+        where
+          each : (i : ℕ) → IsRun (next_in written.slots) (prev_in written.slots) None (first_in written.slots i) (run_in slots.slots most i) (last_in written.slots i)
+          each i =
+              subst (λ o. IsRun (next_in written.slots) (prev_in written.slots) None o (run_in slots.slots most i) (last_in written.slots i)) (sym (firsts_kept i))
+              (subst (λ o. IsRun (next_in written.slots) (prev_in written.slots) None (first_in slots.slots i) (run_in slots.slots most i) o) (sym (lasts_kept i))
+              (run-frame (next_in slots.slots) (prev_in slots.slots) (next_in written.slots) (prev_in written.slots) None (first_in slots.slots i) (run_in slots.slots most i) (last_in slots.slots i)
+              (λ x child. nexts_kept x.slot) (λ x child. prevs_kept x.slot) (sound.chained i)))
 
 module _ {N : Type 0} (slots : Slab (Slot N)) (nexts : List ℕ) (first limit : ℕ) (key : NodeKey) (e : Entry N)
     (was : get slots key.slot ≡ Some (Taken e))
@@ -73,7 +109,7 @@ module _ {N : Type 0} (slots : Slab (Slot N)) (nexts : List ℕ) (first limit : 
     -- the node of a key that is there is its entry's
     pub node-there : node_at (table_of slots.slots nexts first limit) key ≡ Some e.node
     node-there =
-        rw (next-there (table_of slots.slots nexts first limit) key there, eq-true (key.generation + 1) (key.generation + 1) refl, row-at slots.slots key.slot, was) refl
+        rw (next-there (table_of slots.slots nexts first limit) key there, eq-true (key.generation + 1) (key.generation + 1) refl, row-at slots.slots (given_count first nexts) key.slot, was) refl
 
 module _ {N : Type 0} (t : Table N) (key : NodeKey) (node : N) (there : IsSome (row_at t key)) where
   -- the table with this node

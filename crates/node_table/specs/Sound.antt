@@ -1,8 +1,10 @@
 -- How a node table lies in its slab. No public clause cites this module.
-use Rattle.std.specs.Prelude.{◌≡◌, ◌≢◌, ◌↔◌, ℕ, ◌+◌, ◌<◌, ◌≤◌, ◌^◌, ◌==◌, List, map, Option, Some, None, is_some, IsSome, count_by, option_map, if◌then◌else◌, slice_index_or, Contains, AllPairs}
+use Rattle.std.specs.Prelude.{◌≡◌, ◌≢◌, ◌↔◌, ℕ, ◌+◌, ◌<◌, ◌≤◌, ◌^◌, ◌==◌, List, map, Option, Some, None, is_some, IsSome, count_by, option_map, if◌then◌else◌, slice_index_or, Contains, AllPairs, zero, suc, ◌-◌, [], ◌∷◌, ◌++◌}
+use Rattle.std.specs.Option.{option_map_or}
 use Rattle.slab.specs.Slab.{Slab, get, with_value}
 use Rattle.sm_names.specs.declared.keys.NodeKey.{NodeKey}
 use Rattle.node_table.specs.Table.{Row, Table, parent_at, children_at}
+use Rattle.node_table.specs.Forest.{first_key}
 use Rattle.node_table.specs.declared.slot.Entry.{Entry}
 use Rattle.node_table.specs.declared.slot.Slot.{Slot}
 use Rattle.node_table.specs.declared.slot.Slot.TheVariants.{Retired, Taken}
@@ -14,26 +16,102 @@ pub record IsLinked (up : NodeKey → Option NodeKey) (down : NodeKey → List N
   pub rank : NodeKey → ℕ
   pub ranked : (parent key : NodeKey) → up key ≡ Some parent → rank parent < rank key
 
-module _ {N : Type 0} where
-  -- what a contract sees of an entry
-  abbrev pub row_of : Entry N → Row N
-  row_of e = record { parent = e.parent; children = e.children.items; node = e.node }
+-- the keys from this one on, each the next of the one before, up to so many
+abbrev pub run_from : (ℕ → Option NodeKey) → ℕ → Option NodeKey → List NodeKey
+run_from next zero first = []
+run_from next (suc most) first = option_map_or (λ (key : NodeKey). key ∷ run_from next most (next key.slot)) first []
 
+-- the keys are linked to and fro, between the key before the first and none
+abbrev pub IsRun : (ℕ → Option NodeKey) → (ℕ → Option NodeKey) → Option NodeKey → Option NodeKey → List NodeKey → Option NodeKey → Type 0
+IsRun next prev before first [] last = (first ≡ None) × (last ≡ before)
+IsRun next prev before first (key ∷ rest) last =
+    (first ≡ Some key) × ((prev key.slot ≡ before) × IsRun next prev (Some key) (next key.slot) rest last)
+
+-- how many keys were given, so no fewer than a node has children
+abbrev pub given_count : ℕ → List ℕ → ℕ
+given_count first [] = 0
+given_count first (next ∷ rest) = (next - first) + given_count first rest
+
+-- what at a slot is put in the place of a link, if there is a key whose slot it is
+abbrev pub at_key : Option NodeKey → Option NodeKey → ℕ → Option NodeKey → Option NodeKey
+at_key None link i old = old
+at_key (Some key) link i old = if key.slot == i then link else old
+
+-- the parent, where there is no such sibling
+abbrev pub unless : Option NodeKey → Option NodeKey → Option NodeKey
+unless None parent = parent
+unless (Some sibling) parent = None
+
+-- of these children, as many as are not left to come were appended to the list; the next of them is this
+pub record Appends (children old now : List NodeKey) (next : Option NodeKey) : Type 0 where
+  pub done : List NodeKey
+  pub rest : List NodeKey
+  pub all : children ≡ done ++ rest
+  pub items : now ≡ old ++ done
+  pub next_is : next ≡ first_key rest
+
+module _ {N : Type 0} where
   -- the entry of a slot, if it has one
   abbrev pub entry_in : Option (Slot N) → Option (Entry N)
   entry_in None = None
   entry_in (Some Retired) = None
   entry_in (Some (Taken e)) = Some e
 
+  -- a link of an entry, if there is one
+  abbrev pub link_in : (Entry N → Option NodeKey) → Option (Entry N) → Option NodeKey
+  link_in link None = None
+  link_in link (Some e) = link e
+
+  -- the first and last child, and the neighbours, of what lies in a slot
+  abbrev pub first_in : List (Option (Slot N)) → ℕ → Option NodeKey
+  first_in slots i = link_in (λ (e : Entry N). e.first) (entry_in (slice_index_or slots i None))
+
+  abbrev pub last_in : List (Option (Slot N)) → ℕ → Option NodeKey
+  last_in slots i = link_in (λ (e : Entry N). e.last) (entry_in (slice_index_or slots i None))
+
+  abbrev pub prev_in : List (Option (Slot N)) → ℕ → Option NodeKey
+  prev_in slots i = link_in (λ (e : Entry N). e.prev) (entry_in (slice_index_or slots i None))
+
+  abbrev pub next_in : List (Option (Slot N)) → ℕ → Option NodeKey
+  next_in slots i = link_in (λ (e : Entry N). e.next) (entry_in (slice_index_or slots i None))
+
+  -- the parent of what lies in a slot
+  abbrev pub parent_of : List (Option (Slot N)) → ℕ → Option NodeKey
+  parent_of slots i = link_in (λ (e : Entry N). e.parent) (entry_in (slice_index_or slots i None))
+
+  -- the last child of the parent, if there is a parent
+  abbrev pub last_under : List (Option (Slot N)) → Option NodeKey → Option NodeKey
+  last_under slots None = None
+  last_under slots (Some parent) = last_in slots parent.slot
+
+  -- the children of what lies in a slot
+  abbrev pub run_in : List (Option (Slot N)) → ℕ → ℕ → List NodeKey
+  run_in slots most i = run_from (next_in slots) most (first_in slots i)
+
+  -- an entry as a row, but for the children
+  abbrev pub core_of : Entry N → Row N
+  core_of e = record { parent = e.parent; children = []; node = e.node }
+
+  -- the row with these children
+  abbrev pub with_children : List NodeKey → Row N → Row N
+  with_children keys row = record row { children = keys }
+
+  -- what a contract sees of an entry, over links to the next sibling
+  abbrev pub row_of : (ℕ → Option NodeKey) → ℕ → Entry N → Row N
+  row_of next most e = with_children (run_from next most e.first) (core_of e)
+
   -- a slot of the slab is vacant, retired or taken by a node
-  abbrev pub row_in : Option (Slot N) → Option (Row N)
-  row_in None = None
-  row_in (Some Retired) = None
-  row_in (Some (Taken e)) = Some (row_of e)
+  abbrev pub row_in : (ℕ → Option NodeKey) → ℕ → Option (Slot N) → Option (Row N)
+  row_in next most slot = option_map (row_of next most) (entry_in slot)
+
+  -- the rows that these slots make
+  abbrev pub rows_of : List (Option (Slot N)) → ℕ → List (Option (Row N))
+  rows_of slots most = map (row_in (next_in slots) most) slots
 
   -- the table that these slots make
   abbrev pub table_of : List (Option (Slot N)) → List ℕ → ℕ → ℕ → Table N
-  table_of slots nexts first limit = record { rows = map row_in slots; nexts = nexts; first = first; limit = limit }
+  table_of slots nexts first limit =
+      record { rows = rows_of slots (given_count first nexts); nexts = nexts; first = first; limit = limit }
 
   -- the slot is taken by a node
   abbrev pub HasEntry : Slab (Slot N) → ℕ → Type 0
@@ -41,35 +119,74 @@ module _ {N : Type 0} where
 
   -- what holds of the fields of each table
   pub record IsSound (slots : List (Option (Slot N))) (nexts : List ℕ) (first count limit : ℕ) : Type 0 where
-    pub counted : count ≡ count_by is_some (map row_in slots)
+    pub counted : count ≡ count_by is_some (rows_of slots (given_count first nexts))
     pub within : count ≤ limit
     -- a vacant slot can give another key
     pub vacant : (slot : ℕ) → slice_index_or slots slot None ≡ None → slice_index_or nexts slot first < 2 ^ 32
     pub rising : (slot : ℕ) → first ≤ slice_index_or nexts slot first
     pub narrow : (slot : ℕ) → slice_index_or nexts slot first ≤ 2 ^ 32
     -- a slot with a node gave a key
-    pub begun : (slot : ℕ) → IsSome (slice_index_or (map row_in slots) slot None) → first < slice_index_or nexts slot first
+    pub begun : (slot : ℕ) → IsSome (slice_index_or (rows_of slots (given_count first nexts)) slot None) → first < slice_index_or nexts slot first
     pub forest : IsLinked (parent_at (table_of slots nexts first limit)) (children_at (table_of slots nexts first limit))
+    -- the children of each slot are linked to and fro, from its first to its last
+    pub chained : (slot : ℕ) → IsRun (next_in slots) (prev_in slots) None (first_in slots slot)
+        (run_in slots (given_count first nexts) slot) (last_in slots slot)
 
-  -- the entry at this slot was changed, as f changes its row
-  pub record Edits (old new : Slab (Slot N)) (slot : ℕ) (f : Row N → Row N) : Type 0 where
+  -- the entry at this slot was changed by f
+  pub record Edits (old new : Slab (Slot N)) (slot : ℕ) (f : Entry N → Entry N) : Type 0 where
     pub before : Entry N
-    pub after : Entry N
     pub was : get old slot ≡ Some (Taken before)
-    pub becomes : new ≡ with_value old slot (Taken after)
-    pub row : row_of after ≡ f (row_of before)
+    pub becomes : new ≡ with_value old slot (Taken (f before))
+
+  -- the entry with another link
+  abbrev pub with_first : Option NodeKey → Entry N → Entry N
+  with_first link e = record e { first = link }
+
+  abbrev pub with_last : Option NodeKey → Entry N → Entry N
+  with_last link e = record e { last = link }
+
+  abbrev pub with_prev : Option NodeKey → Entry N → Entry N
+  with_prev link e = record e { prev = link }
+
+  abbrev pub with_next : Option NodeKey → Entry N → Entry N
+  with_next link e = record e { next = link }
+
+  -- the entry without a parent and neighbours
+  abbrev pub loosened : Entry N → Entry N
+  loosened e = record e { parent = None; prev = None; next = None }
 
   -- what f at a slot does to the row at slot i
   abbrev pub at_slot : Option NodeKey → (Row N → Row N) → ℕ → Row N → Row N
   at_slot None f i row = row
   at_slot (Some key) f i row = if key.slot == i then f row else row
 
-  -- the same slots are taken, and the row of the parent is as f makes it
-  pub record EditsParent (old new : Slab (Slot N)) (parent : Option NodeKey) (f : Row N → Row N) : Type 0 where
+  -- the row of the parent is as f makes it
+  abbrev pub EditsRows : List (Option (Row N)) → List (Option (Row N)) → Option NodeKey → (Row N → Row N) → Type 0
+  EditsRows old new parent f =
+      (i : ℕ) → slice_index_or new i None ≡ option_map (at_slot parent f i) (slice_index_or old i None)
+
+  -- no slot but this was taken or left, and it has what f makes of the entry; no other has another node or parent
+  pub record Relinks (old new : Slab (Slot N)) (f : ℕ → Row N → Row N) : Type 0 where
     pub vacant_key : new.vacant_key ≡ old.vacant_key
     pub capacity : new.capacity ≡ old.capacity
     pub kinds : (i : ℕ) → is_some (get new i) ≡ is_some (get old i)
-    pub rows : (i : ℕ) → row_in (get new i) ≡ option_map (at_slot parent f i) (row_in (get old i))
+    pub cores : (i : ℕ) → option_map core_of (entry_in (get new i)) ≡ option_map (f i) (option_map core_of (entry_in (get old i)))
+
+  -- the key follows the last child of the parent, if there is a parent
+  pub record LinksLast (old new : Slab (Slot N)) (parent : Option NodeKey) (key : NodeKey) (last : Option NodeKey) : Type 0 where
+    pub kept : Relinks old new (λ i row. row)
+    pub firsts : (i : ℕ) → first_in new.slots i ≡ at_key (unless last parent) (Some key) i (first_in old.slots i)
+    pub lasts : (i : ℕ) → last_in new.slots i ≡ at_key parent (Some key) i (last_in old.slots i)
+    pub prevs : (i : ℕ) → prev_in new.slots i ≡ prev_in old.slots i
+    pub nexts : (i : ℕ) → next_in new.slots i ≡ at_key last (Some key) i (next_in old.slots i)
+
+  -- the neighbours of a child are linked to one another, or to the parent
+  pub record Joins (old new : Slab (Slot N)) (parent : NodeKey) (prev next : Option NodeKey) : Type 0 where
+    pub kept : Relinks old new (λ i row. row)
+    pub firsts : (i : ℕ) → first_in new.slots i ≡ at_key (unless prev (Some parent)) next i (first_in old.slots i)
+    pub lasts : (i : ℕ) → last_in new.slots i ≡ at_key (unless next (Some parent)) prev i (last_in old.slots i)
+    pub prevs : (i : ℕ) → prev_in new.slots i ≡ at_key next prev i (prev_in old.slots i)
+    pub nexts : (i : ℕ) → next_in new.slots i ≡ at_key prev next i (next_in old.slots i)
 
 -- the slot's number is one more, and no other
 pub record Bumped (old new : List ℕ) (first slot : ℕ) : Type 0 where

@@ -1,16 +1,16 @@
 //! The table of nodes: births, cuts, removals, and what they leave to read.
-ghost use Rattle.std.specs.Prelude.{◌≡◌, ◌↔◌, [], false, None, IsTrue, IsSome, IfSome, IfOk, IfErr, OnErr, IsErrAnd, is_some, ◌==◌, option_copied, option_map};
+ghost use Rattle.std.specs.Prelude.{◌≡◌, ◌↔◌, ◌+◌, ◌≤◌, [], false, None, IsTrue, IsSome, IfSome, IsOk, IfOk, IfErr, OnOk, OnErr, IsErrAnd, ◌++◌, is_some, ◌==◌, length, option_copied, option_map, vec_len, vec_capacity};
 ghost use Rattle.std.specs.Option.{option_copied_mut};
 ghost use Rattle.std.specs.Borrow.{sem};
 ghost use Rattle.sm_names.specs.declared.keys.NodeKey.{NodeKey as Key};
 ghost use Rattle.node_table.specs.Table.{empty_table, row_at, node_at, parent_at, children_at, was_given, table_len};
 ghost use Rattle.node_table.specs.Changes.{Births, Cuts, Removes, Writes};
-ghost use Rattle.node_table.specs.Forest.{IsForest};
-ghost use Rattle.node_table.specs.Sound.{row_of};
+ghost use Rattle.node_table.specs.Forest.{IsForest, first_key, next_key, siblings_at};
+ghost use Rattle.node_table.specs.Sound.{link_in};
 
 use crate::fault::TableFault;
 use crate::generations::{bump, next_of, reserve_to};
-use crate::slot::{Entry, Slot, link, take_entry, take_parent, unlink};
+use crate::slot::{Entry, Slot, join, last_below, link, loosen, take_entry};
 use slab::Slab;
 use sm_names::{NoMemory, NodeKey};
 use std::alloc::Global;
@@ -20,8 +20,8 @@ use std::marker::Model;
 ///
 /// A key is a slot and a generation. A slot that comes back gives the next generation, and one
 /// that gave generation 4,294,967,295 is retired: it stays taken and gives no key again.
-/// Each node has the list of its children by birth, so a call touches a node, its parent and the
-/// parent's list, and none walks the table.
+/// Each node has its parent, its first and last child, and its neighbours among its siblings by
+/// birth, so a call that changes a link touches those alone, and none walks the table.
 #[derive(Drop)]
 pub struct NodeTable<N> {
     slots: Slab<Slot<N>>,
@@ -138,27 +138,59 @@ impl<N> NodeTable<N> {
         }
     }
 
-    /// The children of `key` by birth, none if it is not there, lent without a copy. It costs a
-    /// constant.
-    pub fn child_list(&self, key: NodeKey) -> &[NodeKey]
-        ensures value { result.now ≡ children_at self.now key }
+    /// The first-born child of `key`, or `None` if it has none or is not there. It costs a constant.
+    pub fn first_child(&self, key: NodeKey) -> Option<NodeKey>
+        ensures value { result ≡ first_key (children_at self.now key) }
         ensures forest { IsForest self.now }
     {
         match self.entry(key) {
-            Some(entry) => entry.children.as_slice(),
-            None => &[],
+            Some(entry) => entry.first,
+            None => None,
         }
     }
 
-    /// A copy of `child_list`, which costs its length. Where that gets no memory, it answers
-    /// `NoMemory`.
+    /// The child of the same parent that was born next after `key`, or `None` if there is none or
+    /// `key` is not there. It costs a constant.
+    pub fn next_sibling(&self, key: NodeKey) -> Option<NodeKey>
+        ensures value { result ≡ next_key key (siblings_at self.now key) }
+        ensures forest { IsForest self.now }
+    {
+        match self.entry(key) {
+            Some(entry) if entry.parent.is_some() => entry.next,
+            _ => None,
+        }
+    }
+
+    /// Appends the children of `key` by birth to this list, which costs their number. `NoMemory`
+    /// comes only where the list had too little room and was refused more; it is then as it was.
+    pub fn append_children(&self, key: NodeKey, keys: &mut Vec<NodeKey>) -> Result<(), NoMemory>
+        ensures ok { OnOk result (keys.new.items ≡ keys.old.items ++ children_at self.now key) }
+        ensures err { OnErr result (keys.new.items ≡ keys.old.items) }
+        ensures room { vec_len keys.old + length (children_at self.now key) ≤ vec_capacity keys.old
+            → IsOk result }
+        ensures capacity { vec_capacity keys.old ≤ vec_capacity keys.new }
+        ensures forest { IsForest self.now }
+    {
+        let before = keys.len();
+        let mut at = self.first_child(key);
+        'children: while let Some(child) = at {
+            if keys.push(child).is_err() {
+                keys.truncate(before);
+                return Err(NoMemory);
+            }
+            at = self.next_sibling(child);
+        }
+        Ok(())
+    }
+
+    /// The children of `key` by birth, none if it is not there, which costs their number. Where
+    /// that gets no memory, it answers `NoMemory`.
     pub fn children(&self, key: NodeKey) -> Result<Vec<NodeKey>, NoMemory>
         ensures { IfOk result (λ keys. keys.items ≡ children_at self.now key) }
     {
-        match self.child_list(key).to_vec(*self.nexts.allocator()) {
-            Ok(keys) => Ok(keys),
-            Err(_) => Err(NoMemory),
-        }
+        let mut keys = Vec::new(*self.nexts.allocator());
+        self.append_children(key, &mut keys)?;
+        Ok(keys)
     }
 
     /// Stores `node` under a key that was never given, as the last child of `parent` or as a root.
@@ -189,15 +221,15 @@ impl<N> NodeTable<N> {
             slot: slot as u32,
             generation: next as u32,
         };
-        match link(&mut self.slots, parent, key) {
-            Ok(()) => {}
-            Err(_) => return Err((node, TableFault::NoMemory)),
-        }
+        let last = last_below(&self.slots, parent);
+        link(&mut self.slots, parent, last, key);
         bump(&mut self.nexts, slot, self.first);
-        let children = Vec::new(*self.nexts.allocator());
         self.slots.insert_reserved(Slot::Taken(Entry {
             parent,
-            children,
+            first: None,
+            last: None,
+            prev: last,
+            next: None,
             node,
         }));
         self.count += 1;
@@ -207,14 +239,16 @@ impl<N> NodeTable<N> {
     /// Takes `key` out of its parent's children, so that it has no parent. It stays there with its
     /// node and its children, and no other link changes. A key without a parent stays as it is.
     ///
-    /// It takes no memory. It costs at most the number of the parent's children, and a constant for
-    /// the last-born: cut or remove the children of one parent from the last to the first.
+    /// It takes no memory, and costs a constant, however many siblings there are.
     pub fn cut(&mut self, key: NodeKey)
         requires { IsSome (row_at self.old key) }
         ensures { Cuts self.old self.new key }
     {
-        let parent = take_parent(&mut self.slots, key.slot as usize);
-        unlink(&mut self.slots, parent, key);
+        let place = loosen(&mut self.slots, key.slot as usize);
+        match place.parent {
+            Some(above) => join(&mut self.slots, above, place.prev, place.next),
+            None => {}
+        }
     }
 
     /// Takes a node without children out of the table and of its parent's children. Its key is never
@@ -230,17 +264,16 @@ impl<N> NodeTable<N> {
         let is_last = key.generation == u32::MAX;
         let entry = take_entry(&mut self.slots, key.slot as usize, is_last);
         self.count -= 1;
-        let Entry {
-            parent: _,
-            children: _,
-            node,
-        } = entry;
-        node
+        entry.node
     }
 
     // The entry of a key that is there.
     fn entry(&self, key: NodeKey) -> Option<&Entry<N>>
-        ensures row { option_map row_of (option_copied result) ≡ row_at self.now key }
+        ensures there { is_some (option_copied result) ≡ is_some (row_at self.now key) }
+        ensures node { option_map (λ e. e.node) (option_copied result) ≡ node_at self.now key }
+        ensures parent { link_in (λ e. e.parent) (option_copied result) ≡ parent_at self.now key }
+        ensures first { link_in (λ e. e.first) (option_copied result) ≡ first_key (children_at self.now key) }
+        ensures next { IsSome (parent_at self.now key) → link_in (λ e. e.next) (option_copied result) ≡ next_key key (siblings_at self.now key) }
         ensures forest { IsForest self.now }
     {
         let next = next_of(self.nexts.as_slice(), key.slot as usize, self.first);
@@ -255,7 +288,7 @@ impl<N> NodeTable<N> {
 }
 
 impl<N: Copy> NodeTable<N> {
-    /// A table with the same nodes, links and given keys. It costs the number of slots and links.
+    /// A table with the same nodes, links and given keys. It costs the number of slots.
     /// Where it gets no memory, it answers `NoMemory`.
     pub fn copy(&self) -> Result<Self, NoMemory>
         ensures { IfOk result (λ table. table ≡ self.now) }

@@ -24,11 +24,42 @@ fn put(
     }
 }
 
+// The children of a key, met one after the other.
+fn listed(table: &NodeTable<u8>, key: NodeKey) -> Result<Vec<NodeKey>, Fail> {
+    match table.children(key) {
+        Ok(keys) => Ok(keys),
+        Err(_) => Err(Fail::from("no list")),
+    }
+}
+
 // Removes a key that is there and has no children.
 fn take(rt: &impl Abort, table: &mut NodeTable<u8>, key: NodeKey) -> u8 {
     assert!(rt; table.contains(key));
-    assert!(rt; table.child_list(key).is_empty());
+    assert!(rt; table.first_child(key).is_none());
     table.remove(key)
+}
+
+// Bears a child of the root, and notes it as the last of them.
+fn bear(
+    rt: &impl Abort,
+    table: &mut NodeTable<u8>,
+    root: NodeKey,
+    children: &mut Vec<NodeKey>,
+) -> Result<(), Fail> {
+    let key = put(rt, table, Some(root), 1)?;
+    match children.push(key) {
+        Ok(()) => Ok(()),
+        Err(_) => Err(Fail::from("no list")),
+    }
+}
+
+// Cuts the child that was noted at this place, and takes it off the list.
+fn cut_at(rt: &impl Abort, table: &mut NodeTable<u8>, children: &mut Vec<NodeKey>, place: usize) {
+    assert!(rt; place < children.len());
+    let key = children.remove(place);
+    assert!(rt; table.contains(key));
+    table.cut(key);
+    assert_eq!(rt; (table.parent(key), table.next_sibling(key)), (None, None));
 }
 
 #[test]
@@ -46,7 +77,7 @@ fn a_cut_node_stays_and_so_in_a_copy(rt: HostRuntime) -> Result<(), Fail> {
     let root = put(&rt, &mut table, None, 1)?;
     let child = put(&rt, &mut table, Some(root), 2)?;
     let below = put(&rt, &mut table, Some(child), 3)?;
-    assert_eq!(rt; table.child_list(root), [child].as_slice());
+    assert_eq!(rt; listed(&table, root)?.as_slice(), [child].as_slice());
     assert!(rt; table.contains(child));
     table.cut(child);
     if let Some(node) = table.get_mut(child) {
@@ -56,7 +87,7 @@ fn a_cut_node_stays_and_so_in_a_copy(rt: HostRuntime) -> Result<(), Fail> {
         return Err(Fail::from("no copy"));
     };
     for seen in [&table, &copy] {
-        assert!(rt; seen.child_list(root).is_empty());
+        assert!(rt; seen.first_child(root).is_none());
         assert_eq!(rt;
             (seen.parent(child), seen.get(child).copied()),
             (None, Some(42))
@@ -77,12 +108,51 @@ fn children_stand_by_birth_whoever_leaves(rt: HostRuntime) -> Result<(), Fail> {
     let first = put(&rt, &mut table, Some(root), 1)?;
     let second = put(&rt, &mut table, Some(root), 2)?;
     let third = put(&rt, &mut table, Some(root), 3)?;
-    assert_eq!(rt; table.child_list(root), [first, second, third].as_slice());
+    assert_eq!(rt;
+        listed(&table, root)?.as_slice(),
+        [first, second, third].as_slice()
+    );
+    assert_eq!(rt; table.first_child(root), Some(first));
+    assert_eq!(rt; table.next_sibling(first), Some(second));
+    assert_eq!(rt;
+        (table.next_sibling(third), table.next_sibling(root)),
+        (None, None)
+    );
     assert_eq!(rt; take(&rt, &mut table, second), 2);
-    assert_eq!(rt; table.child_list(root), [first, third].as_slice());
+    assert_eq!(rt; listed(&table, root)?.as_slice(), [first, third].as_slice());
     assert_eq!(rt; take(&rt, &mut table, first), 1);
     assert_eq!(rt; take(&rt, &mut table, third), 3);
-    assert!(rt; table.child_list(root).is_empty());
+    assert!(rt; table.first_child(root).is_none());
+    Ok(())
+}
+
+#[test]
+fn a_thousand_children_stand_by_birth_whoever_is_cut(rt: HostRuntime) -> Result<(), Fail> {
+    let mut table = NodeTable::new(rt.alloc(), 2_000);
+    let root = put(&rt, &mut table, None, 0)?;
+    let mut children = Vec::new(rt.alloc());
+    for _ in 0..1_000 {
+        bear(&rt, &mut table, root, &mut children)?;
+    }
+    assert_eq!(rt; listed(&table, root)?.as_slice(), children.as_slice());
+    for _ in 0..300 {
+        cut_at(&rt, &mut table, &mut children, 0);
+        let last = children.len().saturating_sub(1);
+        cut_at(&rt, &mut table, &mut children, last);
+        let middle = children.len() / 2;
+        cut_at(&rt, &mut table, &mut children, middle);
+        bear(&rt, &mut table, root, &mut children)?;
+        assert_eq!(rt; listed(&table, root)?.as_slice(), children.as_slice());
+    }
+    for left in 0..400 {
+        assert_eq!(rt; children.len(), 400 - left);
+        cut_at(&rt, &mut table, &mut children, 0);
+        assert_eq!(rt; table.first_child(root), children.first().copied());
+    }
+    assert!(rt; table.first_child(root).is_none());
+    assert_eq!(rt; table.len(), 1_301);
+    bear(&rt, &mut table, root, &mut children)?;
+    assert_eq!(rt; listed(&table, root)?.as_slice(), children.as_slice());
     Ok(())
 }
 
@@ -105,7 +175,10 @@ fn a_slot_at_its_last_generation_stays_taken(rt: HostRuntime) -> Result<(), Fail
     take(&rt, &mut table, first);
     let second = put(&rt, &mut table, None, 2)?;
     assert_eq!(rt; second.slot, first.slot);
-    assert_eq!(rt; second.generation, 4_294_967_295);
+    assert_eq!(rt;
+        (first.generation, second.generation),
+        (4_294_967_294, 4_294_967_295)
+    );
     take(&rt, &mut table, second);
     let third = put(&rt, &mut table, None, 3)?;
     assert!(rt; third.slot != first.slot);

@@ -9,7 +9,7 @@ use Rattle.failure_domains.proofs.walks.fall.Goals as goal
 pub overflow_add-result : goal.overflow_add-result
 overflow_add-result g c =
     let climb = c.climb-steps in
-    let walk = c.in-Ok in
+    let walk = c.in_ok-below in
     let short : climb.result.1 < length walk.below.keys.items =
     climb_is_short g.N.Link.blocks c.args.table.now walk.ensures.forest c.args.origin
     climb.result.0 climb.result.1 climb.ensures.path walk.below.keys.items walk.ensures.keys in
@@ -19,7 +19,7 @@ overflow_add-result g c =
 pub returns-clause-keys : goal.returns-clause-keys
 returns-clause-keys g c =
     let climb = c.climb-steps in
-    let walk = c.in-Ok in
+    let walk = c.in_ok-below in
     keys_are_taken g.N.Link.blocks c.args.table.now walk.ensures.forest c.args.origin
     climb.result.0 climb.result.1 climb.ensures.path walk.below.keys.items walk.ensures.keys climb.ensures.top
 
@@ -28,7 +28,7 @@ pub returns-clause-visits : goal.returns-clause-visits
 returns-clause-visits g c =
     let t = c.args.table.now in
     let climb = c.climb-steps in
-    let walk = c.in-Ok in
+    let walk = c.in_ok-below in
     let links : links_climbed g.N.Link.blocks t c.args.origin
     ≡ climb.result.1 + links_climbed g.N.Link.blocks t climb.result.0 =
     climb_links g.N.Link.blocks t walk.ensures.forest c.args.origin climb.result.0 climb.result.1 climb.ensures.path in
@@ -42,5 +42,5 @@ returns-clause-few_visits g c =
     let t = c.args.table.now in
     let visits = returns-clause-visits g c in
     let few : links_climbed g.N.Link.blocks t c.args.origin ≤ depth_at t c.args.origin =
-    links_within-most g.N.Link.blocks t c.in-Ok.ensures.forest (depth_at t c.args.origin) c.args.origin in
+    links_within-most g.N.Link.blocks t c.in_ok-below.ensures.forest (depth_at t c.args.origin) c.args.origin in
     omega (arith, visits)

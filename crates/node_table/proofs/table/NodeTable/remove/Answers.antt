@@ -15,12 +15,12 @@ pub invariant_of-self : goal.invariant_of-self
 invariant_of-self g c =
     sound-removed c.args.self.now c.self.inside.slots c.take_entry-entry.new.slots c.self.inside.nexts.items c.self.inside.first c.self.inside.count c.self.inside.limit c.args.key c.take_entry-entry.result
     c.requires.there c.requires.leaf (subst (λ t. Cuts c.args.self.now t c.args.key) (sym c.self.view_is) c.cut.ensures)
-    c.self.invariant c.take_entry-entry.ensures.was c.take_entry-entry.ensures.row c.take_entry-entry.ensures.others
+    c.self.invariant c.take_entry-entry.ensures.was c.take_entry-entry.ensures.none c.take_entry-entry.ensures.others
     (λ last. c.take_entry-entry.ensures.retired (search rules)) (search rules)
 
 pub returns : goal.returns
 returns g c =
     removes c.args.self.now c.self.inside.slots c.take_entry-entry.new.slots c.self.inside.nexts.items c.self.inside.first c.self.inside.count c.self.inside.limit c.args.key c.take_entry-entry.result
     c.requires.there c.requires.leaf (subst (λ t. Cuts c.args.self.now t c.args.key) (sym c.self.view_is) c.cut.ensures)
-    c.self.invariant c.take_entry-entry.ensures.was c.take_entry-entry.ensures.row c.take_entry-entry.ensures.others
+    c.self.invariant c.take_entry-entry.ensures.was c.take_entry-entry.ensures.none c.take_entry-entry.ensures.others
     (λ last. c.take_entry-entry.ensures.retired (search rules)) (search rules)

@@ -1,0 +1,40 @@
+use Rattle.std.proofs.Common.{◌≡◌, ◌+◌, ◌<◌, [], ◌∷◌, ◌++◌, rules, arith, refl, ap, subst, length, sym, ◌∙◌}
+use Rattle.std.proofs.lemmas.List.{length_push}
+use Rattle.node_table.specs.Table.{children_at}
+use Rattle.node_table.specs.Sound.{Appends}
+use Rattle.node_table.proofs.Listing.{appends-none, appends-more, appends-all, appends-within}
+use Rattle.node_table.proofs.table.NodeTable.append_children.Goals as goal
+
+-- the next child was appended
+pub children-preserved : goal.children-preserved
+children-preserved g c =
+    let pushed : c.push.new.self.items ≡ c.children.keys.items ++ c.in-Some.child ∷ [] = search rules in
+    record {
+      appends = subst (λ items. Appends (children_at c.args.self.now c.args.key) c.args.keys.now.items items c.next_sibling-at.result) (sym pushed)
+          (appends-more c.args.self.now c.children.invariant.forest c.args.key c.args.keys.now.items c.children.keys.items c.children.at c.next_sibling-at.result c.in-Some.child
+          c.children.invariant.appends c.in-Some.is c.next_sibling-at.ensures.value);
+      forest = c.children.invariant.forest;
+      capacity = omega (arith, c.push.ensures.capacity, c.children.invariant.capacity);
+    }
+
+pub children-init : goal.children-init
+children-init g c = record { appends = appends-none (children_at c.args.self.now c.args.key) c.args.keys.now.items c.first_child-at.result c.first_child-at.ensures.value; forest = c.first_child-at.ensures.forest; capacity = omega arith }
+
+pub children-smaller : goal.children-smaller
+children-smaller g c =
+    let pushed : c.push.new.self.items ≡ c.children.keys.items ++ c.in-Some.child ∷ [] = search rules in
+    let size : length c.push.new.self.items ≡ length c.children.keys.items + 1 = ap length pushed ∙ length_push c.children.keys.items c.in-Some.child in
+    let within : length c.children.keys.items < length c.args.keys.now.items + length (children_at c.args.self.now c.args.key) =
+    appends-within (children_at c.args.self.now c.args.key) c.args.keys.now.items c.children.keys.items c.children.at c.in-Some.child c.children.invariant.appends c.in-Some.is in
+    omega (arith, size, within)
+
+-- no child is left
+pub returns : goal.returns
+returns g c =
+    record {
+      ok = appends-all c.args.self.now c.children.invariant.forest c.args.key c.args.keys.now.items c.children.keys.items c.children.at c.children.invariant.appends c.in_default.is;
+      err = tt;
+      room = λ _. refl;
+      capacity = c.children.invariant.capacity;
+      forest = c.children.invariant.forest;
+    }
