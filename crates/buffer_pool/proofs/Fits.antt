@@ -1,11 +1,12 @@
 -- First fit on a list of holes.
-use Rattle.std.proofs.Common.{ℕ, suc, ◌≡◌, ◌+◌, ◌-◌, ◌<◌, ◌≤◌, refl, ap, sym, subst, ◌∙◌, true, false, List, [], ◌∷◌, ◌++◌, length, get_or, set, take, drop, inl, inr, arith, ◌==◌, one-add}
+use Rattle.std.proofs.Common.{ℕ, suc, ◌≡◌, ◌+◌, ◌-◌, ◌/◌, ◌<◌, ◌≤◌, refl, ap, sym, subst, ◌∙◌, true, false, List, [], ◌∷◌, ◌++◌, length, get_or, set, take, drop, inl, inr, arith, ◌==◌, one-add}
 use Rattle.std.specs.List.{remove, prefix_len}
+use Rattle.std.proofs.Math.Nat.{div-eq_of_lt}
 use Rattle.std.proofs.lemmas.Bool.{cases_Bool, ltb-true, ltb-false, eq-eqb, ne_eqb, cases_lt}
-use Rattle.std.proofs.lemmas.List.{set_split}
-use Rattle.std.proofs.lemmas.List.Sums.{prefix_len_passes, prefix_len_stops}
+use Rattle.std.proofs.lemmas.List.{set_split, get_or_default}
+use Rattle.std.proofs.lemmas.List.Sums.{prefix_len_passes, prefix_len_stops, prefix_len-le-length, sum_by-cons}
 use Rattle.sm_names.specs.declared.keys.Interval.{Interval}
-use Rattle.buffer_pool.specs.Fitting.{too_small, first_fit, shortened, taken}
+use Rattle.buffer_pool.specs.Fitting.{too_small, AreSmall, rooms, first_fit, shortened, taken}
 
 -- where the first hole that is not too small lies, and what taking from it makes
 pub record IsFit (pages : ℕ) (hs : List Interval) (at : ℕ) (hole : Interval) : Type 0 where
@@ -52,4 +53,79 @@ search_stops pages at hs d le big =
     elim (cases_lt at (prefix_len (too_small pages) hs)) [
       | inl less ↦ let small : (get_or hs at d).pages < pages = ltb-true _ _ (prefix_len_passes (too_small pages) hs at d less) in absurd (omega arith)
       | inr more ↦ omega arith
+    ]
+
+-- a search that passes many
+pub search_passes_many : (pages at to : ℕ) (hs : List Interval) (d : Interval) → at ≤ prefix_len (too_small pages) hs → at ≤ to → to ≤ length hs → AreSmall pages at to hs → to ≤ prefix_len (too_small pages) hs
+search_passes_many pages at to hs d le up within small =
+    let P : ℕ = prefix_len (too_small pages) hs in
+    elim (cases_lt P to) [
+      | inl less ↦
+          let stops : pages ≤ (get_or hs P d).pages = ltb-false _ _ (prefix_len_stops (too_small pages) hs d (omega arith)) in
+          let passes : (get_or hs P d).pages < pages = small P d le less in absurd (omega arith)
+      | inr more ↦ more
+    ]
+
+-- a search that passes one
+pub search_passes_here : (pages at : ℕ) (hs : List Interval) (d : Interval) → at ≤ prefix_len (too_small pages) hs → at < length hs → (get_or hs at d).pages < pages → at + 1 ≤ prefix_len (too_small pages) hs
+search_passes_here pages at hs d le within small =
+    search_passes_many pages at (at + 1) hs d le (omega arith) (omega arith)
+    (λ k e from to. let same : k ≡ at = omega arith in rw same (subst (λ (h : Interval). h.pages < pages) (get_or_default hs at d e within) small))
+
+-- a search that ends at a hole that is not too small, or behind them all
+pub search_ends_all : (pages at : ℕ) (hs : List Interval) → at ≤ prefix_len (too_small pages) hs → length hs ≤ at → at ≡ prefix_len (too_small pages) hs
+search_ends_all pages at hs le more = omega (arith, prefix_len-le-length (too_small pages) hs)
+
+-- a search in two parts, one after the other, ends in the first
+pub search_front : (pages : ℕ) (hs ks : List Interval) → prefix_len (too_small pages) hs < length hs → prefix_len (too_small pages) (hs ++ ks) ≡ prefix_len (too_small pages) hs
+search_front pages [] ks lt = absurd (omega arith)
+search_front pages (h ∷ hs) ks lt =
+    elim (cases_Bool (too_small pages h)) [
+      | inl y ↦
+          let within : 1 + prefix_len (too_small pages) hs < length (h ∷ hs) = rw y at lt in
+          let r : prefix_len (too_small pages) (hs ++ ks) ≡ prefix_len (too_small pages) hs = search_front pages hs ks (omega arith) in
+          rw y (omega arith)
+      | inr n ↦ rw n refl
+    ]
+
+-- or in the second
+pub search_back : (pages : ℕ) (hs ks : List Interval) → length hs ≤ prefix_len (too_small pages) hs → prefix_len (too_small pages) (hs ++ ks) ≡ length hs + prefix_len (too_small pages) ks
+search_back pages [] ks le = omega arith
+search_back pages (h ∷ hs) ks le =
+    elim (cases_Bool (too_small pages h)) [
+      | inl y ↦
+          let within : length (h ∷ hs) ≤ 1 + prefix_len (too_small pages) hs = rw y at le in
+          let r : prefix_len (too_small pages) (hs ++ ks) ≡ length hs + prefix_len (too_small pages) ks = search_back pages hs ks (omega arith) in
+          rw y (omega arith)
+      | inr n ↦ let none : length (h ∷ hs) ≤ 0 = rw n at le in absurd (omega arith)
+    ]
+
+-- where it goes on in either part
+pub search_from_front : (pages from : ℕ) (hs ks : List Interval) → from ≤ prefix_len (too_small pages) (hs ++ ks) → from < length hs → from ≤ prefix_len (too_small pages) hs
+search_from_front pages from hs ks le lt =
+    elim (cases_lt (prefix_len (too_small pages) hs) (length hs)) [
+      | inl less ↦ omega (arith, search_front pages hs ks less)
+      | inr more ↦ omega arith
+    ]
+
+pub search_from_back : (pages from : ℕ) (hs ks : List Interval) → from ≤ prefix_len (too_small pages) (hs ++ ks) → length hs ≤ from → (from - length hs ≤ prefix_len (too_small pages) ks) × (length hs ≤ prefix_len (too_small pages) hs)
+search_from_back pages from hs ks le past =
+    elim (cases_lt (prefix_len (too_small pages) hs) (length hs)) [
+      | inl less ↦ let same = search_front pages hs ks less in absurd (omega arith)
+      | inr more ↦ (omega (arith, search_back pages hs ks more), more)
+    ]
+
+-- holes that are too small have no room
+pub rooms-small : (pages : ℕ) (hs : List Interval) → 1 ≤ pages → rooms pages (take (prefix_len (too_small pages) hs) hs) ≡ 0
+rooms-small pages [] one = refl
+rooms-small pages (h ∷ hs) one =
+    elim (cases_Bool (too_small pages h)) [
+      | inl y ↦
+          let few : h.pages < pages = ltb-true _ _ y in
+          let none : h.pages / pages ≡ 0 = div-eq_of_lt few in
+          let n : ℕ = prefix_len (too_small pages) hs in
+          let r : rooms pages (take n hs) ≡ 0 = rooms-small pages hs one in
+          let sum : rooms pages (h ∷ take n hs) ≡ h.pages / pages + rooms pages (take n hs) = sum_by-cons (λ (x : Interval). x.pages / pages) h (take n hs) in
+          rw (y, one-add) (omega arith)
+      | inr n ↦ rw n refl
     ]

@@ -7,7 +7,9 @@ mod Gaps
 mod Greatest
 mod Keeping
 mod Least
+mod Moves
 mod Orders
 mod Placing
+mod Searches
 mod Sounds
 mod Spaces

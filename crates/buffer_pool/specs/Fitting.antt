@@ -1,11 +1,15 @@
 -- First fit on a list of holes.
-use Rattle.std.specs.Prelude.{ℕ, zero, suc, ◌+◌, ◌-◌, ◌/◌, nat_lt, Bool, ◌==◌, List, [], ◌∷◌, if◌then◌else◌}
+use Rattle.std.specs.Prelude.{ℕ, zero, suc, ◌+◌, ◌-◌, ◌/◌, ◌<◌, ◌≤◌, get_or, nat_lt, Bool, ◌==◌, List, [], ◌∷◌, if◌then◌else◌}
 use Rattle.std.specs.List.{prefix_len, sum_by}
 use Rattle.sm_names.specs.declared.keys.Interval.{Interval}
 
 -- the hole has fewer pages
 abbrev pub too_small : ℕ → Interval → Bool
 too_small pages hole = nat_lt hole.pages pages
+
+-- the holes from one place up to another are too small
+abbrev pub AreSmall : ℕ → ℕ → ℕ → List Interval → Type 0
+AreSmall pages from to holes = (k : ℕ) (d : Interval) → from ≤ k → k < to → (get_or holes k d).pages < pages
 
 -- how many buffers of so many pages the holes have room for
 abbrev pub rooms : ℕ → List Interval → ℕ

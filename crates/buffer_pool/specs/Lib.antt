@@ -4,3 +4,4 @@ pub mod Holes
 pub mod Looks
 pub mod Merging
 pub mod Placing
+pub mod Rows

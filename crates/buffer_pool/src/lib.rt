@@ -6,6 +6,7 @@ mod holes;
 pub mod laws;
 pub mod pages;
 pub mod placement;
+mod row;
 #[cfg(test)]
 mod tests;
 

@@ -1,8 +1,9 @@
 //! The pool.
 ghost use Rattle.std.specs.Prelude.{◌≡◌, ◌+◌, ◌<◌, ◌≤◌, ◌↔◌, [], length, vec_capacity, ◌^◌, IfOk, OnErr, OnOk, None, Err, All, Contains};
+ghost use Rattle.std.specs.List.{prefix_len};
 ghost use Rattle.std.specs.List.Sorted.{IsNonDecreasingBy};
 ghost use Rattle.sm_names.specs.Pages.{places};
-ghost use Rattle.buffer_pool.specs.Fitting.{rooms, starts_in, left_in, looks_in};
+ghost use Rattle.buffer_pool.specs.Fitting.{too_small, rooms, starts_in, left_in, looks_in};
 ghost use Rattle.buffer_pool.specs.Holdings.{IsSound, pages_in, with_buffers, without};
 ghost use Rattle.buffer_pool.specs.Holes.{end_of};
 ghost use Rattle.buffer_pool.specs.Placing.{PlacesBuffers};
@@ -10,6 +11,7 @@ ghost use Rattle.buffer_pool.specs.Placing.{PlacesBuffers};
 use crate::holding::{hold, let_go};
 use crate::holes::{has_rooms, next_fit, release, take_front};
 use crate::placement::{Placed, PoolFault};
+use crate::row::Row;
 use sm_names::{Interval, NoMemory};
 use std::alloc::{AllocError, Global};
 use std::marker::Model;
@@ -24,13 +26,12 @@ pub struct Pool {
     free: u32,
     // By page, with capacity for as many as there are held intervals, so that none is refused
     // its place when pages come back.
-    holes: Vec<Interval>,
+    holes: Row,
     // By page.
-    held: Vec<Interval>,
+    held: Row,
 }
 
 impl Model for Pool {
-    ghost use Rattle.std.specs.Prelude.{vec_capacity};
     ghost use Rattle.buffer_pool.specs.Holdings.{Holdings, IsKept};
 
     ghost Value = { Holdings };
@@ -38,7 +39,7 @@ impl Model for Pool {
     ghost view = { λ p. record { size = p.size; held = p.held.items } };
 
     ghost invariant = { λ p.
-        IsKept p.size p.free p.holes.items p.held.items (vec_capacity p.holes) };
+        IsKept p.size p.free p.holes.items p.held.items p.holes.capacity };
 }
 
 impl Pool {
@@ -49,13 +50,12 @@ impl Pool {
         requires { (1 ≤ pages) × (pages ≤ MAX_PAGES) }
         ensures ok { IfOk result (λ pool. pool ≡ record { size = pages; held = [] }) }
     {
-        let mut holes = Vec::new(alloc);
-        match holes.push(Interval { start: 0, pages }) {
-            Ok(()) => Ok(Pool {
+        match Row::of_one(alloc, Interval { start: 0, pages }) {
+            Ok(holes) => Ok(Pool {
                 size: pages,
                 free: pages,
                 holes,
-                held: Vec::new(alloc),
+                held: Row::new(alloc),
             }),
             Err(_) => Err(NoMemory),
         }
@@ -67,9 +67,10 @@ impl Pool {
     /// `PoolFull` where some buffer has no such start, and `NoMemory` where a growth is refused.
     /// Either leaves the pool as it was.
     ///
-    /// It costs two walks over the holes up to the last start, or over all where the pool is full,
-    /// and for each buffer a binary search and a shift of the held intervals behind it. A hole that
-    /// is filled costs a shift of the holes behind it.
+    /// It costs one walk over the holes up to the first start, two from there up to the last, or to
+    /// the end where the pool is full, and for each buffer a binary search. In either list a change
+    /// moves what lies between it and the change before it, so that the buffers of one call move
+    /// all that they pass once.
     pub fn place(&mut self, count: u32, pages_each: u32) -> Result<Placed, PoolFault>
         requires { (1 ≤ count) × (1 ≤ pages_each) }
 
@@ -82,12 +83,20 @@ impl Pool {
             ↔ (places self.old.size pages_each count self.old.held ≡ None) }
         ensures sound { IsSound self.new }
     {
-        if !has_rooms(&self.holes, count, pages_each) {
+        let first = next_fit(&self.holes, 0, pages_each);
+        if !has_rooms(&self.holes, first, count, pages_each) {
             return Err(PoolFault::PoolFull);
         }
         match reserve(&mut self.holes, &mut self.held, count) {
             Ok(starts) => {
-                let placed = fill(&mut self.holes, &mut self.held, starts, count, pages_each);
+                let placed = fill(
+                    &mut self.holes,
+                    &mut self.held,
+                    starts,
+                    first,
+                    count,
+                    pages_each,
+                );
                 self.free -= count * pages_each;
                 Ok(placed)
             }
@@ -98,8 +107,8 @@ impl Pool {
     /// Takes back the pages of a held interval, and leaves all others as they are. The pages form
     /// one hole with the holes that they touch.
     ///
-    /// It takes no memory, and costs a binary search and at most one shift in each of two lists:
-    /// the held intervals and the holes.
+    /// It takes no memory, and costs a binary search in each of two lists, the held intervals and
+    /// the holes, and a move of what lies between this change and the one before it.
     pub fn give_back(&mut self, start: u32, pages: u32)
         requires { Contains self.old.held (record { start = start; pages = pages }) }
         ensures held { self.new ≡ record self.old { held = without start self.old.held } }
@@ -118,7 +127,7 @@ impl Pool {
         ensures ok { IfOk result (λ held. held.items ≡ self.now.held) }
         ensures sound { IsSound self.now }
     {
-        match self.held.clone() {
+        match self.held.to_vec() {
             Ok(held) => Ok(held),
             Err(_) => Err(NoMemory),
         }
@@ -135,41 +144,40 @@ impl Pool {
 
 // Makes room for `count` more buffers: for their starts, among the held intervals, and for the
 // holes that they can leave.
-fn reserve(
-    holes: &mut Vec<Interval>,
-    held: &mut Vec<Interval>,
-    count: u32,
-) -> Result<Vec<u32>, AllocError>
+fn reserve(holes: &mut Row, held: &mut Row, count: u32) -> Result<Vec<u32>, AllocError>
     ensures holes { holes.new.items ≡ holes.old.items }
     ensures held { held.new.items ≡ held.old.items }
-    ensures kept { vec_capacity holes.old ≤ vec_capacity holes.new }
+    ensures kept { holes.old.capacity ≤ holes.new.capacity }
     ensures starts { IfOk result (λ starts. starts.items ≡ []) }
     ensures starts_room { IfOk result (λ starts. count ≤ vec_capacity starts) }
-    ensures held_room { OnOk result (length held.new.items + count ≤ vec_capacity held.new) }
-    ensures holes_room { OnOk result (length held.new.items + count ≤ vec_capacity holes.new) }
+    ensures held_room { OnOk result (length held.new.items + count ≤ held.new.capacity) }
+    ensures holes_room { OnOk result (length held.new.items + count ≤ holes.new.capacity) }
 {
     let more = count as usize;
-    let starts = Vec::with_capacity(*held.allocator(), more)?;
-    held.reserve(more)?;
-    holes.reserve((held.len() + more).saturating_sub(holes.len()))?;
+    let starts = Vec::with_capacity(held.allocator(), more)?;
+    let most = held.len() + more;
+    held.reserve(most)?;
+    holes.reserve(most)?;
     Ok(starts)
 }
 
 // Places buffers that all have room, and counts the looks. As the buffers are of one size, a hole
 // that was too small for one is too small for those after it, so the search goes on where it was.
 fn fill(
-    holes: &mut Vec<Interval>,
-    held: &mut Vec<Interval>,
+    holes: &mut Row,
+    held: &mut Row,
     mut starts: Vec<u32>,
+    first: usize,
     count: u32,
     pages_each: u32,
 ) -> Placed
     requires pages { 1 ≤ pages_each }
     requires rooms { count ≤ rooms pages_each holes.old.items }
+    requires first { first ≤ prefix_len (too_small pages_each) holes.old.items }
     requires fits { All (λ h. end_of h < 2 ^ 32) holes.old.items }
     requires few { length holes.old.items ≤ 2 ^ 20 }
     requires up { IsNonDecreasingBy (λ i. i.start) held.old.items }
-    requires held_room { length held.old.items + count ≤ vec_capacity held.old }
+    requires held_room { length held.old.items + count ≤ held.old.capacity }
     requires empty { starts.items ≡ [] }
     requires starts_room { count ≤ vec_capacity starts }
     ensures starts { result.starts.items ≡ starts_in pages_each count holes.old.items }
@@ -177,9 +185,9 @@ fn fill(
     ensures holes { holes.new.items ≡ left_in pages_each count holes.old.items }
     ensures held { held.new.items
         ≡ with_buffers pages_each (starts_in pages_each count holes.old.items) held.old.items }
-    ensures capacity { vec_capacity holes.new ≡ vec_capacity holes.old }
+    ensures capacity { holes.new.capacity ≡ holes.old.capacity }
 {
-    let mut at = 0;
+    let mut at = first;
     let mut looks = 0;
     let mut left = count;
     while left > 0 {

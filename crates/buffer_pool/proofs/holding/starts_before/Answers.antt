@@ -1,14 +1,13 @@
--- The test of starts is partitioned, since the starts rise.
-use Rattle.std.proofs.lemmas.List.Sorted.{IsPartitionedBy-ltb, IsPartitionPoint-from_clause}
-use Rattle.std.proofs.Common.{rules, nat_lt}
+-- The starts rise, so what is before a smaller one is smaller.
+use Rattle.std.proofs.Common.{arith}
 use Rattle.sm_names.specs.declared.keys.Interval.{Interval}
-use Rattle.buffer_pool.proofs.Fronts.{prefix_len-partition}
+use Rattle.buffer_pool.proofs.Searches.{search_upper, search_ends}
 use Rattle.buffer_pool.proofs.holding.starts_before.Goals as goal
 
+pub loop-low-preserved-then-get-page : goal.loop-low-preserved-then-get-page
+loop-low-preserved-then-get-page c =
+    search_upper (λ (i : Interval). i.start) c.args.page c.loop-low.low c.loop-low.high _ c.args.held.now.items c.get.result c.requires
+    (omega arith) (omega (arith, c.loop-low-test.true)) c.get.ensures c.if-get-page.true c.loop-low.invariant
+
 pub returns : goal.returns
-returns c =
-    let p = λ (i : Interval). nat_lt i.start c.args.page in
-    prefix_len-partition p c.args.held.now c.partition_point.result (record { start = 0; pages = 0 }) c.partition_point.ensures.bound
-    (IsPartitionPoint-from_clause p c.args.held.now c.partition_point.result c.partition_point.ensures.partitioned
-    (IsPartitionedBy-ltb (λ (i : Interval). i.start) c.args.held.now c.args.page c.requires)
-    (λ a r q k. search rules))
+returns c = search_ends (λ (i : Interval). i.start) c.args.page c.loop-low.low c.loop-low.high c.args.held.now.items c.loop-low-test.false c.loop-low.invariant

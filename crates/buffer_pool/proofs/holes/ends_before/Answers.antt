@@ -1,16 +1,15 @@
--- The test of ends is partitioned, since the holes are spaced.
-use Rattle.std.proofs.lemmas.List.Sorted.{IsPartitionedBy-ltb, IsPartitionPoint-from_clause}
-use Rattle.std.proofs.Common.{rules, nat_lt}
-use Rattle.sm_names.specs.declared.keys.Interval.{Interval}
+-- The ends rise, so what is before a smaller one is smaller.
+use Rattle.std.proofs.Common.{◌<◌, arith}
 use Rattle.buffer_pool.specs.Holes.{end_of}
-use Rattle.buffer_pool.proofs.Fronts.{prefix_len-partition}
+use Rattle.buffer_pool.proofs.Searches.{search_upper, search_ends}
 use Rattle.buffer_pool.proofs.Spaces.{spaced-rises}
 use Rattle.buffer_pool.proofs.holes.ends_before.Goals as goal
 
+pub loop-low-preserved-then-end-from : goal.loop-low-preserved-then-end-from
+loop-low-preserved-then-end-from c =
+    let less : end_of c.get.result < c.args.page = omega (arith, c.if-end-from.true, c.end.ensures, c.from.ensures) in
+    search_upper end_of c.args.page c.loop-low.low c.loop-low.high _ c.args.holes.now.items c.get.result (spaced-rises 0 c.args.holes.now.items c.requires)
+    (omega arith) (omega (arith, c.loop-low-test.true)) c.get.ensures less c.loop-low.invariant
+
 pub returns : goal.returns
-returns c =
-    let p = λ (h : Interval). nat_lt (end_of h) c.args.page in
-    prefix_len-partition p c.args.holes.now c.partition_point.result (record { start = 0; pages = 0 }) c.partition_point.ensures.bound
-    (IsPartitionPoint-from_clause p c.args.holes.now c.partition_point.result c.partition_point.ensures.partitioned
-    (IsPartitionedBy-ltb end_of c.args.holes.now c.args.page (spaced-rises 0 c.args.holes.now c.requires))
-    (λ a r q k. search rules))
+returns c = search_ends end_of c.args.page c.loop-low.low c.loop-low.high c.args.holes.now.items c.loop-low-test.false c.loop-low.invariant

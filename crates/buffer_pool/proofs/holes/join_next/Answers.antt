@@ -6,8 +6,9 @@ use Rattle.buffer_pool.proofs.holes.join_next.Goals.{then-begins_at, else-begins
 
 pub returns-clause-holes : goal.returns-clause-holes
 returns-clause-holes c =
-    let test = rw (c.deref.ensures.value, c.end.ensures) at c.begins_at.ensures in
-    elim c.if-begins_at.branch [
+    let test = rw c.end.ensures at c.begins_at.ensures in
+    c.set.ensures.items
+    ∙ elim c.if-begins_at.branch [
       | then-begins_at w ↦
           rw (w.holes-is, w.pages-is, w.remove-pages.ensures.items)
           (join_touching c.args.hole w.remove-pages.result c.args.at c.args.holes.now.items w.remove-pages.ensures.value (sym test ∙ w.if-begins_at.true))

@@ -6,7 +6,7 @@ use Rattle.buffer_pool.proofs.pages.fill.Given as goal
 abbrev pub invariant-loop-left : goal.invariant-loop-left
 invariant-loop-left l =
     IsFilling l.pages_each l.count l.left l.initial.holes.items l.initial.held.items l.at l.looks l.starts.items l.holes.items l.held.items
-    (vec_capacity l.initial.holes) (vec_capacity l.starts) (vec_capacity l.holes) (vec_capacity l.held)
+    l.initial.holes.capacity (vec_capacity l.starts) l.holes.capacity l.held.capacity
 
 abbrev pub decreases-loop-left : goal.decreases-loop-left
 decreases-loop-left l = l.left

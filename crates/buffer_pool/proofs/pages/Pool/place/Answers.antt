@@ -1,5 +1,5 @@
 -- What all the buffers together make of the pool.
-use Rattle.std.proofs.Common.{◌<◌, ◌∙◌, refl, sym, rules, vec_capacity}
+use Rattle.std.proofs.Common.{◌<◌, ◌∙◌, refl, sym, rules}
 use Rattle.std.proofs.lemmas.Bool.{leb-true, leb-false}
 use Rattle.buffer_pool.specs.Fitting.{rooms}
 use Rattle.buffer_pool.proofs.Keeping.{KeepsRun, lists_of, keeps_run, places_buffers, not_full, is_full}
@@ -9,10 +9,10 @@ use Rattle.buffer_pool.proofs.pages.Pool.place.Goals.{In-Ok, Else-not-has_rooms}
 
 pub returns-then-not-has_rooms-clause-full : goal.returns-then-not-has_rooms-clause-full
 returns-then-not-has_rooms-clause-full c =
-    let test = rw c.deref.ensures.value at c.has_rooms.ensures in
+    let test = c.has_rooms.ensures in
     let few : rooms c.args.pages_each c.self.inside.holes.items < c.args.count = leb-false _ _ (sym test ∙ c.if-not-has_rooms.true) in
     rw (← c.self.view_is)
-    (λ _. is_full c.self.inside.size c.self.inside.free c.args.count c.args.pages_each c.self.inside.holes.items c.self.inside.held.items (vec_capacity c.self.inside.holes) c.requires.1 c.self.invariant few, λ _. refl)
+    (λ _. is_full c.self.inside.size c.self.inside.free c.args.count c.args.pages_each c.self.inside.holes.items c.self.inside.held.items c.self.inside.holes.capacity c.requires.1 c.self.invariant few, λ _. refl)
 
 pub returns-then-not-has_rooms-clause-sound : goal.returns-then-not-has_rooms-clause-sound
 returns-then-not-has_rooms-clause-sound c = rw (← c.self.view_is) (sound_from c.self.inside.size c.self.inside.held.items c.self.invariant.sized c.self.invariant.in_order)
@@ -20,21 +20,21 @@ returns-then-not-has_rooms-clause-sound c = rw (← c.self.view_is) (sound_from 
 -- all buffers have room
 all_fit : (c : Else-not-has_rooms) → KeepsRun c.self.inside.size c.self.inside.free c.args.count c.args.pages_each c.self.inside.holes.items c.self.inside.held.items
 all_fit c =
-    let test = rw c.deref.ensures.value at c.has_rooms.ensures in
-    keeps_run c.self.inside.size c.self.inside.free c.args.count c.args.pages_each c.self.inside.holes.items c.self.inside.held.items (vec_capacity c.self.inside.holes) c.requires.1 c.self.invariant
+    let test = c.has_rooms.ensures in
+    keeps_run c.self.inside.size c.self.inside.free c.args.count c.args.pages_each c.self.inside.holes.items c.self.inside.held.items c.self.inside.holes.capacity c.requires.1 c.self.invariant
     (leb-true _ _ (sym test ∙ c.if-not-has_rooms.false))
 
 pub fill-placed-requires-clause-fits : goal.fill-placed-requires-clause-fits
 fill-placed-requires-clause-fits c =
-    rw c.reserve.ensures.holes (lists_of c.self.inside.size c.self.inside.free c.self.inside.holes.items c.self.inside.held.items (vec_capacity c.self.inside.holes) c.self.invariant).fits
+    rw c.reserve.ensures.holes (lists_of c.self.inside.size c.self.inside.free c.self.inside.holes.items c.self.inside.held.items c.self.inside.holes.capacity c.self.invariant).fits
 
 pub fill-placed-requires-clause-few : goal.fill-placed-requires-clause-few
 fill-placed-requires-clause-few c =
-    rw c.reserve.ensures.holes (lists_of c.self.inside.size c.self.inside.free c.self.inside.holes.items c.self.inside.held.items (vec_capacity c.self.inside.holes) c.self.invariant).few
+    rw c.reserve.ensures.holes (lists_of c.self.inside.size c.self.inside.free c.self.inside.holes.items c.self.inside.held.items c.self.inside.holes.capacity c.self.invariant).few
 
 pub fill-placed-requires-clause-up : goal.fill-placed-requires-clause-up
 fill-placed-requires-clause-up c =
-    rw c.reserve.ensures.held (lists_of c.self.inside.size c.self.inside.free c.self.inside.holes.items c.self.inside.held.items (vec_capacity c.self.inside.holes) c.self.invariant).rises
+    rw c.reserve.ensures.held (lists_of c.self.inside.size c.self.inside.free c.self.inside.holes.items c.self.inside.held.items c.self.inside.holes.capacity c.self.invariant).rises
 
 pub overflow_mul-self : goal.overflow_mul-self
 overflow_mul-self c = let small = (all_fit (goal.at.overflow_mul-self c).Else-not-has_rooms).small in search rules
@@ -48,12 +48,12 @@ invariant_of-self c =
     let same_held = c.reserve.ensures.held in
     let k = (all_fit (goal.at.invariant_of-self c).Else-not-has_rooms).kept in
     rw (c.fill-placed.ensures.holes, c.fill-placed.ensures.held, c.fill-placed.ensures.capacity, c.reserve.ensures.holes, c.reserve.ensures.held)
-    (k (vec_capacity c.reserve.new.holes) (rw c.reserve.ensures.held at c.in-Ok.ensures.holes_room))
+    (k c.reserve.new.holes.capacity (rw c.reserve.ensures.held at c.in-Ok.ensures.holes_room))
 
 pub returns-in-Ok : goal.returns-in-Ok
 returns-in-Ok c =
     let k = all_fit (goal.at.returns-in-Ok c).Else-not-has_rooms in
-    let kept = k.kept (vec_capacity c.reserve.new.holes) (rw c.reserve.ensures.held at c.in-Ok.ensures.holes_room) in
+    let kept = k.kept c.reserve.new.holes.capacity (rw c.reserve.ensures.held at c.in-Ok.ensures.holes_room) in
     let p = places_buffers c.self.inside.size c.self.inside.free c.args.count c.args.pages_each c.self.inside.holes.items c.self.inside.held.items c.reserve.new.holes.items c.reserve.new.held.items c.fill-placed.new.held.items c.fill-placed.result.starts.items c.fill-placed.result.looks k
     c.reserve.ensures.holes c.reserve.ensures.held c.fill-placed.ensures.starts c.fill-placed.ensures.looks c.fill-placed.ensures.held in
     rw (← c.self.view_is)

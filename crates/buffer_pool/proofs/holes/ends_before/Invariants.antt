@@ -1,0 +1,11 @@
+-- The place lies between the two ends of the search.
+use Rattle.std.proofs.Common.{◌-◌}
+use Rattle.buffer_pool.specs.Holes.{end_of}
+use Rattle.buffer_pool.proofs.Searches.{IsSearch}
+use Rattle.buffer_pool.proofs.holes.ends_before.Given as goal
+
+abbrev pub invariant-loop-low : goal.invariant-loop-low
+invariant-loop-low l = IsSearch end_of l.page l.low l.high l.holes.items
+
+abbrev pub decreases-loop-low : goal.decreases-loop-low
+decreases-loop-low l = l.high - l.low
