@@ -31,6 +31,7 @@ pub mod KeepingParcels
 pub mod KeepingTrackers
 pub mod KindLaws
 pub mod Leaving
+pub mod Leading
 pub mod LeftLaws
 pub mod Lines
 pub mod Lists

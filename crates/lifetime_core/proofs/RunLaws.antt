@@ -19,7 +19,7 @@ goes_far old mid new first then one two history shows = subst (Shows new) (appen
 -- ---- calls with their replies
 
 -- without replies there are no entries
-entries-none : (calls : List (ℕ × Call)) → entries calls [] ≡ []
+pub entries-none : (calls : List (ℕ × Call)) → entries calls [] ≡ []
 entries-none [] = refl
 entries-none (c ∷ cs) = refl
 

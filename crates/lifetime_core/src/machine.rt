@@ -1,6 +1,6 @@
 //! Every call on one state.
-ghost use Rattle.std.specs.Prelude.{◌≡◌, ◌+◌, ◌≤◌, ◌↔◌, ◌∷◌, ◌==◌, ◌&&◌, not, nat_le, [], List};
-ghost use Rattle.std.specs.Prelude.{map, length, slice_get, option_map, if◌then◌else◌, IfOk, IfErr, IfSome};
+ghost use Rattle.std.specs.Prelude.{◌≡◌, ◌+◌, ◌<◌, ◌≤◌, ◌↔◌, ◌∷◌, ◌++◌, ◌==◌, ◌&&◌, not, nat_le};
+ghost use Rattle.std.specs.Prelude.{[], List, map, length, slice_get, option_map, if◌then◌else◌, IfOk, IfErr, IfSome};
 ghost use Rattle.std.specs.Prelude.{AllPairs, OnErr, false, true, None, is_some};
 ghost use Rattle.sm_names.specs.declared.outcomes.Fault.{Fault};
 ghost use Rattle.sm_names.specs.declared.keys.Strength.{Strength};
@@ -14,7 +14,7 @@ ghost use Rattle.sm_names.specs.Timelines.{timeline};
 ghost use Rattle.sm_names.specs.Trackers.{Tracked, tracked, fired as fired_after};
 ghost use Rattle.sm_names.specs.Views.{live_nodes, held_by_page as held_after};
 ghost use Rattle.sm_names.specs.Views.{free_pages as free_after};
-ghost use Rattle.std.specs.List.{list_any};
+ghost use Rattle.std.specs.List.{cons_option, list_any};
 ghost use Rattle.std.specs.Option.{option_map_or};
 ghost use Rattle.trackers.specs.Table.{empty, is_untaken, reader_of, cell_of, without};
 ghost use Rattle.alloc_event.specs.declared.held.HeldBuffer.{HeldBuffer as Held};
@@ -30,7 +30,8 @@ ghost use Rattle.lifetime_core.specs.Reads.{is_live_in, fault_in, views_of};
 ghost use Rattle.lifetime_core.specs.Shown.{Shows};
 ghost use Rattle.lifetime_core.specs.Steps.{Follows};
 ghost use Rattle.lifetime_core.specs.State.{IsSame};
-ghost use Rattle.lifetime_core.specs.Theorem.{GoesOn, entries};
+ghost use Rattle.lifetime_core.specs.Theorem.{GoesOn, Leads, Stops, entries};
+ghost use Rattle.lifetime_core.specs.Theorem.{tracker_told, trackers_told};
 
 use crate::clients::{Client, count_waiting, first_waiting, has_joined, is_shut};
 use crate::event::take_effect;
@@ -279,12 +280,25 @@ impl Core {
         self.limits.collections() as usize <= self.forest.collections()
     }
 
+    // Why a call is not taken where there is no memory for it: the history comes first.
+    fn without_memory(&self) -> StepFault
+        ensures { (result ≡ StepFault.HistoryFull)
+            ↔ (self.now.limits.events ≤ self.now.events) }
+    {
+        if self.limits.events() as u64 <= self.events {
+            StepFault::HistoryFull
+        } else {
+            StepFault::NoMemory
+        }
+    }
+
     /// Takes one call: answers it, makes what it changes with all that this forces, spends the end
     /// that it spends, and forgets what nobody can ask for any longer. That is one event, also
     /// where the call is refused.
     ///
     /// `HistoryFull` exactly where as many events were made as may be, whatever the call is, and
-    /// `NoMemory` where memory is refused. Either leaves the core as it was.
+    /// `NoMemory` where memory is refused. Either leaves the core as it was, but for the order of
+    /// the rows of handles, which `NoMemory` may change.
     ///
     /// It costs a binary search among the clients, a few look-ups of a node, of a collection and of
     /// handles, and the work on one collection: that of the node or the buffer that the call names,
@@ -298,7 +312,10 @@ impl Core {
         ensures after { IfOk result (λ reply. Follows self.old self.new client call reply) }
         ensures goes_on { IfOk result (λ reply.
             GoesOn self.old self.new ((client, call, reply) ∷ [])) }
+        ensures untaken { IfOk result (λ reply. self.new.trackers.untaken
+            ≡ self.old.trackers.untaken ++ cons_option (tracker_told reply) []) }
         ensures kept { OnErr result (IsSame self.old self.new) }
+        ensures equal { result ≡ Err StepFault.HistoryFull → self.new ≡ self.old }
         ensures stays { OnErr result ((history : List Entry) →
             Shows self.old history → Shows self.new history) }
         ensures full { (result ≡ Err StepFault.HistoryFull)
@@ -339,24 +356,37 @@ impl Core {
     /// Takes calls in order, each as `step` does, and answers their replies in this order.
     ///
     /// Where a call is not taken, it answers the replies so far and why that call was not taken.
-    /// The calls before it stand, and none after it was tried. `NoMemory` without a reply may also
-    /// say that there was no room for the replies, which is made before the first call. It costs
-    /// the sum of the steps.
+    /// The calls before it stand, and none after it was tried. It is `HistoryFull` exactly where as
+    /// many events were made as may be when that call comes, and else `NoMemory`. `NoMemory` without
+    /// a reply may also say that there was no room for the replies, which is made before the first
+    /// call. The reader of each tracker that a reply tells of is then to be taken, beside those that
+    /// were before. It costs the sum of the steps.
     pub fn run(
         &mut self,
         alloc: Global,
         calls: &[(ClientId, Call)],
     ) -> Result<Vec<Reply>, (Vec<Reply>, StepFault)>
         ensures all { IfOk result (λ replies. length replies.items ≡ length calls.now) }
+        ensures made { IfOk result (λ replies.
+            Leads self.old (entries calls.now replies.items) self.new) }
+        ensures few { IfErr result (λ fault. length fault.0.items < length calls.now) }
+        ensures stopped { IfErr result (λ fault.
+            Stops self.old (entries calls.now fault.0.items) fault.1 self.new) }
+        ensures full { IfErr result (λ fault. (fault.1 ≡ StepFault.HistoryFull)
+            ↔ (self.new.limits.events ≤ self.new.events)) }
+        ensures pool { self.new.pool ≡ self.old.pool }
+        ensures limits { self.new.limits ≡ self.old.limits }
+        ensures untaken { IfOk result (λ replies. self.new.trackers.untaken
+            ≡ self.old.trackers.untaken ++ trackers_told (entries calls.now replies.items)) }
+        ensures untaken_some { IfErr result (λ fault. self.new.trackers.untaken
+            ≡ self.old.trackers.untaken ++ trackers_told (entries calls.now fault.0.items)) }
         ensures goes_on { IfOk result (λ replies.
             GoesOn self.old self.new (entries calls.now replies.items)) }
         ensures goes_on_some { IfErr result (λ fault.
             GoesOn self.old self.new (entries calls.now fault.0.items)) }
-        ensures full { IfErr result (λ fault. fault.1 ≡ StepFault.HistoryFull →
-            self.new.limits.events ≤ self.new.events) }
     {
         let Ok(mut replies) = Vec::with_capacity(alloc, calls.len()) else {
-            return Err((Vec::new(alloc), StepFault::NoMemory));
+            return Err((Vec::new(alloc), self.without_memory()));
         };
         for (client, call) in calls {
             match self.step(*client, *call) {

@@ -1,11 +1,12 @@
 use Rattle.std.proofs.Common.{◌≡◌, length, vec_len}
 use Rattle.std.specs.Prelude.{vec_capacity}
-use Rattle.lifetime_core.specs.Theorem.{GoesOn, entries}
+use Rattle.lifetime_core.specs.Theorem.{GoesOn, Leads, entries}
 use Rattle.lifetime_core.proofs.machine.Core.run.Given as goal
 
 abbrev pub invariant-loop-client : goal.invariant-loop-client
 invariant-loop-client l = record {
   goes : GoesOn l.fn.self l.self (entries l.calls l.replies.items);
+  leads : Leads l.fn.self (entries l.calls l.replies.items) l.self;
   count : length l.replies.items ≡ l.client-index;
   len : vec_len l.replies ≡ l.client-index;
   room : vec_capacity l.replies ≡ length l.calls;

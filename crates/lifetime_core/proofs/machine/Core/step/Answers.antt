@@ -6,6 +6,7 @@ use Rattle.lifetime_core.specs.Tasks.{Parts, placed}
 use Rattle.lifetime_core.proofs.Following.{Begins, after, alone, begins, can_carry, finishes, one, step_answers, step_follows}
 use Rattle.lifetime_core.proofs.KindLaws.{reply-fits}
 use Rattle.lifetime_core.proofs.GoesOnLaws.{goes_on}
+use Rattle.lifetime_core.proofs.Leading.{untaken_after}
 use Rattle.lifetime_core.proofs.Keeping.{above, fits, moves, none_elsewhere, whole_same, whole_then}
 use Rattle.lifetime_core.proofs.machine.Core.step.Goals as goal
 
@@ -86,7 +87,9 @@ returns c =
       kind = reply-fits s.limits (readings_of s) c.args.client (key_told c.in-Ok.reply) c.args.call c.in-Ok.reply answers.told;
       after = rw (← c.self.view_is, c.take_effect.ensures.size) follows;
       goes_on = rw (← c.self.view_is, c.take_effect.ensures.size) (goes_on s (after s c.args.client c.args.call c.answer-asked.result c.in-Ok.reply c.task_of-task.result c.tracking_of-tracking.result b parts c.in-Ok.ensures.ok c.carried_end.result c.carried_end.ensures c.finish.new.forest c.sweep.new.trackers c.finish.ensures.collections c.finish.ensures.keys c.sweep.ensures) c.args.client c.args.call c.in-Ok.reply answers follows room);
+      untaken = rw (← c.self.view_is) (untaken_after s (after s c.args.client c.args.call c.answer-asked.result c.in-Ok.reply c.task_of-task.result c.tracking_of-tracking.result b parts c.in-Ok.ensures.ok c.carried_end.result c.carried_end.ensures c.finish.new.forest c.sweep.new.trackers c.finish.ensures.collections c.finish.ensures.keys c.sweep.ensures) c.args.client c.args.call c.in-Ok.reply answers follows);
       kept = search rules;
+      equal = search rules;
       stays = search rules;
       full = search rules;
     }
