@@ -30,14 +30,21 @@ is answered
 Client a joins and makes a collection, whose root token is r. It binds the
 token, says that it camps on 2 buffers of at least 8192 bytes each, and asks
 whether the buffers are there. Empty lines and lines that begin with # are
-skipped. `show live`, `show held` and `show free` tell the live nodes, the held
-buffers with their pages, and how many pages are free.
+skipped. `show live`, `show held`, `show fired` and `show free` tell the live
+nodes, the held buffers with their pages, the trackers that fired, and how many
+pages are free; `a poll t` tells what is read of the tracker t.
 
 docs/SCRIPT.md has the whole language, examples/ has scripts with answers.
 
 Status: 0 all lines were answered; 1 read or write fault; 2 the command line was
 refused; 3 a bad line; 4 no memory, or history full. A fault is told in one line
-on standard error, once the lines before it are answered.";
+on standard error, once the lines before it are answered.
+
+A line is bad that is longer than 256 bytes, or is the last one and has no end;
+with two spaces between words, or one before the first or after the last; with
+a byte 13 before its end; with a remark behind a call; of no form that there is;
+with a label of more than 16 letters and digits, a number out of its range or an
+index of 64; that uses an unbound label, or binds a bound one.";
 
 // The option `--pages N`.
 fn pages_word<'a>(alloc: Global) -> Arg<'a> {
