@@ -4,6 +4,7 @@
 mod clients;
 mod event;
 mod hands;
+pub mod laws;
 pub mod machine;
 mod opening;
 mod order;
