@@ -91,7 +91,7 @@ stays_named pool before mark (New collection buffers starts lays fit fresh same)
     ])
 
 -- where some are left of what was opened, some was opened
-some_opened : (a b : ℕ) → 0 < a - b → 0 < a
+pub some_opened : (a b : ℕ) → 0 < a - b → 0 < a
 some_opened a b h = omega (arith, h)
 
 -- if it is opened now, it was there already
@@ -116,7 +116,7 @@ opens_named pool limits before g client Reply.Done (Call.DupHandle name dup) ans
 opens_named pool limits before g client _ _ answer buffer strength old y = cc
 
 -- a handle that is opened is on a buffer that is there
-opened_named : (pool : ℕ) (limits : Bound) (marks : Timeline) → Grows pool limits [] marks → (buffer : BufferName) (strength : Strength) → 0 < times (opens anyone buffer strength) marks → IsNamed marks buffer
+pub opened_named : (pool : ℕ) (limits : Bound) (marks : Timeline) → Grows pool limits [] marks → (buffer : BufferName) (strength : Strength) → 0 < times (opens anyone buffer strength) marks → IsNamed marks buffer
 opened_named pool limits _ Stays buffer strength h = absurd (omega (arith, h))
 opened_named pool limits _ (Loses before origin cause g born) buffer strength h = opened_named pool limits before g buffer strength h
 opened_named pool limits _ (Ends before collection top g e) buffer strength h = opened_named pool limits before g buffer strength h

@@ -7,6 +7,8 @@ pub mod HandLaws
 pub mod HandleBufferLaws
 pub mod HandleCaseLaws
 pub mod HandleEventLaws
+pub mod HandleSumLaws
+pub mod HandleSumNamedLaws
 pub mod MomentLaws
 pub mod NumberLaws
 pub mod ParcelEventLaws

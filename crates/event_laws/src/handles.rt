@@ -1,7 +1,7 @@
 //! What one event does to handles.
 ghost use Rattle.std.specs.Prelude.{◌≡◌, ◌<◌, ◌+◌, ◌-◌, ◌&&◌, ◌==◌, ◌∷◌, ◌++◌, ℕ, List, [], false, true};
 ghost use Rattle.std.specs.Int.{bit_at};
-ghost use Rattle.std.specs.List.{list_any};
+ghost use Rattle.std.specs.List.{list_any, sum_by};
 ghost use Rattle.sm_names.specs.declared.keys.BufferName.{BufferName};
 ghost use Rattle.sm_names.specs.declared.keys.NodeKey.{NodeKey};
 ghost use Rattle.sm_names.specs.declared.keys.Strength.{Strength};
@@ -9,6 +9,8 @@ ghost use Rattle.sm_names.specs.declared.messages.Call.{Call};
 ghost use Rattle.sm_names.specs.declared.messages.Reply.{Reply};
 ghost use Rattle.sm_names.specs.Bounds.{Bound};
 ghost use Rattle.event_laws.specs.ByEvent.{GoesBy, SameHands, SetsHandles, anyone, gains, is_about_handles, loses, mark_of, one_if, only};
+ghost use Rattle.event_laws.specs.HandleSums.{ListsAllocated, all_moving, all_open, all_open_of, allocated_collections};
+ghost use Rattle.event_laws.specs.HandleSums.{dropped, got, opened, over_buffers, sent};
 ghost use Rattle.sm_names.specs.Ends.{has_joined};
 ghost use Rattle.sm_names.specs.Handles.{opens, drops, lifts, lands, open_of, open_total, moving, buffer_names};
 ghost use Rattle.sm_names.specs.Legality.{IsLegal};
@@ -178,4 +180,72 @@ pub fn handles_are_on_buffers()
         (client : ℕ) (buffer : BufferName) (strength : Strength) →
         has_joined (timeline pool history) client ≡ false →
         open_of (timeline pool history) client buffer strength ≡ 0 }
+{}
+
+/// The counts of the buffers add up to what the events of a legal history did. Over all buffers of
+/// all collections that were given any, listed once each, the handles of one strength that are open
+/// are those that were opened and not dropped. Those in parcels were put in and not taken out, and a
+/// client has open what it opened or took out, and neither dropped nor gave.
+pub fn handles_add_up()
+    ensures in_all { (pool : ℕ) (limits : Bound) (history : List Entry) →
+        IsLegal pool limits history →
+        (collections : List ℕ) → ListsAllocated (timeline pool history) collections →
+        (strength : Strength) →
+        over_buffers collections (λ b. open_total (timeline pool history) b strength)
+        + dropped anyone strength history
+        ≡ opened anyone strength history }
+    ensures in_parcels { (pool : ℕ) (limits : Bound) (history : List Entry) →
+        IsLegal pool limits history →
+        (collections : List ℕ) → ListsAllocated (timeline pool history) collections →
+        (strength : Strength) →
+        over_buffers collections (λ b. moving (timeline pool history) b strength)
+        + got anyone strength history
+        ≡ sent anyone strength history }
+    ensures each { (pool : ℕ) (limits : Bound) (history : List Entry) →
+        IsLegal pool limits history →
+        (collections : List ℕ) → ListsAllocated (timeline pool history) collections →
+        (strength : Strength) (client : ℕ) →
+        over_buffers collections (λ b. open_of (timeline pool history) client b strength)
+        + (dropped (only client) strength history + sent (only client) strength history)
+        ≡ opened (only client) strength history + got (only client) strength history }
+{}
+
+/// In a legal history a collection is given buffers at most once: so the list of those that were
+/// given any, as the marks tell it, has each of them once, and will do for `handles_add_up`.
+pub fn allocated_collections_are_listed()
+    ensures { (pool : ℕ) (limits : Bound) (history : List Entry) →
+        IsLegal pool limits history →
+        ListsAllocated (timeline pool history) (allocated_collections (timeline pool history)) }
+{}
+
+/// So over all buffers: the handles that are open after a legal history are those that were opened
+/// and not dropped, those in parcels were put in and not taken out, and a client has what it opened
+/// or took out, and neither dropped nor gave.
+pub fn all_handles_add_up()
+    ensures in_all { (pool : ℕ) (limits : Bound) (history : List Entry) →
+        IsLegal pool limits history → (strength : Strength) →
+        all_open (timeline pool history) strength + dropped anyone strength history
+        ≡ opened anyone strength history }
+    ensures in_parcels { (pool : ℕ) (limits : Bound) (history : List Entry) →
+        IsLegal pool limits history → (strength : Strength) →
+        all_moving (timeline pool history) strength + got anyone strength history
+        ≡ sent anyone strength history }
+    ensures each { (pool : ℕ) (limits : Bound) (history : List Entry) →
+        IsLegal pool limits history → (strength : Strength) (client : ℕ) →
+        all_open_of (timeline pool history) client strength
+        + (dropped (only client) strength history + sent (only client) strength history)
+        ≡ opened (only client) strength history + got (only client) strength history }
+{}
+
+/// In a legal history what is counted on buffers of allocated collections alone, as
+/// `handles_are_on_buffers` says of handles, adds up over their names: no collection has more than 64.
+pub fn counts_add_up_by_name()
+    ensures { (pool : ℕ) (limits : Bound) (history : List Entry) → IsLegal pool limits history →
+        (count : BufferName → ℕ) →
+        ((buffer : BufferName) → 0 < count buffer →
+        list_any (λ name. same_buffer name buffer)
+        (buffer_names (timeline pool history) buffer.collection) ≡ true) →
+        (collections : List ℕ) →
+        over_buffers collections count
+        ≡ sum_by (λ c. sum_by count (buffer_names (timeline pool history) c)) collections }
 {}

@@ -1,0 +1,7 @@
+use Rattle.sm_names.specs.Timelines.{timeline}
+use Rattle.sm_names.proofs.GrowthLaws.{legal_grows}
+use Rattle.event_laws.proofs.HandleSumNamedLaws.{lists_allocated}
+use Rattle.event_laws.proofs.handles.allocated_collections_are_listed.Goals as goal
+
+pub returns : goal.returns
+returns c pool limits history legal = lists_allocated pool limits (timeline pool history) (legal_grows pool limits history legal)

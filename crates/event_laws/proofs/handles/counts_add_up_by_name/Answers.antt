@@ -1,0 +1,7 @@
+use Rattle.sm_names.specs.Timelines.{timeline}
+use Rattle.sm_names.proofs.GrowthLaws.{legal_grows}
+use Rattle.event_laws.proofs.HandleSumNamedLaws.{by_name}
+use Rattle.event_laws.proofs.handles.counts_add_up_by_name.Goals as goal
+
+pub returns : goal.returns
+returns c pool limits history legal = by_name pool limits (timeline pool history) (legal_grows pool limits history legal)
