@@ -1,4 +1,5 @@
 mod Alike
+mod Alive
 mod Altering
 mod Bearing
 mod Birthing

@@ -28,6 +28,10 @@ blocks_here key n = not n.gone && (same_key n.key key && (n.attached || (n.dispe
 abbrev pub lives_below : List Node → NodeKey → Node → Bool
 lives_below nodes top n = is_live_node n && is_below nodes top n.key
 
+-- the node with this key is there and live
+abbrev pub is_live_at : List Node → NodeKey → Bool
+is_live_at nodes key = list_any (λ (n : Node). same_key key n.key && is_live_node n) nodes
+
 -- the node is a root or attached, not gone, and no live node is at or below it
 abbrev pub is_deserted_node : List Node → Node → Bool
 is_deserted_node nodes n =

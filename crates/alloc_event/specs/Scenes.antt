@@ -7,7 +7,7 @@ use Rattle.sm_names.specs.declared.keys.Interval.{Interval}
 use Rattle.sm_names.specs.declared.keys.Strength.{Strength}
 use Rattle.sm_names.specs.declared.messages.Call.{Call}
 use Rattle.sm_names.specs.declared.outcomes.Buffers.{Buffers}
-use Rattle.sm_names.specs.Handles.{is_home}
+use Rattle.sm_names.specs.Handles.{is_home, names}
 use Rattle.sm_names.specs.Sameness.{same_key}
 use Rattle.sm_names.specs.Timelines.{HeldPages}
 use Rattle.sm_names.specs.Words.{sorted_by}
@@ -78,6 +78,11 @@ heads_itself n = not (is_none n.parent || n.attached) || same_key n.head n.key
 -- at most 64 buffers, if any
 abbrev pub given_few : Option Buffers → Bool
 given_few buffers = option_map_or (λ (b : Buffers). nat_le b.count 64) buffers true
+
+-- a strong handle is open on one of the buffers that were given
+abbrev pub is_held_strongly : (BufferName → Strength → ℕ) → ℕ → Option Buffers → Bool
+is_held_strongly open_of id buffers =
+    list_any (λ b. nat_lt 0 (open_of b Strength.Strong)) (option_map_or (λ (b : Buffers). names id b.count) buffers [])
 
 -- what holds of every collection
 pub record IsSound (c : Collection) : Type 0 where

@@ -9,7 +9,7 @@ ghost use Rattle.sm_names.specs.Handles.{names};
 ghost use Rattle.buffer_holds.specs.Counts.{total};
 ghost use Rattle.alloc_event.specs.Decisions.{decided, first_step, later_step, mark_of, IsSized, IsStep};
 ghost use Rattle.alloc_event.specs.Forest.{pages_in};
-ghost use Rattle.alloc_event.specs.Scenes.{collection_of, given_few, name_of, IsSound};
+ghost use Rattle.alloc_event.specs.Scenes.{collection_of, given_few, is_held_strongly, name_of, IsSound};
 ghost use Rattle.alloc_event.specs.Settling.{standing};
 
 use crate::abandoned::abandoned;
@@ -33,15 +33,13 @@ pub fn decide(scene: &Scene, holds: &Holds) -> Option<Decision>
     ensures step { IfSome result (IsStep (collection_of scene.now)) }
     ensures sized { IfSome result IsSized }
 {
-    let strong_open = is_strong_open(scene.id, scene.buffers, holds);
-    choose(&scene.nodes, scene.buffers, strong_open)
+    choose(&scene.nodes, scene.id, scene.buffers, holds)
 }
 
 /// Whether a strong handle is open on one of the collection's buffers, in a parcel or out of it.
-fn is_strong_open(id: CollectionId, buffers: Option<Buffers>, holds: &Holds) -> bool
+pub(crate) fn is_strong_open(id: CollectionId, buffers: Option<Buffers>, holds: &Holds) -> bool
     requires { given_few buffers ≡ true }
-    ensures { result ≡ list_any (λ b. nat_lt 0 (total holds.now b Grade.Strong))
-        (option_map_or (λ b. names id b.count) buffers []) }
+    ensures { result ≡ is_held_strongly (total holds.now) id buffers }
 {
     match buffers {
         Some(given) => is_any_open(id, given.count as u8, holds),
@@ -68,15 +66,21 @@ fn is_open(collection: CollectionId, index: u8, holds: &Holds) -> bool
     holds.total(BufferName { collection, index }, Strength::Strong) > 0
 }
 
-/// The same by the nodes, what was given, and whether a strong handle is open.
-fn choose(nodes: &[Node], buffers: Option<Buffers>, strong_open: bool) -> Option<Decision>
-    ensures value { result ≡ decided nodes.now buffers strong_open }
+/// The same by the nodes and what was given.
+fn choose(
+    nodes: &[Node],
+    id: CollectionId,
+    buffers: Option<Buffers>,
+    holds: &Holds,
+) -> Option<Decision>
+    requires { given_few buffers ≡ true }
+    ensures value { result ≡ decided nodes.now buffers (is_held_strongly (total holds.now) id buffers) }
     ensures sized { IfSome result IsSized }
 {
     if let Some(top) = ending(nodes) {
         return Some(Decision::Ends(top));
     }
-    if let Some(root) = abandoned(nodes, strong_open) {
+    if let Some(root) = abandoned(nodes, id, buffers, holds) {
         return Some(Decision::Loses(root, Cause::NoStrong));
     }
     if let Some(root) = waiting_root(nodes) {

@@ -2,7 +2,7 @@
 ghost use Rattle.std.specs.Prelude.{◌≡◌, ◌&&◌, ◌||◌, not, max};
 ghost use Rattle.std.specs.List.{list_any, list_all, find};
 ghost use Rattle.alloc_event.specs.Nodes.{is_of};
-ghost use Rattle.alloc_event.specs.Questions.{is_below, lives_below, is_live_node, is_root_left, is_ready_node, is_allocated_node, blocks_here};
+ghost use Rattle.alloc_event.specs.Questions.{is_below, lives_below, is_live_at, is_live_node, is_root_left, is_ready_node, is_allocated_node, blocks_here};
 
 use crate::node::Node;
 use sm_names::NodeKey;
@@ -42,8 +42,24 @@ pub fn is_live(node: &Node) -> bool
     !node.gone && !node.released
 }
 
-/// Whether some live node is the top one or below it. A walk for each node.
+/// Whether the node with this key is live.
+fn is_live_at(nodes: &[Node], key: NodeKey) -> bool
+    ensures { result ≡ is_live_at nodes.now key }
+{
+    nodes.iter().any(|node| key == node.key && is_live(node))
+}
+
+/// Whether some live node is at the top one or below it. One walk where the top one is live, and
+/// else a walk for each node.
+#[tactic(auto, using(crate::proofs::Alive::live_besides))]
 pub fn some_live_under(nodes: &[Node], top: NodeKey) -> bool
+    ensures { result ≡ list_any (lives_below nodes.now top) nodes.now }
+{
+    is_live_at(nodes, top) || is_some_under(nodes, top)
+}
+
+/// Whether some live node is the top one or below it. A walk for each node.
+fn is_some_under(nodes: &[Node], top: NodeKey) -> bool
     ensures { result ≡ list_any (lives_below nodes.now top) nodes.now }
 {
     nodes

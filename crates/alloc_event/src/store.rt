@@ -46,7 +46,7 @@ fn load_nodes(
 ) -> Result<Vec<Node>, AllocError>
     ensures { IfOk result (λ nodes. nodes.items ≡ nodes_with table.now keys.now) }
 {
-    let mut nodes = Vec::new(alloc);
+    let mut nodes = Vec::with_capacity(alloc, keys.len())?;
     for key in keys {
         if let Some(node) = table.get(*key) {
             nodes.push(*node)?;
@@ -73,11 +73,11 @@ pub(crate) fn load(
     })
 }
 
-/// The keys of the nodes.
+/// The keys of the nodes, with room for one more.
 pub(crate) fn keys_of(alloc: Global, nodes: &[Node]) -> Result<Vec<NodeKey>, AllocError>
     ensures { IfOk result (λ keys. keys.items ≡ map (λ n. n.key) nodes.now) }
 {
-    let mut keys = Vec::new(alloc);
+    let mut keys = Vec::with_capacity(alloc, nodes.len() + 1)?;
     for node in nodes {
         keys.push(node.key)?;
     }

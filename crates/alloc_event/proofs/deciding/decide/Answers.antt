@@ -4,7 +4,7 @@ use Rattle.buffer_holds.specs.Counts.{total}
 use Rattle.alloc_event.specs.declared.decision.Decision.{Decision}
 use Rattle.alloc_event.specs.Decisions.{decided, mark_of, IsStep}
 use Rattle.alloc_event.specs.Forest.{Collection, pages_in}
-use Rattle.alloc_event.specs.Scenes.{collection_of}
+use Rattle.alloc_event.specs.Scenes.{collection_of, is_held_strongly}
 use Rattle.alloc_event.specs.Settling.{standing}
 use Rattle.alloc_event.proofs.Forcing.{forced_made}
 use Rattle.alloc_event.proofs.Steps.{decided_steps}
@@ -13,8 +13,6 @@ use Rattle.alloc_event.proofs.deciding.decide.Goals as goal
 pub returns-clause-forced : goal.returns-clause-forced
 returns-clause-forced c pool others =
     let it : Collection = collection_of c.args.scene.now in
-    let open_is : c.is_strong_open-strong_open.result ≡ (standing (total c.args.holds.now) others it).strong_open =
-    c.is_strong_open-strong_open.ensures in
     let value : c.choose.result ≡ decided it.nodes it.buffers
     (standing (total c.args.holds.now) others it).strong_open =
     let v = c.choose.ensures.value in cc in
@@ -24,6 +22,6 @@ returns-clause-forced c pool others =
 pub returns-clause-step : goal.returns-clause-step
 returns-clause-step c =
     let it : Collection = collection_of c.args.scene.now in
-    let open_is : Bool = c.is_strong_open-strong_open.result in
+    let open_is : Bool = is_held_strongly (total c.args.holds.now) it.id it.buffers in
     let value : c.choose.result ≡ decided it.nodes it.buffers open_is = let v = c.choose.ensures.value in cc in
     subst (λ (o : Option Decision). IfSome o (IsStep it)) (sym value) (decided_steps it c.requires open_is)
