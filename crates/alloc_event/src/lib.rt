@@ -31,8 +31,6 @@ pub mod settling;
 mod still;
 mod store;
 pub mod summary;
-#[cfg(test)]
-mod tests;
 
 pub use change::Change;
 pub use forest::Forest;

@@ -5,9 +5,9 @@ ghost use Rattle.alloc_event.specs.Forest.{node_at};
 
 use super::demand;
 use super::ground::{Ground, HERE};
-use crate::births::{new_child, new_root};
-use crate::forest::Forest;
-use crate::node::End;
+use alloc_event::births::{new_child, new_root};
+use alloc_event::forest::Forest;
+use alloc_event::node::End;
 use sm_names::{Cause, Failure, Fault, NodeKey};
 use std::alloc::Global;
 use std::test::Fail;

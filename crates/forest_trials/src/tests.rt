@@ -2,14 +2,14 @@
 ghost use Rattle.std.specs.Prelude.{◌≡◌, [], IfOk};
 ghost use Rattle.alloc_event.specs.Scenes.{collection_of, IsSound};
 
-use crate::allocating::allocate;
-use crate::births::{new_child, new_root};
-use crate::effects::affect;
-use crate::ending::end;
-use crate::losses::lose;
-use crate::returns::give_back;
-use crate::scene::Scene;
-use crate::settling::settle_scene;
+use alloc_event::allocating::allocate;
+use alloc_event::births::{new_child, new_root};
+use alloc_event::effects::affect;
+use alloc_event::ending::end;
+use alloc_event::losses::lose;
+use alloc_event::returns::give_back;
+use alloc_event::scene::Scene;
+use alloc_event::settling::settle_scene;
 use buffer_holds::Holds;
 use buffer_pool::Pool;
 use sm_names::{Buffers, Call, Cause, Constraints, Failure, Fault, Interval, NodeKey};

@@ -2,12 +2,12 @@
 ghost use Rattle.std.specs.Prelude.{◌≡◌, true};
 ghost use Rattle.alloc_event.specs.Forest.{Forest as Trees, IsPoolOf};
 ghost use Rattle.alloc_event.specs.Settling.{MayChange, is_kept, is_there};
-ghost use Rattle.alloc_event.specs.declared.tests.ground.TheConstants.{LIMIT};
+ghost use Rattle.forest_trials.specs.declared.tests.ground.TheConstants.{LIMIT};
 
-use crate::change::Change;
-use crate::forest::Forest;
-use crate::node::Node;
-use crate::summary::Summary;
+use alloc_event::change::Change;
+use alloc_event::forest::Forest;
+use alloc_event::node::Node;
+use alloc_event::summary::Summary;
 use buffer_holds::Holds;
 use buffer_pool::Pool;
 use sm_names::{BufferName, Call, Cause, CollectionId, Constraints, NoMemory, NodeKey, Strength};
