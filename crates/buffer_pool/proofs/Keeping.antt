@@ -9,7 +9,8 @@ use Rattle.buffer_pool.specs.Holdings.{IsKept, with_buffers}
 use Rattle.buffer_pool.specs.Looks.{looks_for}
 use Rattle.buffer_pool.specs.Placing.{PlacesBuffers}
 use Rattle.buffer_pool.specs.Fitting.{rooms, starts_in, left_in, looks_in}
-use Rattle.buffer_pool.proofs.Gaps.{holes-end, length-holes}
+use Rattle.buffer_pool.proofs.Gaps.{holes-end, length-holes, spaced-holes}
+use Rattle.buffer_pool.proofs.Spaces.{spaced-begins}
 use Rattle.buffer_pool.proofs.Orders.{in_order-rises, pages_in-le}
 use Rattle.buffer_pool.proofs.Placing.{Run, run_of, looks_in-bounds, places-none}
 
@@ -18,6 +19,7 @@ pub record Lists (holes held : List Interval) : Type 0 where
   pub fits : All (λ (h : Interval). end_of h < 4294967296) holes
   pub few : length holes ≤ 1048576
   pub rises : IsNonDecreasingBy (λ (i : Interval). i.start) held
+  pub begins : IsNonDecreasingBy (λ (h : Interval). h.start) holes
 
 pub lists_of : (size free : ℕ) (holes held : List Interval) (capacity : ℕ) → IsKept size free holes held capacity → Lists holes held
 lists_of size free holes held capacity k =
@@ -26,6 +28,7 @@ lists_of size free holes held capacity k =
       fits = subst (All (λ (h : Interval). end_of h < 4294967296)) (sym k.holes_are) (λ j d lt. let at = holes-end 0 size held k.in_order j d lt in omega (arith, at));
       few = subst (λ hs. length hs ≤ 1048576) (sym k.holes_are) (omega (arith, (length-holes 0 size held k.in_order).0));
       rises = in_order-rises 0 size held k.in_order;
+      begins = subst (IsNonDecreasingBy (λ (h : Interval). h.start)) (sym k.holes_are) (spaced-begins 0 (holes_of size held) (spaced-holes 0 size held k.in_order));
     }
 
 -- what is so where all buffers have room

@@ -7,6 +7,7 @@ mod Gaps
 mod Greatest
 mod Keeping
 mod Least
+mod Marking
 mod Moves
 mod Orders
 mod Placing

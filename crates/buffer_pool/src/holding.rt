@@ -8,8 +8,8 @@ use crate::pages::MAX_PAGES;
 use crate::row::Row;
 use sm_names::Interval;
 
-// How many intervals begin before this page.
-fn starts_before(held: &Row, page: u32) -> usize
+/// How many intervals begin before this page.
+pub(crate) fn starts_before(held: &Row, page: u32) -> usize
     requires { IsNonDecreasingBy (λ i. i.start) held.now.items }
     ensures { result ≡ prefix_len (λ i. nat_lt i.start page) held.now.items }
 {

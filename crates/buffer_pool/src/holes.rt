@@ -1,15 +1,16 @@
 //! First fit and merging on a list of holes.
 ghost use Rattle.std.specs.Prelude.{◌≡◌, false, ◌+◌, ◌++◌, ◌<◌, ◌≤◌, ◌^◌, length, take, drop, nat_lt, nat_le, All, IsTrue};
 ghost use Rattle.std.specs.List.{prefix_len};
+ghost use Rattle.std.specs.List.Sorted.{IsNonDecreasingBy};
 ghost use Rattle.buffer_pool.specs.Holes.{end_of};
 ghost use Rattle.buffer_pool.specs.Fitting.{too_small, AreSmall, rooms, first_fit, taken};
 ghost use Rattle.buffer_pool.specs.Merging.{spaced, first_ends, first_begins, joined, released};
 
-use crate::row::Row;
+use crate::marked::HoleRow;
 use sm_names::Interval;
 
 /// Whether the holes have room for `count` buffers, of which those before `first` are too small.
-pub(crate) fn has_rooms(holes: &Row, first: usize, count: u32, pages_each: u32) -> bool
+pub(crate) fn has_rooms(holes: &HoleRow, first: usize, count: u32, pages_each: u32) -> bool
     requires pages { 1 ≤ pages_each }
     requires first { first ≡ prefix_len (too_small pages_each) holes.now.items }
     ensures { result ≡ nat_le count (rooms pages_each holes.now.items) }
@@ -24,9 +25,21 @@ pub(crate) fn has_rooms(holes: &Row, first: usize, count: u32, pages_each: u32) 
     found >= u64::from(count)
 }
 
-/// The first hole that is not too small, or the number of holes where all are, sought from `from`
-/// on.
-pub(crate) fn next_fit(holes: &Row, from: usize, pages_each: u32) -> usize
+/// The first hole that is not too small, or the number of holes where all are. The search starts
+/// where an earlier one ended, if it can, and is remembered for later ones.
+pub(crate) fn seek(holes: &mut HoleRow, pages_each: u32) -> usize
+    requires { IsNonDecreasingBy (λ h. h.start) holes.old.items }
+    ensures first { result ≡ prefix_len (too_small pages_each) holes.old.items }
+    ensures same { holes.new ≡ holes.old }
+{
+    let from = holes.start_of_search(pages_each);
+    let first = next_fit(holes, from, pages_each);
+    holes.remember(first, pages_each);
+    first
+}
+
+/// The same, sought from `from` on.
+pub(crate) fn next_fit(holes: &HoleRow, from: usize, pages_each: u32) -> usize
     requires { from ≤ prefix_len (too_small pages_each) holes.now.items }
     ensures { result ≡ prefix_len (too_small pages_each) holes.now.items }
 {
@@ -71,7 +84,7 @@ fn one_fits(holes: &[Interval], at: usize, pages_each: u32) -> bool
 }
 
 /// Takes pages from the front of the first hole that is not too small, and gives their start.
-pub(crate) fn take_front(holes: &mut Row, at: usize, pages_each: u32) -> u32
+pub(crate) fn take_front(holes: &mut HoleRow, at: usize, pages_each: u32) -> u32
     requires first { at ≡ prefix_len (too_small pages_each) holes.old.items }
     requires some { at < length holes.old.items }
     requires fits { All (λ h. end_of h < 2 ^ 32) holes.old.items }
@@ -100,7 +113,7 @@ fn end(i: Interval) -> u64
 }
 
 // How many holes end before this page.
-fn ends_before(holes: &Row, page: u32) -> usize
+fn ends_before(holes: &HoleRow, page: u32) -> usize
     requires { IsTrue (spaced 0 holes.now.items) }
     ensures { result ≡ prefix_len (λ h. nat_lt (end_of h) page) holes.now.items }
 {
@@ -118,21 +131,21 @@ fn ends_before(holes: &Row, page: u32) -> usize
 }
 
 // Whether there is a hole at this place that ends at this page.
-fn ends_at(holes: &Row, at: usize, page: u32) -> bool
+fn ends_at(holes: &HoleRow, at: usize, page: u32) -> bool
     ensures { result ≡ first_ends page (drop at holes.now.items) }
 {
     at < holes.len() && end(holes.get(at)) == u64::from(page)
 }
 
 // Whether there is a hole at this place that begins at this page.
-fn begins_at(holes: &Row, at: usize, page: u64) -> bool
+fn begins_at(holes: &HoleRow, at: usize, page: u64) -> bool
     ensures { result ≡ first_begins page (drop at holes.now.items) }
 {
     at < holes.len() && u64::from(holes.get(at).start) == page
 }
 
 // Makes one hole of this and the next, if they touch.
-fn join_next(holes: &mut Row, at: usize, hole: Interval)
+fn join_next(holes: &mut HoleRow, at: usize, hole: Interval)
     requires there { at < length holes.old.items }
     requires few { length holes.old.items ≤ 2 ^ 20 }
     requires fits { All (λ h. end_of h < 2 ^ 32) holes.old.items }
@@ -152,7 +165,7 @@ fn join_next(holes: &mut Row, at: usize, hole: Interval)
 }
 
 /// Puts pages back that nobody holds, as one hole with those that they touch.
-pub(crate) fn release(holes: &mut Row, back: Interval)
+pub(crate) fn release(holes: &mut HoleRow, back: Interval)
     requires spaced { IsTrue (spaced 0 holes.old.items) }
     requires few { length holes.old.items ≤ 2 ^ 20 }
     requires fits { All (λ h. end_of h < 2 ^ 32) holes.old.items }

@@ -4,6 +4,7 @@
 mod holding;
 mod holes;
 pub mod laws;
+mod marked;
 pub mod pages;
 pub mod placement;
 mod row;

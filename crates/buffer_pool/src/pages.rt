@@ -9,7 +9,8 @@ ghost use Rattle.buffer_pool.specs.Holes.{end_of};
 ghost use Rattle.buffer_pool.specs.Placing.{PlacesBuffers};
 
 use crate::holding::{hold, let_go};
-use crate::holes::{has_rooms, next_fit, release, take_front};
+use crate::holes::{has_rooms, next_fit, release, seek, take_front};
+use crate::marked::HoleRow;
 use crate::placement::{Placed, PoolFault};
 use crate::row::Row;
 use sm_names::{Interval, NoMemory};
@@ -26,7 +27,7 @@ pub struct Pool {
     free: u32,
     // By page, with capacity for as many as there are held intervals, so that none is refused
     // its place when pages come back.
-    holes: Row,
+    holes: HoleRow,
     // By page.
     held: Row,
 }
@@ -50,7 +51,7 @@ impl Pool {
         requires { (1 ≤ pages) × (pages ≤ MAX_PAGES) }
         ensures ok { IfOk result (λ pool. pool ≡ record { size = pages; held = [] }) }
     {
-        match Row::of_one(alloc, Interval { start: 0, pages }) {
+        match HoleRow::of_one(alloc, Interval { start: 0, pages }) {
             Ok(holes) => Ok(Pool {
                 size: pages,
                 free: pages,
@@ -67,8 +68,10 @@ impl Pool {
     /// `PoolFull` where some buffer has no such start, and `NoMemory` where a growth is refused.
     /// Either leaves the pool as it was.
     ///
-    /// It costs one walk over the holes up to the first start, two from there up to the last, or to
-    /// the end where the pool is full, and for each buffer a binary search. In either list a change
+    /// It costs one walk over the holes up to the first start, but for those that an earlier search
+    /// for as many pages or fewer passed, two walks from there up to the last start, or to the end
+    /// where the pool is full, and for each buffer a binary search. What searches passed is kept
+    /// for sixteen numbers of pages, which are apart by their remainder. In either list a change
     /// moves what lies between it and the change before it, so that the buffers of one call move
     /// all that they pass once.
     pub fn place(&mut self, count: u32, pages_each: u32) -> Result<Placed, PoolFault>
@@ -83,7 +86,7 @@ impl Pool {
             ↔ (places self.old.size pages_each count self.old.held ≡ None) }
         ensures sound { IsSound self.new }
     {
-        let first = next_fit(&self.holes, 0, pages_each);
+        let first = seek(&mut self.holes, pages_each);
         if !has_rooms(&self.holes, first, count, pages_each) {
             return Err(PoolFault::PoolFull);
         }
@@ -144,7 +147,7 @@ impl Pool {
 
 // Makes room for `count` more buffers: for their starts, among the held intervals, and for the
 // holes that they can leave.
-fn reserve(holes: &mut Row, held: &mut Row, count: u32) -> Result<Vec<u32>, AllocError>
+fn reserve(holes: &mut HoleRow, held: &mut Row, count: u32) -> Result<Vec<u32>, AllocError>
     ensures holes { holes.new.items ≡ holes.old.items }
     ensures held { held.new.items ≡ held.old.items }
     ensures kept { holes.old.capacity ≤ holes.new.capacity }
@@ -164,7 +167,7 @@ fn reserve(holes: &mut Row, held: &mut Row, count: u32) -> Result<Vec<u32>, Allo
 // Places buffers that all have room, and counts the looks. As the buffers are of one size, a hole
 // that was too small for one is too small for those after it, so the search goes on where it was.
 fn fill(
-    holes: &mut Row,
+    holes: &mut HoleRow,
     held: &mut Row,
     mut starts: Vec<u32>,
     first: usize,

@@ -1,7 +1,8 @@
 -- What all the buffers together make of the pool.
-use Rattle.std.proofs.Common.{◌<◌, ◌∙◌, refl, sym, rules}
+use Rattle.std.proofs.Common.{◌<◌, ◌≤◌, ◌∙◌, refl, sym, ap, subst, rules}
 use Rattle.std.proofs.lemmas.Bool.{leb-true, leb-false}
 use Rattle.buffer_pool.specs.Fitting.{rooms}
+use Rattle.buffer_pool.specs.Rows.{Listed}
 use Rattle.buffer_pool.proofs.Keeping.{KeepsRun, lists_of, keeps_run, places_buffers, not_full, is_full}
 use Rattle.buffer_pool.proofs.Sounds.{sound_from}
 use Rattle.buffer_pool.proofs.pages.Pool.place.Goals as goal
@@ -10,27 +11,28 @@ use Rattle.buffer_pool.proofs.pages.Pool.place.Goals.{In-Ok, Else-not-has_rooms}
 pub returns-then-not-has_rooms-clause-full : goal.returns-then-not-has_rooms-clause-full
 returns-then-not-has_rooms-clause-full c =
     let test = c.has_rooms.ensures in
-    let few : rooms c.args.pages_each c.self.inside.holes.items < c.args.count = leb-false _ _ (sym test ∙ c.if-not-has_rooms.true) in
+    let found : rooms c.args.pages_each c.seek-first.new.holes.items < c.args.count = leb-false _ _ (sym test ∙ c.if-not-has_rooms.true) in
+    let few = subst (λ (l : Listed). rooms c.args.pages_each l.items < c.args.count) c.seek-first.ensures.same found in
     rw (← c.self.view_is)
     (λ _. is_full c.self.inside.size c.self.inside.free c.args.count c.args.pages_each c.self.inside.holes.items c.self.inside.held.items c.self.inside.holes.capacity c.requires.1 c.self.invariant few, λ _. refl)
 
 pub returns-then-not-has_rooms-clause-sound : goal.returns-then-not-has_rooms-clause-sound
-returns-then-not-has_rooms-clause-sound c = rw (← c.self.view_is) (sound_from c.self.inside.size c.self.inside.held.items c.self.invariant.sized c.self.invariant.in_order)
+returns-then-not-has_rooms-clause-sound c = sound_from c.self.inside.size c.self.inside.held.items c.self.invariant.sized c.self.invariant.in_order
 
 -- all buffers have room
 all_fit : (c : Else-not-has_rooms) → KeepsRun c.self.inside.size c.self.inside.free c.args.count c.args.pages_each c.self.inside.holes.items c.self.inside.held.items
 all_fit c =
     let test = c.has_rooms.ensures in
     keeps_run c.self.inside.size c.self.inside.free c.args.count c.args.pages_each c.self.inside.holes.items c.self.inside.held.items c.self.inside.holes.capacity c.requires.1 c.self.invariant
-    (leb-true _ _ (sym test ∙ c.if-not-has_rooms.false))
+    (subst (λ (l : Listed). c.args.count ≤ rooms c.args.pages_each l.items) c.seek-first.ensures.same (leb-true _ _ (sym test ∙ c.if-not-has_rooms.false)))
 
 pub fill-placed-requires-clause-fits : goal.fill-placed-requires-clause-fits
 fill-placed-requires-clause-fits c =
-    rw c.reserve.ensures.holes (lists_of c.self.inside.size c.self.inside.free c.self.inside.holes.items c.self.inside.held.items c.self.inside.holes.capacity c.self.invariant).fits
+    rw (c.reserve.ensures.holes, c.seek-first.ensures.same) (lists_of c.self.inside.size c.self.inside.free c.self.inside.holes.items c.self.inside.held.items c.self.inside.holes.capacity c.self.invariant).fits
 
 pub fill-placed-requires-clause-few : goal.fill-placed-requires-clause-few
 fill-placed-requires-clause-few c =
-    rw c.reserve.ensures.holes (lists_of c.self.inside.size c.self.inside.free c.self.inside.holes.items c.self.inside.held.items c.self.inside.holes.capacity c.self.invariant).few
+    rw (c.reserve.ensures.holes, c.seek-first.ensures.same) (lists_of c.self.inside.size c.self.inside.free c.self.inside.holes.items c.self.inside.held.items c.self.inside.holes.capacity c.self.invariant).few
 
 pub fill-placed-requires-clause-up : goal.fill-placed-requires-clause-up
 fill-placed-requires-clause-up c =
@@ -42,12 +44,17 @@ overflow_mul-self c = let small = (all_fit (goal.at.overflow_mul-self c).Else-no
 pub overflow_sub-self : goal.overflow_sub-self
 overflow_sub-self c = (all_fit (goal.at.overflow_sub-self c).Else-not-has_rooms).taken
 
+pub seek-first-requires : goal.seek-first-requires
+seek-first-requires c =
+    (lists_of c.self.inside.size c.self.inside.free c.self.inside.holes.items c.self.inside.held.items c.self.inside.holes.capacity c.self.invariant).begins
+
 pub invariant_of-self : goal.invariant_of-self
-invariant_of-self c =
-    let same_holes = c.reserve.ensures.holes in
-    let same_held = c.reserve.ensures.held in
-    let k = (all_fit (goal.at.invariant_of-self c).Else-not-has_rooms).kept in
-    rw (c.fill-placed.ensures.holes, c.fill-placed.ensures.held, c.fill-placed.ensures.capacity, c.reserve.ensures.holes, c.reserve.ensures.held)
+invariant_of-self c = rw c.seek-first.ensures.same c.self.invariant
+
+pub invariant_of-self-in-Ok : goal.invariant_of-self-in-Ok
+invariant_of-self-in-Ok c =
+    let k = (all_fit (goal.at.invariant_of-self-in-Ok c).Else-not-has_rooms).kept in
+    rw (c.fill-placed.ensures.holes, c.fill-placed.ensures.held, c.fill-placed.ensures.capacity, c.reserve.ensures.holes, c.reserve.ensures.held, c.seek-first.ensures.same)
     (k c.reserve.new.holes.capacity (rw c.reserve.ensures.held at c.in-Ok.ensures.holes_room))
 
 pub returns-in-Ok : goal.returns-in-Ok
@@ -55,13 +62,13 @@ returns-in-Ok c =
     let k = all_fit (goal.at.returns-in-Ok c).Else-not-has_rooms in
     let kept = k.kept c.reserve.new.holes.capacity (rw c.reserve.ensures.held at c.in-Ok.ensures.holes_room) in
     let p = places_buffers c.self.inside.size c.self.inside.free c.args.count c.args.pages_each c.self.inside.holes.items c.self.inside.held.items c.reserve.new.holes.items c.reserve.new.held.items c.fill-placed.new.held.items c.fill-placed.result.starts.items c.fill-placed.result.looks k
-    c.reserve.ensures.holes c.reserve.ensures.held c.fill-placed.ensures.starts c.fill-placed.ensures.looks c.fill-placed.ensures.held in
+    (c.reserve.ensures.holes ∙ ap (λ (l : Listed). l.items) c.seek-first.ensures.same) c.reserve.ensures.held c.fill-placed.ensures.starts c.fill-placed.ensures.looks c.fill-placed.ensures.held in
     rw (← c.self.view_is)
     (record {
       ok = p;
       err = tt;
       full = (λ same. cc, not_full c.self.inside.size c.args.pages_each c.args.count c.self.inside.held.items c.fill-placed.result.starts.items _ p.starts_are);
-      sound = rw (c.fill-placed.ensures.held, c.reserve.ensures.holes, c.reserve.ensures.held) (sound_from c.self.inside.size _ kept.sized kept.in_order);
+      sound = rw (c.fill-placed.ensures.held, c.reserve.ensures.holes, c.reserve.ensures.held, c.seek-first.ensures.same) (sound_from c.self.inside.size _ kept.sized kept.in_order);
     })
 
 pub returns-in-Err : goal.returns-in-Err
