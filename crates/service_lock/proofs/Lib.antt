@@ -1,0 +1,4 @@
+pub mod MarkLaws
+pub mod MoveLaws
+pub mod SoundLaws
+pub mod ToldLaws

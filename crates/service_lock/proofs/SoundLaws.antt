@@ -1,0 +1,118 @@
+-- The books go on with the record.
+use Rattle.std.proofs.Common.{ℕ, ◌≡◌, ◌≤◌, ◌<◌, ◌+◌, ◌^◌, ap, subst, sym, ◌∙◌, inl, inr, List, [], ◌∷◌, ◌++◌, length, length-append, arith}
+use Rattle.sm_names.specs.declared.keys.Strength.{Strength}
+use Rattle.sm_names.specs.declared.keys.Strength.TheVariants.{Strong, Weak}
+use Rattle.sm_names.specs.declared.messages.Call.{Call}
+use Rattle.sm_names.specs.declared.messages.Reply.{Reply}
+use Rattle.sm_names.specs.Bounds.{Bound}
+use Rattle.sm_names.specs.Legality.{IsLegal}
+use Rattle.sm_names.specs.Marks.{Entry}
+use Rattle.sm_names.specs.Timelines.{timeline}
+use Rattle.event_laws.specs.HandleSums.{all_moving, all_open}
+use Rattle.event_laws.proofs.HandleSumLaws.{all_moving_adds, all_open_adds}
+use Rattle.lifetime_core.specs.Shown.{Shows}
+use Rattle.lifetime_core.specs.State.{State}
+use Rattle.service_lock.specs.declared.moves.Moves.{Moves}
+use Rattle.service_lock.specs.Counting.{moves_by}
+use Rattle.service_lock.specs.States.{CountsHandles, IsSound}
+use Rattle.service_lock.specs.Units.{Sums, Written}
+use Rattle.service_lock.proofs.MarkLaws.{dropped_push, got_push, opened_push, sent_push}
+use Rattle.service_lock.proofs.MoveLaws.{got_or_sent, opened_le}
+
+-- a record that was kept, and got one entry more
+pub pushed : (old kept new : List Entry) (e : Entry) → kept ≡ old → new ≡ kept ++ e ∷ [] → new ≡ old ++ e ∷ []
+pushed old kept new e same more = more ∙ ap (λ (l : List Entry). l ++ e ∷ []) same
+
+-- before the first mark there are no handles
+none_counted : (strength : Strength) (sums : Sums) → sums.total ≡ 0 → sums.carried ≡ 0 → CountsHandles [] strength sums
+unfolding all_open all_moving
+none_counted strength sums none left = record { standing = none; carried = left }
+
+-- an empty record, a core that shows it and empty books fit together
+pub begins : (core : State) (limits : Bound) (history : List Entry) (events strong weak : Sums) → history ≡ [] → Shows core [] → core.limits ≡ limits →
+    events.total ≡ 0 → strong.total ≡ 0 → strong.carried ≡ 0 → weak.total ≡ 0 → weak.carried ≡ 0 → IsSound core limits history events strong weak
+begins core limits history events strong weak none shows limited no_event no_strong no_strong_parcel no_weak no_weak_parcel =
+    let start : IsSound core limits [] events strong weak = record {
+      shown = shows;
+      limited = limited;
+      counted = no_event;
+      strong = none_counted Strong strong no_strong no_strong_parcel;
+      weak = none_counted Weak weak no_weak no_weak_parcel;
+    } in
+    subst (λ (h : List Entry). IsSound core limits h events strong weak) (sym none) start
+
+-- the book holds what the event opens
+pub fits : (pool : ℕ) (limits : Bound) (strength : Strength) (client : ℕ) (call : Call) (reply : Reply) (history : List Entry) (moves : Moves) (sums : Sums) (most : ℕ) →
+    IsLegal pool limits history → moves ≡ moves_by strength call reply → CountsHandles (timeline pool history) strength sums →
+    length history < most → most < 2 ^ 32 → sums.total + moves.opened < 2 ^ 64
+fits pool limits strength client call reply history moves sums most legal is counts few small =
+    omega (
+      arith,
+      counts.standing,
+      few,
+      small,
+      ap (λ (m : Moves). m.opened) is,
+      all_open_adds pool limits history legal strength,
+      opened_push strength client call reply history,
+      opened_le strength (history ++ (client, call, reply) ∷ []),
+      length-append history ((client, call, reply) ∷ []),
+    )
+
+module _ (was pool : ℕ) (before now : Bound) (strength : Strength) (client : ℕ) (call : Call) (reply : Reply) (history : List Entry) (moves : Moves)
+    (same : pool ≡ was) (legal : IsLegal was before history) (next : IsLegal pool now (history ++ (client, call, reply) ∷ [])) (is : moves ≡ moves_by strength call reply) where
+  -- the record with the event
+  abbrev more : List Entry
+  more = history ++ (client, call, reply) ∷ []
+
+  -- the record before it is legal for the pool as it is now
+  legal_here : IsLegal pool before history
+  legal_here = subst (λ (p : ℕ). IsLegal p before history) (sym same) legal
+
+  module _ (old : Sums) (counts : CountsHandles (timeline was history) strength old) where
+    -- and what was counted then is counted so
+    counts_here : CountsHandles (timeline pool history) strength old
+    counts_here = subst (λ (p : ℕ). CountsHandles (timeline p history) strength old) (sym same) counts
+
+    -- what the event takes out of a parcel is in one
+    pub there : moves.got ≤ old.carried
+    there = elim (got_or_sent strength call reply) [
+      | inl none ↦ omega (arith, ap (λ (m : Moves). m.got) is, none)
+      | inr none ↦
+          omega (
+            arith,
+            none,
+            counts_here.carried,
+            all_moving_adds pool before history legal_here strength,
+            all_moving_adds pool now more next strength,
+            ap (λ (m : Moves). m.got) is,
+            got_push strength client call reply history,
+            sent_push strength client call reply history,
+          )
+    ]
+
+    -- once its moves are written, the record with the event is counted
+    pub written : (new : Sums) → Written old new moves → CountsHandles (timeline pool more) strength new
+    written new goes = record {
+      standing = omega (
+        arith,
+        counts_here.standing,
+        goes.total,
+        ap (λ (m : Moves). m.dropped) is,
+        ap (λ (m : Moves). m.opened) is,
+        all_open_adds pool before history legal_here strength,
+        all_open_adds pool now more next strength,
+        dropped_push strength client call reply history,
+        opened_push strength client call reply history,
+      );
+      carried = omega (
+        arith,
+        counts_here.carried,
+        goes.carried,
+        ap (λ (m : Moves). m.got) is,
+        ap (λ (m : Moves). m.sent) is,
+        all_moving_adds pool before history legal_here strength,
+        all_moving_adds pool now more next strength,
+        got_push strength client call reply history,
+        sent_push strength client call reply history,
+      );
+    }

@@ -1,0 +1,27 @@
+-- What an event does to the open handles of one strength.
+use Rattle.std.specs.Prelude.{ℕ, if◌then◌else◌, length}
+use Rattle.sm_names.specs.declared.keys.Strength.{Strength}
+use Rattle.sm_names.specs.declared.messages.Call.{Call}
+use Rattle.sm_names.specs.declared.messages.Reply.{Reply}
+use Rattle.sm_names.specs.Sameness.{same_strength}
+use Rattle.event_laws.specs.HandleSums.{indices_in}
+use Rattle.service_lock.specs.declared.moves.Moves.{Moves}
+
+-- so many, where the strengths are one
+abbrev pub count_if : Strength → Strength → ℕ → ℕ
+count_if strength other count = if same_strength other strength then count else 0
+
+-- no handle is opened or moved
+abbrev pub no_moves : Moves
+no_moves = record { opened = 0; dropped = 0; sent = 0; got = 0 }
+
+-- what the event does to the handles of this strength: a Take opens one on each buffer of its set, a DupHandle opens one, a
+-- DropHandle drops one, a GiveHandle puts one into a parcel, and a Collect may take one out. No other event moves any
+abbrev pub moves_by : Strength → Call → Reply → Moves
+moves_by strength (Call.Take key) (Reply.Taken collection taken set) =
+    record no_moves { opened = count_if strength taken (length (indices_in set)) }
+moves_by strength (Call.DupHandle buffer dup) Reply.Done = record no_moves { opened = count_if strength dup 1 }
+moves_by strength (Call.DropHandle buffer dropped) Reply.Done = record no_moves { dropped = count_if strength dropped 1 }
+moves_by strength (Call.GiveHandle buffer given to) Reply.Done = record no_moves { sent = count_if strength given 1 }
+moves_by strength Call.Collect (Reply.CollectedHandle buffer got) = record no_moves { got = count_if strength got 1 }
+moves_by strength _ _ = no_moves

@@ -1,0 +1,46 @@
+-- What a contract sees of the state under the lock, and what an event makes of it.
+use Rattle.std.specs.Prelude.{◌≡◌, ℕ, ◌+◌, List, [], ◌∷◌, ◌++◌, length}
+use Rattle.sm_names.specs.declared.keys.Strength.{Strength}
+use Rattle.sm_names.specs.declared.keys.Strength.TheVariants.{Strong, Weak}
+use Rattle.sm_names.specs.declared.messages.Call.{Call}
+use Rattle.sm_names.specs.declared.messages.Reply.{Reply}
+use Rattle.sm_names.specs.Bounds.{Bound}
+use Rattle.sm_names.specs.Marks.{Entry, Timeline}
+use Rattle.sm_names.specs.Timelines.{timeline}
+use Rattle.event_laws.specs.HandleSums.{all_moving, all_open}
+use Rattle.lifetime_core.specs.Shown.{Shows}
+use Rattle.lifetime_core.specs.State.{State}
+use Rattle.service_lock.specs.Units.{Sums}
+
+-- a pool of so many pages, the limits, the record, and the trackers that are still to be taken
+pub record View : Type 0 where
+  pub pool : ℕ
+  pub limits : Bound
+  pub history : List Entry
+  pub untaken : List ℕ
+
+-- the tracker that the reply tells of
+abbrev pub told_tracker : Reply → List ℕ
+told_tracker (Reply.Tracker id) = id ∷ []
+told_tracker _ = []
+
+-- the state after one more event
+abbrev pub after : View → ℕ → Call → Reply → View
+after s client call reply = record s {
+  history = s.history ++ (client, call, reply) ∷ [];
+  untaken = s.untaken ++ told_tracker reply;
+}
+
+-- the book of this strength counts the handles that are open, and those in parcels are carried
+pub record CountsHandles (marks : Timeline) (strength : Strength) (sums : Sums) : Type 0 where
+  pub standing : sums.total ≡ all_open marks strength
+  pub carried : sums.carried ≡ all_moving marks strength
+
+-- what lies under the lock fits together: the core shows the record, and the books count its events and its handles
+pub record IsSound (core : State) (limits : Bound) (history : List Entry)
+    (events_book strong_book weak_book : Sums) : Type 0 where
+  pub shown : Shows core history
+  pub limited : core.limits ≡ limits
+  pub counted : events_book.total ≡ length history
+  pub strong : CountsHandles (timeline core.pool history) Strong strong_book
+  pub weak : CountsHandles (timeline core.pool history) Weak weak_book

@@ -1,0 +1,67 @@
+//! One event.
+ghost use Rattle.std.specs.Prelude.{◌≡◌, ◌+◌, ◌≤◌, ◌↔◌, true, length, IfOk, OnErr, Err};
+ghost use Rattle.sm_names.specs.declared.messages.Call.{Call as Asked};
+ghost use Rattle.sm_names.specs.declared.messages.Reply.{Reply as Told};
+ghost use Rattle.sm_names.specs.declared.outcomes.StepFault.{StepFault as Fault};
+ghost use Rattle.sm_names.specs.Legality.{IsLegal};
+ghost use Rattle.lifetime_core.specs.Kinds.{fits_call};
+ghost use Rattle.service_lock.specs.States.{after};
+ghost use Rattle.service_lock.specs.Units.{Counts, HasUnitFor};
+
+use crate::moves::{Moves, moves_of};
+use crate::shares::Units;
+use crate::state::State;
+use sm_names::{Call, ClientId, Reply, StepFault, Strength};
+use std::sync::ledger::Ledger;
+
+// What each event does to the book of events.
+const ONE_EVENT: Moves = Moves {
+    opened: 1,
+    dropped: 0,
+    sent: 0,
+    got: 0,
+};
+
+/// Makes one event of the client: the core takes the call, the record gets one entry, and the books
+/// and the caller's units count it. For a call that drops or gives a handle the units have that
+/// handle's unit; it stays with them unless the answer is Done.
+///
+/// A fault is no event, and leaves the state and the units as they were: `HistoryFull` exactly where
+/// the record has as many entries as may be, also where memory would be refused, and `NoMemory`
+/// where memory is refused.
+///
+/// It costs the core's step and a place at the end of the record, which grows by doubling. A Take
+/// that is answered Taken costs a look at each of 64 bits more.
+#[tactic(auto, using(crate::proofs::MoveLaws::opened_le, crate::proofs::MoveLaws::lost_le_needed))]
+pub fn apply<E: Ledger, S: Ledger, W: Ledger>(
+    state: &mut State<E, S, W>,
+    units: &mut Units<E, S, W>,
+    client: ClientId,
+    call: Call,
+) -> Result<Reply, StepFault>
+    requires { HasUnitFor call units.old }
+    ensures made { IfOk result (λ reply. state.new ≡ after state.old client call reply) }
+    ensures counts { IfOk result (λ reply. Counts units.old units.new call reply) }
+    ensures kind { IfOk result (λ reply. fits_call call reply ≡ true) }
+    ensures joins { IfOk result (λ reply. client ≡ 0 → call ≡ Asked.Join →
+        reply ≡ Told.Joined (length state.old.history + 1)) }
+    ensures legal { IsLegal state.new.pool state.new.limits state.new.history }
+    ensures fault { OnErr result ((state.new ≡ state.old) × (units.new ≡ units.old)) }
+    ensures full { (result ≡ Err Fault.HistoryFull)
+        ↔ (state.old.limits.events ≤ length state.old.history) }
+{
+    if state.core.events() >= state.limits.events() as u64 {
+        return Err(StepFault::HistoryFull);
+    }
+    if state.log.reserve(1).is_err() {
+        return Err(StepFault::NoMemory);
+    }
+    let reply = state.core.step(client, call)?;
+    state.log.push_reserved((client, call, reply));
+    state.events.write(&mut units.events, ONE_EVENT);
+    state.strong.write(&mut units.strong, moves_of(Strength::Strong, &call, &reply));
+    state
+        .weak
+        .write(&mut units.weak, moves_of(Strength::Weak, &call, &reply));
+    Ok(reply)
+}

@@ -1,0 +1,170 @@
+//! What lies under the lock.
+ghost use Rattle.std.specs.Prelude.{◌≡◌, ◌+◌, ◌≤◌, [], IfOk, IfSome, is_some, length, nat_le};
+ghost use Rattle.std.specs.Option.{option_map};
+ghost use Rattle.sm_names.specs.Legality.{IsLegal};
+ghost use Rattle.sm_names.specs.Timelines.{timeline};
+ghost use Rattle.sm_names.specs.Trackers.{fired as fired_after};
+ghost use Rattle.trackers.specs.Table.{firing_of, is_untaken, without};
+ghost use Rattle.lifetime_core.specs.Shown.{Shows};
+ghost use Rattle.sm_names.specs.declared.keys.Strength.{Strength};
+ghost use Rattle.event_laws.specs.HandleSums.{all_open};
+ghost use Rattle.service_lock.specs.Units.{AreFor};
+
+use crate::blanks::{Blanks, PARTS};
+use crate::shares::Units;
+use crate::sums::Books;
+use crate::tally::Tally;
+use lifetime_core::Core;
+use sm_names::{Call, ClientId, Limits, NoMemory, Reply, TrackerId};
+use std::alloc::Global;
+use std::marker::Model;
+use std::sync::ledger::Ledger;
+use trackers::Tracker;
+
+/// What lies under the lock: the core, the record of all events, and the three books.
+///
+/// A contract sees the record, which is a legal history at all times, and which trackers are still to
+/// be taken. The core shows the record, and the books are what it counts.
+pub struct State<E: Ledger, S: Ledger, W: Ledger> {
+    pub(crate) core: Core,
+    pub(crate) limits: Limits,
+    pub(crate) log: Vec<(ClientId, Call, Reply)>,
+    pub(crate) events: Tally<E>,
+    pub(crate) strong: Tally<S>,
+    pub(crate) weak: Tally<W>,
+}
+
+impl<E: Ledger, S: Ledger, W: Ledger> Model for State<E, S, W> {
+    ghost use Rattle.service_lock.specs.States.{View, IsSound};
+
+    ghost Value = { View };
+
+    ghost view = { λ s. record {
+      pool = s.core.pool;
+      limits = s.limits;
+      history = s.log.items;
+      untaken = s.core.trackers.untaken;
+    } };
+
+    ghost invariant = { λ s. IsSound s.core s.limits s.log.items s.events s.strong s.weak };
+}
+
+impl<E: Ledger, S: Ledger, W: Ledger> State<E, S, W> {
+    /// What lies under the lock at first.
+    pub(crate) fn new(
+        alloc: Global,
+        blanks: Blanks,
+        pages: u32,
+        limits: Limits,
+    ) -> Result<State<E, S, W>, NoMemory>
+        requires pages { (1 ≤ pages) × (pages ≤ 1048576) }
+        requires blanks { AreFor E.name E.parts S.name S.parts W.name W.parts blanks }
+        ensures { IfOk result (λ s. s
+            ≡ record { pool = pages; limits = limits; history = []; untaken = [] }) }
+    {
+        let Blanks {
+            events,
+            strong,
+            weak,
+        } = blanks;
+        Ok(State {
+            core: Core::new(alloc, pages, limits)?,
+            limits,
+            log: Vec::new(alloc),
+            events: Tally::new(events, PARTS),
+            strong: Tally::new(strong, PARTS),
+            weak: Tally::new(weak, PARTS),
+        })
+    }
+
+    /// Lets all of it go.
+    pub(crate) fn end(self) {
+        let State {
+            core: _,
+            limits: _,
+            log: _,
+            events: _,
+            strong: _,
+            weak: _,
+        } = self;
+    }
+}
+
+/// Empty shares of the books. `NoMemory` where a book has no part left, whatever the record is: a
+/// caller for whom a full record comes first asks `is_full` before.
+///
+/// It costs a constant and takes no memory.
+pub fn units<E: Ledger, S: Ledger, W: Ledger>(
+    state: &mut State<E, S, W>,
+) -> Result<Units<E, S, W>, NoMemory>
+    ensures empty { IfOk result (λ u. u ≡ record { events = 0; strong = 0; weak = 0 }) }
+    ensures same { state.new ≡ state.old }
+{
+    if state.events.left() == 0 || state.strong.left() == 0 || state.weak.left() == 0 {
+        return Err(NoMemory);
+    }
+    Ok(Units {
+        events: state.events.share(),
+        strong: state.strong.share(),
+        weak: state.weak.share(),
+    })
+}
+
+/// The record: each event's client, call and reply, in order. It is a legal history at all times.
+/// It costs a constant and takes no memory.
+pub fn entries<E: Ledger, S: Ledger, W: Ledger>(
+    state: &State<E, S, W>,
+) -> &[(ClientId, Call, Reply)]
+    ensures value { result.now ≡ state.now.history }
+    ensures legal { IsLegal state.now.pool state.now.limits state.now.history }
+{
+    state.log.as_slice()
+}
+
+/// The core, which shows the record. It costs a constant and takes no memory.
+pub fn core<E: Ledger, S: Ledger, W: Ledger>(state: &State<E, S, W>) -> &Core
+    ensures shows { Shows result.now state.now.history }
+    ensures pool { result.now.pool ≡ state.now.pool }
+    ensures limits { result.now.limits ≡ state.now.limits }
+{
+    &state.core
+}
+
+/// The sums of the books: the events of the record, and the handles of each strength that are open
+/// on all buffers after it, those in parcels among them. It costs a constant and takes no memory.
+pub fn books<E: Ledger, S: Ledger, W: Ledger>(state: &State<E, S, W>) -> Books
+    ensures events { result.events ≡ length state.now.history }
+    ensures strong { result.strong
+        ≡ all_open (timeline state.now.pool state.now.history) Strength.Strong }
+    ensures weak { result.weak
+        ≡ all_open (timeline state.now.pool state.now.history) Strength.Weak }
+{
+    Books {
+        events: state.events.total(),
+        strong: state.strong.total(),
+        weak: state.weak.total(),
+    }
+}
+
+/// Whether the record has as many entries as may be. It costs a constant and takes no memory.
+pub fn is_full<E: Ledger, S: Ledger, W: Ledger>(state: &State<E, S, W>) -> bool
+    ensures { result ≡ nat_le state.now.limits.events (length state.now.history) }
+{
+    state.limits.events() as u64 <= state.core.events()
+}
+
+/// The reader of the tracker with this id: `Some` once for each that a reply told of, and else
+/// `None`. It knows the firing if there was one, and tells a later one without the lock. It takes no
+/// memory, and costs a binary search among all trackers that were made.
+pub fn take_tracker<E: Ledger, S: Ledger, W: Ledger>(
+    state: &mut State<E, S, W>,
+    id: TrackerId,
+) -> Option<Tracker>
+    ensures some { is_some result ≡ is_untaken state.old.untaken id }
+    ensures tracker { IfSome result (λ t. (t.tracker ≡ id) × (t.known
+        ≡ firing_of (fired_after (timeline state.old.pool state.old.history)) id)) }
+    ensures taken { state.new
+        ≡ record state.old { untaken = without state.old.untaken id } }
+{
+    state.core.take_tracker(id)
+}

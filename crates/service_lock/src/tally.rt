@@ -1,0 +1,91 @@
+//! One book with its sum, and the parts that were not handed out.
+ghost use Rattle.std.specs.Prelude.{◌≡◌, ◌+◌, ◌<◌, ◌≤◌, ◌^◌};
+ghost use Rattle.service_lock.specs.Units.{Moved, Written};
+
+use crate::moves::Moves;
+use std::marker::Model;
+use std::sync::ledger::{Blank, Book, Ledger, Share};
+
+/// A book with its sum, and a share of it that has the parts that were not handed out and carries
+/// what is in parcels.
+#[derive(Drop)]
+pub(crate) struct Tally<L: Ledger> {
+    book: Book<L>,
+    total: u64,
+    rest: Share<L>,
+    left: u64,
+}
+
+impl<L: Ledger> Model for Tally<L> {
+    ghost use Rattle.std.specs.Prelude.{◌≡◌, ◌+◌, ◌<◌};
+    ghost use Rattle.service_lock.specs.Units.{Sums};
+
+    ghost Value = { Sums };
+
+    ghost view = { λ t. record { total = t.book.total; carried = t.rest.amount; left = t.left } };
+
+    ghost invariant = { λ t. (t.total ≡ t.book.total) × (t.rest.parts ≡ t.left + 1) };
+}
+
+impl<L: Ledger> Tally<L> {
+    /// A book in which nothing stands, of so many parts, of which one is kept for the parcels.
+    pub fn new(blank: Blank, parts: u64) -> Tally<L>
+        requires name { blank.name ≡ L.name }
+        requires parts { (blank.parts ≡ L.parts) × (parts ≡ L.parts) }
+        requires some { 0 < parts }
+        ensures total { result.total ≡ 0 }
+        ensures carried { result.carried ≡ 0 }
+    {
+        let (book, rest) = blank.open::<L>();
+        Tally {
+            book,
+            total: 0,
+            rest,
+            left: parts - 1,
+        }
+    }
+
+    /// The sum.
+    pub fn total(&self) -> u64
+        ensures { result ≡ self.now.total }
+    {
+        self.total
+    }
+
+    /// How many shares can still be handed out.
+    pub fn left(&self) -> u64
+        ensures { result ≡ self.now.left }
+    {
+        self.left
+    }
+
+    /// Writes what an event does into the book and into the share of the client whose event it is.
+    pub fn write(&mut self, share: &mut Share<L>, moves: Moves)
+        requires part { 0 < share.old.parts }
+        requires fits { self.old.total + moves.opened < 2 ^ 64 }
+        requires enough { moves.dropped + moves.sent ≤ share.old.amount }
+        requires there { moves.got ≤ self.old.carried }
+        ensures written { Written self.old self.new moves }
+        ensures amount { Moved share.old.amount share.new.amount moves }
+        ensures left { self.new.left ≡ self.old.left }
+        ensures parts { share.new.parts ≡ share.old.parts }
+    {
+        self.book.audit(share);
+        self.rest.transfer(share, moves.got);
+        share.transfer(&mut self.rest, moves.sent);
+        self.book.sub(share, moves.dropped);
+        self.book.add(share, moves.opened);
+        self.total = self.total - moves.dropped + moves.opened;
+    }
+
+    /// An empty share.
+    pub fn share(&mut self) -> Share<L>
+        requires { 0 < self.old.left }
+        ensures share { (result.parts ≡ 1) × (result.amount ≡ 0) }
+        ensures same { (self.new.total ≡ self.old.total) × (self.new.carried ≡ self.old.carried) }
+        ensures left { self.new.left + 1 ≡ self.old.left }
+    {
+        self.left -= 1;
+        self.rest.split_off(1, 0)
+    }
+}
