@@ -1,0 +1,142 @@
+//! Handles that are taken, doubled, passed, given, collected and dropped.
+ghost use Rattle.service_lock.specs.Units.{HasOne};
+
+use super::asking::{ask, done, empty, stands, token};
+use service_lock::{Service, State, Units, entries, pass};
+use sm_names::{BufferName, Call, Constraints, NodeKey, Refusal, Reply, Strength};
+use std::process::Abort;
+use std::sync::Wait;
+use std::sync::ledger::Ledger;
+
+const FIRST: BufferName = BufferName {
+    collection: 2,
+    index: 0,
+};
+
+// The node asks for one buffer of a page.
+fn ask_for_page<E: Ledger, S: Ledger, W: Ledger, R: Abort>(
+    rt: &R,
+    state: &mut State<E, S, W>,
+    units: &mut Units<E, S, W>,
+    node: NodeKey,
+) {
+    match Constraints::new(1, 1, 4096) {
+        Some(constraints) => done(rt, state, units, 1, Call::SetConstraints(node, constraints)),
+        None => panic!(rt; "constraints"),
+    }
+}
+
+// A client with a strong and a weak handle of one buffer, after 11 events.
+fn open<E: Ledger, S: Ledger, W: Ledger, R: Abort>(
+    rt: &R,
+    state: &mut State<E, S, W>,
+    units: &mut Units<E, S, W>,
+) {
+    assert_eq!(rt; ask(rt, state, units, 0, Call::Join), Reply::Joined(1));
+    let root = token(rt, state, units, 1, Call::OpenRoot);
+    done(rt, state, units, 1, Call::SetWeakOk(root, true));
+    let child = token(rt, state, units, 1, Call::Duplicate(root));
+    done(rt, state, units, 1, Call::SetWeak(child));
+    done(rt, state, units, 1, Call::Bind(root));
+    done(rt, state, units, 1, Call::Bind(child));
+    ask_for_page(rt, state, units, root);
+    ask_for_page(rt, state, units, child);
+    for (node, strength) in [(root, Strength::Strong), (child, Strength::Weak)] {
+        let taken = Reply::Taken {
+            collection: 2,
+            strength,
+            set: 3,
+        };
+        assert_eq!(rt; ask(rt, state, units, 1, Call::Take(node)), taken);
+    }
+}
+
+// The handle of this strength, whose unit these have, goes over to other units, which drop it.
+fn drop_elsewhere<E: Ledger, S: Ledger, W: Ledger, R: Abort>(
+    rt: &R,
+    state: &mut State<E, S, W>,
+    units: &mut Units<E, S, W>,
+    strength: Strength,
+)
+    requires { HasOne strength units.old }
+{
+    let mut others = empty(rt, state);
+    match strength {
+        Strength::Strong => {
+            pass(state, units, &mut others, Strength::Strong);
+            done(
+                rt,
+                state,
+                &mut others,
+                1,
+                Call::DropHandle(FIRST, Strength::Strong),
+            );
+        }
+        Strength::Weak => {
+            pass(state, units, &mut others, Strength::Weak);
+            done(
+                rt,
+                state,
+                &mut others,
+                1,
+                Call::DropHandle(FIRST, Strength::Weak),
+            );
+        }
+    }
+}
+
+// One more handle, which goes into a parcel: two events.
+fn send<E: Ledger, S: Ledger, W: Ledger, R: Abort>(
+    rt: &R,
+    state: &mut State<E, S, W>,
+    units: &mut Units<E, S, W>,
+    strength: Strength,
+) {
+    done(rt, state, units, 1, Call::DupHandle(FIRST, strength));
+    done(rt, state, units, 1, Call::GiveHandle(FIRST, strength, 1));
+}
+
+// It comes out of the parcel, and is dropped by others: two events.
+fn fetch<E: Ledger, S: Ledger, W: Ledger, R: Abort>(
+    rt: &R,
+    state: &mut State<E, S, W>,
+    units: &mut Units<E, S, W>,
+) {
+    match ask(rt, state, units, 1, Call::Collect) {
+        Reply::CollectedHandle {
+            buffer: _,
+            strength: Strength::Strong,
+        } => drop_elsewhere(rt, state, units, Strength::Strong),
+        Reply::CollectedHandle {
+            buffer: _,
+            strength: Strength::Weak,
+        } => drop_elsewhere(rt, state, units, Strength::Weak),
+        _ => panic!(rt; "not collected"),
+    }
+}
+
+const STRANGER: Reply = Reply::Refused(Refusal::NoSuchClient);
+
+/// The record and the books while handles move, and after a call that is refused.
+pub fn handles<E: Ledger, S: Ledger, W: Ledger, R: Wait + Abort>(
+    rt: &R,
+    service: &Service<E, S, W>,
+) {
+    let mut guard = service.lock(rt);
+    assert!(rt; stands(guard.state(), 0, 0, 0));
+    let state = guard.state_mut();
+    let mut units = empty(rt, state);
+    open(rt, state, &mut units);
+    assert!(rt; stands(state, 11, 2, 2));
+    send(rt, state, &mut units, Strength::Strong);
+    assert!(rt; stands(state, 13, 3, 2));
+    fetch(rt, state, &mut units);
+    assert!(rt; stands(state, 15, 2, 2));
+    send(rt, state, &mut units, Strength::Weak);
+    assert!(rt; stands(state, 17, 2, 3));
+    fetch(rt, state, &mut units);
+    assert!(rt; stands(state, 19, 2, 2));
+    assert!(rt; ask(rt, state, &mut units, 7, Call::OpenRoot) == STRANGER);
+    assert!(rt; stands(state, 20, 2, 2));
+    assert!(rt; entries(state).last() == Some(&(7, Call::OpenRoot, STRANGER)));
+}

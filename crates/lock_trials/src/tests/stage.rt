@@ -1,0 +1,67 @@
+//! A service for each scene.
+ghost use Rattle.service_lock.specs.Units.{AreFor};
+
+use super::crowd::crowd;
+use super::handles::handles;
+use super::limits::last_event;
+use super::tracking::tracker;
+use service_lock::{Blanks, PARTS, Service};
+use sm_names::Limits;
+use std::alloc::Global;
+use std::marker::Brand;
+use std::process::Abort;
+use std::sync::Wait;
+use std::sync::ledger::{Blank, Ledger};
+use std::thread::Threads;
+
+/// What is played.
+#[derive(Clone, Copy)]
+pub enum Scene {
+    Handles,
+    LastEvent,
+    Tracker,
+    Crowd,
+}
+
+// How many events the scene may make.
+fn limits(scene: Scene) -> Option<Limits> {
+    match scene {
+        Scene::LastEvent => Limits::new(2, 4, 4, 4, 4),
+        _ => Some(Limits::full()),
+    }
+}
+
+/// Plays the scene on a service that has seen nothing, and ends it.
+pub fn stage<R: Threads + Wait + Abort + Sync>(rt: &R, alloc: Global, scene: Scene) {
+    let blanks = Blanks {
+        events: Blank::new(PARTS),
+        strong: Blank::new(PARTS),
+        weak: Blank::new(PARTS),
+    };
+    play::<Brand, Brand, Brand, _>(rt, alloc, blanks, scene)
+}
+
+fn play<
+    E: Ledger + Send + Sync,
+    S: Ledger + Send + Sync,
+    W: Ledger + Send + Sync,
+    R: Threads + Wait + Abort + Sync,
+>(rt: &R, alloc: Global, blanks: Blanks, scene: Scene)
+    requires { AreFor E.name E.parts S.name S.parts W.name W.parts blanks }
+{
+    let limits = match limits(scene) {
+        Some(limits) => limits,
+        None => panic!(rt; "limits"),
+    };
+    let service = match Service::<E, S, W>::new(alloc, blanks, 16, limits) {
+        Ok(service) => service,
+        Err(_) => panic!(rt; "service"),
+    };
+    match scene {
+        Scene::Handles => handles(rt, &service),
+        Scene::LastEvent => last_event(rt, &service),
+        Scene::Tracker => tracker(rt, &service),
+        Scene::Crowd => crowd(rt, alloc, &service),
+    }
+    service.end();
+}
