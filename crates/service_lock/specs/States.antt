@@ -1,5 +1,5 @@
 -- What a contract sees of the state under the lock, and what an event makes of it.
-use Rattle.std.specs.Prelude.{◌≡◌, ℕ, ◌+◌, List, [], ◌∷◌, ◌++◌, length}
+use Rattle.std.specs.Prelude.{◌≡◌, ℕ, List, [], ◌∷◌, ◌++◌, length}
 use Rattle.sm_names.specs.declared.keys.Strength.{Strength}
 use Rattle.sm_names.specs.declared.keys.Strength.TheVariants.{Strong, Weak}
 use Rattle.sm_names.specs.declared.messages.Call.{Call}
