@@ -138,7 +138,8 @@ impl<N> NodeTable<N> {
         }
     }
 
-    /// The first-born child of `key`, or `None` if it has none or is not there. It costs a constant.
+    /// The first-born child of `key`, or `None` if it has none or is not there. It costs a
+    /// constant.
     pub fn first_child(&self, key: NodeKey) -> Option<NodeKey>
         ensures value { result ≡ first_key (children_at self.now key) }
         ensures forest { IsForest self.now }
@@ -272,8 +273,10 @@ impl<N> NodeTable<N> {
         ensures there { is_some (option_copied result) ≡ is_some (row_at self.now key) }
         ensures node { option_map (λ e. e.node) (option_copied result) ≡ node_at self.now key }
         ensures parent { link_in (λ e. e.parent) (option_copied result) ≡ parent_at self.now key }
-        ensures first { link_in (λ e. e.first) (option_copied result) ≡ first_key (children_at self.now key) }
-        ensures next { IsSome (parent_at self.now key) → link_in (λ e. e.next) (option_copied result) ≡ next_key key (siblings_at self.now key) }
+        ensures first { link_in (λ e. e.first) (option_copied result)
+            ≡ first_key (children_at self.now key) }
+        ensures next { IsSome (parent_at self.now key) → link_in (λ e. e.next) (option_copied result)
+            ≡ next_key key (siblings_at self.now key) }
         ensures forest { IsForest self.now }
     {
         let next = next_of(self.nexts.as_slice(), key.slot as usize, self.first);
