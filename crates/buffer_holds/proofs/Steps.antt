@@ -190,7 +190,7 @@ module _ {limit : ℕ} {rows rows' : List (Hold × ℕ)} {tallies tallies' : Lis
 
   -- the fields stay sound
   pub sound_after : IsSound limit rows' tallies'
-  sound_after = record { some = step.sound.some; distinct = step.resets.distinct; tallied = tallied_after; needed = needed_after }
+  sound_after = record { distinct = step.resets.distinct; tallied = tallied_after; needed = needed_after }
 
   -- what each client has open
   pub of_after : (c : ℕ) (b : BufferName) (s : Strength)

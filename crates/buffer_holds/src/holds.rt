@@ -54,9 +54,9 @@ impl Model for Holds {
 
 impl Holds {
     /// No handle is open. At most `limit` handles of one strength may be open on a buffer at a
-    /// time, those in parcels among them. Takes constant time and no memory from the allocator.
+    /// time, those in parcels among them; with a limit of 0 none can be opened. Takes constant time
+    /// and no memory from the allocator.
     pub fn new(alloc: Global, limit: u32) -> Self
-        requires { 0 < limit }
         ensures { result ≡ record { limit = limit; rows = []; parcels = [] } }
     {
         Holds {

@@ -67,7 +67,6 @@ pub(crate) fn open(
     hold: Hold,
     limit: u32,
 ) -> Result<(), HoldFault>
-    requires some { 0 < limit }
     requires within { (stored_tally tallies.old hold.kind).total ≤ limit }
     requires counted { count_at rows.old.entries hold ≤ (stored_tally tallies.old hold.kind).total }
     requires listed { (stored_tally tallies.old hold.kind).clients ≤ length rows.old.entries }
@@ -79,6 +78,9 @@ pub(crate) fn open(
     ensures err_rows { OnErr result (rows.new.entries ≡ rows.old.entries) }
     ensures err_tallies { OnErr result (tallies.new.entries ≡ tallies.old.entries) }
 {
+    if limit == 0 {
+        return Err(HoldFault::TooMany);
+    }
     let before = rows.len();
     match tallies.entry(hold.kind) {
         Ok(Entry::Occupied(mut entry)) => {

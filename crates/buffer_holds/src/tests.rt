@@ -57,6 +57,15 @@ fn each_call_does_what_it_says(rt: HostRuntime) {
     assert!(rt; holds.home(FIRST, false));
 }
 
+#[test]
+fn with_a_limit_of_none_no_handle_opens(rt: HostRuntime) {
+    let mut holds = Holds::new(rt.alloc(), 0);
+    for strength in [Strength::Strong, Strength::Weak] {
+        assert_eq!(rt; holds.add(1, FIRST, strength), Err(HoldFault::TooMany));
+        assert_eq!(rt; holds.total(FIRST, strength), 0);
+    }
+}
+
 // Run with the Nth allocation refused, this shows that undoing asks for no memory.
 #[test]
 fn what_is_undone_takes_no_memory(rt: HostRuntime) {
