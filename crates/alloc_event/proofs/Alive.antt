@@ -1,12 +1,12 @@
 -- A live node is at or below itself.
-use Rattle.std.proofs.Common.{◌≡◌, refl, ap, Bool, true, false, ◌&&◌, ◌||◌, List, [], ◌∷◌, reverse, inl, inr}
+use Rattle.std.proofs.Common.{◌≡◌, refl, Bool, true, false, ◌&&◌, ◌||◌, List, [], ◌∷◌, reverse, inl, inr}
 use Rattle.std.specs.List.{list_any}
 use Rattle.sm_names.specs.declared.keys.NodeKey.{NodeKey}
 use Rattle.sm_names.specs.Sameness.{same_key}
 use Rattle.sm_names.proofs.SamenessLaws.{either_way, or_cases, or_right}
 use Rattle.alloc_event.specs.declared.node.Node.{Node}
 use Rattle.alloc_event.specs.Nodes.{above_among}
-use Rattle.alloc_event.specs.Questions.{is_below, is_live_node, is_live_at, lives_below}
+use Rattle.alloc_event.specs.Questions.{is_live_node, is_live_at, lives_below}
 
 module _ {A : Type 0} (p q : A → Bool) (implies : (x : A) → p x ≡ true → q x ≡ true) where
   -- where one passes the first test, one passes the second

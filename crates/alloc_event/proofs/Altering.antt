@@ -27,7 +27,7 @@ use Rattle.alloc_event.proofs.Writing.{IsSameNode, IsSound-map}
 -- ---- what a change keeps
 
 -- a call keeps the key, the links, the collection and the unit
-same_affected : (call : Call) (n : Node) → IsSameNode (affected call n) n
+pub same_affected : (call : Call) (n : Node) → IsSameNode (affected call n) n
 same_affected (Call.Bind key) n = record { key = refl; parent = refl; attached = refl; collection = refl; head = refl }
 same_affected (Call.SetDispensable key) n = record { key = refl; parent = refl; attached = refl; collection = refl; head = refl }
 same_affected (Call.SetWeak key) n = record { key = refl; parent = refl; attached = refl; collection = refl; head = refl }
@@ -99,7 +99,7 @@ found_id id [] s found = absurd (cc)
 found_id id (x ∷ xs) s found = found_id-by id x xs s (x.id == id) refl found (found_id id xs s)
 
 -- a shelf that is found stands in its place
-found_put : (s : Shelf) (ss : List Shelf) → AreRising ss → find (λ (x : Shelf). x.id == s.id) ss ≡ Some s → put_shelf s ss ≡ ss
+pub found_put : (s : Shelf) (ss : List Shelf) → AreRising ss → find (λ (x : Shelf). x.id == s.id) ss ≡ Some s → put_shelf s ss ≡ ss
 found_put s [] rising found = absurd (cc)
 found_put s (x ∷ xs) rising found = cases_place x.id s.id (put_shelf s (x ∷ xs) ≡ x ∷ xs)
     (λ same. let one : x ≡ s = Some-shelf x s (rw same at found) in rw same (ap (λ y. y ∷ xs) (sym one)))
@@ -203,7 +203,7 @@ tracker_room-by key n true same few = lt-ltb n.trackers 64 (few (true-same_key k
 tracker_room-by key n false same few = refl
 
 -- the node of a tracker has room for it
-tracker_room : (t : Table Node) (ss : List Shelf) → IsKept t ss → (call : Call) → ((key : NodeKey) (n : Node) → call ≡ Call.TrackNode key → forest_node (forest_of t ss) key ≡ Some n → n.trackers < 64) → (key : NodeKey) (n : Node) → node_at t key ≡ Some n → has_tracker_room call n ≡ true
+pub tracker_room : (t : Table Node) (ss : List Shelf) → IsKept t ss → (call : Call) → ((key : NodeKey) (n : Node) → call ≡ Call.TrackNode key → forest_node (forest_of t ss) key ≡ Some n → n.trackers < 64) → (key : NodeKey) (n : Node) → node_at t key ≡ Some n → has_tracker_room call n ≡ true
 tracker_room t ss ok (Call.TrackNode asked) few key n is = tracker_room-by asked n (same_key asked n.key) refl (λ same.
     few asked n refl (node_is t ss ok asked ∙ ap (node_at t) (same ∙ ok.named key n is) ∙ is))
 tracker_room t ss ok _ few key n is = refl

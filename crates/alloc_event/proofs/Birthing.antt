@@ -172,13 +172,17 @@ module _ (t now : Table Node) (node : Node) (bears : Bears t now node) where
       let first : list_all (is_filed now s.id) s.keys ≡ true = still_filed s.id s.keys (and_left _ _ filed) in
       rw first (still_all_filed ss (and_right _ _ filed))
 
-  -- the collections stay
+  -- a collection stays
+  pub still_collection : (s : Shelf) → list_all (is_filed t s.id) s.keys ≡ true → collection_in now s ≡ collection_in t s
+  still_collection s filed = λ i. record { id = s.id; nodes = still_looked s.id s.keys filed i; buffers = s.buffers; held = s.held }
+
+  -- so do all
   pub still_collections : (ss : List Shelf) → are_filed t ss ≡ true → map (collection_in now) ss ≡ map (collection_in t) ss
   still_collections [] filed = refl
   still_collections (s ∷ ss) filed =
-      let nodes = still_looked s.id s.keys (and_left _ _ filed) in
+      let first = still_collection s (and_left _ _ filed) in
       let rest = still_collections ss (and_right _ _ filed) in
-      λ i. record { id = s.id; nodes = nodes i; buffers = s.buffers; held = s.held } ∷ rest i
+      λ i. first i ∷ rest i
 
   -- the keys with that of the node find the nodes with the node
   pub born_looked : (id : ℕ) (keys : List NodeKey) → list_all (is_filed t id) keys ≡ true → nodes_with now (keys ++ node.key ∷ []) ≡ nodes_with t keys ++ node ∷ []

@@ -27,7 +27,7 @@ module _ (key : NodeKey) (end : End) where
 
   module _ (t now : Table Node) (n : Node) (was : node_at t key ≡ Some n) (named : n.key ≡ key) (w : Writes t now n.key (record n { end = end })) where
     -- what the table has at each key
-    ends-look : ((k : NodeKey) (m : Node) → node_at t k ≡ Some m → m.key ≡ k) → (k : NodeKey) → node_at now k ≡ option_map (with_end key end) (node_at t k)
+    pub ends-look : ((k : NodeKey) (m : Node) → node_at t k ≡ Some m → m.key ≡ k) → (k : NodeKey) → node_at now k ≡ option_map (with_end key end) (node_at t k)
     ends-look knows k = look-changed t now (with_end key end) key n (record n { end = end }) (subst (λ (x : NodeKey). Writes t now x (record n { end = end })) named w) was (ends-own n named) knows ends-others k
 
     -- the forest stays sound

@@ -7,7 +7,8 @@ use Rattle.std.proofs.lemmas.Bool.{eqb-true, lt-ltb, le-ltb, eq-eqb, ne_eqb, cas
 use Rattle.std.proofs.lemmas.Option.{slice_get-get_or}
 use Rattle.std.proofs.lemmas.List.Sums.{prefix_len_is, prefix_len-le-length}
 use Rattle.alloc_event.specs.declared.entry.Entry.{Entry}
-use Rattle.alloc_event.specs.Kept.{Shelf, AreRising, place_in, shelf_of, shelves_of, put_shelf}
+use Rattle.alloc_event.specs.Calm.{put_in}
+use Rattle.alloc_event.specs.Kept.{Shelf, AreRising, place_in, shelf_of, shelves_of}
 
 -- ids that are greater, of shelves and of entries
 pub above_shelves : (id : ℕ) (es : List Entry) → AllByRecursion (λ (later : Shelf). id < later.id) (shelves_of es) → AllByRecursion (λ (later : Entry). id < later.id) es
@@ -159,7 +160,7 @@ unplaced None e = refl
 unplaced (Some n) e = absurd (cc)
 
 -- by whether the first entry has the id
-set_put-by : (new x : Entry) (es : List Entry) (at : ℕ) → AreRising (shelves_of (x ∷ es)) → (here : Bool) → (x.id == new.id) ≡ here → (behind : Option ℕ) → place_in new.id es ≡ behind → ((n : ℕ) → behind ≡ Some n → shelves_of (set es n new) ≡ put_shelf (shelf_of new) (shelves_of es)) → cond here (Some 0) (option_map (λ n. n + 1) behind) ≡ Some at → shelves_of (set (x ∷ es) at new) ≡ put_shelf (shelf_of new) (shelves_of (x ∷ es))
+set_put-by : (new x : Entry) (es : List Entry) (at : ℕ) → AreRising (shelves_of (x ∷ es)) → (here : Bool) → (x.id == new.id) ≡ here → (behind : Option ℕ) → place_in new.id es ≡ behind → ((n : ℕ) → behind ≡ Some n → set es n new ≡ put_in new es) → cond here (Some 0) (option_map (λ n. n + 1) behind) ≡ Some at → set (x ∷ es) at new ≡ put_in new (x ∷ es)
 set_put-by new x es at rising true here behind told on is =
     let first : zero ≡ at = cc in
     rw (← first, here) refl
@@ -168,16 +169,16 @@ set_put-by new x es at rising false other (Some n) told on is =
     let next : at ≡ suc n = omega (arith, Some-inj (n + 1) at is) in
     let below : x.id < new.id = found_above new.id es n (shelf_of x) (place_is new.id es n told) rising.0 in
     let more : nat_lt new.id x.id ≡ false = le-ltb _ _ (omega arith) in
-    rw (next, other, more) (ap (λ ss. shelf_of x ∷ ss) (on n refl))
+    rw (next, other, more) (ap (λ xs. x ∷ xs) (on n refl))
 
 -- an entry in the place of the one with its id
-pub set_put : (new : Entry) (es : List Entry) (at : ℕ) → AreRising (shelves_of es) → place_in new.id es ≡ Some at → shelves_of (set es at new) ≡ put_shelf (shelf_of new) (shelves_of es)
+pub set_put : (new : Entry) (es : List Entry) (at : ℕ) → AreRising (shelves_of es) → place_in new.id es ≡ Some at → set es at new ≡ put_in new es
 set_put new [] at rising told = absurd (cc)
 set_put new (x ∷ es) at rising told =
     set_put-by new x es at rising (x.id == new.id) refl (place_in new.id es) refl (λ n is. set_put new es n rising.1 is) told
 
 -- an entry where its place is, if none has its id
-pub insert_put : (new : Entry) (es : List Entry) → AreRising (shelves_of es) → place_in new.id es ≡ None → shelves_of (insert es (before new.id es) new) ≡ put_shelf (shelf_of new) (shelves_of es)
+pub insert_put : (new : Entry) (es : List Entry) → AreRising (shelves_of es) → place_in new.id es ≡ None → insert es (before new.id es) new ≡ put_in new es
 insert_put new [] rising told = refl
 insert_put new (x ∷ es) rising told = elim (cases_lt x.id new.id) [
   | inl below ↦
@@ -186,7 +187,7 @@ insert_put new (x ∷ es) rising told = elim (cases_lt x.id new.id) [
       let more : nat_lt new.id x.id ≡ false = le-ltb _ _ (omega arith) in
       let one : 1 + before new.id es ≡ suc (before new.id es) = omega arith in
       let none : place_in new.id es ≡ None = unplaced _ (rw other at told) in
-      rw (passes, one, other, more) (ap (λ ss. shelf_of x ∷ ss) (insert_put new es rising.1 none))
+      rw (passes, one, other, more) (ap (λ xs. x ∷ xs) (insert_put new es rising.1 none))
   | inr above ↦
       let fails = le-ltb x.id new.id above in
       let unlike : x.id ≢ new.id = λ same. absurd (let some = rw (eq-eqb x.id new.id same) at told in cc) in

@@ -1,20 +1,27 @@
 -- A scene that was worked on, and what holds once it is put back.
-use Rattle.std.proofs.Common.{◌≡◌, true, List, ◌++◌, map, sym, ap, subst, ◌∙◌}
-use Rattle.std.specs.List.{list_all, AllByRecursion}
+use Rattle.std.proofs.Common.{◌≡◌, ℕ, true, List, [], ◌++◌, map, not, None, sym, ap, subst, ◌∙◌}
+use Rattle.std.proofs.lemmas.Bool.{not-true}
+use Rattle.std.specs.List.{list_all, list_any, AllByRecursion}
 use Rattle.sm_names.specs.declared.keys.Interval.{Interval}
 use Rattle.sm_names.specs.declared.keys.NodeKey.{NodeKey}
+use Rattle.sm_names.specs.Forced.{forced}
 use Rattle.sm_names.specs.Timelines.{HeldPages}
 use Rattle.sm_names.specs.Words.{sorted_by}
 use Rattle.node_table.specs.Table.{Table}
+use Rattle.alloc_event.specs.declared.entry.Entry.{Entry}
 use Rattle.alloc_event.specs.declared.node.Node.{Node}
 use Rattle.alloc_event.specs.declared.scene.Scene.{Scene}
+use Rattle.alloc_event.specs.Calm.{AreCounted, AreCountedBut, IsCalm, put_in, strong_count}
 use Rattle.alloc_event.specs.Forest.{Collection, all_held, pages_in, beside}
-use Rattle.alloc_event.specs.Kept.{Shelf, AreRising, IsHung, IsKept, IsWhole, Stores, put_shelf, shelf_in, collection_in, forest_of, is_filed, all_of, have_places}
+use Rattle.alloc_event.specs.Kept.{Shelf, AreRising, IsHung, IsKept, IsWhole, Stores, put_shelf, shelf_in, collection_in, forest_of, is_filed, all_of, have_places, shelf_of, shelves_of}
+use Rattle.alloc_event.specs.Nodes.{is_over}
 use Rattle.alloc_event.specs.Parted.{are_parted}
 use Rattle.alloc_event.specs.Scenes.{IsSound, collection_of, held_pages, frame_of}
-use Rattle.alloc_event.specs.Settling.{Handles, put, given_back}
+use Rattle.alloc_event.specs.Settling.{Handles, put, given_back, standing}
 use Rattle.alloc_event.proofs.Alike.{start_of}
-use Rattle.alloc_event.proofs.Finishing.{keys_in, frames-keys, frames-of, places-filed, nodes-stored, collections-put, kept-put, whole-map, whole-unmap, whole-put}
+use Rattle.alloc_event.proofs.Calming.{calm_rested}
+use Rattle.alloc_event.proofs.Counted.{counted_put, filed_but, moved_but}
+use Rattle.alloc_event.proofs.Finishing.{collection-beside, keys_in, frames-keys, frames-of, places-filed, nodes-stored, collections-put, kept-put, whole-map, whole-unmap, whole-put}
 use Rattle.alloc_event.proofs.Pools.{pool_back}
 use Rattle.alloc_event.proofs.Putting.{filed-own, put-map}
 
@@ -92,3 +99,31 @@ module _ (handles : Handles) (t : Table Node) (ss : List Shelf) (start worked ba
     finished-pool held parted is =
         pool_back held t now (given_back handles (collection_of worked)) shelf_back ss rising finished-collections parted
         (is ∙ λ i. sorted_by start_of (pages_in (given i) ++ beside (forest_of t ss) (sym same_id i)))
+
+-- each entry is counted, once the scene is put back as this one
+pub finished-counted : (handles : Handles) (t : Table Node) (es : List Entry) (start worked back : Scene)
+    (kept : IsKept t (put_shelf (shelf_in start) (shelves_of es))) (rising : AreRising (shelves_of es))
+    (own : all_of start.id start.nodes.items ≡ true) (sound : IsSound (collection_of worked))
+    (same_id : worked.id ≡ start.id) (frames : map frame_of worked.nodes.items ≡ map frame_of start.nodes.items)
+    (given : collection_of back ≡ given_back handles (collection_of worked)) (now : Table Node) (stores : Stores t now back.nodes.items)
+    (new : Entry) → new.keys.items ≡ keys_in start.nodes.items → new.id ≡ back.id → new.buffers ≡ back.buffers → new.held ≡ back.held →
+    new.strong ≡ strong_count back.nodes.items → new.tidy ≡ not (list_any is_over back.nodes.items) → (pool : ℕ) →
+    ((others : List Interval) → forced pool (standing handles others (given_back handles (collection_of worked))) ≡ None) →
+    AreCountedBut t start.id es → AreCounted now (put_in new es)
+finished-counted handles t es start worked back kept rising own sound same_id frames given now stores new keys_are id_is buffers_are held_are strong tidy pool rests but =
+    let ss : List Shelf = shelves_of es in
+    let shelf_is : shelf_of new ≡ shelf_back handles t ss start worked back kept rising own sound same_id frames given now stores new.keys.items keys_are =
+    λ i. record { id = id_is i; keys = new.keys.items; buffers = buffers_are i; held = map held_pages (held_are i).items } in
+    let shown : collection_in now (shelf_of new) ≡ given_back handles (collection_of worked) =
+    ap (collection_in now) shelf_is ∙ nodes_back handles t ss start worked back kept rising own sound same_id frames given now stores new.keys.items keys_are in
+    let at : new.id ≡ start.id = id_is ∙ back_id handles t ss start worked back kept rising own sound same_id frames given in
+    counted_put now new es rising
+    (subst (λ (id : ℕ). AreCountedBut now id es) (sym at)
+    (moved_but t now start.id es (filed_but t (shelf_in start) es rising kept.filed)
+    (λ e differ filed. collection-beside t now start.id back.nodes.items stores kept.named
+    (back_filed handles t ss start worked back kept rising own sound same_id frames given) (shelf_of e) differ filed) but))
+    (record {
+      calm = subst IsCalm (sym shown) (calm_rested pool handles [] (given_back handles (collection_of worked)) (rests []));
+      strong = strong ∙ ap (λ (c : Collection). strong_count c.nodes) (given ∙ sym shown);
+      tidy = λ h. ap (λ (c : Collection). list_any is_over c.nodes) (shown ∙ sym given) ∙ not-true (list_any is_over back.nodes.items) (sym tidy ∙ h);
+    })

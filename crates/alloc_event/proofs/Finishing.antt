@@ -161,7 +161,7 @@ module _ (t now : Table Node) (id : ℕ) (ns : List Node) (stores : Stores t now
   filed-still all other key = ap (λ o. option_map_or (λ (n : Node). n.collection == other) o false) (stores.look key) ∙ filed-still-by all other key (node_at t key) refl
 
   -- another collection stays
-  collection-beside : (s : Shelf) → s.id ≢ id → list_all (is_filed t s.id) s.keys ≡ true → collection_in now s ≡ collection_in t s
+  pub collection-beside : (s : Shelf) → s.id ≢ id → list_all (is_filed t s.id) s.keys ≡ true → collection_in now s ≡ collection_in t s
   collection-beside s differ filed = λ i. record {
     id = s.id;
     nodes = nodes-beside t now id ns stores.look named own s.id differ s.keys filed i;

@@ -47,7 +47,7 @@ module _ (nodes : List Node) where
       any-map_filter left (member_of nodes) (λ m. is_live m && not m.weak) nodes
       ∙ (λ i. list_any (λ (n : Node). and_again_pair (not n.gone) (not n.released) (not n.weak) i) nodes)
 
-  ready_tie : (head : NodeKey) → is_ready head ms ≡ list_all (is_ready_node head) nodes
+  pub ready_tie : (head : NodeKey) → is_ready head ms ≡ list_all (is_ready_node head) nodes
   ready_tie head =
       all-filter (λ (m : Member). same_key m.head head) is_settled ms
       ∙ (all-map_filter left (member_of nodes) (λ m. not (same_key m.head head) || is_settled m) nodes
@@ -63,13 +63,13 @@ module _ (nodes : List Node) where
   allocated_tie : (key : NodeKey) → is_allocated ms key ≡ list_any (is_allocated_node key) nodes
   allocated_tie key = any-map_filter left (member_of nodes) (λ m. m.allocated && same_key m.key key) nodes
 
-  root_tie : root_left ms ≡ option_map (member_of nodes) (find is_root_left nodes)
+  pub root_tie : root_left ms ≡ option_map (member_of nodes) (find is_root_left nodes)
   root_tie =
       find-map_filter left (member_of nodes) (λ m. is_root m && not m.gone) nodes
       ∙ (λ i. option_map (member_of nodes)
       (find (λ (n : Node). and_again_last (not n.gone) (is_none n.parent) i) nodes))
 
-  deserted_tie : find (is_deserted ms) ms ≡ option_map (member_of nodes) (find (is_deserted_node nodes) nodes)
+  pub deserted_tie : find (is_deserted ms) ms ≡ option_map (member_of nodes) (find (is_deserted_node nodes) nodes)
   deserted_tie =
       find-map_filter left (member_of nodes) (is_deserted ms) nodes
       ∙ (λ i. option_map (member_of nodes) (find (λ n. same n i) nodes))
@@ -79,7 +79,7 @@ module _ (nodes : List Node) where
           and_again_behind (left n) (is_none n.parent || n.attached) (not (some_live (subtree n.key ms)))
           ∙ ap (λ (b : Bool). (is_none n.parent || n.attached) && (not n.gone && not b)) (live_tie n.key)
 
-  next_tie : find (is_next_head ms) ms ≡ option_map (member_of nodes) (find (is_next_node nodes) nodes)
+  pub next_tie : find (is_next_head ms) ms ≡ option_map (member_of nodes) (find (is_next_node nodes) nodes)
   next_tie =
       find-map_filter left (member_of nodes) (is_next_head ms) nodes
       ∙ (λ i. option_map (member_of nodes) (find (λ n. same n i) nodes))

@@ -27,7 +27,7 @@ use Rattle.alloc_event.proofs.Rooted.{AreOne, HasLine, IsRooted, left_in, left_n
 use mathlib.Core.List.{reverse_aux}
 
 -- a map of a list that is turned round
-map-reverse_aux : {A B : Type 0} (f : A → B) (xs ys : List A) → map f (reverse_aux xs ys) ≡ reverse_aux (map f xs) (map f ys)
+pub map-reverse_aux : {A B : Type 0} (f : A → B) (xs ys : List A) → map f (reverse_aux xs ys) ≡ reverse_aux (map f xs) (map f ys)
 map-reverse_aux f [] ys = refl
 map-reverse_aux f (x ∷ xs) ys = map-reverse_aux f xs (x ∷ ys)
 

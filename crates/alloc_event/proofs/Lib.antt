@@ -3,6 +3,7 @@ mod Alive
 mod Altering
 mod Bearing
 mod Birthing
+mod BornEntries
 mod Emptying
 mod Ends
 mod Entries
@@ -19,11 +20,14 @@ mod Stable
 mod Storing
 mod Strong
 mod Tellings
+mod Watched
 mod Writing
 pub mod Booleans
 pub mod Forcing
 pub mod BirthRest
+pub mod Calming
 pub mod Chains
+mod Counted
 pub mod FallTies
 pub mod InPlace
 pub mod KeptRoots
@@ -44,6 +48,7 @@ pub mod Thinning
 pub mod Walking
 pub mod Tidying
 pub mod Dropping
+mod Effecting
 pub mod Forgotten
 pub mod Quiet
 mod Hanging

@@ -1,6 +1,7 @@
 -- A birth in a collection where nothing else changes with it.
-use Rattle.std.proofs.Common.{◌≡◌, ℕ, Bool, true, false, ◌||◌, ◌&&◌, ◌==◌, not, List, [], ◌∷◌, ◌++◌, map, reverse, Option, Some, None, refl, sym, ap, subst, ◌∙◌, inl, inr}
-use Rattle.std.specs.List.{filter, list_all, list_any}
+use Rattle.std.proofs.Common.{◌≡◌, ℕ, ◌+◌, Bool, true, false, ◌||◌, ◌&&◌, ◌==◌, not, if◌then◌else◌, List, [], ◌∷◌, ◌++◌, map, reverse, Option, Some, None, option_map, refl, sym, ap, subst, ◌∙◌, inl, inr}
+use Rattle.std.specs.List.{filter, find, list_all, list_any}
+use Rattle.std.specs.Option.{option_map_or, unwrap_or}
 use Rattle.std.proofs.lemmas.List.{map-append}
 use Rattle.sm_names.specs.declared.keys.NodeKey.{NodeKey}
 use Rattle.sm_names.specs.declared.keys.Strength.{Strength}
@@ -9,23 +10,28 @@ use Rattle.sm_names.specs.Handles.{is_home}
 use Rattle.sm_names.specs.Members.{is_live, some_strong_live, Member}
 use Rattle.sm_names.specs.Timelines.{HeldPages}
 use Rattle.sm_names.specs.Sameness.{same_key}
-use Rattle.sm_names.proofs.SamenessLaws.{and_left, and_right, both_ways, either_way, same_key-refl}
+use Rattle.sm_names.proofs.ListLaws.{times-append}
+use Rattle.sm_names.proofs.SamenessLaws.{and_left, and_right, both_ways, either_way, or_both, same_key-refl}
 use Rattle.sm_names.proofs.StandingLaws.{In-any}
 use Rattle.node_table.specs.Table.{Table}
+use Rattle.alloc_event.specs.declared.entry.Entry.{Entry}
 use Rattle.alloc_event.specs.declared.node.Node.{Node}
+use Rattle.alloc_event.specs.Calm.{IsCalm, IsCounted, strong_count}
 use Rattle.alloc_event.specs.Forest.{Collection, all_held, beside}
-use Rattle.alloc_event.specs.Kept.{Shelf, IsKept, Bears, Finishes, born, put_shelf, collection_in, forest_of}
-use Rattle.alloc_event.specs.Nodes.{is_of, member_of, members_of}
+use Rattle.alloc_event.specs.Kept.{Shelf, IsKept, Bears, Finishes, born, put_shelf, collection_in, forest_of, is_strong, shelf_of}
+use Rattle.alloc_event.specs.Nodes.{is_of, is_over, member_of, members_of}
 use Rattle.alloc_event.specs.Settling.{Handles, collection_or_new, given_back, is_home_in, put, standing, with_birth}
-use Rattle.alloc_event.specs.Still.{IsStill, shelf_with}
+use Rattle.alloc_event.specs.Still.{IsStill, no_shelf, shelf_before, shelf_with}
 use Rattle.alloc_event.specs.Ties.{are_rooted}
 use Rattle.alloc_event.proofs.Altering.{any-append, shelf_by}
 use Rattle.alloc_event.proofs.BirthRest.{HaveOthers, births_force_nothing, birth_settles, members_more}
 use Rattle.alloc_event.proofs.Birthing.{still_collections}
-use Rattle.alloc_event.proofs.Finishing.{keys_in}
+use Rattle.alloc_event.proofs.Calming.{calm_rested}
+use Rattle.alloc_event.proofs.Finishing.{keys_in, looked-keys}
 use Rattle.alloc_event.proofs.Newborn.{Above, before_is, born_collection, born_fresh, born_held, born_is, born_kept, born_shown, key_is}
 use Rattle.alloc_event.proofs.Putting.{put-map}
 use Rattle.alloc_event.proofs.Rooted.{left_node, left_parent}
+use Rattle.alloc_event.proofs.Showing.{collection_is, filed_found}
 
 -- ---- parents
 
@@ -120,10 +126,25 @@ module _ (t now : Table Node) (ss : List Shelf) (ok : IsKept t ss) (id : ℕ) (p
         ∙ births_force_nothing pool handles behind c0 (still.rest pool behind) parent attached client event key fresh others;
   }
 
-  -- the shelf that showed the collection, with the key behind, shows it with the node
-  shelf_is : (d : Collection) → d ≡ c0 → shelf_with (shelf_by d) key ≡ shelf_by (born_collection t now ss ok id parent attached client event above at key bears)
-  shelf_is d is =
-      ap (λ (x : Collection). shelf_with (shelf_by x) key) is
+  -- the collection is as calm as it was
+  calm_after : IsCalm after
+  calm_after = calm_rested 0 handles [] after (births_force_nothing 0 handles [] c0 (still.rest 0 []) parent attached client event key fresh others)
+
+  -- the shelf that showed the collection
+  before_shelf : shelf_by c0 ≡ shelf_before id ss
+  before_shelf =
+      ap (λ (o : Option Collection). shelf_by (unwrap_or o (record { id = id; nodes = []; buffers = None; held = [] }))) (collection_is t id ss)
+      ∙ from (find (λ (s : Shelf). s.id == id) ss) refl
+    where
+      from : (o : Option Shelf) → find (λ (s : Shelf). s.id == id) ss ≡ o →
+          shelf_by (unwrap_or (option_map (collection_in t) o) (record { id = id; nodes = []; buffers = None; held = [] })) ≡ unwrap_or o (no_shelf id)
+      from None found = refl
+      from (Some s) found = λ i. record s { keys = looked-keys t s.id ok.named s.keys (filed_found t id ss ok.filed s found) i }
+
+  -- with the key behind it shows the collection with the node
+  shelf_is : shelf_with (shelf_before id ss) key ≡ shelf_by (born_collection t now ss ok id parent attached client event above at key bears)
+  shelf_is =
+      ap (λ (s : Shelf). shelf_with s key) (sym before_shelf)
       ∙ λ i. record {
         id = c0.id;
         keys = sym (map-append (λ (n : Node). n.key) c0.nodes (node ∷ []) ∙ ap (λ (k : NodeKey). keys_in c0.nodes ++ k ∷ []) own) i;
@@ -131,10 +152,34 @@ module _ (t now : Table Node) (ss : List Shelf) (ok : IsKept t ss) (id : ℕ) (p
         held = c0.held;
       }
 
-  module _ (d : Collection) (is : d ≡ c0) (behind : List Shelf) (placed : behind ≡ put_shelf (shelf_with (shelf_by d) key) ss) where
+  -- how many strong nodes the node adds
+  strong_more : (up : Option Node) → strong_count (born up attached id event client key ∷ []) ≡ (if option_map_or (λ (n : Node). n.weak) up false then 0 else 1)
+  strong_more None = refl
+  strong_more (Some up) = from up.weak
+    where
+      from : (b : Bool) → (if not b then 0 + 1 else 0) ≡ (if b then 0 else 1)
+      from true = refl
+      from false = refl
+
+  -- an entry with the key and the count is counted
+  pub counted_born : (e : Entry) → shelf_of e ≡ shelf_with (shelf_before id ss) key →
+      e.strong ≡ strong_count c0.nodes + (if option_map_or (λ (n : Node). n.weak) above false then 0 else 1) →
+      (e.tidy ≡ true → list_any is_over c0.nodes ≡ false) → IsCounted now e
+  counted_born e is strong tidy =
+      let shown : collection_in now (shelf_of e) ≡ born_collection t now ss ok id parent attached client event above at key bears =
+      ap (collection_in now) (is ∙ shelf_is) ∙ born_shown t now ss ok id parent attached client event above at key bears in
+      record {
+        calm = subst IsCalm (sym (shown ∙ sym grown_is)) calm_after;
+        strong = strong ∙ ap (λ (n : ℕ). strong_count c0.nodes + n) (sym (strong_more above))
+            ∙ sym (times-append is_strong c0.nodes (node ∷ [])) ∙ ap (λ (c : Collection). strong_count c.nodes) (sym shown);
+        tidy = λ h. ap (λ (c : Collection). list_any is_over c.nodes) shown ∙ any-append is_over c0.nodes (node ∷ [])
+            ∙ or_both (list_any is_over c0.nodes) _ (tidy h) (rw (born_here above attached id event client key) refl);
+      }
+
+  module _ (behind : List Shelf) (placed : behind ≡ put_shelf (shelf_with (shelf_before id ss) key) ss) where
     -- the shelves show the collection with the node
     behind_is : behind ≡ put_shelf (shelf_by (born_collection t now ss ok id parent attached client event above at key bears)) ss
-    behind_is = placed ∙ ap (λ (s : Shelf). put_shelf s ss) (shelf_is d is)
+    behind_is = placed ∙ ap (λ (s : Shelf). put_shelf s ss) shelf_is
 
     -- nothing more is forced
     pub quiet_ok : (pool : ℕ) → Finishes pool handles t ss now behind after

@@ -1,10 +1,9 @@
--- Whether a strong node of a collection is live, told by its keys.
-use Rattle.std.proofs.Common.{◌≡◌, ℕ, ◌==◌, Bool, true, false, ◌||◌, ◌&&◌, not, List, [], ◌∷◌, map, Option, Some, None, option_map, refl, ap, ◌∙◌}
-use Rattle.std.specs.List.{list_any, filter, find, cons_option}
+-- Whether a strong node of a collection is live, told by its nodes.
+use Rattle.std.proofs.Common.{◌≡◌, ℕ, ◌==◌, Bool, true, false, ◌||◌, ◌&&◌, not, List, [], ◌∷◌, map, Option, Some, option_map, refl, ap, ◌∙◌}
+use Rattle.std.specs.List.{list_any, filter, find}
 use Rattle.std.specs.Option.{option_map_or}
-use Rattle.sm_names.specs.declared.keys.NodeKey.{NodeKey}
 use Rattle.sm_names.specs.Members.{Member, is_live as lives, some_strong_live}
-use Rattle.node_table.specs.Table.{Table, node_at}
+use Rattle.node_table.specs.Table.{Table}
 use Rattle.alloc_event.specs.declared.entry.Entry.{Entry}
 use Rattle.alloc_event.specs.declared.node.Node.{Node}
 use Rattle.alloc_event.specs.Forest.{Collection, collection_at}
@@ -26,17 +25,9 @@ strong-any all (n ∷ ns) = strong-by all n ns n.gone refl (strong-any all ns)
 pub strong_members : (ns : List Node) → some_strong_live (members_of ns) ≡ list_any is_strong ns
 strong_members ns = strong-any ns ns
 
--- and by the keys
-pub strong_keys : (t : Table Node) (keys : List NodeKey) → list_any is_strong (nodes_with t keys) ≡ list_any (λ (key : NodeKey). option_map_or is_strong (node_at t key) false) keys
-strong_keys t [] = refl
-strong_keys t (k ∷ ks) = elim (node_at t k) as (λ o. list_any is_strong (cons_option o (nodes_with t ks)) ≡ (option_map_or is_strong o false || list_any (λ (key : NodeKey). option_map_or is_strong (node_at t key) false) ks)) [
-  | None ↦ strong_keys t ks
-  | Some n ↦ ap (λ b. is_strong n || b) (strong_keys t ks)
-]
-
 -- the collection of an entry that is found
-pub strong_found : (t : Table Node) (es : List Entry) (id : ℕ) (e : Entry) → find (λ (x : Entry). x.id == id) es ≡ Some e → option_map_or (λ (c : Collection). some_strong_live (members_of c.nodes)) (collection_at (forest_of t (shelves_of es)) id) false ≡ list_any (λ (key : NodeKey). option_map_or is_strong (node_at t key) false) e.keys.items
+pub strong_found : (t : Table Node) (es : List Entry) (id : ℕ) (e : Entry) → find (λ (x : Entry). x.id == id) es ≡ Some e → option_map_or (λ (c : Collection). some_strong_live (members_of c.nodes)) (collection_at (forest_of t (shelves_of es)) id) false ≡ list_any is_strong (nodes_with t e.keys.items)
 strong_found t es id e found =
     ap (λ (o : Option Collection). option_map_or (λ (c : Collection). some_strong_live (members_of c.nodes)) o false)
     (collection_is t id (shelves_of es) ∙ ap (option_map (collection_in t)) (shelf_found id es ∙ ap (option_map shelf_of) found))
-    ∙ strong_members (nodes_with t e.keys.items) ∙ strong_keys t e.keys.items
+    ∙ strong_members (nodes_with t e.keys.items)

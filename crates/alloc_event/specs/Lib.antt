@@ -1,6 +1,8 @@
+pub mod Calm
 pub mod Decisions
 pub mod Forest
 pub mod Forgetting
+pub mod InPlace
 pub mod Kept
 pub mod Moves
 pub mod Nodes

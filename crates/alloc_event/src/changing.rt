@@ -1,28 +1,31 @@
 //! Changes to a collection that is there, and the births of nodes.
-ghost use Rattle.std.specs.Prelude.{◌≡◌, false, true, None, Some, IfOk, IfSome, IsSome, OnOk, OnErr, option_copied, option_map, [], ◌∷◌, ◌++◌};
-ghost use Rattle.std.specs.Option.{option_and_then};
+ghost use Rattle.std.specs.Prelude.{◌≡◌, ◌≤◌, ◌+◌, ◌==◌, nat_lt, if◌then◌else◌, false, true, None, Some, IfOk, IfSome, IsSome, OnOk, OnErr, length, option_copied, option_map, [], ◌∷◌, ◌++◌};
+ghost use Rattle.std.specs.List.{find};
+ghost use Rattle.std.specs.Option.{option_and_then, option_map_or};
 ghost use Rattle.sm_names.specs.declared.keys.NodeKey.{NodeKey as Key};
 ghost use Rattle.node_table.specs.Table.{row_at, node_at};
 ghost use Rattle.node_table.specs.Changes.{Births};
-ghost use Rattle.alloc_event.specs.declared.node.Node.{Node as Kept};
+ghost use Rattle.alloc_event.specs.declared.entry.Entry.{Entry as Kept};
 ghost use Rattle.buffer_holds.specs.Counts.{total};
+ghost use Rattle.alloc_event.specs.Calm.{AreCounted, put_in};
 ghost use Rattle.alloc_event.specs.Forest.{IsPoolOf};
-ghost use Rattle.alloc_event.specs.Kept.{AreRising, IsKept, Bears, Gives, Finishes, SameTable, born, put_shelf, shelf_in, shelves_of, forest_of, has_room, loses_left};
+ghost use Rattle.alloc_event.specs.Kept.{AreRising, IsKept, Bears, Gives, Finishes, SameTable, born, put_shelf, shelf_of, shelves_of, forest_of, has_room, loses_left};
 ghost use Rattle.alloc_event.specs.Scenes.{collection_of};
-ghost use Rattle.alloc_event.specs.Settling.{MayChange, changed, with_birth, collection_or_new, is_birth, no_key};
-ghost use Rattle.alloc_event.specs.Still.{shelf_with};
+ghost use Rattle.alloc_event.specs.Settling.{Handles, MayChange, changed, with_birth, collection_or_new, is_birth, no_key};
+ghost use Rattle.alloc_event.specs.Still.{IsStill, no_shelf, shelf_before, shelf_with};
 ghost use Rattle.alloc_event.specs.Ties.{IsTied};
 
 use crate::births::{new_child, new_root};
 use crate::change::Change;
 use crate::effects::affect;
-use crate::entry::{Entry, entry_of};
+use crate::entry::{Entry, entry_of, place_of};
 use crate::finish::finish;
+use crate::in_place::settle_in_place;
 use crate::losses::lose_by_fall;
 use crate::node::Node;
 use crate::scene::Scene;
 use crate::still::is_still;
-use crate::store::{keys_of, load, put_entry, write};
+use crate::store::{load, put_entry, write};
 use buffer_holds::Holds;
 use buffer_pool::Pool;
 use node_table::NodeTable;
@@ -54,9 +57,9 @@ fn change_scene(
     Ok(())
 }
 
-/// Makes a change to a collection that is there, and all that it forces. `NoMemory` leaves the
-/// table, the entries and the pool as they were.
-pub(crate) fn settle_change(
+/// Makes a change to a collection that is there, and all that it forces, on a copy of the
+/// collection. `NoMemory` leaves the table, the entries and the pool as they were.
+fn settle_scene_change(
     table: &mut NodeTable<Node>,
     entries: &mut Vec<Entry>,
     pool: &mut Pool,
@@ -65,6 +68,7 @@ pub(crate) fn settle_change(
     change: &Change,
 ) -> Result<(), NoMemory>
     requires kept { IsKept table.old (shelves_of entries.old.items) }
+    requires counted { AreCounted table.old entries.old.items }
     requires change { MayChange (forest_of table.old (shelves_of entries.old.items)) id change.now }
     requires birth { is_birth change.now ≡ false }
     requires pool { IsPoolOf pool.old (forest_of table.old (shelves_of entries.old.items)) }
@@ -72,6 +76,7 @@ pub(crate) fn settle_change(
         table.new (shelves_of entries.new.items)
         (changed change.now no_key (collection_or_new (forest_of table.old (shelves_of entries.old.items)) id))) }
     ensures kept { OnOk result (IsKept table.new (shelves_of entries.new.items)) }
+    ensures counted { OnOk result (AreCounted table.new entries.new.items) }
     ensures pool { OnOk result (IsPoolOf pool.new (forest_of table.new (shelves_of entries.new.items))) }
     ensures size { pool.new.size ≡ pool.old.size }
     ensures same { SameTable table.old table.new }
@@ -88,6 +93,40 @@ pub(crate) fn settle_change(
     };
     change_scene(alloc, table, &mut scene, change)?;
     finish(table, entries, pool, holds, scene)
+}
+
+/// Makes a change to a collection that is there, and all that it forces: in its place, where the
+/// count of strong live nodes tells that nothing is forced, and else on a copy of the collection.
+/// `NoMemory` leaves the table, the entries and the pool as they were.
+pub(crate) fn settle_change(
+    table: &mut NodeTable<Node>,
+    entries: &mut Vec<Entry>,
+    pool: &mut Pool,
+    holds: &Holds,
+    id: CollectionId,
+    change: &Change,
+) -> Result<(), NoMemory>
+    requires kept { IsKept table.old (shelves_of entries.old.items) }
+    requires counted { AreCounted table.old entries.old.items }
+    requires change { MayChange (forest_of table.old (shelves_of entries.old.items)) id change.now }
+    requires birth { is_birth change.now ≡ false }
+    requires pool { IsPoolOf pool.old (forest_of table.old (shelves_of entries.old.items)) }
+    ensures ok { OnOk result (Finishes pool.old.size (total holds.now) table.old (shelves_of entries.old.items)
+        table.new (shelves_of entries.new.items)
+        (changed change.now no_key (collection_or_new (forest_of table.old (shelves_of entries.old.items)) id))) }
+    ensures kept { OnOk result (IsKept table.new (shelves_of entries.new.items)) }
+    ensures counted { OnOk result (AreCounted table.new entries.new.items) }
+    ensures pool { OnOk result (IsPoolOf pool.new (forest_of table.new (shelves_of entries.new.items))) }
+    ensures size { pool.new.size ≡ pool.old.size }
+    ensures same { SameTable table.old table.new }
+    ensures err_table { OnErr result (table.new ≡ table.old) }
+    ensures err_entries { OnErr result (entries.new.items ≡ entries.old.items) }
+    ensures err_pool { OnErr result (pool.new ≡ pool.old) }
+{
+    if settle_in_place(table, entries, id, change) {
+        return Ok(());
+    }
+    settle_scene_change(table, entries, pool, holds, id, change)
 }
 
 /// The node that is born with this key: a child of `above`, or a root of the collection.
@@ -218,6 +257,7 @@ fn settle_newborn(
     mut scene: Scene,
 ) -> Result<NodeKey, NoMemory>
     requires kept { IsKept table.old (shelves_of entries.old.items) }
+    requires counted { AreCounted table.old entries.old.items }
     requires change { MayChange (forest_of table.old (shelves_of entries.old.items)) id (Change.Birth parent attached client event) }
     requires pool { IsPoolOf pool.old (forest_of table.old (shelves_of entries.old.items)) }
     requires scene { collection_of scene ≡ collection_or_new (forest_of table.old (shelves_of entries.old.items)) id }
@@ -226,6 +266,7 @@ fn settle_newborn(
         (with_birth parent attached client event key (collection_or_new (forest_of table.old (shelves_of entries.old.items)) id))) }
     ensures keys { IfOk result (λ key. Gives table.old table.new key) }
     ensures kept { OnOk result (IsKept table.new (shelves_of entries.new.items)) }
+    ensures counted { OnOk result (AreCounted table.new entries.new.items) }
     ensures pool { OnOk result (IsPoolOf pool.new (forest_of table.new (shelves_of entries.new.items))) }
     ensures size { pool.new.size ≡ pool.old.size }
     ensures err_table { OnErr result (table.new ≡ table.old) }
@@ -246,8 +287,113 @@ fn settle_newborn(
     Ok(key)
 }
 
-/// The birth of a node in the collection of this scene, where nothing else changes with it.
-/// `NoMemory` leaves the table and the entries as they were.
+/// Whether a birth in the collection forces nothing and sends no buffer home, as the count of its
+/// strong nodes tells: it has one, or is not there yet. A binary search.
+fn is_watched(entries: &[Entry], id: CollectionId) -> bool
+    requires rising { AreRising (shelves_of entries.now) }
+    ensures { result ≡ option_map_or (λ e. nat_lt 0 e.strong) (find (λ e. e.id == id) entries.now) true }
+{
+    match entry_of(entries, id) {
+        Some(entry) => entry.strong > 0,
+        None => true,
+    }
+}
+
+/// How many strong nodes a node adds that is born below this one, or as a root.
+fn strong_below(above: Option<&Node>) -> usize
+    ensures { result ≡ (if option_map_or (λ n. n.weak) (option_copied above.entry) false then 0 else 1) }
+{
+    match above {
+        Some(above) if above.weak => 0,
+        _ => 1,
+    }
+}
+
+/// One more node of a collection that is there. `NoMemory` leaves the table as it was, and of the
+/// entry all but its room.
+fn bear_among(
+    table: &mut NodeTable<Node>,
+    entry: &mut Entry,
+    parent: Option<NodeKey>,
+    above: Option<&Node>,
+    attached: bool,
+    client: ClientId,
+    event: u64,
+) -> Result<NodeKey, NoMemory>
+    requires first { table.old.first ≡ 0 }
+    requires parent { IfSome parent (λ p. IsSome (row_at table.old p)) }
+    requires above { option_map (λ n. n.key) (option_copied above) ≡ parent }
+    requires few { entry.old.strong ≤ length entry.old.keys.items }
+    ensures ok { IfOk result (λ key. Bears table.old table.new
+        (born (option_copied above.entry) attached entry.old.id event client key)) }
+    ensures err { OnErr result (table.new ≡ table.old) }
+    ensures shelf { IfOk result (λ key. shelf_of entry.new ≡ shelf_with (shelf_of entry.old) key) }
+    ensures strong { OnOk result (entry.new.strong
+        ≡ entry.old.strong + (if option_map_or (λ n. n.weak) (option_copied above.entry) false then 0 else 1)) }
+    ensures err_shelf { OnErr result (shelf_of entry.new ≡ shelf_of entry.old) }
+    ensures err_strong { OnErr result (entry.new.strong ≡ entry.old.strong) }
+    ensures id { entry.new.id ≡ entry.old.id }
+    ensures tidy { entry.new.tidy ≡ entry.old.tidy }
+{
+    if entry.keys.reserve(1).is_err() {
+        return Err(NoMemory);
+    }
+    let more = strong_below(above);
+    let key = bear(table, entry.id, parent, above, attached, client, event)?;
+    entry.keys.push(key).unwrap();
+    entry.strong += more;
+    Ok(key)
+}
+
+/// The first node of a collection that is not there yet. `NoMemory` leaves the table and the
+/// entries as they were.
+fn bear_first(
+    table: &mut NodeTable<Node>,
+    entries: &mut Vec<Entry>,
+    id: CollectionId,
+    parent: Option<NodeKey>,
+    above: Option<&Node>,
+    attached: bool,
+    client: ClientId,
+    event: u64,
+) -> Result<NodeKey, NoMemory>
+    requires rising { AreRising (shelves_of entries.old.items) }
+    requires first { table.old.first ≡ 0 }
+    requires parent { IfSome parent (λ p. IsSome (row_at table.old p)) }
+    requires above { option_map (λ n. n.key) (option_copied above) ≡ parent }
+    ensures ok { IfOk result (λ key. Bears table.old table.new
+        (born (option_copied above.entry) attached id event client key)) }
+    ensures err { OnErr result (table.new ≡ table.old) }
+    ensures entries { IfOk result (λ key. (e : Kept) × (entries.new.items ≡ put_in e entries.old.items)
+        × (shelf_of e ≡ shelf_with (no_shelf id) key)
+        × (e.strong ≡ (if option_map_or (λ n. n.weak) (option_copied above.entry) false then 0 else 1))) }
+    ensures err_entries { OnErr result (entries.new.items ≡ entries.old.items) }
+{
+    let alloc = *entries.allocator();
+    let mut keys = Vec::new(alloc);
+    if keys.reserve(1).is_err() || entries.reserve(1).is_err() {
+        return Err(NoMemory);
+    }
+    let strong = strong_below(above);
+    let key = bear(table, id, parent, above, attached, client, event)?;
+    keys.push(key).unwrap();
+    put_entry(
+        entries,
+        Entry {
+            id,
+            keys,
+            buffers: None,
+            held: Vec::new(alloc),
+            strong,
+            tidy: true,
+        },
+    );
+    Ok(key)
+}
+
+/// The birth of a node, where nothing else changes with it. `NoMemory` leaves the table as it was,
+/// and of the entries all but their room. It costs a constant and a binary search, growth spread
+/// over the births, and for a root the shift of the entries behind it.
 fn bear_still(
     table: &mut NodeTable<Node>,
     entries: &mut Vec<Entry>,
@@ -256,42 +402,47 @@ fn bear_still(
     attached: bool,
     client: ClientId,
     event: u64,
-    scene: Scene,
 ) -> Result<NodeKey, NoMemory>
     requires kept { IsKept table.old (shelves_of entries.old.items) }
+    requires counted { AreCounted table.old entries.old.items }
     requires change { MayChange (forest_of table.old (shelves_of entries.old.items)) id (Change.Birth parent attached client event) }
-    requires scene { collection_of scene ≡ collection_or_new (forest_of table.old (shelves_of entries.old.items)) id }
+    requires still { (handles : Handles) × IsStill handles
+        (collection_or_new (forest_of table.old (shelves_of entries.old.items)) id) }
     ensures bears { IfOk result (λ key. Bears table.old table.new
         (born (option_and_then (node_at table.old) parent) attached id event client key)) }
     ensures entries { IfOk result (λ key. shelves_of entries.new.items
-        ≡ put_shelf (shelf_with (shelf_in scene) key) (shelves_of entries.old.items)) }
+        ≡ put_shelf (shelf_with (shelf_before id (shelves_of entries.old.items)) key) (shelves_of entries.old.items)) }
+    ensures counted { OnOk result (AreCounted table.new entries.new.items) }
+    ensures err_counted { OnErr result (AreCounted table.old entries.new.items) }
     ensures err_table { OnErr result (table.new ≡ table.old) }
-    ensures err_entries { OnErr result (entries.new.items ≡ entries.old.items) }
+    ensures err_entries { OnErr result (shelves_of entries.new.items ≡ shelves_of entries.old.items) }
 {
-    let alloc = *entries.allocator();
-    let Ok(mut keys) = keys_of(alloc, &scene.nodes) else {
-        return Err(NoMemory);
-    };
-    if keys.reserve(1).is_err() || entries.reserve(1).is_err() {
-        return Err(NoMemory);
-    }
     let above = above_in(table, parent).copied();
-    let key = bear(table, id, parent, above.as_ref(), attached, client, event)?;
-    keys.push(key).unwrap();
-    put_entry(
-        entries,
-        Entry {
-            id: scene.id,
-            keys,
-            buffers: scene.buffers,
-            held: scene.held,
-        },
-    );
-    Ok(key)
+    match place_of(entries, id) {
+        Some(at) => bear_among(
+            table,
+            &mut entries[at],
+            parent,
+            above.as_ref(),
+            attached,
+            client,
+            event,
+        ),
+        None => bear_first(
+            table,
+            entries,
+            id,
+            parent,
+            above.as_ref(),
+            attached,
+            client,
+            event,
+        ),
+    }
 }
 
-/// The birth of a node, and all that it forces. `NoMemory` leaves the table, the entries and the
-/// pool as they were.
+/// The birth of a node, and all that it forces. `NoMemory` leaves the table and the pool as they
+/// were, and of the entries all but their room.
 pub(crate) fn settle_birth(
     table: &mut NodeTable<Node>,
     entries: &mut Vec<Entry>,
@@ -304,6 +455,7 @@ pub(crate) fn settle_birth(
     event: u64,
 ) -> Result<NodeKey, NoMemory>
     requires kept { IsKept table.old (shelves_of entries.old.items) }
+    requires counted { AreCounted table.old entries.old.items }
     requires change { MayChange (forest_of table.old (shelves_of entries.old.items)) id (Change.Birth parent attached client event) }
     requires pool { IsPoolOf pool.old (forest_of table.old (shelves_of entries.old.items)) }
     ensures ok { IfOk result (λ key. Finishes pool.old.size (total holds.now) table.old (shelves_of entries.old.items)
@@ -311,18 +463,23 @@ pub(crate) fn settle_birth(
         (with_birth parent attached client event key (collection_or_new (forest_of table.old (shelves_of entries.old.items)) id))) }
     ensures keys { IfOk result (λ key. Gives table.old table.new key) }
     ensures kept { OnOk result (IsKept table.new (shelves_of entries.new.items)) }
+    ensures counted { OnOk result (AreCounted table.new entries.new.items) }
+    ensures err_counted { OnErr result (AreCounted table.old entries.new.items) }
     ensures pool { OnOk result (IsPoolOf pool.new (forest_of table.new (shelves_of entries.new.items))) }
     ensures size { pool.new.size ≡ pool.old.size }
     ensures err_table { OnErr result (table.new ≡ table.old) }
-    ensures err_entries { OnErr result (entries.new.items ≡ entries.old.items) }
+    ensures err_entries { OnErr result (shelves_of entries.new.items ≡ shelves_of entries.old.items) }
     ensures err_pool { OnErr result (pool.new ≡ pool.old) }
 {
+    if is_watched(entries, id) {
+        return bear_still(table, entries, id, parent, attached, client, event);
+    }
     let alloc = *entries.allocator();
     let Ok(scene) = load_or_new(alloc, table, entries, id) else {
         return Err(NoMemory);
     };
     if is_still(&scene, holds) {
-        return bear_still(table, entries, id, parent, attached, client, event, scene);
+        return bear_still(table, entries, id, parent, attached, client, event);
     }
     settle_newborn(
         table, entries, pool, holds, id, parent, attached, client, event, scene,

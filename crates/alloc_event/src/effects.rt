@@ -19,7 +19,7 @@ pub fn affect(nodes: &mut [Node], call: &Call)
 }
 
 /// The same on one node.
-fn affect_one(node: &mut Node, call: &Call)
+pub(crate) fn affect_one(node: &mut Node, call: &Call)
     requires { has_tracker_room call.now node.old ≡ true }
     ensures { node.new ≡ affected call.now node.old }
 {

@@ -10,8 +10,8 @@ use crate::questions::{is_under, some_live_under};
 use sm_names::NodeKey;
 
 /// Of the roots and attached nodes that are not gone, with no live node at or below them, the one
-/// that was born first. It ends. For each head of a unit it takes a walk over the nodes for each
-/// live one.
+/// that was born first. It ends. For each head of a unit it takes one walk over the nodes
+/// where the head is live, and else a walk for each live one.
 pub fn ending(nodes: &[Node]) -> Option<NodeKey>
     ensures { result ≡ option_map (λ n. n.key) (find (is_deserted_node nodes.now) nodes.now) }
 {

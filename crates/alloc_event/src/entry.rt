@@ -16,6 +16,10 @@ pub(crate) struct Entry {
     pub(crate) buffers: Option<Buffers>,
     /// The buffers whose pages were not given back, by index.
     pub(crate) held: Vec<HeldBuffer>,
+    /// How many of its nodes are live and strong.
+    pub(crate) strong: usize,
+    /// It is known that none of its nodes is over.
+    pub(crate) tidy: bool,
 }
 
 /// How many collections have a smaller id.

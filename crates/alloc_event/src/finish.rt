@@ -1,12 +1,14 @@
 //! The forced steps of a collection that was changed, and what they leave in the table.
 ghost use Rattle.std.specs.Prelude.{◌≡◌, true, OnOk, OnErr};
 ghost use Rattle.buffer_holds.specs.Counts.{total};
+ghost use Rattle.alloc_event.specs.Calm.{AreCounted, AreCountedBut};
 ghost use Rattle.alloc_event.specs.Forest.{IsPoolOf};
 ghost use Rattle.alloc_event.specs.Kept.{IsHung, IsKept, Finishes, SameTable, AreRising, all_of, shelf_in, shelves_of, put_shelf, forest_of};
 ghost use Rattle.alloc_event.specs.Parted.{are_parted};
 ghost use Rattle.alloc_event.specs.Scenes.{IsSound, collection_of};
 
 use crate::entry::Entry;
+use crate::kept::{count_strong, is_some_over};
 use crate::node::Node;
 use crate::returns::give_back;
 use crate::scene::Scene;
@@ -34,10 +36,12 @@ pub(crate) fn finish(
     requires sound { IsSound (collection_of scene) }
     requires own { all_of scene.id scene.nodes.items ≡ true }
     requires hung { IsHung table.old scene.nodes.items }
+    requires counted { AreCountedBut table.old scene.id entries.old.items }
     requires pool { IsPoolOf pool.old (forest_of table.old (put_shelf (shelf_in scene) (shelves_of entries.old.items))) }
     ensures ok { OnOk result (Finishes pool.old.size (total holds.now) table.old (shelves_of entries.old.items)
         table.new (shelves_of entries.new.items) (collection_of scene)) }
     ensures kept { OnOk result (IsKept table.new (shelves_of entries.new.items)) }
+    ensures counted { OnOk result (AreCounted table.new entries.new.items) }
     ensures pool { OnOk result (IsPoolOf pool.new (forest_of table.new (shelves_of entries.new.items))) }
     ensures size { pool.new.size ≡ pool.old.size }
     ensures same { SameTable table.old table.new }
@@ -57,6 +61,8 @@ pub(crate) fn finish(
     give_back(&mut scene, pool, holds);
     part(pool);
     store(table, &scene.nodes);
+    let strong = count_strong(&scene.nodes);
+    let tidy = !is_some_over(&scene.nodes);
     put_entry(
         entries,
         Entry {
@@ -64,6 +70,8 @@ pub(crate) fn finish(
             keys,
             buffers: scene.buffers,
             held: scene.held,
+            strong,
+            tidy,
         },
     );
     Ok(())

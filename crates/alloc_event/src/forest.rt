@@ -14,9 +14,9 @@ ghost use Rattle.alloc_event.specs.Settling.{MayChange, Settled};
 use crate::change::Change;
 use crate::changing::{settle_birth, settle_change};
 use crate::entry::{Entry, entry_of, place_of};
-use crate::forgetting::{forget_key, forget_over, take_out};
+use crate::forgetting::{forget_key, forget_over, note_over, take_out};
 use crate::held::HeldBuffer;
-use crate::kept::{held_by_page, is_strong_live, live_by_birth};
+use crate::kept::{held_by_page, is_over, live_by_birth};
 use crate::node::{End, Node};
 use crate::store::write;
 use crate::summary::Summary;
@@ -40,11 +40,12 @@ impl Model for Forest {
 
     ghost Value = { Forest };
 
-    ghost use Rattle.alloc_event.specs.Kept.{forest_of, shelves_of, IsKept};
+    ghost use Rattle.alloc_event.specs.Kept.{forest_of, shelves_of};
+    ghost use Rattle.alloc_event.specs.Calm.{IsForest};
 
     ghost view = { λ f. forest_of f.table (shelves_of f.entries.items) };
 
-    ghost invariant = { λ f. IsKept f.table (shelves_of f.entries.items) };
+    ghost invariant = { λ f. IsForest f.table f.entries.items };
 }
 
 impl Forest {
@@ -65,11 +66,15 @@ impl Forest {
     /// `NoMemory` where a growth is refused, or no slot has a number left. The forest and the pool
     /// are then as they were.
     ///
-    /// It costs a copy of the collection, and the question for the next step after each that is
-    /// made. A loss costs besides what `fall` costs, and a walk over what falls for each node. A
-    /// birth in a collection at rest, none of whose buffers is home, forces nothing, and so does
-    /// that of a root: it costs the copy and one question. Any other birth costs a copy of the
-    /// whole table besides.
+    /// A birth, an effect that neither releases its node nor sets its constraints, and no change of
+    /// nodes cost a binary search and a constant, growth spread over the births, where a strong
+    /// node of the collection is live all along. So does the birth of a root, but for the shift of
+    /// the collections behind its own.
+    ///
+    /// Any other change costs a copy of the collection, and the question for the next step after
+    /// each that is made. A loss costs besides what `fall` costs, and a walk over what falls for
+    /// each node. Where no strong node is live, a birth that forces nothing and sends no buffer
+    /// home costs the copy and one question, and another a copy of the whole table besides.
     pub fn settle(
         &mut self,
         pool: &mut Pool,
@@ -137,13 +142,13 @@ impl Forest {
         self.entries.len()
     }
 
-    /// Whether a strong node of the collection is live; no, if there is no such collection. It
-    /// costs the number of its nodes.
+    /// Whether a strong node of the collection is live; no, if there is no such collection. A
+    /// binary search.
     pub fn strong_live(&self, id: CollectionId) -> bool
         ensures { result ≡ option_map_or (λ (c : Collection). some_strong_live (members_of c.nodes)) (collection_at self.now id) false }
     {
         match entry_of(&self.entries, id) {
-            Some(entry) => is_strong_live(&self.table, &entry.keys),
+            Some(entry) => entry.strong > 0,
             None => false,
         }
     }
@@ -170,13 +175,16 @@ impl Forest {
         }
     }
 
-    /// Puts the end of a node that is kept elsewhere. It takes no memory, and costs a constant.
+    /// Puts the end of a node that is kept elsewhere. It takes no memory, and costs a constant, and
+    /// a binary search where the end of a gone node is spent.
     pub fn set_end(&mut self, key: NodeKey, end: End)
         requires { is_some (node_at self.old key) ≡ true }
         ensures { self.new ≡ on_collections (with_nodes (map (with_end key end))) self.old }
     {
         if let Some(node) = self.table.get(key).copied() {
-            write(&mut self.table, Node { end, ..node });
+            let after = Node { end, ..node };
+            note_over(&mut self.entries, node.collection, is_over(&after));
+            write(&mut self.table, after);
         }
     }
 
@@ -208,8 +216,9 @@ impl Forest {
     }
 
     /// Forgets the nodes of the collection that are over, and the collection where nothing is left
-    /// of it. Without such a collection nothing changes. It takes no memory, and costs one pass over
-    /// the nodes of the collection.
+    /// of it. Without such a collection nothing changes. It takes no memory, and costs a binary
+    /// search, and a pass over the nodes of the collection where since the last call one went whose
+    /// end was spent, or the end of a gone one was spent.
     pub fn forget_over(&mut self, id: CollectionId)
         ensures collections { self.new.collections ≡ without_over_in id self.old.collections }
         ensures keys { SameKeys self.old self.new }

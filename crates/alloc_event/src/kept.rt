@@ -1,15 +1,15 @@
 //! What is kept of the nodes: reading them by their keys.
-ghost use Rattle.std.specs.Prelude.{◌≡◌, ◌++◌, IfOk, false, map};
-ghost use Rattle.std.specs.List.{list_any, filter, flat_map};
-ghost use Rattle.std.specs.Option.{option_map_or};
+ghost use Rattle.std.specs.Prelude.{◌≡◌, ◌++◌, IfOk, map};
+ghost use Rattle.std.specs.List.{filter, flat_map, list_any};
 ghost use Rattle.sm_names.specs.Words.{sorted_by};
-ghost use Rattle.node_table.specs.Table.{node_at};
 ghost use Rattle.alloc_event.specs.declared.entry.Entry.{Entry as Kept};
+ghost use Rattle.alloc_event.specs.Calm.{strong_count};
 ghost use Rattle.alloc_event.specs.Kept.{all_keys, nodes_with, shelves_of, is_live, is_strong};
+ghost use Rattle.alloc_event.specs.Nodes.{is_over};
 
 use crate::entry::Entry;
 use crate::held::HeldBuffer;
-use crate::node::Node;
+use crate::node::{End, Node};
 use node_table::NodeTable;
 use sm_names::NodeKey;
 use std::alloc::{AllocError, Global};
@@ -21,18 +21,38 @@ fn is_live(node: &Node) -> bool
     !node.gone && !node.released
 }
 
-/// Whether a node with one of these keys is live and strong.
-pub(crate) fn is_strong_live(table: &NodeTable<Node>, keys: &[NodeKey]) -> bool
-    ensures { result ≡ list_any (λ key. option_map_or is_strong (node_at table.now key) false) keys.now }
+/// Whether the node is live and strong.
+pub(crate) fn is_strong(node: &Node) -> bool
+    ensures { result ≡ is_strong node.now }
 {
-    for key in keys {
-        if let Some(node) = table.get(*key) {
-            if is_live(node) && !node.weak {
-                return true;
-            }
+    is_live(node) && !node.weak
+}
+
+/// How many of the nodes are live and strong.
+pub(crate) fn count_strong(nodes: &[Node]) -> usize
+    ensures { result ≡ strong_count nodes.now }
+{
+    let mut count = 0;
+    for node in nodes {
+        if is_strong(node) {
+            count += 1;
         }
     }
-    false
+    count
+}
+
+/// Whether the node is gone and its end is spent.
+pub(crate) fn is_over(node: &Node) -> bool
+    ensures { result ≡ is_over node.now }
+{
+    node.gone && matches!(node.end, End::Spent)
+}
+
+/// Whether a node of these is over.
+pub(crate) fn is_some_over(nodes: &[Node]) -> bool
+    ensures { result ≡ list_any is_over nodes.now }
+{
+    nodes.iter().any(|node| is_over(node))
 }
 
 /// The live nodes with these keys, behind others.

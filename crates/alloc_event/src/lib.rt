@@ -17,6 +17,7 @@ mod finish;
 pub mod forest;
 mod forgetting;
 pub mod held;
+mod in_place;
 pub mod initial;
 mod kept;
 pub mod laws;

@@ -5,6 +5,7 @@ ghost use Rattle.node_table.specs.Table.{row_at, node_at};
 ghost use Rattle.node_table.specs.Changes.{Writes};
 ghost use Rattle.node_table.specs.Lending.{table_with_node};
 ghost use Rattle.alloc_event.specs.declared.node.Node.{Node as Kept};
+ghost use Rattle.alloc_event.specs.Calm.{put_in};
 ghost use Rattle.alloc_event.specs.Kept.{Stores, have_places, collection_in, shelf_of, shelves_of, put_shelf, nodes_with, AreRising};
 ghost use Rattle.alloc_event.specs.Scenes.{collection_of};
 
@@ -88,7 +89,8 @@ pub(crate) fn keys_of(alloc: Global, nodes: &[Node]) -> Result<Vec<NodeKey>, All
 pub(crate) fn put_entry(entries: &mut Vec<Entry>, entry: Entry)
     requires rising { AreRising (shelves_of entries.old.items) }
     requires room { vec_len entries.old < vec_capacity entries.old }
-    ensures { shelves_of entries.new.items ≡ put_shelf (shelf_of entry) (shelves_of entries.old.items) }
+    ensures shelves { shelves_of entries.new.items ≡ put_shelf (shelf_of entry) (shelves_of entries.old.items) }
+    ensures items { entries.new.items ≡ put_in entry entries.old.items }
 {
     match place_of(entries, entry.id) {
         Some(at) => entries[at] = entry,

@@ -1,71 +1,16 @@
--- The collection is there, and is worked on with its nodes changed.
-use Rattle.std.proofs.Common.{◌≡◌, is_some, option_map, refl, sym, ◌∙◌, ap, subst}
-use Rattle.std.proofs.lemmas.Bool.{false≢true}
-use Rattle.alloc_event.specs.Forest.{Collection, IsPoolOf}
-use Rattle.alloc_event.specs.Kept.{shelf_of, shelves_of, nodes_with}
-use Rattle.alloc_event.specs.Scenes.{collection_of}
-use Rattle.alloc_event.proofs.Altering.{change_kept, change_room, altered-kept, altered-forest, altered-hung, altered-sound, altered-tied, altered-of, altered-is}
-use Rattle.alloc_event.proofs.LeftParents.{loss_left}
-use Rattle.alloc_event.proofs.Showing.{shelf_found}
+-- The buffers stay where nothing is forced.
+use Rattle.std.proofs.Common.{List, map, sym, ◌∙◌, ap}
+use Rattle.sm_names.specs.Timelines.{HeldPages}
+use Rattle.sm_names.specs.Words.{sorted_by}
+use Rattle.alloc_event.specs.Forest.{all_held}
+use Rattle.alloc_event.specs.Kept.{Shelf, forest_of, shelves_of}
+use Rattle.alloc_event.proofs.Alike.{start_of}
+use Rattle.alloc_event.proofs.Birthing.{helds_in}
 use Rattle.alloc_event.proofs.changing.settle_change.Goals as goal
 
-pub unreachable-requires : goal.unreachable-requires
-unreachable-requires c =
-    let none = shelf_found c.args.id c.args.entries.now.items ∙ ap (option_map shelf_of) (sym (rw c.deref.ensures.value at c.in_default.ensures)) in
-    let some = change_kept c.args.table.now (shelves_of c.args.entries.now.items) c.requires.kept c.args.id c.args.change.now c.requires.birth c.requires.change.named in
-    false≢true (ap is_some (sym none) ∙ some)
-
-pub change_scene-requires-clause-room : goal.change_scene-requires-clause-room
-change_scene-requires-clause-room c =
-    let nodes : c.in-Ok.scene.nodes.items ≡ nodes_with c.args.table.now c.in-Some.entry.now.keys.items = ap (λ (d : Collection). d.nodes) c.in-Ok.ensures in
-    rw nodes (change_room c.args.table.now (shelves_of c.args.entries.now.items) c.requires.kept c.args.id c.args.change.now c.requires.change c.in-Some.entry.now.keys.items)
-
-pub change_scene-requires-clause-tied : goal.change_scene-requires-clause-tied
-change_scene-requires-clause-tied c =
-    altered-tied c.args.table.now (shelves_of c.args.entries.now.items) c.requires.kept c.args.id (shelf_of c.in-Some.entry.now)
-    (shelf_found c.args.id c.args.entries.now.items ∙ ap (option_map shelf_of) (sym (rw c.deref.ensures.value at c.in-Some.ensures)))
-    c.args.change.now c.requires.birth (collection_of c.in-Ok.scene) _ c.in-Ok.ensures refl
-
-pub change_scene-requires-clause-left : goal.change_scene-requires-clause-left
-change_scene-requires-clause-left c =
-    let nodes : c.in-Ok.scene.nodes.items ≡ nodes_with c.args.table.now c.in-Some.entry.now.keys.items = ap (λ (d : Collection). d.nodes) c.in-Ok.ensures in
-    rw nodes (loss_left c.args.table.now (shelves_of c.args.entries.now.items) c.requires.kept c.args.id c.args.change.now c.requires.change (shelf_of c.in-Some.entry.now)
-    (shelf_found c.args.id c.args.entries.now.items ∙ ap (option_map shelf_of) (sym (rw c.deref.ensures.value at c.in-Some.ensures))))
-
-pub finish-requires-clause-kept : goal.finish-requires-clause-kept
-finish-requires-clause-kept c =
-    altered-kept c.args.table.now (shelves_of c.args.entries.now.items) c.requires.kept c.args.id (shelf_of c.in-Some.entry.now)
-    (shelf_found c.args.id c.args.entries.now.items ∙ ap (option_map shelf_of) (sym (rw c.deref.ensures.value at c.in-Some.ensures)))
-    c.args.change.now c.requires.birth (collection_of c.in-Ok.scene) (collection_of c.change_scene.new.scene) c.in-Ok.ensures c.in_ok-change_scene.ensures
-
-pub finish-requires-clause-sound : goal.finish-requires-clause-sound
-finish-requires-clause-sound c =
-    altered-sound c.args.table.now (shelves_of c.args.entries.now.items) c.requires.kept c.args.id (shelf_of c.in-Some.entry.now)
-    (shelf_found c.args.id c.args.entries.now.items ∙ ap (option_map shelf_of) (sym (rw c.deref.ensures.value at c.in-Some.ensures)))
-    c.args.change.now c.requires.birth (collection_of c.in-Ok.scene) (collection_of c.change_scene.new.scene) c.in-Ok.ensures c.in_ok-change_scene.ensures
-
-pub finish-requires-clause-own : goal.finish-requires-clause-own
-finish-requires-clause-own c =
-    altered-of c.args.table.now (shelves_of c.args.entries.now.items) c.requires.kept c.args.id (shelf_of c.in-Some.entry.now)
-    (shelf_found c.args.id c.args.entries.now.items ∙ ap (option_map shelf_of) (sym (rw c.deref.ensures.value at c.in-Some.ensures)))
-    c.args.change.now c.requires.birth (collection_of c.in-Ok.scene) (collection_of c.change_scene.new.scene) c.in-Ok.ensures c.in_ok-change_scene.ensures
-
-pub finish-requires-clause-hung : goal.finish-requires-clause-hung
-finish-requires-clause-hung c =
-    altered-hung c.args.table.now (shelves_of c.args.entries.now.items) c.requires.kept c.args.id (shelf_of c.in-Some.entry.now)
-    (shelf_found c.args.id c.args.entries.now.items ∙ ap (option_map shelf_of) (sym (rw c.deref.ensures.value at c.in-Some.ensures)))
-    c.args.change.now c.requires.birth (collection_of c.in-Ok.scene) (collection_of c.change_scene.new.scene) c.in-Ok.ensures c.in_ok-change_scene.ensures
-
-pub finish-requires-clause-pool : goal.finish-requires-clause-pool
-finish-requires-clause-pool c =
-    let same = altered-forest c.args.table.now (shelves_of c.args.entries.now.items) c.requires.kept c.args.id (shelf_of c.in-Some.entry.now)
-    (shelf_found c.args.id c.args.entries.now.items ∙ ap (option_map shelf_of) (sym (rw c.deref.ensures.value at c.in-Some.ensures)))
-    c.args.change.now c.requires.birth (collection_of c.in-Ok.scene) (collection_of c.change_scene.new.scene) c.in-Ok.ensures c.in_ok-change_scene.ensures in
-    subst (IsPoolOf c.args.pool.now) (sym same) c.requires.pool
-
-pub returns-clause-ok : goal.returns-clause-ok
-returns-clause-ok c =
-    let is = altered-is c.args.table.now (shelves_of c.args.entries.now.items) c.requires.kept c.args.id (shelf_of c.in-Some.entry.now)
-    (shelf_found c.args.id c.args.entries.now.items ∙ ap (option_map shelf_of) (sym (rw c.deref.ensures.value at c.in-Some.ensures)))
-    c.args.change.now c.requires.birth (collection_of c.in-Ok.scene) (collection_of c.change_scene.new.scene) c.in-Ok.ensures c.in_ok-change_scene.ensures in
-    rw is c.finish.ensures.ok
+pub returns-then-settle_in_place-clause-pool : goal.returns-then-settle_in_place-clause-pool
+returns-then-settle_in_place-clause-pool c =
+    c.requires.pool ∙ ap (λ (hs : List HeldPages). sorted_by start_of (map (λ (h : HeldPages). h.pages) hs))
+    (helds_in c.args.table.now (shelves_of c.args.entries.now.items)
+    ∙ sym (helds_in c.settle_in_place.new.table (shelves_of c.args.entries.now.items))
+    ∙ ap (λ (ss : List Shelf). all_held (forest_of c.settle_in_place.new.table ss)) (sym c.settle_in_place.ensures.shelves))

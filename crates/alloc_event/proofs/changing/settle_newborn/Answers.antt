@@ -6,12 +6,13 @@ use Rattle.buffer_holds.specs.Counts.{total}
 use Rattle.node_table.specs.Table.{Table, row_at}
 use Rattle.alloc_event.specs.declared.node.Node.{Node}
 use Rattle.alloc_event.specs.Forest.{Collection, all_held}
-use Rattle.alloc_event.specs.Kept.{Gives, shelves_of, IsHung, IsKept, put_shelf, forest_of, all_of}
+use Rattle.alloc_event.specs.Kept.{Gives, shelf_of, shelves_of, IsHung, IsKept, put_shelf, forest_of, all_of}
 use Rattle.alloc_event.specs.Scenes.{held_pages, IsSound}
 use Rattle.alloc_event.proofs.Alike.{start_of}
 use Rattle.alloc_event.proofs.Altering.{shelf_by}
 use Rattle.alloc_event.proofs.Bearing.{born_key}
-use Rattle.alloc_event.proofs.Birthing.{still_collections}
+use Rattle.alloc_event.proofs.Birthing.{still_collection, still_collections}
+use Rattle.alloc_event.proofs.Counted.{counted_but, moved_all}
 use Rattle.alloc_event.proofs.Newborn.{above_is, above_key, above_there, born_hung, born_kept, born_sound, born_all_of, born_held, born_is, grown_scene, Gives-same, Finishes-before}
 use Rattle.alloc_event.proofs.changing.settle_newborn.Goals as goal
 
@@ -84,3 +85,11 @@ returns-clause-keys c =
     let bears = rw (c.in-Ok.ensures, c.above_in-above.ensures) at c.in_ok-key.ensures.ok in
     Gives-same c.args.table.now c.bear.new.table c.finish.new.table c.in_ok-key.key
     (subst (Gives c.args.table.now c.bear.new.table) (born_key _ c.args.attached c.args.id c.args.event c.args.client c.in_ok-key.key) bears.gives) c.in_ok-finish.ensures.same
+
+-- the other collections stay, and so do their counts
+pub finish-requires-clause-counted : goal.finish-requires-clause-counted
+finish-requires-clause-counted c =
+    let bears = rw (c.in-Ok.ensures, c.above_in-above.ensures) at c.in_ok-key.ensures.ok in
+    counted_but c.bear.new.table _ c.args.entries.now.items
+    (moved_all c.args.table.now c.bear.new.table c.args.entries.now.items c.requires.kept.filed
+    (λ e filed. still_collection c.args.table.now c.bear.new.table _ bears (shelf_of e) filed) c.requires.counted)

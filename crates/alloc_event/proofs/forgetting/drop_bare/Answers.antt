@@ -5,6 +5,7 @@ use Rattle.std.proofs.lemmas.List.{get_or_default}
 use Rattle.sm_names.proofs.SamenessLaws.{and_both}
 use Rattle.alloc_event.specs.Forgetting.{is_bare}
 use Rattle.alloc_event.specs.Kept.{place_in, shelf_of, shelves_of}
+use Rattle.alloc_event.proofs.Counted.{counted_removed}
 use Rattle.alloc_event.proofs.Dropping.{bare_entry, bare_none, keep_bare, no_left, no_right, remove_bare}
 use Rattle.alloc_event.proofs.Entries.{place_is}
 use Rattle.alloc_event.proofs.forgetting.drop_bare.Goals.{else-is_empty-via-then-is_empty+else-is_empty-2, else-is_empty-via-else-is_empty}
@@ -25,8 +26,8 @@ remove-requires c =
     let told : place_in c.args.id c.args.entries.now.items ≡ Some c.in-Some.at = sym (rw c.deref.ensures.value at c.place_of.ensures) ∙ c.in-Some.is in
     omega (arith, (place_is c.args.id c.args.entries.now.items c.in-Some.at told).within)
 
-pub returns-then-is_empty-2 : goal.returns-then-is_empty-2
-returns-then-is_empty-2 c =
+pub returns-then-is_empty-2-clause-shelves : goal.returns-then-is_empty-2-clause-shelves
+returns-then-is_empty-2-clause-shelves c =
     let told : place_in c.args.id c.args.entries.now.items ≡ Some c.in-Some.at = sym (rw c.deref.ensures.value at c.place_of.ensures) ∙ c.in-Some.is in
     let at : Entry = get_or c.args.entries.now.items c.in-Some.at c.index.result.now in
     let within = (place_is c.args.id c.args.entries.now.items c.in-Some.at told).within in
@@ -37,8 +38,8 @@ returns-then-is_empty-2 c =
     ap shelves_of c.remove.ensures.items
     ∙ remove_bare c.args.id c.args.entries.now.items c.in-Some.at c.index.result.now c.requires told (bare_entry at ∙ and_both _ _ keys held)
 
-pub returns-else-is_empty : goal.returns-else-is_empty
-returns-else-is_empty c =
+pub returns-else-is_empty-clause-shelves : goal.returns-else-is_empty-clause-shelves
+returns-else-is_empty-clause-shelves c =
     let told : place_in c.args.id c.args.entries.now.items ≡ Some c.in-Some.at = sym (rw c.deref.ensures.value at c.place_of.ensures) ∙ c.in-Some.is in
     let at : Entry = get_or c.args.entries.now.items c.in-Some.at c.index.result.now in
     let within = (place_is c.args.id c.args.entries.now.items c.in-Some.at told).within in
@@ -55,7 +56,11 @@ returns-else-is_empty c =
           stays (bare_entry at ∙ no_left _ _ keys)
     ]
 
-pub returns-in_default : goal.returns-in_default
-returns-in_default c =
+pub returns-in_default-clause-shelves : goal.returns-in_default-clause-shelves
+returns-in_default-clause-shelves c =
     let told : place_in c.args.id c.args.entries.now.items ≡ None = sym (rw c.deref.ensures.value at c.place_of.ensures) ∙ c.in_default.is in
     bare_none c.args.id c.args.entries.now.items told
+
+pub returns-then-is_empty-2-clause-counted : goal.returns-then-is_empty-2-clause-counted
+returns-then-is_empty-2-clause-counted c t all =
+    rw c.remove.ensures.items (counted_removed t c.args.entries.now.items c.in-Some.at all)

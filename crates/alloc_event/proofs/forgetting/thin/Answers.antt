@@ -1,36 +1,59 @@
 -- The entry at the place of the id keeps the keys that the table has.
-use Rattle.std.proofs.Common.{◌≡◌, Some, None, get_or, sym, ◌∙◌, ap, arith}
+use Rattle.std.proofs.Common.{◌≡◌, Some, None, true, get_or, refl, sym, ◌∙◌, ap, subst, arith}
 use Rattle.alloc_event.specs.declared.entry.Entry.{Entry}
+use Rattle.std.specs.List.{list_any}
 use Rattle.std.proofs.lemmas.List.{get_or_default}
 use Rattle.alloc_event.specs.Forgetting.{thinned}
-use Rattle.alloc_event.specs.Kept.{place_in, shelf_of}
+use Rattle.alloc_event.specs.Calm.{IsCounted}
+use Rattle.alloc_event.specs.Kept.{collection_in, nodes_with, place_in, shelf_of}
+use Rattle.alloc_event.specs.Nodes.{is_over}
+use Rattle.alloc_event.proofs.Counted.{found_nodes, recounted, tidied_set}
 use Rattle.alloc_event.proofs.Dropping.{set_thin, thin_none}
 use Rattle.alloc_event.proofs.Entries.{place_is}
 use Rattle.alloc_event.proofs.forgetting.thin.Goals as goal
 
-pub index_mut-requires : goal.index_mut-requires
-index_mut-requires c =
+pub index_mut-entry-requires : goal.index_mut-entry-requires
+index_mut-entry-requires c =
     let told : place_in c.args.id c.args.entries.now.items ≡ Some c.in-Some.at = sym (rw c.deref.ensures.value at c.place_of.ensures) ∙ c.in-Some.is in
     omega (arith, (place_is c.args.id c.args.entries.now.items c.in-Some.at told).within)
 
-pub returns-in-Some : goal.returns-in-Some
-returns-in-Some c =
+pub returns-in-Some-clause-shelves : goal.returns-in-Some-clause-shelves
+returns-in-Some-clause-shelves c =
     let told : place_in c.args.id c.args.entries.now.items ≡ Some c.in-Some.at = sym (rw c.deref.ensures.value at c.place_of.ensures) ∙ c.in-Some.is in
     let e : Entry = record {
-      id = c.index_mut.result.now.id;
+      id = c.index_mut-entry.result.now.id;
       keys = c.keep_found.new.keys;
-      buffers = c.index_mut.result.now.buffers;
-      held = c.index_mut.result.now.held;
+      buffers = c.index_mut-entry.result.now.buffers;
+      held = c.index_mut-entry.result.now.held;
+      strong = c.index_mut-entry.result.now.strong;
+      tidy = true;
     } in
     let within = (place_is c.args.id c.args.entries.now.items c.in-Some.at told).within in
-    let was : c.index_mut.result.now ≡ get_or c.args.entries.now.items c.in-Some.at e =
-    c.index_mut.ensures.value ∙ get_or_default _ _ _ e within in
-    let is : shelf_of e ≡ thinned c.args.table.now (shelf_of c.index_mut.result.now) =
-    λ i. record (shelf_of c.index_mut.result.now) { keys = c.keep_found.ensures i } in
+    let was : c.index_mut-entry.result.now ≡ get_or c.args.entries.now.items c.in-Some.at e =
+    c.index_mut-entry.ensures.value ∙ get_or_default _ _ _ e within in
+    let is : shelf_of e ≡ thinned c.args.table.now (shelf_of c.index_mut-entry.result.now) =
+    λ i. record (shelf_of c.index_mut-entry.result.now) { keys = c.keep_found.ensures i } in
     set_thin c.args.table.now c.args.id c.args.entries.now.items c.in-Some.at e c.requires told
     (is ∙ ap (λ (x : Entry). thinned c.args.table.now (shelf_of x)) was)
 
-pub returns-in_default : goal.returns-in_default
-returns-in_default c =
+pub returns-in-Some-clause-counted : goal.returns-in-Some-clause-counted
+returns-in-Some-clause-counted c all tidy =
+    let told : place_in c.args.id c.args.entries.now.items ≡ Some c.in-Some.at = sym (rw c.deref.ensures.value at c.place_of.ensures) ∙ c.in-Some.is in
+    let old : Entry = c.index_mut-entry.result.now in
+    let e : Entry = record { id = old.id; keys = c.keep_found.new.keys; buffers = old.buffers; held = old.held; strong = old.strong; tidy = true } in
+    let place = place_is c.args.id c.args.entries.now.items c.in-Some.at told in
+    let was : old ≡ get_or c.args.entries.now.items c.in-Some.at e = c.index_mut-entry.ensures.value ∙ get_or_default _ _ _ e place.within in
+    let same : collection_in c.args.table.now (shelf_of e) ≡ collection_in c.args.table.now (shelf_of old) =
+    λ i. record (collection_in c.args.table.now (shelf_of old)) {
+      nodes = (ap (nodes_with c.args.table.now) c.keep_found.ensures ∙ found_nodes c.args.table.now old.keys.items) i;
+    } in
+    tidied_set c.args.table.now c.args.id c.args.entries.now.items c.in-Some.at e tidy
+    (λ within is none counted.
+    recounted c.args.table.now old e same refl (λ h. ap (λ (x : Entry). list_any is_over (nodes_with c.args.table.now x.keys.items)) was ∙ none)
+    (subst (IsCounted c.args.table.now) (sym was) counted))
+    (λ within. place.id_is e) all
+
+pub returns-in_default-clause-shelves : goal.returns-in_default-clause-shelves
+returns-in_default-clause-shelves c =
     let told : place_in c.args.id c.args.entries.now.items ≡ None = sym (rw c.deref.ensures.value at c.place_of.ensures) ∙ c.in_default.is in
     thin_none c.args.table.now c.args.id c.args.entries.now.items told

@@ -4,6 +4,7 @@ use Rattle.std.specs.Option.{option_map_or}
 use Rattle.std.proofs.lemmas.Bool.{false≢true}
 use Rattle.alloc_event.specs.Forest.{Forest, collection_at, is_left}
 use Rattle.alloc_event.specs.Kept.{place_in, shelves_of}
+use Rattle.alloc_event.proofs.Counted.{counted_removed}
 use Rattle.alloc_event.proofs.Emptying.{remove_shelf, collections_beside, kept-beside, left_none}
 use Rattle.alloc_event.proofs.Entries.{place_is, none_in}
 use Rattle.alloc_event.proofs.Showing.{collection_none}
@@ -17,15 +18,18 @@ remove-requires c =
 pub invariant_of-self : goal.invariant_of-self
 invariant_of-self c =
     let told : place_in c.args.id c.self.inside.entries.items ≡ Some c.in-Some.at = sym (rw c.deref.ensures.value at c.place_of.ensures) ∙ c.in-Some.is in
-    let same = ap shelves_of c.remove.ensures.items ∙ remove_shelf c.args.id c.self.inside.entries.items c.in-Some.at c.self.invariant.rising told in
+    let same = ap shelves_of c.remove.ensures.items ∙ remove_shelf c.args.id c.self.inside.entries.items c.in-Some.at c.self.invariant.kept.rising told in
     let left = ap (λ (f : Forest). option_map_or is_left (collection_at f c.args.id) false) c.self.view_is ∙ c.requires in
-    rw same (kept-beside c.self.inside.table c.args.id (shelves_of c.self.inside.entries.items) c.self.invariant
-    (left_none c.self.inside.table c.args.id (shelves_of c.self.inside.entries.items) c.self.invariant.filed left))
+    record {
+      kept = rw same (kept-beside c.self.inside.table c.args.id (shelves_of c.self.inside.entries.items) c.self.invariant.kept
+          (left_none c.self.inside.table c.args.id (shelves_of c.self.inside.entries.items) c.self.invariant.kept.filed left));
+      counted = rw c.remove.ensures.items (counted_removed c.self.inside.table c.self.inside.entries.items c.in-Some.at c.self.invariant.counted);
+    }
 
 pub returns-in-Some-clause-collections : goal.returns-in-Some-clause-collections
 returns-in-Some-clause-collections c =
     let told : place_in c.args.id c.self.inside.entries.items ≡ Some c.in-Some.at = sym (rw c.deref.ensures.value at c.place_of.ensures) ∙ c.in-Some.is in
-    let same = ap shelves_of c.remove.ensures.items ∙ remove_shelf c.args.id c.self.inside.entries.items c.in-Some.at c.self.invariant.rising told in
+    let same = ap shelves_of c.remove.ensures.items ∙ remove_shelf c.args.id c.self.inside.entries.items c.in-Some.at c.self.invariant.kept.rising told in
     rw (same, ← c.self.view_is) (collections_beside c.self.inside.table c.args.id (shelves_of c.self.inside.entries.items))
 
 pub returns-in_default-clause-collections : goal.returns-in_default-clause-collections

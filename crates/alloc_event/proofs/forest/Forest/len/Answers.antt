@@ -7,5 +7,5 @@ use Rattle.alloc_event.proofs.forest.Forest.len.Goals as goal
 pub returns : goal.returns
 returns c =
     rw (← c.self.view_is)
-    (c.len.ensures ∙ sym c.self.invariant.counted
-    ∙ sym (all_filed-length c.self.inside.table (shelves_of c.self.inside.entries.items) c.self.invariant.filed))
+    (c.len.ensures ∙ sym c.self.invariant.kept.counted
+    ∙ sym (all_filed-length c.self.inside.table (shelves_of c.self.inside.entries.items) c.self.invariant.kept.filed))

@@ -1,18 +1,21 @@
--- The keys of the entry tell it.
+-- The count of the entry tells it.
 use Rattle.std.proofs.Common.{false, sym, ◌∙◌, ap}
 use Rattle.std.specs.Option.{option_map_or}
 use Rattle.sm_names.specs.Members.{some_strong_live}
 use Rattle.alloc_event.specs.Forest.{Collection}
+use Rattle.alloc_event.specs.Kept.{nodes_with}
 use Rattle.alloc_event.specs.Nodes.{members_of}
 use Rattle.alloc_event.proofs.Showing.{collection_none}
 use Rattle.alloc_event.proofs.Strong.{strong_found}
+use Rattle.alloc_event.proofs.Watched.{found_counted, strong_told}
 use Rattle.alloc_event.proofs.forest.Forest.strong_live.Goals as goal
 
 pub returns-in-Some : goal.returns-in-Some
 returns-in-Some c =
     let told = strong_found c.self.inside.table c.self.inside.entries.items c.args.id c.in-Some.entry.now (sym (rw c.deref.ensures.value at c.in-Some.ensures)) in
-    let asked = rw c.deref-in-Some.ensures.value at c.is_strong_live.ensures in
-    rw (← c.self.view_is) (asked ∙ sym told)
+    let counted = found_counted c.self.inside.table c.args.id c.self.inside.entries.items c.in-Some.entry.now c.self.invariant.counted (sym (rw c.deref.ensures.value at c.in-Some.ensures)) in
+    rw (← c.self.view_is)
+    (strong_told (nodes_with c.self.inside.table c.in-Some.entry.now.keys.items) c.in-Some.entry.now.strong counted.strong ∙ sym told)
 
 pub returns-in-None : goal.returns-in-None
 returns-in-None c =

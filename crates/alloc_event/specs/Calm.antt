@@ -1,0 +1,50 @@
+-- The counts that are kept of a collection, and that nothing is forced in it while it has a keeper. No public clause cites
+-- this module.
+use Rattle.std.specs.Prelude.{◌≡◌, ◌≢◌, ℕ, true, false, ◌==◌, nat_lt, if◌then◌else◌, List, [], ◌∷◌, None}
+use Rattle.std.specs.List.{AllByRecursion, list_any}
+use Rattle.sm_names.specs.Words.{times}
+use Rattle.node_table.specs.Table.{Table}
+use Rattle.alloc_event.specs.declared.entry.Entry.{Entry}
+use Rattle.alloc_event.specs.declared.node.Node.{Node}
+use Rattle.alloc_event.specs.Decisions.{decided}
+use Rattle.alloc_event.specs.Forest.{Collection}
+use Rattle.alloc_event.specs.Kept.{IsKept, collection_in, is_strong, nodes_with, shelf_of, shelves_of}
+use Rattle.alloc_event.specs.Nodes.{is_over}
+
+-- no step would be forced in the collection, were a strong handle open
+abbrev pub IsCalm : Collection → Type 0
+IsCalm c = decided c.nodes c.buffers true ≡ None
+
+-- how many of the nodes are live and strong
+abbrev pub strong_count : List Node → ℕ
+strong_count nodes = times is_strong nodes
+
+-- the collection of the entry is calm, its count is that of its nodes, and where it is tidy none of them is over
+pub record IsCounted (t : Table Node) (e : Entry) : Type 0 where
+  pub calm : IsCalm (collection_in t (shelf_of e))
+  pub strong : e.strong ≡ strong_count (nodes_with t e.keys.items)
+  pub tidy : e.tidy ≡ true → list_any is_over (nodes_with t e.keys.items) ≡ false
+
+-- so of each entry
+abbrev pub AreCounted : Table Node → List Entry → Type 0
+AreCounted t es = AllByRecursion (IsCounted t) es
+
+-- and of each but the one with this id
+abbrev pub AreCountedBut : Table Node → ℕ → List Entry → Type 0
+AreCountedBut t id es = AllByRecursion (λ (e : Entry). e.id ≢ id → IsCounted t e) es
+
+-- the entries by id, with this one in place of the one with its id
+abbrev pub put_in : Entry → List Entry → List Entry
+put_in new [] = new ∷ []
+put_in new (e ∷ es) =
+    let on : List Entry = put_in new es in
+    if e.id == new.id then new ∷ es else (if nat_lt new.id e.id then new ∷ e ∷ es else e ∷ on)
+
+-- what holds of the table and the entries of each forest
+pub record IsForest (t : Table Node) (es : List Entry) : Type 0 where
+  pub kept : IsKept t (shelves_of es)
+  pub counted : AreCounted t es
+
+-- no node of the collection with this id is over
+abbrev pub AreTidy : Table Node → ℕ → List Entry → Type 0
+AreTidy t id es = AllByRecursion (λ (e : Entry). e.id ≡ id → list_any is_over (nodes_with t e.keys.items) ≡ false) es

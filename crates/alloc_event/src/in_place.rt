@@ -1,0 +1,135 @@
+//! Changes that force nothing, as the count of strong live nodes tells, made in their places.
+ghost use Rattle.std.specs.Prelude.{◌≡◌, ◌+◌, ℕ, List, None, Some, true, false, if◌then◌else◌, IfSome};
+ghost use Rattle.sm_names.specs.declared.keys.NodeKey.{NodeKey as Key};
+ghost use Rattle.sm_names.specs.declared.messages.Call.{Call as Asked};
+ghost use Rattle.sm_names.specs.Timelines.{key_of};
+ghost use Rattle.node_table.specs.Table.{node_at};
+ghost use Rattle.alloc_event.specs.declared.change.Change.{Change as Changed};
+ghost use Rattle.alloc_event.specs.declared.node.Node.{Node as Kept};
+ghost use Rattle.alloc_event.specs.Calm.{AreCounted};
+ghost use Rattle.alloc_event.specs.InPlace.{IsMade, IsOpen, bit, is_plain};
+ghost use Rattle.alloc_event.specs.Kept.{Finishes, IsKept, SameTable, Shelf, forest_of, is_strong, shelves_of};
+ghost use Rattle.alloc_event.specs.Nodes.{affected};
+ghost use Rattle.alloc_event.specs.Scenes.{has_tracker_room};
+ghost use Rattle.alloc_event.specs.Settling.{Handles, MayChange, changed, collection_or_new, no_key};
+
+use crate::change::Change;
+use crate::effects::affect_one;
+use crate::entry::{Entry, place_of};
+use crate::kept::is_strong;
+use crate::node::Node;
+use crate::store::write;
+use node_table::NodeTable;
+use sm_names::{Call, CollectionId, NodeKey};
+
+/// The node on which the call takes effect, if it neither releases the node nor sets its
+/// constraints.
+fn plain_key(call: &Call) -> Option<NodeKey>
+    ensures { result ≡ (if is_plain call.now then key_of call.now else None) }
+{
+    match *call {
+        Call::Bind(key)
+        | Call::SetDispensable(key)
+        | Call::SetWeak(key)
+        | Call::SetWeakOk(key, _)
+        | Call::Take(key)
+        | Call::TrackNode(key) => Some(key),
+        _ => None,
+    }
+}
+
+/// The node once the call took effect on it.
+fn affected_by(node: &Node, call: &Call) -> Node
+    requires { has_tracker_room call.now node.now ≡ true }
+    ensures { result ≡ affected call.now node.now }
+{
+    let mut after = *node;
+    affect_one(&mut after, call);
+    after
+}
+
+/// The count, where a node that it may have counted is counted no longer.
+fn less(count: usize, was: bool, is: bool) -> usize
+    ensures { (real : ℕ) → (is ≡ true → was ≡ true) → real + bit was ≡ count + bit is → result ≡ real }
+{
+    if was && !is && count > 0 {
+        count - 1
+    } else {
+        count
+    }
+}
+
+/// Makes the effect of the call in its place, if it neither releases the node nor sets its
+/// constraints, and a strong node is live after it: then nothing is forced. Answers how many strong
+/// nodes are live then. With `None` nothing changed.
+fn affect_in_place(table: &mut NodeTable<Node>, strong: usize, call: &Call) -> Option<usize>
+    requires named { (key : Key) (n : Kept) → node_at table.old key ≡ Some n → n.key ≡ key }
+    requires room { (key : Key) (n : Kept) → node_at table.old key ≡ Some n → has_tracker_room call.now n ≡ true }
+    ensures none { result ≡ None → table.new ≡ table.old }
+    ensures some { IfSome result (λ left. (ss : List Shelf) (s : Shelf) →
+        IsOpen table.old ss s (Changed.Effect call.now) strong → IsMade table.old table.new ss s (Changed.Effect call.now) left) }
+{
+    let Some(key) = plain_key(call) else {
+        return None;
+    };
+    let Some(node) = table.get(key).copied() else {
+        return None;
+    };
+    let after = affected_by(&node, call);
+    let left = less(strong, is_strong(&node), is_strong(&after));
+    if left == 0 {
+        return None;
+    }
+    write(table, after);
+    Some(left)
+}
+
+/// Makes the change in its place, if the count of strong live nodes tells that nothing is forced.
+/// Answers how many there are then. With `None` nothing changed.
+fn change_in_place(table: &mut NodeTable<Node>, strong: usize, change: &Change) -> Option<usize>
+    requires named { (key : Key) (n : Kept) → node_at table.old key ≡ Some n → n.key ≡ key }
+    requires room { (call : Asked) (key : Key) (n : Kept) → change.now ≡ Changed.Effect call → node_at table.old key ≡ Some n → has_tracker_room call n ≡ true }
+    ensures none { result ≡ None → table.new ≡ table.old }
+    ensures some { IfSome result (λ left. (ss : List Shelf) (s : Shelf) →
+        IsOpen table.old ss s change.now strong → IsMade table.old table.new ss s change.now left) }
+{
+    match *change {
+        Change::Nothing if strong > 0 => Some(strong),
+        Change::Effect(call) => affect_in_place(table, strong, &call),
+        _ => None,
+    }
+}
+
+/// Makes the change to a collection in its place, if it is none of nodes, or an effect that neither
+/// releases its node nor sets its constraints, and a strong node of the collection is live after
+/// it: then nothing is forced, and no buffer goes home. Answers whether it did; if not, nothing
+/// changed. It takes no memory, and costs a binary search and a constant.
+pub(crate) fn settle_in_place(
+    table: &mut NodeTable<Node>,
+    entries: &mut Vec<Entry>,
+    id: CollectionId,
+    change: &Change,
+) -> bool
+    requires kept { IsKept table.old (shelves_of entries.old.items) }
+    requires counted { AreCounted table.old entries.old.items }
+    requires change { MayChange (forest_of table.old (shelves_of entries.old.items)) id change.now }
+    ensures no_table { result ≡ false → table.new ≡ table.old }
+    ensures no_entries { result ≡ false → entries.new.items ≡ entries.old.items }
+    ensures ok { result ≡ true → (pool : ℕ) (handles : Handles) →
+        Finishes pool handles table.old (shelves_of entries.old.items) table.new (shelves_of entries.new.items)
+        (changed change.now no_key (collection_or_new (forest_of table.old (shelves_of entries.old.items)) id)) }
+    ensures shelves { shelves_of entries.new.items ≡ shelves_of entries.old.items }
+    ensures kept { result ≡ true → IsKept table.new (shelves_of entries.old.items) }
+    ensures counted { result ≡ true → AreCounted table.new entries.new.items }
+    ensures same { SameTable table.old table.new }
+{
+    let Some(at) = place_of(entries, id) else {
+        return false;
+    };
+    let strong = entries[at].strong;
+    let Some(left) = change_in_place(table, strong, change) else {
+        return false;
+    };
+    entries[at].strong = left;
+    true
+}
