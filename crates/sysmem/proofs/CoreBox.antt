@@ -1,0 +1,42 @@
+-- A box with a core, and a place that keeps one: they own the same.
+use mathlib.Core.Path.{◌≡◌, refl}
+use mathlib.Core.List.{[], ◌∷◌}
+use mir.Syntax.{impl, tnil, dnil}
+use Rattle.std.specs.Prelude.{Bool, true, false, Option, Some, None, is_some}
+use Rattle.std.proofs.lemmas.Bool.{false≢true}
+use denote.RattleType.{RattleType}
+use denote.Signature.{Slot, plain}
+use Rattle.std_alloc.proofs.BoxSteps.Form.{Bx}
+use Rattle.std_heap.specs.contracts.Global as heap
+use Rattle.std_heap.specs.contracts.GlobalAllocator.TheImpl.{ghosts, dict}
+use Rattle.std_heap.proofs.Global.TheLaws as heap_laws
+use Rattle.lifetime_core.specs.contracts.machine.Core as core
+use Rattle.lifetime_core.proofs.machine.Core.TheLaws as core_laws
+use Rattle.sysmem.specs.contracts.place.Place as place
+use Rattle.sysmem.specs.contracts.unboxed.Unboxed as unboxed
+
+abbrev pub E : Bx
+E = record { row = core.the_row; laws = core_laws.the_row_laws; al = record { row = heap.the_row; laws = heap_laws.the_row_laws; g = ghosts; d = dict; drops = impl [] tnil dnil } }
+
+abbrev pub Handle : RattleType
+Handle = heap.the_row
+
+abbrev pub Kept : RattleType
+Kept = place.the_row
+
+abbrev pub Loosened : RattleType
+Loosened = unboxed.the_row core.the_row heap.the_row ghosts
+
+abbrev pub a_handle : Slot 0
+a_handle = plain (λ _. Handle)
+
+abbrev pub a_place : Slot 0
+a_place = plain (λ _. Kept)
+
+abbrev pub a_loosened : Slot 0
+a_loosened = plain (λ _. Loosened)
+
+-- what is there is some value
+pub some_of : {A : Type 0} (o : Option A) → is_some o ≡ true → (x : A) × (o ≡ Some x)
+some_of (Some x) e = (x, refl)
+some_of None e = absurd (false≢true e)

@@ -1,0 +1,3 @@
+mod CoreBox
+mod Laying
+mod Unboxing

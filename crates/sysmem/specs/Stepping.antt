@@ -1,0 +1,31 @@
+-- What a call from C makes of a core.
+use Rattle.std.specs.Prelude.{ℕ, ◌≡◌, ◌∷◌, [], List, Option, Some, None, IsSomeAnd}
+use Rattle.sm_names.specs.declared.messages.Call.{Call}
+use Rattle.sm_names.specs.declared.messages.Reply.{Reply}
+use Rattle.sm_names.specs.Marks.{Entry}
+use Rattle.lifetime_core.specs.Shown.{Shows}
+use Rattle.lifetime_core.specs.State.{IsSame, State}
+use Rattle.lifetime_core.specs.Steps.{Follows}
+use Rattle.lifetime_core.specs.Theorem.{GoesOn}
+use Rattle.sysmem.specs.declared.words.CallWords.{CallWords}
+use Rattle.sysmem.specs.declared.words.ReplyWords.{ReplyWords}
+use Rattle.sysmem.specs.Words.{said, telling}
+
+-- the words say a call, the core took it as `step` does, and the other words are those of its reply
+pub record IsStep (old new : State) (client : ℕ) (asked : CallWords) (told : ReplyWords) : Type 0 where
+  pub call : Call
+  pub reply : Reply
+  pub says : said asked ≡ Some call
+  pub tells : told ≡ telling reply
+  pub follows : Follows old new client call reply
+  pub goes_on : GoesOn old new ((client, call, reply) ∷ [])
+
+-- the core is as it was, but for the order of its rows of handles, and shows each history that it showed
+pub record StaysAs (old new : State) : Type 0 where
+  pub same : IsSame old new
+  pub shows : (history : List Entry) → Shows old history → Shows new history
+
+-- where there was a core it stays as it was, and where there was none there is none
+abbrev pub AreAlike : Option State → Option State → Type 0
+AreAlike None after = after ≡ None
+AreAlike (Some old) after = IsSomeAnd after (StaysAs old)

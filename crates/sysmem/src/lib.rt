@@ -1,0 +1,29 @@
+//! The core for programs in C, C++ and Rust: `include/sysmem.h` declares these functions and says
+//! what their callers keep.
+//!
+//! No function has a premise of its own: any number may stand in a call, and a handle may be open
+//! or not. Where a function answers another code than `DONE`, what it was given to write is as it
+//! was.
+#![tactic(auto)]
+
+mod codes;
+mod keeping;
+mod laying;
+mod names;
+mod opening;
+mod place;
+mod stepping;
+mod telling;
+mod unboxed;
+mod views;
+mod words;
+
+pub use keeping::Handle;
+pub use names::sysmem_name;
+pub use opening::{sysmem_close, sysmem_open};
+pub use stepping::sysmem_step;
+pub use views::{
+    FiredWords, HeldWords, KeyWords, sysmem_cause, sysmem_events, sysmem_fired, sysmem_free_pages,
+    sysmem_held, sysmem_is_live, sysmem_live,
+};
+pub use words::{CallWords, ReplyWords};

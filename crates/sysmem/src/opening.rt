@@ -1,0 +1,70 @@
+//! Opening and closing.
+ghost use Rattle.std.specs.Prelude.{◌≡◌, ◌↔◌, ◌≢◌, None, true, is_some, IsSomeAnd};
+ghost use Rattle.sysmem.specs.Opening.{IsInRange, IsNew};
+
+use crate::codes::{ALREADY_OPEN, BAD_LIMITS, DONE, NO_MEMORY, NOT_OPEN};
+use crate::keeping::{Handle, is_open, put, take};
+use lifetime_core::Core;
+use sm_names::Limits;
+use std::alloc::Global;
+
+/// Opens a core with a pool of `pages` pages of 4,096 bytes each and with these limits, on a
+/// handle of zeros or on one that was closed. The core has seen nothing.
+///
+/// `ALREADY_OPEN` where the handle has a core, `BAD_LIMITS` where a number is out of its range,
+/// and `NO_MEMORY` where memory is refused: the handle is then as it was. It costs the same for
+/// any numbers.
+#[unsafe(no_mangle)]
+pub extern "C" fn sysmem_open(
+    alloc: Global,
+    handle: &mut Handle,
+    pages: u32,
+    events: u32,
+    nodes: u32,
+    collections: u32,
+    trackers: u32,
+    handles: u32,
+) -> u32
+    ensures done { result ≡ 0 → IsSomeAnd handle.new.place.core
+        (IsNew pages events nodes collections trackers handles) }
+    ensures already { (result ≡ 2) ↔ (is_some handle.old.place.core ≡ true) }
+    ensures refused { result ≡ 3 →
+        ¬ IsInRange pages events nodes collections trackers handles }
+    ensures outside { handle.old.place.core ≡ None →
+        ¬ IsInRange pages events nodes collections trackers handles → result ≡ 3 }
+    ensures failed { result ≢ 0 → handle.new.place.core ≡ handle.old.place.core }
+{
+    if is_open(handle) {
+        return ALREADY_OPEN;
+    }
+    if pages < 1 || pages > 1_048_576 {
+        return BAD_LIMITS;
+    }
+    let Some(limits) = Limits::new(events, nodes, collections, trackers, handles) else {
+        return BAD_LIMITS;
+    };
+    let Ok(core) = Core::new(alloc, pages, limits) else {
+        return NO_MEMORY;
+    };
+    match Box::new(alloc, core) {
+        Ok(core) => {
+            put(handle, core);
+            DONE
+        }
+        Err(_) => NO_MEMORY,
+    }
+}
+
+/// Closes the core, and frees all that it has. `NOT_OPEN` where there is none. It costs a walk
+/// over all that the core has.
+#[unsafe(no_mangle)]
+pub extern "C" fn sysmem_close(alloc: Global, handle: &mut Handle) -> u32
+    ensures closed { handle.new.place.core ≡ None }
+    ensures done { (result ≡ 0) ↔ (is_some handle.old.place.core ≡ true) }
+    ensures not_open { (result ≡ 1) ↔ (handle.old.place.core ≡ None) }
+{
+    match take(alloc, handle) {
+        Some(_) => DONE,
+        None => NOT_OPEN,
+    }
+}

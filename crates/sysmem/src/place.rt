@@ -1,0 +1,61 @@
+//! Where C keeps a core.
+ghost use Rattle.std.specs.Prelude.{◌≡◌, true, is_some, Option, Some, None};
+ghost use Rattle.lifetime_core.specs.State.{State};
+ghost use Rattle.sysmem.specs.Keeping.{keeps, state_coded};
+
+use crate::unboxed::Unboxed;
+use lifetime_core::Core;
+use std::alloc::Global;
+use std::marker::Model;
+
+/// What C sees of a core: nothing.
+#[repr(C)]
+#[derive(Clone, Copy)]
+pub struct Opaque {
+    unused: u8,
+}
+
+/// A core on the heap, or nothing.
+#[repr(C)]
+#[derive(Drop)]
+pub struct Place {
+    at: *mut Opaque,
+    alloc: Global,
+    pub ghost core: { Option State } by { state_coded },
+}
+
+impl Model for Place {
+    ghost also_owns = { λ p. keeps p.alloc p.at p.core };
+}
+
+// No core.
+pub(crate) fn nowhere(alloc: Global) -> Place
+    ensures { result.core ≡ None }
+{
+    Place {
+        at: std::ptr::null_mut(),
+        alloc,
+    }
+}
+
+// What the parts of a box own, kept by C.
+pub(crate) fn keep(core: Unboxed<Core, Global>) -> Place
+    ensures { result.core ≡ Some core.value }
+{
+    let Unboxed { parts: (at, alloc) } = core;
+    Place {
+        at: at as *mut Opaque,
+        alloc,
+    }
+}
+
+// What C kept, as the parts of a box.
+pub(crate) fn out_of(place: Place) -> Unboxed<Core, Global>
+    requires { is_some place.core ≡ true }
+    ensures { place.core ≡ Some result.value }
+{
+    let Place { at, alloc } = place;
+    Unboxed {
+        parts: (at as *mut Core, alloc),
+    }
+}

@@ -1,0 +1,70 @@
+//! One call.
+ghost use Rattle.std.specs.Prelude.{◌≡◌, ◌↔◌, ◌≢◌, ◌≤◌, None, IsSomeAnd, is_some, true};
+ghost use Rattle.sysmem.specs.Stepping.{AreAlike, IsStep, StaysAs};
+ghost use Rattle.sysmem.specs.Words.{said};
+
+use crate::codes::{BAD_CALL, DONE, HISTORY_FULL, NO_MEMORY, NOT_OPEN};
+use crate::keeping::{Handle, put, take};
+use crate::words::{CallWords, ReplyWords, call_of, words_of};
+use lifetime_core::Core;
+use sm_names::{ClientId, StepFault};
+use std::alloc::Global;
+
+// Makes the call that the words say.
+fn make(core: &mut Core, client: ClientId, asked: &CallWords, told: &mut ReplyWords) -> u32
+    ensures done { result ≡ 0 → IsStep core.old core.new client asked.now told.new }
+    ensures failed { result ≢ 0 → StaysAs core.old core.new }
+    ensures untold { result ≢ 0 → told.new ≡ told.old }
+    ensures bad { (result ≡ 4) ↔ (said asked.now ≡ None) }
+    ensures bad_same { result ≡ 4 → core.new ≡ core.old }
+    ensures full { result ≡ 5 → core.old.limits.events ≤ core.old.events }
+    ensures open { result ≢ 1 }
+{
+    let Some(call) = call_of(asked) else {
+        return BAD_CALL;
+    };
+    match core.step(client, call) {
+        Ok(reply) => {
+            *told = words_of(&reply);
+            DONE
+        }
+        Err(StepFault::HistoryFull) => HISTORY_FULL,
+        Err(StepFault::NoMemory) => NO_MEMORY,
+    }
+}
+
+/// Makes one call as this client, and writes its reply. That is one event, also where the call is
+/// refused.
+///
+/// `NOT_OPEN` where the handle has no core; `BAD_CALL` exactly where the numbers say no call, and
+/// nothing changed; `HISTORY_FULL` where as many events were made as may be, and `NO_MEMORY` where
+/// memory is refused: either leaves the core as it was, and `told` too. It costs what
+/// `Core::step` does.
+#[unsafe(no_mangle)]
+pub extern "C" fn sysmem_step(
+    alloc: Global,
+    handle: &mut Handle,
+    client: ClientId,
+    asked: &CallWords,
+    told: &mut ReplyWords,
+) -> u32
+    ensures done { result ≡ 0 → IsSomeAnd handle.old.place.core
+        (λ old. IsSomeAnd handle.new.place.core
+        (λ new. IsStep old new client asked.now told.new)) }
+    ensures failed { result ≢ 0 → AreAlike handle.old.place.core handle.new.place.core }
+    ensures untold { result ≢ 0 → told.new ≡ told.old }
+    ensures not_open { (result ≡ 1) ↔ (handle.old.place.core ≡ None) }
+    ensures bad { result ≡ 4 → said asked.now ≡ None }
+    ensures unsaid { is_some handle.old.place.core ≡ true → said asked.now ≡ None →
+        result ≡ 4 }
+    ensures bad_same { result ≡ 4 → handle.new.place.core ≡ handle.old.place.core }
+    ensures full { result ≡ 5 → IsSomeAnd handle.old.place.core
+        (λ core. core.limits.events ≤ core.events) }
+{
+    let Some(mut core) = take(alloc, handle) else {
+        return NOT_OPEN;
+    };
+    let code = make(&mut core, client, asked, told);
+    put(handle, core);
+    code
+}

@@ -1,0 +1,294 @@
+//! What a core shows.
+ghost use Rattle.std.specs.Prelude.{◌≡◌, ◌≢◌, ◌↔◌, None, IsSomeAnd, length, map};
+ghost use Rattle.std.specs.Prelude.{if◌then◌else◌, ◌⊎◌};
+ghost use Rattle.alloc_event.specs.Forest.{held_buffer};
+ghost use Rattle.lifetime_core.specs.Reads.{views_of, is_live_in, fault_in};
+ghost use Rattle.sysmem.specs.Laying.{laid};
+ghost use Rattle.sysmem.specs.Seeing.{fired_words, held_words, key_of, key_words};
+ghost use Rattle.sysmem.specs.Words.{cause_number};
+
+use crate::codes::{DONE, NO_MEMORY, NOT_FAILED, NOT_OPEN};
+use crate::keeping::{Handle, put, take};
+use crate::laying::lay;
+use crate::telling::Telling;
+use crate::words::cause_word;
+use lifetime_core::{Core, HeldBuffer};
+use sm_names::{Fired, NodeKey};
+use std::alloc::Global;
+
+/// A node.
+#[repr(C)]
+#[derive(Clone, Copy)]
+pub struct KeyWords {
+    pub slot: u32,
+    pub generation: u32,
+}
+
+/// A buffer and its pages.
+#[repr(C)]
+#[derive(Clone, Copy)]
+pub struct HeldWords {
+    pub collection: u64,
+    pub index: u32,
+    pub start: u32,
+    pub pages: u32,
+}
+
+/// A tracker that fired, and the event at which it did.
+#[repr(C)]
+#[derive(Clone, Copy)]
+pub struct FiredWords {
+    pub tracker: u64,
+    pub event: u64,
+}
+
+impl Telling<NodeKey> for KeyWords {
+    ghost telling = { key_words };
+
+    fn tell(key: NodeKey) -> KeyWords {
+        KeyWords {
+            slot: key.slot,
+            generation: key.generation,
+        }
+    }
+}
+
+impl Telling<HeldBuffer> for HeldWords {
+    ghost telling = { held_words };
+
+    fn tell(held: HeldBuffer) -> HeldWords {
+        HeldWords {
+            collection: held.buffer.collection,
+            index: u32::from(held.buffer.index),
+            start: held.start,
+            pages: held.pages,
+        }
+    }
+}
+
+impl Telling<Fired> for FiredWords {
+    ghost telling = { fired_words };
+
+    fn tell(fired: Fired) -> FiredWords {
+        FiredWords {
+            tracker: fired.tracker,
+            event: fired.event,
+        }
+    }
+}
+
+fn put_live(core: &Core, out: &mut [KeyWords], count: &mut u64) -> u32
+    ensures codes { (result ≡ 0) ⊎ (result ≡ 6) }
+    ensures done { result ≡ 0 → out.new ≡ laid (map key_words (views_of core.now).live) out.old }
+    ensures count { result ≡ 0 → count.new ≡ length (views_of core.now).live }
+    ensures failed { result ≢ 0 → (out.new ≡ out.old) × (count.new ≡ count.old) }
+{
+    let Ok(keys) = core.live() else {
+        return NO_MEMORY;
+    };
+    *count = keys.len() as u64;
+    lay(out, &keys);
+    DONE
+}
+
+fn put_held(core: &Core, out: &mut [HeldWords], count: &mut u64) -> u32
+    ensures codes { (result ≡ 0) ⊎ (result ≡ 6) }
+    ensures done { result ≡ 0 →
+        out.new ≡ laid (map held_words (map held_buffer (views_of core.now).held)) out.old }
+    ensures count { result ≡ 0 → count.new ≡ length (views_of core.now).held }
+    ensures failed { result ≢ 0 → (out.new ≡ out.old) × (count.new ≡ count.old) }
+{
+    let Ok(held) = core.held() else {
+        return NO_MEMORY;
+    };
+    *count = held.len() as u64;
+    lay(out, &held);
+    DONE
+}
+
+/// Writes the live nodes, by birth, as many as `out` has room for, and how many there are.
+///
+/// `NOT_OPEN` where the handle has no core, and `NO_MEMORY` where memory is refused: nothing is
+/// written then. It costs a walk over the kept nodes and a sort of those that are live.
+#[unsafe(no_mangle)]
+pub extern "C" fn sysmem_live(
+    alloc: Global,
+    handle: &mut Handle,
+    out: &mut [KeyWords],
+    count: &mut u64,
+) -> u32
+    ensures same { handle.new.place.core ≡ handle.old.place.core }
+    ensures not_open { (result ≡ 1) ↔ (handle.old.place.core ≡ None) }
+    ensures done { result ≡ 0 → IsSomeAnd handle.old.place.core
+        (λ core. (out.new ≡ laid (map key_words (views_of core).live) out.old)
+        × (count.new ≡ length (views_of core).live)) }
+    ensures failed { result ≢ 0 → (out.new ≡ out.old) × (count.new ≡ count.old) }
+{
+    let Some(core) = take(alloc, handle) else {
+        return NOT_OPEN;
+    };
+    let code = put_live(&core, out, count);
+    put(handle, core);
+    code
+}
+
+/// Writes the buffers whose pages were not given back, by page, as many as `out` has room for, and
+/// how many there are.
+///
+/// `NOT_OPEN` where the handle has no core, and `NO_MEMORY` where memory is refused: nothing is
+/// written then. It costs a sort of these buffers.
+#[unsafe(no_mangle)]
+pub extern "C" fn sysmem_held(
+    alloc: Global,
+    handle: &mut Handle,
+    out: &mut [HeldWords],
+    count: &mut u64,
+) -> u32
+    ensures same { handle.new.place.core ≡ handle.old.place.core }
+    ensures not_open { (result ≡ 1) ↔ (handle.old.place.core ≡ None) }
+    ensures done { result ≡ 0 → IsSomeAnd handle.old.place.core (λ core.
+        (out.new ≡ laid (map held_words (map held_buffer (views_of core).held)) out.old)
+        × (count.new ≡ length (views_of core).held)) }
+    ensures failed { result ≢ 0 → (out.new ≡ out.old) × (count.new ≡ count.old) }
+{
+    let Some(core) = take(alloc, handle) else {
+        return NOT_OPEN;
+    };
+    let code = put_held(&core, out, count);
+    put(handle, core);
+    code
+}
+
+/// Writes the trackers that fired, by event, and by rising number within one, as many as `out` has
+/// room for, and how many there are.
+///
+/// `NOT_OPEN` where the handle has no core: nothing is written then. It takes no memory, and costs
+/// what it writes.
+#[unsafe(no_mangle)]
+pub extern "C" fn sysmem_fired(
+    alloc: Global,
+    handle: &mut Handle,
+    out: &mut [FiredWords],
+    count: &mut u64,
+) -> u32
+    ensures same { handle.new.place.core ≡ handle.old.place.core }
+    ensures not_open { (result ≡ 1) ↔ (handle.old.place.core ≡ None) }
+    ensures done { result ≡ 0 → IsSomeAnd handle.old.place.core
+        (λ core. (out.new ≡ laid (map fired_words (views_of core).fired) out.old)
+        × (count.new ≡ length (views_of core).fired)) }
+    ensures failed { result ≢ 0 → (out.new ≡ out.old) × (count.new ≡ count.old) }
+{
+    let Some(core) = take(alloc, handle) else {
+        return NOT_OPEN;
+    };
+    let fired = core.fired();
+    *count = fired.len() as u64;
+    lay(out, fired);
+    put(handle, core);
+    DONE
+}
+
+/// Writes 1 where the node is live, and else 0. `NOT_OPEN` where the handle has no core. It costs
+/// one look-up.
+#[unsafe(no_mangle)]
+pub extern "C" fn sysmem_is_live(
+    alloc: Global,
+    handle: &mut Handle,
+    key: &KeyWords,
+    live: &mut u32,
+) -> u32
+    ensures same { handle.new.place.core ≡ handle.old.place.core }
+    ensures not_open { (result ≡ 1) ↔ (handle.old.place.core ≡ None) }
+    ensures done { result ≡ 0 → IsSomeAnd handle.old.place.core
+        (λ core. live.new ≡ (if is_live_in core (key_of key.now) then 1 else 0)) }
+    ensures failed { result ≢ 0 → live.new ≡ live.old }
+{
+    let Some(core) = take(alloc, handle) else {
+        return NOT_OPEN;
+    };
+    *live = u32::from(core.is_live(node_key(key)));
+    put(handle, core);
+    DONE
+}
+
+/// Writes why the node failed, and the node whose failure took it.
+///
+/// `NOT_OPEN` where the handle has no core, and `NOT_FAILED` where the node did not fail, or is
+/// gone and was forgotten: nothing is written then. It costs one look-up.
+#[unsafe(no_mangle)]
+pub extern "C" fn sysmem_cause(
+    alloc: Global,
+    handle: &mut Handle,
+    key: &KeyWords,
+    cause: &mut u32,
+    origin: &mut KeyWords,
+) -> u32
+    ensures same { handle.new.place.core ≡ handle.old.place.core }
+    ensures not_open { (result ≡ 1) ↔ (handle.old.place.core ≡ None) }
+    ensures done { result ≡ 0 → IsSomeAnd handle.old.place.core
+        (λ core. IsSomeAnd (fault_in core (key_of key.now))
+        (λ fault. (cause.new ≡ cause_number fault.cause)
+        × (origin.new ≡ key_words fault.origin))) }
+    ensures not_failed { result ≡ 7 → IsSomeAnd handle.old.place.core
+        (λ core. fault_in core (key_of key.now) ≡ None) }
+    ensures failed { result ≢ 0 → (cause.new ≡ cause.old) × (origin.new ≡ origin.old) }
+{
+    let Some(core) = take(alloc, handle) else {
+        return NOT_OPEN;
+    };
+    let found = core.cause(node_key(key));
+    put(handle, core);
+    match found {
+        Some((why, node)) => {
+            *cause = cause_word(why);
+            *origin = KeyWords::tell(node);
+            DONE
+        }
+        None => NOT_FAILED,
+    }
+}
+
+/// Writes how many pages no buffer holds. `NOT_OPEN` where the handle has no core. It costs a
+/// constant.
+#[unsafe(no_mangle)]
+pub extern "C" fn sysmem_free_pages(alloc: Global, handle: &mut Handle, pages: &mut u32) -> u32
+    ensures same { handle.new.place.core ≡ handle.old.place.core }
+    ensures not_open { (result ≡ 1) ↔ (handle.old.place.core ≡ None) }
+    ensures done { result ≡ 0 → IsSomeAnd handle.old.place.core
+        (λ core. pages.new ≡ (views_of core).free) }
+    ensures failed { result ≢ 0 → pages.new ≡ pages.old }
+{
+    let Some(core) = take(alloc, handle) else {
+        return NOT_OPEN;
+    };
+    *pages = core.free_pages();
+    put(handle, core);
+    DONE
+}
+
+/// Writes how many events there were. `NOT_OPEN` where the handle has no core. It costs a constant.
+#[unsafe(no_mangle)]
+pub extern "C" fn sysmem_events(alloc: Global, handle: &mut Handle, events: &mut u64) -> u32
+    ensures same { handle.new.place.core ≡ handle.old.place.core }
+    ensures not_open { (result ≡ 1) ↔ (handle.old.place.core ≡ None) }
+    ensures done { result ≡ 0 → IsSomeAnd handle.old.place.core
+        (λ core. events.new ≡ core.events) }
+    ensures failed { result ≢ 0 → events.new ≡ events.old }
+{
+    let Some(core) = take(alloc, handle) else {
+        return NOT_OPEN;
+    };
+    *events = core.events();
+    put(handle, core);
+    DONE
+}
+
+// The key that the words say.
+fn node_key(words: &KeyWords) -> NodeKey
+    ensures { result ≡ key_of words.now }
+{
+    NodeKey {
+        slot: words.slot,
+        generation: words.generation,
+    }
+}

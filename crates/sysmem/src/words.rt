@@ -1,0 +1,239 @@
+//! Calls and replies as numbers.
+ghost use Rattle.std.specs.Prelude.{◌≡◌};
+ghost use Rattle.sysmem.specs.Words.{said, said_strength, said_constraints, telling};
+ghost use Rattle.sysmem.specs.Words.{strength_number, kind_number, cause_number};
+
+use sm_names::{BufferName, Call, Cause, Constraints, Failure, Kind, NodeKey, Reply, Strength};
+
+/// A call, by the number of its kind. Each kind reads only the fields that it needs.
+#[repr(C)]
+#[derive(Clone, Copy)]
+pub struct CallWords {
+    pub kind: u32,
+    pub slot: u32,
+    pub generation: u32,
+    pub strength: u32,
+    pub collection: u64,
+    pub client: u64,
+    pub size: u32,
+    pub left: u32,
+    pub index: u8,
+    pub camping: u8,
+    pub at_least: u8,
+    pub children: u8,
+}
+
+/// A reply, by the number of its kind. A field that the kind does not have is 0.
+#[repr(C)]
+#[derive(Clone, Copy)]
+pub struct ReplyWords {
+    pub kind: u32,
+    pub slot: u32,
+    pub generation: u32,
+    pub detail: u32,
+    pub id: u64,
+    pub set: u64,
+    pub count: u32,
+    pub size: u32,
+    pub index: u8,
+}
+
+// The strength with this number.
+fn strength_of(number: u32) -> Option<Strength>
+    ensures { result ≡ said_strength number }
+{
+    match number {
+        0 => Some(Strength::Strong),
+        1 => Some(Strength::Weak),
+        _ => None,
+    }
+}
+
+// The constraints of these numbers, if they are in range.
+fn constraints_of(camping: u8, at_least: u8, size: u32) -> Option<Constraints>
+    ensures { result ≡ said_constraints camping at_least size }
+{
+    Constraints::new(camping, at_least, size)
+}
+
+// The call that the words say. `None` where they say none.
+pub(crate) fn call_of(words: &CallWords) -> Option<Call>
+    ensures { result ≡ said words.now }
+{
+    let key = NodeKey {
+        slot: words.slot,
+        generation: words.generation,
+    };
+    let buffer = BufferName {
+        collection: words.collection,
+        index: words.index,
+    };
+    let call = match words.kind {
+        0 => Call::Join,
+        1 => Call::Shut,
+        2 => Call::OpenRoot,
+        3 => Call::Duplicate(key),
+        4 => Call::AttachToken(key),
+        5 => Call::Sync(key),
+        6 => Call::Give(key, words.client),
+        7 => Call::Collect,
+        8 => Call::Bind(key),
+        9 => Call::SetDispensable(key),
+        10 => Call::SetWeak(key),
+        11 => Call::SetWeakOk(key, words.children != 0),
+        12 => Call::SetConstraints(
+            key,
+            constraints_of(words.camping, words.at_least, words.size)?,
+        ),
+        13 => Call::Check(key),
+        14 => Call::Take(key),
+        15 => Call::Release(key),
+        16 => Call::Close(key),
+        17 => Call::DupHandle(buffer, strength_of(words.strength)?),
+        18 => Call::DropHandle(buffer, strength_of(words.strength)?),
+        19 => Call::GiveHandle(buffer, strength_of(words.strength)?, words.client),
+        20 => Call::TrackNode(key),
+        21 => Call::TrackLifetime(key, words.left),
+        22 => Call::TrackWeak(buffer),
+        _ => {
+            return None;
+        }
+    };
+    Some(call)
+}
+
+// The number of the strength.
+fn strength_word(strength: Strength) -> u32
+    ensures { result ≡ strength_number strength }
+{
+    match strength {
+        Strength::Strong => 0,
+        Strength::Weak => 1,
+    }
+}
+
+// The number of the kind.
+fn kind_word(kind: Kind) -> u32
+    ensures { result ≡ kind_number kind }
+{
+    match kind {
+        Kind::Token => 0,
+        Kind::Collection => 1,
+    }
+}
+
+// The number of the cause.
+pub(crate) fn cause_word(cause: Cause) -> u32
+    ensures { result ≡ cause_number cause }
+{
+    match cause {
+        Cause::Lost => 0,
+        Cause::NoStrong => 1,
+        Cause::Misused(misuse) => 10 + u32::from(misuse.number()),
+        Cause::Failed(Failure::NoStrong) => 20,
+        Cause::Failed(Failure::NoBuffers) => 21,
+        Cause::Failed(Failure::TooManyBuffers) => 22,
+        Cause::Failed(Failure::PoolFull) => 23,
+        Cause::Failed(Failure::TooFew) => 24,
+        Cause::Failed(Failure::TooSmall) => 25,
+    }
+}
+
+// The words of a reply that has nothing to tell.
+const NOTHING: ReplyWords = ReplyWords {
+    kind: 0,
+    slot: 0,
+    generation: 0,
+    detail: 0,
+    id: 0,
+    set: 0,
+    count: 0,
+    size: 0,
+    index: 0,
+};
+
+// The words of the reply.
+pub(crate) fn words_of(reply: &Reply) -> ReplyWords
+    ensures { result ≡ telling reply.now }
+{
+    match *reply {
+        Reply::Done => NOTHING,
+        Reply::Joined(id) => ReplyWords {
+            kind: 1,
+            id,
+            ..NOTHING
+        },
+        Reply::Shut(id) => ReplyWords {
+            kind: 2,
+            id,
+            ..NOTHING
+        },
+        Reply::Token { key, collection } => ReplyWords {
+            kind: 3,
+            slot: key.slot,
+            generation: key.generation,
+            id: collection,
+            ..NOTHING
+        },
+        Reply::Collected {
+            key,
+            kind,
+            collection,
+        } => ReplyWords {
+            kind: 4,
+            slot: key.slot,
+            generation: key.generation,
+            detail: kind_word(kind),
+            id: collection,
+            ..NOTHING
+        },
+        Reply::CollectedHandle { buffer, strength } => ReplyWords {
+            kind: 5,
+            detail: strength_word(strength),
+            id: buffer.collection,
+            index: buffer.index,
+            ..NOTHING
+        },
+        Reply::Empty => ReplyWords { kind: 6, ..NOTHING },
+        Reply::Pending => ReplyWords { kind: 7, ..NOTHING },
+        Reply::Allocated { count, size } => ReplyWords {
+            kind: 8,
+            count,
+            size,
+            ..NOTHING
+        },
+        Reply::Taken {
+            collection,
+            strength,
+            set,
+        } => ReplyWords {
+            kind: 9,
+            detail: strength_word(strength),
+            id: collection,
+            set,
+            ..NOTHING
+        },
+        Reply::Tracker(id) => ReplyWords {
+            kind: 10,
+            id,
+            ..NOTHING
+        },
+        Reply::Refused(refusal) => ReplyWords {
+            kind: 11,
+            detail: u32::from(refusal.number()),
+            ..NOTHING
+        },
+        Reply::Misused(misuse) => ReplyWords {
+            kind: 12,
+            detail: u32::from(misuse.number()),
+            ..NOTHING
+        },
+        Reply::PeerClosed { cause, origin } => ReplyWords {
+            kind: 13,
+            slot: origin.slot,
+            generation: origin.generation,
+            detail: cause_word(cause),
+            ..NOTHING
+        },
+    }
+}
