@@ -1,0 +1,89 @@
+// Makes random calls and looks at every view after each; to be built with the sanitizers on.
+#include "sysmem.h"
+
+#include <cstdio>
+#include <cstdlib>
+#include <random>
+#include <vector>
+
+static std::mt19937 dice(7);
+static uint32_t upto(uint32_t n) { return static_cast<uint32_t>(dice() % n); }
+
+static void expect(bool holds, const char *what) {
+    if (!holds) {
+        std::fprintf(stderr, "%s\n", what);
+        std::exit(1);
+    }
+}
+
+static sysmem_call some_call(const std::vector<sysmem_key> &keys, uint64_t event) {
+    sysmem_call call{};
+    call.kind = upto(50) == 0 ? dice() : upto(24);
+    sysmem_key key = keys[upto(static_cast<uint32_t>(keys.size()))];
+    call.slot = upto(20) == 0 ? dice() : key.slot;
+    call.generation = upto(20) == 0 ? dice() : key.generation;
+    call.strength = upto(3);
+    call.collection = 1 + upto(static_cast<uint32_t>(event + 2));
+    call.client = 1 + upto(8);
+    call.size = upto(20) == 0 ? dice() : 1 + upto(20000);
+    call.left = upto(4);
+    call.index = static_cast<uint8_t>(upto(5));
+    call.camping = static_cast<uint8_t>(upto(20) == 0 ? upto(256) : upto(4));
+    call.at_least = static_cast<uint8_t>(upto(4));
+    call.children = static_cast<uint8_t>(upto(3));
+    return call;
+}
+
+static void look(sysmem &core, std::vector<sysmem_key> &keys) {
+    sysmem_key live[5];
+    sysmem_held_buffer held[5];
+    sysmem_fired_tracker fired[5];
+    uint64_t count = 0, events = 0;
+    uint32_t pages = 0, is = 0, cause = 0;
+    expect(sysmem_live(&core, live, 5, &count) == SYSMEM_DONE, "live");
+    for (uint64_t i = 0; i < count && i < 5; i++) {
+        expect(sysmem_is_live(&core, &live[i], &is) == SYSMEM_DONE && is == 1, "is live");
+        keys[upto(static_cast<uint32_t>(keys.size()))] = live[i];
+    }
+    expect(sysmem_held(&core, held, 5, &count) == SYSMEM_DONE, "held");
+    expect(sysmem_free_pages(&core, &pages) == SYSMEM_DONE, "free pages");
+    uint32_t seen = 0;
+    for (uint64_t i = 0; i < count && i < 5; i++) seen += held[i].pages;
+    expect(seen + pages <= 64 && (count > 5 || seen + pages == 64), "pages");
+    expect(sysmem_fired(&core, fired, upto(6), &count) == SYSMEM_DONE, "fired");
+    expect(sysmem_events(&core, &events) == SYSMEM_DONE, "events");
+    uint32_t code = sysmem_cause(&core, &keys[0], &cause, &live[0]);
+    expect(code == SYSMEM_DONE || code == SYSMEM_NOT_FAILED, "cause");
+}
+
+int main(int count, char **words) {
+    long left = count > 1 ? std::atol(words[1]) : 10000;
+    uint64_t told[9] = {};
+    while (left > 0) {
+        sysmem core{};
+        uint64_t events = 200 + upto(2000);
+        expect(sysmem_open(&core, 64, static_cast<uint32_t>(events), 1 + upto(24), 1 + upto(6),
+                           1 + upto(12), 1 + upto(4)) == SYSMEM_DONE, "open");
+        std::vector<sysmem_key> keys(6);
+        for (uint64_t event = 0; event <= events && left > 0; left--) {
+            sysmem_call call = some_call(keys, event);
+            sysmem_reply reply{};
+            uint64_t client = call.kind == SYSMEM_JOIN ? 0 : upto(8);
+            uint32_t code = sysmem_step(&core, client, &call, &reply);
+            expect(code == SYSMEM_DONE || code == SYSMEM_BAD_CALL || code == SYSMEM_HISTORY_FULL,
+                   "code");
+            expect(code != SYSMEM_BAD_CALL || call.kind > 22 || call.strength > 1 ||
+                       call.kind == SYSMEM_SET_CONSTRAINTS, "a call that is one");
+            told[code]++;
+            if (code == SYSMEM_HISTORY_FULL) break;
+            if (code == SYSMEM_DONE) event++;
+            if (reply.kind == SYSMEM_NEW_TOKEN || reply.kind == SYSMEM_COLLECTED)
+                keys[upto(6)] = {reply.slot, reply.generation};
+            look(core, keys);
+        }
+        expect(sysmem_close(&core) == SYSMEM_DONE, "close");
+        expect(sysmem_close(&core) == SYSMEM_NOT_OPEN, "close once more");
+    }
+    expect(told[SYSMEM_DONE] > 0 && told[SYSMEM_BAD_CALL] > 0, "both codes are seen");
+    return 0;
+}
