@@ -1,8 +1,8 @@
 -- A box with a core, and a place that keeps one: they own the same.
 use mathlib.Core.Path.{◌≡◌, refl}
-use mathlib.Core.List.{[], ◌∷◌}
+use mathlib.Core.List.{[]}
 use mir.Syntax.{impl, tnil, dnil}
-use Rattle.std.specs.Prelude.{Bool, true, false, Option, Some, None, is_some}
+use Rattle.std.specs.Prelude.{true, Option, Some, None, is_some}
 use Rattle.std.proofs.lemmas.Bool.{false≢true}
 use denote.RattleType.{RattleType}
 use denote.Signature.{Slot, plain}

@@ -1,3 +1,3 @@
 mod CoreBox
-mod Laying
+mod FirstPlaces
 mod Unboxing

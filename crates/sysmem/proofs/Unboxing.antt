@@ -7,7 +7,7 @@ use Prim.Native.Nat.{ℕ}
 use lib.Dec.{T}
 use seplogic.Ra.Ura.{Ura}
 use mir.Raw.{raw as bare}
-use mir.Syntax.{Ty, ty_struct, ty_ptr, tcons, tnil}
+use mir.Syntax.{ty_struct, ty_ptr, tcons, tnil}
 use mir.Val.{Val, vptr, vstruct, vcons, vnil, of_list, has_ty, WT}
 use base.Logic.{never, fst∗}
 use types.Logic.{Logic, sem}

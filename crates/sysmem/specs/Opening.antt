@@ -1,6 +1,6 @@
 -- What a core is opened with.
 use Rattle.std.specs.Prelude.{ℕ, ◌≤◌, ◌≡◌, []}
-use Rattle.sm_names.specs.Bounds.{Bound, IsBound}
+use Rattle.sm_names.specs.Bounds.{IsBound}
 use Rattle.lifetime_core.specs.Shown.{Shows}
 use Rattle.lifetime_core.specs.State.{State}
 

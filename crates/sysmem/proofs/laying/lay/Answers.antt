@@ -1,7 +1,7 @@
 -- An element of the items, told, is the element of the words at its place.
 use Rattle.std.proofs.Common.{◌≡◌, ◌<◌, get_or, length, map, sym, ap, ◌∙◌, arith}
 use Rattle.std.proofs.lemmas.List.{get_or-map, length-map}
-use Rattle.sysmem.proofs.Laying.{lay_more}
+use Rattle.sysmem.proofs.FirstPlaces.{lay_more}
 use Rattle.sysmem.proofs.laying.lay.Goals as goal
 
 pub loop-i-preserved : goal.loop-i-preserved

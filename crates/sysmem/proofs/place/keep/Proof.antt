@@ -19,7 +19,7 @@ use Rattle.std.proofs.raw_atomic.Walks.{proved_at, leaves}
 use Rattle.std.specs.Prelude.{Some}
 use Rattle.std_alloc.proofs.BoxSteps.Form.{D, word, box_typed}
 use Rattle.std_alloc.proofs.BoxSteps.Steps.{box_in}
-use Rattle.sysmem.proofs.CoreBox.{E, Kept, Loosened, a_loosened}
+use Rattle.sysmem.proofs.CoreBox.{E, Kept, a_loosened}
 use Rattle.sysmem.proofs.Unboxing.{Loose, shell, shell_typed, loose_out}
 use Rattle.sysmem.proofs.place.keep.Code as code
 use Rattle.sysmem.proofs.place.keep.Statement.{statement}

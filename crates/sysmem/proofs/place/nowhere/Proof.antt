@@ -13,9 +13,8 @@ use types.Part.{agg}
 use types.Run.{lit, no_more, and_then, returns, enter}
 use types.ByLocal.{alloc_all, pass_all, free_all, look_at, get, sets}
 use denote.Exit.{yes}
-use denote.RattleType.{Valss, owns}
+use denote.RattleType.{Valss}
 use denote.RawPtr.{RawPtr, null_ptr}
-use denote.Signature.{types_at}
 use denote.Steps.{nothing}
 use denote.Struct.Owning.{shape}
 use denote.Struct.Struct.{within}

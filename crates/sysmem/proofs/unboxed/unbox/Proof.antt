@@ -1,5 +1,5 @@
 -- `unbox` hands the box on, and keeps the pair that comes back with what the box owned.
-use mathlib.Core.Path.{refl, sym, subst, ap, ◌∙◌, ◌≡◌}
+use mathlib.Core.Path.{refl, sym, subst, ap, ◌≡◌}
 use mathlib.Core.List.{List, [], ◌∷◌, ◌++◌}
 use mir.Syntax.{Args, a_type, dcons, dnil}
 use mir.MapTy.{inst_fn}
