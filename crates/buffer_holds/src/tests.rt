@@ -71,7 +71,9 @@ fn with_a_limit_of_none_no_handle_opens(rt: HostRuntime) {
 fn what_is_undone_takes_no_memory(rt: HostRuntime) {
     let mut holds = Holds::new(rt.alloc(), 9);
     for client in 1..=40 {
-        if holds.add(client, FIRST, Strength::Weak).is_err() {
+        if let Err(fault) = holds.add(client, FIRST, Strength::Weak) {
+            assert_eq!(rt; fault, HoldFault::NoMemory);
+            let _ = println!(rt; "memory was refused");
             continue;
         }
         assert!(rt; holds.sub(client, FIRST, Strength::Weak));
