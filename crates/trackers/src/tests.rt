@@ -163,7 +163,9 @@ fn refused_memory_leaves_all_as_it_was(rt: HostRuntime) -> Result<(), Fail> {
     for wanted in 1..=6 {
         let id = match line.track(Condition::Node(NODE)) {
             Ok(id) => id,
-            Err(_) => {
+            Err(fault) => {
+                assert!(rt; fault == TrackFault::NoMemory);
+                let _ = println!(rt; "memory was refused");
                 assert!(rt; line.take(wanted).is_none());
                 assert!(rt; line.fired().is_empty());
                 line.track(Condition::Node(NODE))
