@@ -1,6 +1,7 @@
 //! A core that is asked row by row.
 use super::acts::{Act, Row, Said};
 use super::holdings::Holdings;
+use super::log::Log;
 use lifetime_core::{Core, HeldBuffer};
 use sm_names::{Call, ClientId, Limits, NodeKey, Parcel, Reply};
 use std::alloc::Global;
@@ -11,6 +12,7 @@ pub struct Player {
     pub core: Core,
     nodes: Vec<(u64, NodeKey)>,
     holdings: Holdings,
+    pub log: Log,
     // How many clients joined, all before any other call.
     pub clients: ClientId,
     // Whether memory was refused.
@@ -24,11 +26,13 @@ const ROOM: usize = 16;
 fn fresh(alloc: Global, limits: Limits, refused: bool) -> Option<Player> {
     let nodes = Vec::with_capacity(alloc, ROOM).ok()?;
     let holdings = Holdings::new(alloc)?;
+    let log = Log::new(alloc)?;
     let core = Core::new(alloc, 16, limits).ok()?;
     Some(Player {
         core,
         nodes,
         holdings,
+        log,
         clients: 0,
         refused,
     })
@@ -75,6 +79,7 @@ impl Player {
     /// has the key of another, and where a client lost what it did not hold.
     pub fn ask(&mut self, client: ClientId, call: Call) -> Option<Reply> {
         let reply = self.core.step(client, call).ok()?;
+        self.log.note(client, call, reply);
         match reply {
             Reply::Joined(newest) => {
                 self.clients = newest;

@@ -17,7 +17,8 @@ use super::views::{ends_so, is_over, looks_so, see_the_same};
 use sm_names::Limits;
 use std::alloc::Global;
 
-fn limits_of(script: &Script) -> Option<Limits> {
+/// The limits that the script wants.
+pub fn limits_of(script: &Script) -> Option<Limits> {
     let [events, nodes, collections, trackers, handles] = script.limits;
     Limits::new(events, nodes, collections, trackers, handles)
 }

@@ -3,7 +3,8 @@ use super::acts::{Act, Deed, Row, Said};
 use super::player::Player;
 use super::scripts::{DONE, ONE_PAGE, STRONG, WEAK};
 use super::views::see_the_same;
-use sm_names::{ClientId, Limits, Refusal, Reply};
+use lifetime_core::Core;
+use sm_names::{Call, ClientId, Limits, Refusal, Reply};
 use std::alloc::Global;
 
 // Client 1 has a released node below which one is live, and a lost one. Client 2 has a token, and a
@@ -160,6 +161,19 @@ fn clients_are_refused(alloc: Global) -> bool {
     }
 }
 
+// On a core that has seen nothing there is no client, and each refusal is an event.
+fn nobody_has_joined(alloc: Global) -> bool {
+    let Ok(mut core) = Core::new(alloc, 16, Limits::full()) else {
+        return false;
+    };
+    for (client, call) in [(0, Call::OpenRoot), (1, Call::Join), (9, Call::OpenRoot)] {
+        if core.step(client, call) != Ok(Reply::Refused(Refusal::NoSuchClient)) {
+            return false;
+        }
+    }
+    core.events() == 3
+}
+
 // Each once more where memory was refused.
 
 #[test]
@@ -175,4 +189,9 @@ fn forged_names_are_of_no_handle(rt: HostRuntime) {
 #[test]
 fn strangers_are_nobody(rt: HostRuntime) {
     assert!(rt; clients_are_refused(rt.alloc()) || clients_are_refused(rt.alloc()));
+}
+
+#[test]
+fn a_new_core_knows_nobody(rt: HostRuntime) {
+    assert!(rt; nobody_has_joined(rt.alloc()) || nobody_has_joined(rt.alloc()));
 }
