@@ -1,4 +1,5 @@
 pub mod Advancing
+pub mod Ending
 pub mod Members
 pub mod Piecing
 pub mod Playing

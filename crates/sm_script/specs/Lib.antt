@@ -1,4 +1,5 @@
 pub mod BufferLabels
+pub mod Endings
 pub mod Faults
 pub mod Labels
 pub mod Lines

@@ -10,6 +10,7 @@ mod number;
 mod pages;
 mod parser;
 mod player;
+mod program;
 mod reading;
 mod run;
 mod session;
@@ -22,6 +23,7 @@ mod writing;
 
 pub use fault::ScriptFault;
 pub use pages::Pages;
+pub use program::run_to_exit;
 pub use run::run_script;
 
 /// The greatest size of a script, in bytes.

@@ -1,59 +1,64 @@
 //! The program: `sysmem run` answers a script.
 #![tactic(auto)]
 
+ghost use Rattle.std.specs.Prelude.{◌≡◌};
+ghost use Rattle.std.specs.Process.{exit_status};
+ghost use Rattle.clap.specs.Words.{kind_of};
+ghost use Rattle.sysmem_main.specs.Statuses.{refusal_status};
+
 mod words;
 
 use clap::Error;
 use clap::error::ErrorKind;
-use sm_names::Limits;
-use sm_script::{Pages, run_script};
+use sm_script::run_to_exit;
 use std::process::ExitCode;
 use std::{env, io};
 use words::{command, pages_of};
 
-// What clap says: help on standard output with status 0, a refusal on standard error with 2.
-fn refuse(rt: &(impl Print + Eprint), error: Error) -> ExitCode {
-    if error.kind() == ErrorKind::OutOfMemory {
-        return no_memory(rt);
-    }
-    let _ = error.print(rt);
-    if error.use_stderr() {
-        ExitCode::from(2)
-    } else {
-        ExitCode::SUCCESS
+// The status of what clap says of the words.
+fn status_of(kind: ErrorKind) -> u8
+    ensures { result ≡ refusal_status kind }
+{
+    match kind {
+        ErrorKind::OutOfMemory => 4,
+        ErrorKind::DisplayHelp | ErrorKind::DisplayVersion => 0,
+        _ => 2,
     }
 }
 
-fn no_memory(rt: &impl Eprint) -> ExitCode {
+// What clap says: help on standard output with status 0, a refusal on standard error with 2.
+fn refuse(rt: &(impl Print + Eprint), error: Error) -> ExitCode
+    ensures { exit_status result ≡ refusal_status (kind_of error) }
+{
+    match error.kind() {
+        ErrorKind::OutOfMemory => no_memory(rt),
+        kind => {
+            let _ = error.print(rt);
+            ExitCode::from(status_of(kind))
+        }
+    }
+}
+
+fn no_memory(rt: &impl Eprint) -> ExitCode
+    ensures { exit_status result ≡ 4 }
+{
     let _ = rt.eprintln("no memory");
     ExitCode::from(4)
 }
 
-// Answers the script on standard input, on standard output.
-fn run(rt: &(impl Print + Eprint + Input + AllocGlobal), pages: Pages) -> ExitCode {
-    let outcome = run_script(
-        rt.alloc(),
-        &mut rt.reader(),
-        &mut io::writer(rt),
-        pages.count,
-        Limits::full(),
-    );
-    match outcome {
-        Ok(()) => ExitCode::SUCCESS,
-        Err(fault) => {
-            let _ = rt.eprintln(fault);
-            ExitCode::from(fault.status())
-        }
+// The words could not be read: for want of memory, or since one of them is no text.
+fn unread(rt: &impl Eprint, error: &io::Error) -> ExitCode {
+    if error.kind() == io::ErrorKind::OutOfMemory {
+        return no_memory(rt);
     }
+    let _ = rt.eprintln("the command line can't be read");
+    ExitCode::from(2)
 }
 
 fn main(rt: HostRuntime) -> ExitCode {
     let alloc = rt.alloc();
     let words: Vec<String> = match env::args(&rt) {
-        Err(_) => {
-            let _ = rt.eprintln("the command line can't be read");
-            return ExitCode::from(2);
-        }
+        Err(error) => return unread(&rt, &error),
         Ok(args) => match args.collect(alloc) {
             Ok(words) => words,
             Err(_) => return no_memory(&rt),
@@ -63,14 +68,19 @@ fn main(rt: HostRuntime) -> ExitCode {
         Ok(command) => command,
         Err(_) => return no_memory(&rt),
     };
-    match command.try_get_matches_from(words.as_slice()) {
-        Ok(matches) => match pages_of(&matches) {
-            Some(pages) => run(&rt, pages),
-            None => {
-                let _ = rt.eprintln("the pool has from 1 to 1048576 pages");
-                ExitCode::from(2)
-            }
-        },
-        Err(error) => refuse(&rt, error),
-    }
+    let matches = match command.try_get_matches_from(words.as_slice()) {
+        Ok(matches) => matches,
+        Err(error) => return refuse(&rt, error),
+    };
+    let Some(pages) = pages_of(&matches) else {
+        let _ = rt.eprintln("the pool has from 1 to 1048576 pages");
+        return ExitCode::from(2);
+    };
+    run_to_exit(
+        alloc,
+        &mut rt.reader(),
+        &mut io::writer(&rt),
+        &mut io::writer(&rt.stderr()),
+        pages,
+    )
 }

@@ -1,0 +1,40 @@
+-- What a program that runs a script leaves.
+use Rattle.std.proofs.Common.{◌≡◌, ℕ, List, [], append-nil, refl, sym, ap, ◌∙◌, Option}
+use Rattle.std.proofs.KnownBytes.{Appends-nil}
+use Rattle.std.specs.Prelude.{Ok, Err, Result, OnErr, OnOk}
+use Rattle.std.specs.Io.KnownBytes.{Appends}
+use Rattle.sm_script.specs.declared.fault.ScriptFault.{ScriptFault}
+use Rattle.sm_script.specs.Endings.{Ends, ending_line, ending_status, fault_line}
+use Rattle.sm_script.specs.Faults.{fault_status}
+use Rattle.sm_script.specs.Runs.{Runs, WritesPart}
+use Rattle.sm_script.specs.Scenes.{Setting}
+
+-- where a line was written or a part of it, a part was
+pub tells : (old new : Option (List ℕ)) (line : List ℕ) (result : Result (Unit {0}) ScriptFault) →
+    OnOk result (Appends old new line) → OnErr result (WritesPart old new line) → WritesPart old new line
+tells old new line (Ok done) ok err = record { done = line; rest = []; split = sym (append-nil line); written = ok }
+tells old new line (Err fault) ok err = err
+
+-- nothing was written
+pub tells_nothing : (old : Option (List ℕ)) → WritesPart old old []
+tells_nothing old = record { done = []; rest = []; split = refl; written = Appends-nil old }
+
+module _ (setting : Setting) (left_before left old new : Option (List ℕ)) (outcome : Result (Unit {0}) ScriptFault) (runs : Runs setting left_before left old new outcome) where
+  -- a run that came to the end
+  pub ends_well : (faults : Option (List ℕ)) (done : Unit {0}) → outcome ≡ Ok done → Ends setting left_before left old new faults faults 0
+  ends_well faults done is = record {
+    outcome = outcome;
+    runs = runs;
+    status_is = sym (ap ending_status is);
+    told = rw is (tells_nothing faults);
+  }
+
+  -- a run that stopped
+  pub ends_by : (before after : Option (List ℕ)) (fault : ScriptFault) (status : ℕ) → outcome ≡ Err fault → status ≡ fault_status fault →
+      WritesPart before after (fault_line fault) → Ends setting left_before left old new before after status
+  ends_by before after fault status is status_is told = record {
+    outcome = outcome;
+    runs = runs;
+    status_is = status_is ∙ sym (ap ending_status is);
+    told = rw is told;
+  }

@@ -1,0 +1,10 @@
+-- The statuses that the program ends with before it runs a script.
+use Rattle.std.specs.Prelude.{ℕ}
+use Rattle.clap.specs.declared.error.kind.ErrorKind.{ErrorKind}
+
+-- where the words of the command line ask for no run: 4 where memory was refused, 0 for help, and 2 for any other refusal
+abbrev pub refusal_status : ErrorKind → ℕ
+refusal_status ErrorKind.OutOfMemory = 4
+refusal_status ErrorKind.DisplayHelp = 0
+refusal_status ErrorKind.DisplayVersion = 0
+refusal_status _ = 2
