@@ -4,7 +4,7 @@ use Rattle.std.proofs.KnownBytes.{Appends-nil}
 use Rattle.std.specs.Prelude.{Ok, Err, Result, OnErr, OnOk}
 use Rattle.std.specs.Io.KnownBytes.{Appends}
 use Rattle.sm_script.specs.declared.fault.ScriptFault.{ScriptFault}
-use Rattle.sm_script.specs.Endings.{Ends, ending_line, ending_status, fault_line}
+use Rattle.sm_script.specs.Endings.{Ends, ending_status, fault_line}
 use Rattle.sm_script.specs.Faults.{fault_status}
 use Rattle.sm_script.specs.Runs.{Runs, WritesPart}
 use Rattle.sm_script.specs.Scenes.{Setting}
