@@ -7,8 +7,6 @@ mod holds;
 mod kinds;
 mod rows;
 mod tally;
-#[cfg(test)]
-mod tests;
 
 pub use fault::HoldFault;
 pub use holds::Holds;

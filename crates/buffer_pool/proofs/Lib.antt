@@ -1,12 +1,11 @@
 mod Backs
-mod Comings
 mod Filling
 mod Fits
 mod Fronts
 mod Gaps
 mod Greatest
 mod Keeping
-mod Least
+pub mod Least
 mod Marking
 mod Moves
 mod Orders

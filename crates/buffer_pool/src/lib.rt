@@ -8,8 +8,6 @@ mod marked;
 pub mod pages;
 pub mod placement;
 mod row;
-#[cfg(test)]
-mod tests;
 
 pub use pages::{MAX_PAGES, Pool};
 pub use placement::{Placed, PoolFault};

@@ -3,8 +3,6 @@
 
 mod found;
 mod link;
-#[cfg(test)]
-mod tests;
 mod walks;
 
 pub use found::Fall;

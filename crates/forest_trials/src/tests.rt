@@ -12,7 +12,7 @@ use alloc_event::scene::Scene;
 use alloc_event::settling::settle_scene;
 use buffer_holds::Holds;
 use buffer_pool::Pool;
-use sm_names::{Buffers, Call, Cause, Constraints, Failure, Fault, Interval, NodeKey};
+use sm_names::{Buffers, Call, Cause, Constraints, Failure, Fault, NodeKey};
 use std::alloc::Global;
 use std::test::Fail;
 
@@ -94,122 +94,130 @@ fn settle(alloc: Global, scene: &mut Scene, pool: &mut Pool) -> Result<(), Fail>
     }
 }
 
-fn held(pool: &Pool) -> Result<Vec<Interval>, Fail> {
-    match pool.held() {
-        Ok(held) => Ok(held),
-        Err(_) => Err(Fail::from("no memory for the held intervals")),
-    }
+/// What is seen of three units: which nodes are gone, which fault one of them has, the buffers that
+/// they were given, how many of those are held, and how many pages are free.
+#[derive(Clone, Copy)]
+struct Wanted {
+    gone: [bool; 3],
+    fault: (usize, Option<Fault>),
+    buffers: Option<Buffers>,
+    held: usize,
+    free_pages: u32,
 }
 
-fn gone(scene: &Scene) -> [bool; 3] {
-    let mut gone = [false; 3];
+fn is_as_wanted(scene: &Scene, pool: &Pool, wanted: &Wanted) -> bool {
+    if scene.nodes.len() != 3 {
+        return false;
+    }
     for (at, node) in scene.nodes.iter().enumerate() {
-        if at < 3 {
-            gone[at] = node.gone;
+        if at < 3 && node.gone != wanted.gone[at]
+            || at == wanted.fault.0 && node.fault != wanted.fault.1
+        {
+            return false;
         }
     }
-    gone
+    scene.buffers == wanted.buffers
+        && scene.held.len() == wanted.held
+        && pool.free_pages() == wanted.free_pages
+}
+
+// Whether three units that ask for this come to what is wanted.
+fn settles(
+    alloc: Global,
+    asks: [Constraints; 3],
+    released: bool,
+    weak: bool,
+    wanted: &Wanted,
+) -> Result<bool, Fail> {
+    let mut scene = three_units(alloc, asks, released, weak)?;
+    let mut pool = new_pool(alloc)?;
+    settle(alloc, &mut scene, &mut pool)?;
+    Ok(is_as_wanted(&scene, &pool, wanted))
+}
+
+fn failed(failure: Failure, origin: NodeKey) -> Option<Fault> {
+    let cause = Cause::Failed(failure);
+    Some(Fault { cause, origin })
 }
 
 #[test]
 fn each_unit_is_allocated_in_turn(rt: HostRuntime) -> Result<(), Fail> {
     let asks = [demand(2, 3, 5000)?, demand(1, 0, 100)?, demand(0, 3, 5000)?];
-    let mut scene = three_units(rt.alloc(), asks, false, false)?;
-    let mut pool = new_pool(rt.alloc())?;
-    settle(rt.alloc(), &mut scene, &mut pool)?;
-    assert_eq!(rt;
-        scene.buffers,
-        Some(Buffers {
+    let wanted = Wanted {
+        gone: [false, false, false],
+        fault: (0, None),
+        buffers: Some(Buffers {
             count: 3,
-            size: 5000
-        })
-    );
-    assert!(rt; scene.nodes.iter().all(|node| node.allocated && !node.gone));
-    let held = held(&pool)?;
-    assert_eq!(rt; held.len(), 3);
-    assert_eq!(rt; held[1], Interval { start: 2, pages: 2 });
+            size: 5000,
+        }),
+        held: 3,
+        free_pages: 10,
+    };
+    assert!(rt; settles(rt.alloc(), asks, false, false, &wanted)?);
     Ok(())
 }
 
 #[test]
 fn a_unit_that_asks_for_too_much_fails_alone(rt: HostRuntime) -> Result<(), Fail> {
     let asks = [demand(2, 3, 5000)?, demand(1, 0, 100)?, demand(0, 3, 6000)?];
-    let mut scene = three_units(rt.alloc(), asks, false, false)?;
-    let mut pool = new_pool(rt.alloc())?;
-    settle(rt.alloc(), &mut scene, &mut pool)?;
-    assert_eq!(rt; gone(&scene), [false, false, true]);
-    assert_eq!(rt; scene.nodes.len(), 3);
-    let cause = Cause::Failed(Failure::TooSmall);
-    assert_eq!(rt; scene.nodes[2].fault, Some(Fault { cause, origin: LOW }));
+    let wanted = Wanted {
+        gone: [false, false, true],
+        fault: (2, failed(Failure::TooSmall, LOW)),
+        buffers: Some(Buffers {
+            count: 3,
+            size: 5000,
+        }),
+        held: 3,
+        free_pages: 10,
+    };
+    assert!(rt; settles(rt.alloc(), asks, false, false, &wanted)?);
     Ok(())
 }
 
 #[test]
 fn a_full_pool_fails_all(rt: HostRuntime) -> Result<(), Fail> {
     let asks = [demand(9, 0, 8192)?, demand(0, 0, 1)?, demand(0, 0, 1)?];
-    let mut scene = three_units(rt.alloc(), asks, false, false)?;
-    let mut pool = new_pool(rt.alloc())?;
-    settle(rt.alloc(), &mut scene, &mut pool)?;
-    assert_eq!(rt; gone(&scene), [true, true, true]);
-    assert_eq!(rt; scene.nodes.len(), 3);
-    let cause = Cause::Failed(Failure::PoolFull);
-    assert_eq!(rt;
-        scene.nodes[1].fault,
-        Some(Fault {
-            cause,
-            origin: ROOT
-        })
-    );
-    assert_eq!(rt; pool.free_pages(), 16);
+    let wanted = Wanted {
+        gone: [true, true, true],
+        fault: (1, failed(Failure::PoolFull, ROOT)),
+        buffers: None,
+        held: 0,
+        free_pages: 16,
+    };
+    assert!(rt; settles(rt.alloc(), asks, false, false, &wanted)?);
     Ok(())
 }
 
 #[test]
 fn a_root_without_live_nodes_ends(rt: HostRuntime) -> Result<(), Fail> {
     let asks = [demand(2, 0, 5000)?, demand(0, 0, 9000)?, demand(0, 0, 1)?];
-    let mut scene = three_units(rt.alloc(), asks, true, false)?;
-    let mut pool = new_pool(rt.alloc())?;
-    settle(rt.alloc(), &mut scene, &mut pool)?;
-    assert_eq!(rt; gone(&scene), [true, true, true]);
-    assert_eq!(rt; scene.nodes.len(), 3);
-    assert_eq!(rt; scene.nodes[0].fault, None);
-    let cause = Cause::Failed(Failure::TooSmall);
-    assert_eq!(rt;
-        scene.nodes[2].fault,
-        Some(Fault {
-            cause,
-            origin: MIDDLE
-        })
-    );
-    assert_eq!(rt;
-        scene.buffers,
-        Some(Buffers {
+    let mut wanted = Wanted {
+        gone: [true, true, true],
+        fault: (0, None),
+        buffers: Some(Buffers {
             count: 2,
-            size: 5000
-        })
-    );
-    assert_eq!(rt; scene.held.len(), 0);
-    assert_eq!(rt; pool.free_pages(), 16);
+            size: 5000,
+        }),
+        held: 0,
+        free_pages: 16,
+    };
+    assert!(rt; settles(rt.alloc(), asks, true, false, &wanted)?);
+    wanted.fault = (2, failed(Failure::TooSmall, MIDDLE));
+    assert!(rt; settles(rt.alloc(), asks, true, false, &wanted)?);
     Ok(())
 }
 
 #[test]
 fn weak_nodes_are_given_nothing(rt: HostRuntime) -> Result<(), Fail> {
     let asks = [demand(2, 0, 5000)?, demand(0, 0, 1)?, demand(0, 0, 1)?];
-    let mut scene = three_units(rt.alloc(), asks, false, true)?;
-    let mut pool = new_pool(rt.alloc())?;
-    settle(rt.alloc(), &mut scene, &mut pool)?;
-    assert_eq!(rt; gone(&scene), [true, true, true]);
-    assert_eq!(rt; scene.nodes.len(), 3);
-    let cause = Cause::Failed(Failure::NoStrong);
-    assert_eq!(rt;
-        scene.nodes[1].fault,
-        Some(Fault {
-            cause,
-            origin: ROOT
-        })
-    );
-    assert_eq!(rt; scene.buffers, None);
+    let wanted = Wanted {
+        gone: [true, true, true],
+        fault: (1, failed(Failure::NoStrong, ROOT)),
+        buffers: None,
+        held: 0,
+        free_pages: 16,
+    };
+    assert!(rt; settles(rt.alloc(), asks, false, true, &wanted)?);
     Ok(())
 }
 
@@ -223,13 +231,9 @@ fn a_loss_goes_up_as_far_as_links_let_it(rt: HostRuntime) -> Result<(), Fail> {
     allocate(&mut nodes, ROOT);
     let cause = Cause::Lost;
     lose(&mut nodes, Fault { cause, origin: LOW });
-    assert_eq!(rt;
-        [nodes[0].gone, nodes[1].gone, nodes[2].gone],
-        [false, true, true]
-    );
+    assert!(rt; !nodes[0].gone && nodes[1].gone && nodes[2].gone);
     end(&mut nodes, ROOT);
-    assert_eq!(rt; nodes[0].gone, true);
-    assert_eq!(rt; nodes[0].fault, None);
-    assert_eq!(rt; nodes[1].fault, Some(Fault { cause, origin: LOW }));
+    assert!(rt; nodes[0].gone && nodes[0].fault.is_none());
+    assert!(rt; nodes[1].fault == Some(Fault { cause, origin: LOW }));
     Ok(())
 }

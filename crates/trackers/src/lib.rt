@@ -5,8 +5,6 @@
 mod filing;
 mod row;
 mod table;
-#[cfg(test)]
-mod tests;
 mod tracker;
 mod walk;
 mod world;

@@ -133,12 +133,14 @@ fn history_is_full(alloc: Global) -> bool {
     let Some(limits) = Limits::new(3, 9, 9, 9, 9) else {
         return false;
     };
-    let Some(mut core) = joined(alloc, limits) else {
-        return false;
-    };
-    stops(alloc, &mut core)
-        && core.step(1, Call::Shut) == Err(StepFault::HistoryFull)
-        && core.step(99, Call::Collect) == Err(StepFault::HistoryFull)
+    match joined(alloc, limits) {
+        Some(mut core) => {
+            stops(alloc, &mut core)
+                && core.step(1, Call::Shut) == Err(StepFault::HistoryFull)
+                && core.step(99, Call::Collect) == Err(StepFault::HistoryFull)
+        }
+        None => false,
+    }
 }
 
 // Each once more where memory was refused.

@@ -161,6 +161,16 @@ impl Player {
         self.holdings.first_of(client).is_none()
     }
 
+    /// Makes the calls by which the first two clients vanish, of those that joined.
+    pub fn all_vanish(&mut self) -> bool {
+        for client in [1, 2] {
+            if client <= self.clients && !self.vanishes(client) {
+                return false;
+            }
+        }
+        true
+    }
+
     /// The live nodes. Where memory is refused, it is asked for again.
     pub fn live(&mut self) -> Option<Vec<NodeKey>> {
         match self.core.live() {

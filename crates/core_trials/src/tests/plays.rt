@@ -25,12 +25,14 @@ pub fn limits_of(script: &Script) -> Option<Limits> {
 
 // Whether the player sees what one sees that made so many of the calls.
 fn has_made(alloc: Global, limits: Limits, player: &mut Player, rows: &[Row], made: usize) -> bool {
-    let Some(mut other) = Player::new(alloc, limits) else {
-        return false;
-    };
-    other.keeps_to(rows, made)
-        && player.core.events() == other.core.events()
-        && see_the_same(player, &mut other)
+    match Player::new(alloc, limits) {
+        Some(mut other) => {
+            other.keeps_to(rows, made)
+                && player.core.events() == other.core.events()
+                && see_the_same(player, &mut other)
+        }
+        None => false,
+    }
 }
 
 // Whether the next call is answered as the row says. Where memory is refused, nothing is changed and
@@ -49,59 +51,49 @@ fn takes(alloc: Global, limits: Limits, player: &mut Player, rows: &[Row], place
     }
 }
 
-// A player that went through the script. `None` where something is not as the script says.
-fn play(alloc: Global, script: &Script) -> Option<Player> {
-    let limits = limits_of(script)?;
-    let mut player = Player::new(alloc, limits)?;
+// Whether the player goes through the script, and all is as the script says.
+fn plays(alloc: Global, limits: Limits, player: &mut Player, script: &Script) -> bool {
     for place in 0..script.rows.len() {
-        if !takes(alloc, limits, &mut player, script.rows, place)
-            || !looks_so(&mut player, script.looks)
-        {
-            return None;
+        if !takes(alloc, limits, player, script.rows, place) || !looks_so(player, script.looks) {
+            return false;
         }
     }
-    if ends_so(&mut player, script) {
-        Some(player)
-    } else {
-        None
-    }
+    ends_so(player, script)
 }
 
 // What came of the script: whether memory was refused, where all is as the script says.
 fn outcome(alloc: Global, script: &Script) -> Option<bool> {
-    match play(alloc, script) {
-        Some(player) => Some(player.refused),
+    let limits = limits_of(script)?;
+    match Player::new(alloc, limits) {
+        Some(mut player) => {
+            let is_so = plays(alloc, limits, &mut player, script);
+            is_so.then_some(player.refused)
+        }
         None => None,
     }
 }
 
 // Whether all clients vanish cleanly after so many calls.
-fn is_cut(alloc: Global, script: &Script, count: usize) -> bool {
-    let Some(limits) = limits_of(script) else {
-        return false;
-    };
-    let Some(mut player) = Player::new(alloc, limits) else {
-        return false;
-    };
-    if !player.keeps_to(script.rows, count) {
-        return false;
-    }
-    for client in [1, 2] {
-        if client <= player.clients && !player.vanishes(client) {
-            return false;
+fn is_cut(alloc: Global, limits: Limits, script: &Script, count: usize) -> bool {
+    match Player::new(alloc, limits) {
+        Some(mut player) => {
+            player.keeps_to(script.rows, count) && player.all_vanish() && is_over(&mut player)
         }
+        None => false,
     }
-    is_over(&mut player)
 }
 
 // Whether all clients vanish cleanly wherever the script is cut.
 fn is_cut_anywhere(alloc: Global, script: &Script) -> bool {
+    let Some(limits) = limits_of(script) else {
+        return false;
+    };
     for count in 0..script.rows.len() {
-        if !is_cut(alloc, script, count) {
+        if !is_cut(alloc, limits, script, count) {
             return false;
         }
     }
-    is_cut(alloc, script, script.rows.len())
+    is_cut(alloc, limits, script, script.rows.len())
 }
 
 // Whether all is as the script says. Where memory was refused, that is printed.

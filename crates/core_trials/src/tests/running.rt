@@ -8,22 +8,8 @@ use super::player::Player;
 use super::plays::limits_of;
 use super::scripts::Script;
 use lifetime_core::Core;
-use sm_names::{Limits, Reply};
+use sm_names::{Call, ClientId, Limits, Reply};
 use std::alloc::Global;
-
-// A player that made so many calls of the script, one by one, and whose clients then vanished.
-fn cut_there(alloc: Global, limits: Limits, script: &Script, count: usize) -> Option<Player> {
-    let mut player = Player::new(alloc, limits)?;
-    if !player.keeps_to(script.rows, count) {
-        return None;
-    }
-    for client in [1, 2] {
-        if client <= player.clients && !player.vanishes(client) {
-            return None;
-        }
-    }
-    Some(player)
-}
 
 // Whether nothing is live and nothing held.
 fn is_empty(core: &Core) -> bool {
@@ -44,23 +30,40 @@ fn are_taken_once(core: &mut Core, replies: &[Reply]) -> bool {
     true
 }
 
+// Whether the core that runs these calls answers so.
+fn answers(alloc: Global, core: &mut Core, calls: &[(ClientId, Call)], replies: &[Reply]) -> bool {
+    match core.run(alloc, calls) {
+        Ok(said) => said.as_slice() == replies,
+        Err(_) => false,
+    }
+}
+
 // Whether a new core that runs the first calls, and then the others, answers as they were answered.
 fn runs_so(alloc: Global, limits: Limits, log: &Log, count: usize) -> bool {
-    let Ok(mut core) = Core::new(alloc, 16, limits) else {
-        return false;
-    };
     let (calls, replies) = (log.calls.as_slice(), log.replies.as_slice());
     let cut = count.min(calls.len()).min(replies.len());
-    let Ok(first) = core.run(alloc, &calls[..cut]) else {
-        return false;
-    };
-    let Ok(others) = core.run(alloc, &calls[cut..]) else {
-        return false;
-    };
-    first.as_slice() == &replies[..cut]
-        && others.as_slice() == &replies[cut..]
-        && is_empty(&core)
-        && are_taken_once(&mut core, replies)
+    match Core::new(alloc, 16, limits) {
+        Ok(mut core) => {
+            answers(alloc, &mut core, &calls[..cut], &replies[..cut])
+                && answers(alloc, &mut core, &calls[cut..], &replies[cut..])
+                && is_empty(&core)
+                && are_taken_once(&mut core, replies)
+        }
+        Err(_) => false,
+    }
+}
+
+// Whether so many calls of the script, one by one, and those of its clients that then vanish, are
+// answered alike by runs.
+fn runs_when_cut(alloc: Global, limits: Limits, script: &Script, count: usize) -> bool {
+    match Player::new(alloc, limits) {
+        Some(mut player) => {
+            player.keeps_to(script.rows, count)
+                && player.all_vanish()
+                && runs_so(alloc, limits, &player.log, count)
+        }
+        None => false,
+    }
 }
 
 // Whether all is so wherever the script is cut.
@@ -69,10 +72,7 @@ fn runs_to_its_end(alloc: Global, script: &Script) -> bool {
         return false;
     };
     for count in 0..script.rows.len() {
-        let Some(player) = cut_there(alloc, limits, script, count + 1) else {
-            return false;
-        };
-        if !runs_so(alloc, limits, &player.log, count + 1) {
+        if !runs_when_cut(alloc, limits, script, count + 1) {
             return false;
         }
     }

@@ -120,6 +120,16 @@ impl Pair {
         true
     }
 
+    // Keys of no node, of spent ends, and of ends of another.
+    fn has_no_end_of_1(&mut self) -> bool {
+        for number in [0, 3, 6, 9, 10] {
+            if !self.is_out_of_reach(1, number, Refusal::NoSuchEnd) {
+                return false;
+            }
+        }
+        true
+    }
+
     // Whether the caller is nobody, whatever is asked.
     fn is_nobody(&mut self, client: ClientId) -> bool {
         self.are_refused(client, OTHERS, Refusal::NoSuchClient)
@@ -128,17 +138,11 @@ impl Pair {
     }
 }
 
-// Keys of no node, of spent ends, and of ends of another.
 fn keys_are_refused(alloc: Global) -> bool {
-    let Some(mut pair) = two_players(alloc) else {
-        return false;
-    };
-    for number in [0, 3, 6, 9, 10] {
-        if !pair.is_out_of_reach(1, number, Refusal::NoSuchEnd) {
-            return false;
-        }
+    match two_players(alloc) {
+        Some(mut pair) => pair.has_no_end_of_1(),
+        None => false,
     }
-    true
 }
 
 fn handles_are_refused(alloc: Global) -> bool {
@@ -162,16 +166,20 @@ fn clients_are_refused(alloc: Global) -> bool {
 }
 
 // On a core that has seen nothing there is no client, and each refusal is an event.
-fn nobody_has_joined(alloc: Global) -> bool {
-    let Ok(mut core) = Core::new(alloc, 16, Limits::full()) else {
-        return false;
-    };
+fn knows_nobody(core: &mut Core) -> bool {
     for (client, call) in [(0, Call::OpenRoot), (1, Call::Join), (9, Call::OpenRoot)] {
         if core.step(client, call) != Ok(Reply::Refused(Refusal::NoSuchClient)) {
             return false;
         }
     }
     core.events() == 3
+}
+
+fn nobody_has_joined(alloc: Global) -> bool {
+    match Core::new(alloc, 16, Limits::full()) {
+        Ok(mut core) => knows_nobody(&mut core),
+        Err(_) => false,
+    }
 }
 
 // Each once more where memory was refused.

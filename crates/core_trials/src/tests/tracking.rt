@@ -79,15 +79,21 @@ fn fires(player: &mut Player, mut early: Tracker) -> bool {
         && player.core.fired() == FIRED.as_slice()
 }
 
-fn trackers_fire(alloc: Global) -> bool {
-    let Some(mut player) = Player::new(alloc, Limits::full()) else {
-        return false;
-    };
-    if !player.keeps_to(TRACKED, TRACKED.len()) || !are_taken(&mut player.core, &[0, 2, 7, 99]) {
-        return false;
-    }
+// Whether the one that is taken before it fires is there.
+fn fires_later(player: &mut Player) -> bool {
     match player.core.take_tracker(5) {
-        Some(early) => fires(&mut player, early),
+        Some(early) => fires(player, early),
+        None => false,
+    }
+}
+
+fn trackers_fire(alloc: Global) -> bool {
+    match Player::new(alloc, Limits::full()) {
+        Some(mut player) => {
+            player.keeps_to(TRACKED, TRACKED.len())
+                && are_taken(&mut player.core, &[0, 2, 7, 99])
+                && fires_later(&mut player)
+        }
         None => false,
     }
 }

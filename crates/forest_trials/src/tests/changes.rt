@@ -3,13 +3,14 @@ ghost use Rattle.std.specs.Prelude.{◌≡◌, true, is_some};
 ghost use Rattle.std.specs.Option.{option_map_or};
 ghost use Rattle.alloc_event.specs.Forest.{node_at};
 
-use super::demand;
 use super::ground::{Ground, HERE};
+use super::{LOW, MIDDLE, ROOT, demand, failed};
 use alloc_event::births::{new_child, new_root};
 use alloc_event::forest::Forest;
 use alloc_event::node::End;
 use sm_names::{Cause, Failure, Fault, NodeKey};
 use std::alloc::Global;
+use std::process::Abort;
 use std::test::Fail;
 
 /// What is done with the node of this number, or with the first buffer.
@@ -24,7 +25,7 @@ enum Step {
 }
 
 /// What becomes of a node.
-#[derive(Clone, Copy, Debug, PartialEq, Eq)]
+#[derive(Clone, Copy, PartialEq, Eq)]
 struct Fate {
     allocated: bool,
     gone: bool,
@@ -33,7 +34,7 @@ struct Fate {
 
 /// What becomes of the three nodes, how many buffers are held, and how many of the 16 pages are
 /// free.
-#[derive(Clone, Copy, Debug, PartialEq, Eq)]
+#[derive(Clone, Copy, PartialEq, Eq)]
 struct Outcome {
     fates: [Option<Fate>; 3],
     held: usize,
@@ -124,18 +125,27 @@ fn after(alloc: Global, steps: &[Step]) -> Result<(Ground, [NodeKey; 3]), Fail> 
     Ok((ground, keys))
 }
 
+// Whether the steps come to this.
+fn comes_to(alloc: Global, steps: &[Step], wanted: &Outcome) -> Result<bool, Fail> {
+    let (ground, keys) = after(alloc, steps)?;
+    Ok(seen(&ground, &keys) == *wanted)
+}
+
+fn is_as_born(forest: &Forest, keys: &[NodeKey; 3]) -> bool {
+    let first = new_root(keys[0], HERE, 0, 3);
+    let second = new_child(true, keys[1], 1, 3, &first);
+    forest.node(keys[0]) == Some(first)
+        && forest.node(keys[1]) == Some(second)
+        && forest.node(keys[2]) == Some(new_child(true, keys[2], 2, 3, &second))
+        && (forest.len(), forest.collections()) == (3, 1)
+        && forest.strong_live(HERE)
+        && !forest.strong_live(HERE + 1)
+}
+
 #[test]
 fn nodes_are_born_below_their_parents(rt: HostRuntime) -> Result<(), Fail> {
-    let (ground, [root, middle, low]) = three_units(rt.alloc())?;
-    let forest = ground.forest();
-    let first = new_root(root, HERE, 0, 3);
-    let second = new_child(true, middle, 1, 3, &first);
-    assert_eq!(rt; forest.node(root), Some(first));
-    assert_eq!(rt; forest.node(middle), Some(second));
-    assert_eq!(rt; forest.node(low), Some(new_child(true, low, 2, 3, &second)));
-    assert_eq!(rt; (forest.len(), forest.collections()), (3, 1));
-    assert!(rt; forest.strong_live(HERE));
-    assert!(rt; !forest.strong_live(HERE + 1));
+    let (ground, keys) = three_units(rt.alloc())?;
+    assert!(rt; is_as_born(ground.forest(), &keys));
     Ok(())
 }
 
@@ -147,17 +157,13 @@ fn one_unit_after_another_is_allocated(rt: HostRuntime) -> Result<(), Fail> {
         Step::Ask(1, 1, 0, 100),
         Step::Ask(0, 2, 3, 5000),
     ];
-    let (ground, keys) = after(rt.alloc(), &steps)?;
-    let fault = Some(Fault {
-        cause: Cause::Failed(Failure::TooSmall),
-        origin: keys[2],
-    });
+    let fault = failed(Failure::TooSmall, LOW);
     let wanted = Outcome {
         fates: [left(true), left(true), went(false, fault)],
         held: 3,
         free_pages: 10,
     };
-    assert_eq!(rt; seen(&ground, &keys), wanted);
+    assert!(rt; comes_to(rt.alloc(), &steps, &wanted)?);
     Ok(())
 }
 
@@ -170,58 +176,58 @@ fn a_failure_ends_the_tree(rt: HostRuntime) -> Result<(), Fail> {
         Step::Ask(2, 0, 0, 1),
         Step::Ask(1, 0, 0, 9000),
     ];
-    let (ground, keys) = after(rt.alloc(), &steps)?;
-    let fault = Some(Fault {
-        cause: Cause::Failed(Failure::TooSmall),
-        origin: keys[1],
-    });
+    let fault = failed(Failure::TooSmall, MIDDLE);
     let wanted = Outcome {
         fates: [went(true, None), went(false, fault), went(false, fault)],
         held: 0,
         free_pages: 16,
     };
-    assert_eq!(rt; seen(&ground, &keys), wanted);
+    assert!(rt; comes_to(rt.alloc(), &steps, &wanted)?);
     Ok(())
+}
+
+fn lost(origin: NodeKey) -> Option<Fault> {
+    Some(Fault {
+        cause: Cause::Lost,
+        origin,
+    })
 }
 
 #[test]
 fn a_loss_takes_what_is_below_an_attached_node(rt: HostRuntime) -> Result<(), Fail> {
-    let (ground, keys) = after(rt.alloc(), &[Step::Ask(0, 1, 0, 4096), Step::Lose(1)])?;
-    let fault = Some(Fault {
-        cause: Cause::Lost,
-        origin: keys[1],
-    });
+    let steps = [Step::Ask(0, 1, 0, 4096), Step::Lose(1)];
     let wanted = Outcome {
-        fates: [left(true), went(false, fault), went(false, fault)],
+        fates: [
+            left(true),
+            went(false, lost(MIDDLE)),
+            went(false, lost(MIDDLE)),
+        ],
         held: 1,
         free_pages: 15,
     };
-    assert_eq!(rt; seen(&ground, &keys), wanted);
+    assert!(rt; comes_to(rt.alloc(), &steps, &wanted)?);
     Ok(())
 }
 
 // The open handle keeps the pages, which go back once it is closed.
 #[test]
 fn pages_go_back_with_the_last_handle(rt: HostRuntime) -> Result<(), Fail> {
-    let asked = [Step::Ask(0, 1, 0, 4096), Step::Open, Step::Lose(0)];
-    let (mut ground, keys) = after(rt.alloc(), &asked)?;
-    let fault = Some(Fault {
-        cause: Cause::Lost,
-        origin: keys[0],
-    });
-    let wanted = Outcome {
+    let steps = [
+        Step::Ask(0, 1, 0, 4096),
+        Step::Open,
+        Step::Lose(0),
+        Step::Close,
+    ];
+    let fault = lost(ROOT);
+    let mut wanted = Outcome {
         fates: [went(true, fault), went(false, fault), went(false, fault)],
         held: 1,
         free_pages: 15,
     };
-    assert_eq!(rt; seen(&ground, &keys), wanted);
-    take_step(&mut ground, &keys, Step::Close)?;
-    let closed = Outcome {
-        held: 0,
-        free_pages: 16,
-        ..wanted
-    };
-    assert_eq!(rt; seen(&ground, &keys), closed);
+    assert!(rt; comes_to(rt.alloc(), &steps[..3], &wanted)?);
+    wanted.held = 0;
+    wanted.free_pages = 16;
+    assert!(rt; comes_to(rt.alloc(), &steps, &wanted)?);
     Ok(())
 }
 
@@ -231,53 +237,62 @@ fn spend(forest: &mut Forest, key: NodeKey) {
     }
 }
 
-fn forget(forest: &mut Forest, key: NodeKey) -> Result<(), Fail> {
+fn forget(forest: &mut Forest, key: NodeKey) -> bool {
     match forest.node(key) {
         Some(node) if node.gone && matches!(node.end, End::Spent) => {
             forest.forget(key);
-            Ok(())
+            true
         }
-        _ => Err(Fail::from("a node that is not over")),
+        _ => false,
     }
 }
 
-fn forget_collection(forest: &mut Forest) -> Result<(), Fail> {
+fn forget_collection(forest: &mut Forest) -> bool {
     match forest.collection(HERE) {
         Some(summary) if summary.nodes == 0 && summary.held == 0 => {
             forest.forget_collection(HERE);
-            Ok(())
+            true
         }
-        _ => Err(Fail::from("a collection that is not left")),
+        _ => false,
     }
+}
+
+// All three are gone, and forgotten one by one.
+fn forgets(rt: &impl Abort, forest: &mut Forest, keys: &[NodeKey; 3]) {
+    assert!(rt; !forest.strong_live(HERE));
+    for key in keys {
+        spend(forest, *key);
+    }
+    assert!(rt; forget(forest, keys[1]));
+    assert!(rt; forest.node(keys[1]).is_none());
+    assert!(rt; (forest.len(), forest.collections()) == (2, 1));
+    assert!(rt; forget(forest, keys[0]) && forget(forest, keys[2]));
+    assert!(rt; (forest.len(), forest.collections()) == (0, 1));
+    assert!(rt; forget_collection(forest));
+    assert!(rt; forest.collections() == 0);
 }
 
 #[test]
 fn what_is_over_is_forgotten(rt: HostRuntime) -> Result<(), Fail> {
     let (ground, keys) = after(rt.alloc(), &[Step::Lose(0)])?;
     let mut forest = ground.into_forest();
-    assert!(rt; !forest.strong_live(HERE));
-    for key in keys {
-        spend(&mut forest, key);
-    }
-    forget(&mut forest, keys[1])?;
-    assert_eq!(rt; forest.node(keys[1]), None);
-    assert_eq!(rt; (forest.len(), forest.collections()), (2, 1));
-    forget(&mut forest, keys[0])?;
-    forget(&mut forest, keys[2])?;
-    assert_eq!(rt; (forest.len(), forest.collections()), (0, 1));
-    forget_collection(&mut forest)?;
-    assert_eq!(rt; forest.collections(), 0);
+    forgets(&rt, &mut forest, &keys);
     Ok(())
+}
+
+// Two are gone, and one of them is over.
+fn forgets_at_once(rt: &impl Abort, forest: &mut Forest, keys: &[NodeKey; 3]) {
+    spend(forest, keys[0]);
+    spend(forest, keys[2]);
+    forest.forget_over(HERE);
+    assert!(rt; forest.node(keys[2]).is_none());
+    assert!(rt; (forest.len(), forest.collections()) == (2, 1));
 }
 
 #[test]
 fn one_pass_forgets_all_that_is_over(rt: HostRuntime) -> Result<(), Fail> {
     let (ground, keys) = after(rt.alloc(), &[Step::Lose(1)])?;
     let mut forest = ground.into_forest();
-    spend(&mut forest, keys[0]);
-    spend(&mut forest, keys[2]);
-    forest.forget_over(HERE);
-    assert_eq!(rt; forest.node(keys[2]), None);
-    assert_eq!(rt; (forest.len(), forest.collections()), (2, 1));
+    forgets_at_once(&rt, &mut forest, &keys);
     Ok(())
 }

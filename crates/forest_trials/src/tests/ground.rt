@@ -37,7 +37,7 @@ pub struct Ground {
 }
 
 /// What is seen of a forest without memory.
-#[derive(Debug, Clone, Copy, PartialEq, Eq)]
+#[derive(Clone, Copy, PartialEq, Eq)]
 pub struct View {
     len: usize,
     collections: usize,

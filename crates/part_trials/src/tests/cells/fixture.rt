@@ -1,11 +1,11 @@
 //! The trackers of one collection, at events that are numbered from 1.
 ghost use Rattle.std.specs.Prelude.{◌≡◌, ◌≤◌, Some, All, IfSome};
 ghost use Rattle.trackers.specs.Table.{Waiting, Cell, cell_of};
-ghost use Rattle.trackers.specs.declared.tests.fixture.TheConstants.{HERE};
+ghost use Rattle.part_trials.specs.declared.tests.cells.fixture.TheConstants.{HERE};
 
-use crate::{Condition, Fired, TrackFault, Tracker, Trackers, World};
 use sm_names::{BufferName, CollectionId, NodeKey, TrackerId};
 use std::alloc::Global;
+use trackers::{Condition, Fired, TrackFault, Tracker, Trackers, World};
 
 /// The collection.
 pub const HERE: CollectionId = 1;

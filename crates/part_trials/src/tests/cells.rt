@@ -1,9 +1,9 @@
 //! What no contract says: that calls succeed, and that a cell that was set is seen.
-use crate::{Condition, Fired, TrackFault, Trackers};
 use fixture::{HERE, Here, Line, QUIET};
 use sm_names::{BufferName, NodeKey};
 use std::test::Fail;
 use std::thread;
+use trackers::{Condition, Fired, TrackFault, Trackers};
 
 mod fixture;
 

@@ -1,8 +1,6 @@
 //! What no contract says: that calls succeed, and that the counts are those of a plain tally.
-use crate::fault::HoldFault;
-use crate::holds::Holds;
+use buffer_holds::{HoldFault, Holds};
 use sm_names::{BufferName, ClientId, Strength};
-use std::alloc::AllocError;
 
 const FIRST: BufferName = BufferName {
     collection: 7,
@@ -86,8 +84,72 @@ fn what_is_undone_takes_no_memory(rt: HostRuntime) {
     }
 }
 
+// Each open handle by who has it; client 0 stands for the parcels.
+type Tally = Vec<(ClientId, BufferName, Strength)>;
+
+// Takes one such handle off the tally, if there is one.
+fn strike(open: &mut Tally, handle: (ClientId, BufferName, Strength)) -> bool {
+    match open.iter().position(|other| *other == handle) {
+        Some(place) => {
+            open.swap_remove(place);
+            true
+        }
+        None => false,
+    }
+}
+
+// Makes the call on both, and whether both answer alike.
+fn acts_alike(
+    holds: &mut Holds,
+    open: &mut Tally,
+    act: Act,
+    handle: (ClientId, BufferName, Strength),
+) -> bool {
+    let (client, buffer, strength) = handle;
+    match act {
+        Act::Add => open.push(handle).is_ok() && holds.add(client, buffer, strength).is_ok(),
+        Act::Sub => holds.sub(client, buffer, strength) == strike(open, handle),
+        Act::Lift => {
+            let is_there = strike(open, handle);
+            holds.lift(client, buffer, strength) == is_there
+                && (!is_there || open.push((0, buffer, strength)).is_ok())
+        }
+        Act::Land => {
+            !strike(open, (0, buffer, strength))
+                || open.push(handle).is_ok()
+                    && holds.moving(buffer, strength) > 0
+                    && holds.land(client, buffer, strength).is_ok()
+        }
+        Act::Tidy => {
+            holds.tidy(client, buffer, strength);
+            true
+        }
+    }
+}
+
+// How many such handles the tally has.
+fn times(open: &Tally, handle: (ClientId, BufferName, Strength)) -> usize {
+    open.iter().filter(|other| **other == handle).count()
+}
+
+// Whether all counts of this buffer are those of the tally.
+fn counts_alike(holds: &Holds, open: &Tally, buffer: BufferName, strength: Strength) -> bool {
+    let mut total = times(open, (0, buffer, strength));
+    if holds.moving(buffer, strength) as usize != total {
+        return false;
+    }
+    for client in 1..=3 {
+        let own = times(open, (client, buffer, strength));
+        if holds.of(client, buffer, strength) as usize != own {
+            return false;
+        }
+        total = total.saturating_add(own);
+    }
+    holds.total(buffer, strength) as usize == total
+}
+
 #[test]
-fn counts_are_those_of_a_plain_tally(rt: HostRuntime) -> Result<(), AllocError> {
+fn counts_are_those_of_a_plain_tally(rt: HostRuntime) {
     let acts: [(Act, ClientId, BufferName, Strength); 18] = [
         (Act::Add, 1, FIRST, Strength::Strong),
         (Act::Add, 1, FIRST, Strength::Strong),
@@ -108,63 +170,13 @@ fn counts_are_those_of_a_plain_tally(rt: HostRuntime) -> Result<(), AllocError> 
         (Act::Sub, 2, FIRST, Strength::Strong),
         (Act::Tidy, 2, FIRST, Strength::Strong),
     ];
-    // Each open handle by who has it; client 0 stands for the parcels.
-    let mut open: Vec<(ClientId, BufferName, Strength)> = Vec::new(rt.alloc());
+    let mut open = Vec::new(rt.alloc());
     let mut holds = Holds::new(rt.alloc(), 9);
     for (act, client, buffer, strength) in acts.iter().copied() {
-        let place = open
-            .iter()
-            .position(|handle| *handle == (client, buffer, strength));
-        match act {
-            Act::Add => {
-                open.push((client, buffer, strength))?;
-                assert!(rt; holds.add(client, buffer, strength).is_ok());
-            }
-            Act::Sub => {
-                assert_eq!(rt; holds.sub(client, buffer, strength), place.is_some());
-                if let Some(place) = place {
-                    open.swap_remove(place);
-                }
-            }
-            Act::Lift => {
-                assert_eq!(rt; holds.lift(client, buffer, strength), place.is_some());
-                if let Some(place) = place {
-                    open.swap_remove(place);
-                    open.push((0, buffer, strength))?;
-                }
-            }
-            Act::Land => {
-                let lying = open
-                    .iter()
-                    .position(|handle| *handle == (0, buffer, strength));
-                if let Some(lying) = lying {
-                    open.swap_remove(lying);
-                    open.push((client, buffer, strength))?;
-                }
-                if holds.moving(buffer, strength) > 0 {
-                    assert!(rt; holds.land(client, buffer, strength).is_ok());
-                }
-            }
-            Act::Tidy => holds.tidy(client, buffer, strength),
-        }
+        assert!(rt; acts_alike(&mut holds, &mut open, act, (client, buffer, strength)));
         for buffer in [FIRST, SECOND] {
-            for strength in [Strength::Strong, Strength::Weak] {
-                let all = open
-                    .iter()
-                    .filter(|handle| handle.1 == buffer && handle.2 == strength);
-                assert_eq!(rt; holds.total(buffer, strength) as usize, all.count());
-                let lying = open
-                    .iter()
-                    .filter(|handle| **handle == (0, buffer, strength));
-                assert_eq!(rt; holds.moving(buffer, strength) as usize, lying.count());
-                for client in 1..=3 {
-                    let own = open
-                        .iter()
-                        .filter(|handle| **handle == (client, buffer, strength));
-                    assert_eq!(rt; holds.of(client, buffer, strength) as usize, own.count());
-                }
-            }
+            assert!(rt; counts_alike(&holds, &open, buffer, Strength::Strong));
+            assert!(rt; counts_alike(&holds, &open, buffer, Strength::Weak));
         }
     }
-    Ok(())
 }

@@ -1,0 +1,5 @@
+mod cells;
+mod counts;
+mod falls;
+mod pages;
+mod slots;
