@@ -9,7 +9,7 @@ ghost use Rattle.sm_names.specs.Births.{births, collection_in, AreSound};
 ghost use Rattle.sm_names.specs.Bounds.{Bound};
 ghost use Rattle.sm_names.specs.Ends.{spent, parcels, given_at, collects};
 ghost use Rattle.sm_names.specs.Handles.{opens, drops, lifts, lands};
-ghost use Rattle.sm_names.specs.Legality.{IsLegal, AreAnswers, Shows};
+ghost use Rattle.sm_names.specs.Legality.{IsLegal, AreAnswers, Tells};
 ghost use Rattle.sm_names.specs.Losses.{parent_of, gone, fault};
 ghost use Rattle.sm_names.specs.Marks.{Entry, Mark, Timeline, events};
 ghost use Rattle.sm_names.specs.Reading.{readings};
@@ -30,7 +30,7 @@ pub fn histories_grow()
 /// Whoever reads and shows a legal history, and answers by the table, goes on legally.
 pub fn answers_extend()
     ensures { (pool : ℕ) (limits : Bound) (history : List Entry) (read : Readings) (seen : Views) (entry : Entry) →
-        IsLegal pool limits history → Shows pool history read seen → length history < limits.events →
+        IsLegal pool limits history → Tells pool history read seen → length history < limits.events →
         IsAnswer limits read entry.0 entry.1 entry.2 → IsLegal pool limits (history ++ entry ∷ []) }
 {}
 
