@@ -1,7 +1,7 @@
 #!/usr/bin/env bash
 # Tries the wrong edits that the gate leaves out, crates/NAME/more-edits/*.edit: the prover must refuse each.
 #   tools/more_edits.sh [-j LANES] [NAME..]
-# With no NAME it tries those of every crate. Everything is proved first, over what stands in out/; then LANES (2)
+# With no NAME it tries those of every crate. Each crate is proved first, over what stands in out/; then LANES (2)
 # copies of the repository take the edits in turn, each over the kept work of its crate, in 10 to 40 seconds.
 # The last line counts.
 set -eu
@@ -19,11 +19,13 @@ room=$(mktemp -d)
 trap 'rm -rf "$room"' EXIT
 mkdir "$room/1"
 tar -c --exclude=.git . | tar -x -C "$room/1"
-(cd "$room/1" && rt all check --jobs "$lanes" >"$room/build" 2>&1) || {
-  tail -n 20 "$room/build"
-  echo "the crates are not proved as they stand"
-  exit 1
-}
+for name in "${names[@]}"; do
+  (cd "$room/1/crates/$name" && rt check --jobs "$lanes" >"$room/build" 2>&1) || {
+    tail -n 20 "$room/build"
+    echo "$name is not proved as it stands"
+    exit 1
+  }
+done
 for ((lane = 2; lane <= lanes; lane++)); do cp -a "$room/1" "$room/$lane"; done
 for name in "${names[@]}"; do
   for edit in "crates/$name/more-edits"/*.edit; do echo "$name $(basename "$edit")"; done

@@ -1,51 +1,40 @@
 #!/usr/bin/env bash
-# Runs tests with the first allocation refused, then with the second, and so on until a run meets no
-# refusal. Each test checks what a refusal leaves, and prints a line where it met one.
-#   tools/refused_memory.sh [-j JOBS] [CRATE..]
-# JOBS (2) runs are made at once. With no CRATE it takes the three that have such tests. Of core_trials
-# all tests count, of the others those with `memory` in their names: the rest take success for granted.
-set -u
-cd "$(dirname "$0")/../crates" || exit 1
-jobs=2
-if [ "${1-}" = -j ]; then
-  jobs=$2
-  shift 2
-fi
+# Runs tests with the first allocation refused, then with the second, and so on until a run makes fewer
+# allocations. Each test checks what a refusal leaves: it fails where that is not as it was.
+#   tools/refused_memory.sh [CRATE..]
+# With no CRATE it takes those that have such tests. Of core_trials all tests count, of the others those with
+# `memory` in their names: the rest take success for granted. The tests are proved and built first, where that
+# was not done; then a run takes milliseconds. Needs cc.
+set -euo pipefail
+cd "$(dirname "$0")/.."
 crates=("$@")
 [ ${#crates[@]} = 0 ] && crates=(part_trials script_trials core_trials)
-logs=$(mktemp -d) || exit 1
-trap 'rm -r "$logs"' EXIT
+room=$(mktemp -d)
+trap 'rm -r "$room"' EXIT
+cc -O1 -Wall -Wextra -Werror -shared -fPIC -o "$room/refuse.so" tools/refuse.c
 
-# The lines of the tests that count, in the log of a run.
-results() {
-  local counts=memory
-  [ "$1" = core_trials ] && counts=.
-  grep -E "^test .*$counts.* \.\.\. " "$2"
-}
-
-# Follows one crate to its first run without a refusal.
+# Follows one test to its first run in which no allocation is refused.
 follow() {
-  local crate=$1 first=1 n
+  local program=$1 test=$2 number=0
   while :; do
-    for ((n = first; n < first + jobs; n++)); do
-      (cd "$crate" && rt try --test --fail-alloc "$n" >"$logs/$n" 2>&1) &
-    done
-    wait
-    for ((n = first; n < first + jobs; n++)); do
-      if [ -z "$(results "$crate" "$logs/$n")" ] || results "$crate" "$logs/$n" | grep -qv ' ok$'; then
-        cat "$logs/$n"
-        echo "$crate: a test fails where allocation $n is refused"
-        return 1
-      fi
-      if ! grep -q 'memory was refused' "$logs/$n"; then
-        echo "$crate: its tests pass with each of $((n - 1)) allocations refused"
-        return 0
-      fi
-    done
-    first=$((first + jobs))
+    number=$((number + 1))
+    if ! timeout 60 env LD_PRELOAD="$room/refuse.so" REFUSE=$number "$program" "$test" >"$room/said" 2>&1; then
+      cat "$room/said"
+      echo "$test fails where allocation $number is refused"
+      return 1
+    fi
+    if ! grep -q '^memory was refused' "$room/said"; then
+      echo "$test: passes with each of $((number - 1)) allocations refused"
+      return 0
+    fi
   done
 }
 
 for crate in "${crates[@]}"; do
-  follow "$crate" || exit 1
+  (cd "crates/$crate" && rt test >"$room/log" 2>&1) || { cat "$room/log"; exit 1; }
+  program=crates/$crate/out/${crate}_tests
+  counts=memory
+  [ "$crate" = core_trials ] && counts=.
+  "$program" --list | sed -n 's/: test$//p' | grep "$counts" >"$room/tests"
+  while read -r test; do follow "$program" "$test" </dev/null; done <"$room/tests"
 done
