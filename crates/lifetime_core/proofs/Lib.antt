@@ -64,6 +64,7 @@ pub mod StartLaws
 pub mod Stepping
 pub mod Steps
 pub mod Sweeps
+pub mod TakenLaws
 pub mod Telling
 pub mod TellingLaws
 pub mod ToOpen

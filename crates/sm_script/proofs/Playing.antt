@@ -1,5 +1,5 @@
 -- A run that goes on by one line, or stops at it.
-use Rattle.std.proofs.Common.{◌≡◌, ℕ, ◌+◌, ◌≤◌, List, [], ◌∷◌, ◌++◌, length-append, append_assoc, append-nil, refl, sym, ap, ◌∙◌, subst, Option, inl, inr, arith}
+use Rattle.std.proofs.Common.{◌≡◌, ◌≢◌, ℕ, ◌+◌, ◌≤◌, List, [], ◌∷◌, ◌++◌, length-append, append_assoc, append-nil, refl, sym, ap, ◌∙◌, subst, Option, inl, inr, arith}
 use Rattle.std.proofs.KnownBytes.{Appends-trans}
 use Rattle.std.specs.Io.KnownBytes.{Appends}
 use Rattle.sm_names.specs.Bounds.{Bound}
@@ -9,8 +9,8 @@ use Rattle.sm_names.specs.Timelines.{timeline}
 use Rattle.sm_script.specs.declared.fault.ScriptFault.{ScriptFault}
 use Rattle.sm_script.specs.declared.player.Player.{Player}
 use Rattle.sm_script.specs.declared.stop.Stop.{Stop}
-use Rattle.sm_script.specs.Players.{SoFar, GivesUp, fault_of}
-use Rattle.sm_script.specs.Runs.{WritesPart, IsTold, IsCutOff, IsUnanswered, IsShort, Stopped}
+use Rattle.sm_script.specs.Players.{SoFar, Breaks, GivesUp, fault_of}
+use Rattle.sm_script.specs.Runs.{WritesPart, IsTold, IsCutOff, IsUnanswered, Stopped}
 use Rattle.sm_script.specs.Scenes.{Scene, Setting, Plays, Rests, Goes, Answers, LeadsTo, first_scene}
 use Rattle.sm_script.specs.Sessions.{IsAt, Advances, IsStopped}
 
@@ -35,14 +35,6 @@ module _ (setting : Setting) (old new : Option (List ℕ)) (lines more : List (L
     written = cut.written;
   }
 
-  short-more : IsShort setting old new lines → IsShort setting old new (lines ++ more)
-  short-more short = record {
-    before = short.before;
-    after = short.after ++ more;
-    split = ap (λ front. front ++ more) short.split ∙ append_assoc short.before short.after more;
-    told = short.told;
-  }
-
   unanswered-more : (fault : ScriptFault) → IsUnanswered setting old new lines fault → IsUnanswered setting old new (lines ++ more) fault
   unanswered-more fault stop = record {
     before = stop.before;
@@ -62,7 +54,16 @@ module _ (setting : Setting) (old new : Option (List ℕ)) (lines more : List (L
   stopped-more ScriptFault.WriteFault stop = cut-more stop
   stopped-more (ScriptFault.BadLine n) stop = unanswered-more (ScriptFault.BadLine n) stop
   stopped-more ScriptFault.HistoryFull stop = unanswered-more ScriptFault.HistoryFull stop
-  stopped-more ScriptFault.NoMemory stop = short-more stop
+  stopped-more ScriptFault.NoMemory stop = unanswered-more ScriptFault.NoMemory stop
+
+-- a stop is a break
+pub stopped-breaks : (setting : Setting) (old new : Option (List ℕ)) (lines : List (List ℕ)) (rest : List ℕ) (fault : ScriptFault) →
+    Stopped setting old new lines fault → Breaks setting old new lines rest fault
+stopped-breaks setting old new lines rest ScriptFault.ReadFault stop = absurd stop
+stopped-breaks setting old new lines rest ScriptFault.WriteFault stop = stop
+stopped-breaks setting old new lines rest (ScriptFault.BadLine n) stop = stop
+stopped-breaks setting old new lines rest ScriptFault.HistoryFull stop = stop
+stopped-breaks setting old new lines rest ScriptFault.NoMemory stop = inl stop
 
 module _ (setting : Setting) (player : Player) (old mid : Option (List ℕ)) (lines : List (List ℕ)) (far : SoFar setting player old mid lines) where
   -- the lines so far lead to a scene
@@ -158,8 +159,17 @@ module _ (setting : Setting) (player : Player) (old mid : Option (List ℕ)) (li
     };
     written = all-written new out;
   }
-  told-stop new line Stop.NoMemory why out =
-      record { before = lines; after = line ∷ []; split = refl; told = so_far-told new out }
+  told-stop new line Stop.NoMemory why out = record {
+    before = lines;
+    line = line;
+    after = [];
+    split = refl;
+    texts = far.texts;
+    scene = far.scene;
+    leads = so_far-leads;
+    why = tt;
+    written = all-written new out;
+  }
 
   -- a line was not answered
   pub so_far-stop : (new : Option (List ℕ)) (line : List ℕ) (stop : Stop) (fault : ScriptFault) →
@@ -172,10 +182,10 @@ module _ (setting : Setting) (player : Player) (old mid : Option (List ℕ)) (li
       subst (Stopped setting old new (lines ++ line ∷ [])) (sym is)
       (cut-more setting old new lines (line ∷ []) (so_far-cut new part))
 
-  -- memory was refused between two lines
-  pub so_far-short : (new : Option (List ℕ)) (number : ℕ) (fault : ScriptFault) →
-      GivesUp mid new player.out.items number Stop.NoMemory fault → Stopped setting old new lines fault
-  so_far-short new number fault (inl (is, out)) =
-      subst (Stopped setting old new lines) (sym is)
-      (record { before = lines; after = []; split = sym (append-nil lines); told = so_far-told new out })
-  so_far-short new number fault (inr (is, part)) = subst (Stopped setting old new lines) (sym is) (so_far-cut new part)
+  -- memory was refused behind the lines
+  pub so_far-behind : (new : Option (List ℕ)) (number : ℕ) (rest : List ℕ) (fault : ScriptFault) → rest ≢ [] →
+      GivesUp mid new player.out.items number Stop.NoMemory fault → Breaks setting old new lines rest fault
+  so_far-behind new number rest fault some (inl (is, out)) =
+      subst (Breaks setting old new lines rest) (sym is) (inr (some, so_far-told new out))
+  so_far-behind new number rest fault some (inr (is, part)) =
+      subst (Breaks setting old new lines rest) (sym is) (so_far-cut new part)

@@ -8,28 +8,20 @@ use Rattle.sm_script.specs.declared.player.Player.{Player}
 use Rattle.sm_script.specs.declared.TheConstants.{MOST_BYTES}
 use Rattle.sm_script.specs.Pieces.{lines_from, rest_from, whole_lines, last_part}
 use Rattle.sm_script.specs.Players.{SoFar, Answered, Breaks, EndsBy}
-use Rattle.sm_script.specs.Runs.{IsTold, IsCutOff, Stopped, RunStops, Runs}
+use Rattle.sm_script.specs.Runs.{IsTold, IsCutOff, RunStops, Runs}
 use Rattle.sm_script.specs.Scenes.{Setting, Rests, first_scene}
 use Rattle.sm_script.proofs.Piecing.{rest-append, lines-append}
 use Rattle.sm_script.proofs.Playing.{so_far-told}
 
--- a stop is a break
-pub stopped-breaks : (setting : Setting) (old new : Option (List ℕ)) (lines : List (List ℕ)) (fault : ScriptFault) →
-    Stopped setting old new lines fault → Breaks setting old new lines fault
-stopped-breaks setting old new lines ScriptFault.ReadFault stop = absurd stop
-stopped-breaks setting old new lines ScriptFault.WriteFault stop = stop
-stopped-breaks setting old new lines (ScriptFault.BadLine n) stop = stop
-stopped-breaks setting old new lines ScriptFault.HistoryFull stop = stop
-stopped-breaks setting old new lines ScriptFault.NoMemory stop = stop
-
 -- a break ends the run
 breaks-run : (setting : Setting) (left old new : Option (List ℕ)) (script : List ℕ) (fault : ScriptFault) →
-    Breaks setting old new (whole_lines script) fault → RunStops setting left old new script fault
+    Breaks setting old new (whole_lines script) (last_part script) fault → RunStops setting left old new script fault
 breaks-run setting left old new script ScriptFault.ReadFault break = break
 breaks-run setting left old new script ScriptFault.WriteFault break = break
 breaks-run setting left old new script (ScriptFault.BadLine n) break = inl break
 breaks-run setting left old new script ScriptFault.HistoryFull break = break
-breaks-run setting left old new script ScriptFault.NoMemory break = break
+breaks-run setting left old new script ScriptFault.NoMemory (inl stop) = inl stop
+breaks-run setting left old new script ScriptFault.NoMemory (inr (some, told)) = inr (record { place = inr some; told = told })
 
 -- all of what is to go out is out
 pub told-so_far : (setting : Setting) (player : Player) (old new : Option (List ℕ)) (lines : List (List ℕ)) →
@@ -53,6 +45,10 @@ module _ (left_before old : Option (List ℕ)) (first : Player) where
     lines-on : (piece : List ℕ) → whole_lines come.script ++ lines_from front piece ≡ whole_lines (come.script ++ piece)
     lines-on piece = ap (λ f. whole_lines come.script ++ lines_from f piece) come.rest ∙ sym (lines-append [] come.script piece)
 
+    -- what stands behind them
+    rest-on : (piece : List ℕ) → rest_from front piece ≡ last_part (come.script ++ piece)
+    rest-on piece = ap (λ f. rest_from f piece) come.rest ∙ sym (rest-append [] come.script piece)
+
     -- one more piece was answered
     pub come-more : (later new : Option (List ℕ)) (next : Player) (next_front piece : List ℕ) → Consumes left later piece →
         (count : ℕ) → length piece ≡ count → count ≤ room → Answered player now next new (lines_from front piece) →
@@ -66,7 +62,7 @@ module _ (left_before old : Option (List ℕ)) (first : Player) where
           subst (SoFar setting next begun new)
           (append_assoc lines (whole_lines come.script) (lines_from front piece) ∙ ap (λ ls. lines ++ ls) (lines-on piece))
           (answered setting begun (lines ++ whole_lines come.script) (come.answered setting begun lines far));
-      rest = rest ∙ ap (λ f. rest_from f piece) come.rest ∙ sym (rest-append [] come.script piece);
+      rest = rest ∙ rest-on piece;
       empty = empty;
       few = rw length-append (omega (arith, come.few, few));
     }
@@ -97,7 +93,7 @@ module _ (left_before old : Option (List ℕ)) (first : Player) where
       pub runs-broken : (later new : Option (List ℕ)) (piece beyond : List ℕ) (fault : ScriptFault) → Consumes left later (piece ++ beyond) →
           length piece ≤ room → (beyond ≢ [] → length piece ≡ room) →
           ((begun : Option (List ℕ)) (lines : List (List ℕ)) → SoFar setting player begun now lines →
-          Breaks setting begun new (lines ++ lines_from front piece) fault) →
+          Breaks setting begun new (lines ++ lines_from front piece) (rest_from front piece) fault) →
           Runs setting left_before later old new (Err fault)
       runs-broken later new piece beyond fault more fits full breaks = record {
         script = come.script ++ piece;
@@ -107,8 +103,9 @@ module _ (left_before old : Option (List ℕ)) (first : Player) where
         within = rw length-append (omega (arith, come.counted, fits));
         full = λ some. rw length-append (omega (arith, come.counted, full some));
         outcome = breaks-run setting later old new (come.script ++ piece) fault
-            (subst (λ (ls : List (List ℕ)). Breaks setting old new ls fault) (lines-on piece)
-            (breaks old (whole_lines come.script) (come.answered setting old [] start)));
+            (subst (λ (ls : List (List ℕ)). Breaks setting old new ls (last_part (come.script ++ piece)) fault) (lines-on piece)
+            (subst (λ (rest : List ℕ). Breaks setting old new (whole_lines come.script ++ lines_from front piece) rest fault) (rest-on piece)
+            (breaks old (whole_lines come.script) (come.answered setting old [] start))));
       }
 
       -- the end of the script
@@ -183,15 +180,13 @@ runs-nothing setting left old = record {
   taken = Consumes-nil left;
   within = omega arith;
   full = λ some. absurd (some refl);
-  outcome = record {
-    before = [];
-    after = [];
-    split = refl;
+  outcome = inr (record {
+    place = inl refl;
     told = record {
       texts = [];
       scene = first_scene;
       leads = record { plays = Rests first_scene; legal = record { answers = tt; within = omega arith } };
       written = Appends-nil old;
     };
-  };
+  });
 }

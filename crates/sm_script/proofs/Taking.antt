@@ -1,15 +1,23 @@
 -- A piece of a script whose lines are taken one after another.
-use Rattle.std.proofs.Common.{◌≡◌, ℕ, ◌+◌, ◌-◌, ◌<◌, ◌≤◌, List, [], ◌∷◌, ◌++◌, length, length-drop, take, drop, append_assoc, append-nil, refl, sym, ap, ◌∙◌, subst, Option, Some, None, arith}
+use Rattle.std.proofs.Common.{◌≡◌, ◌≢◌, ℕ, ◌+◌, ◌-◌, ◌<◌, ◌≤◌, ◌==◌, true, false, List, [], ◌∷◌, ◌++◌, length, length-append, length-drop, take, drop, append_assoc, append-nil, refl, sym, ap, ◌∙◌, subst, Option, Some, None, arith}
+use Rattle.std.proofs.lemmas.Bool.{both_ways, eq-eqb}
 use Rattle.std.proofs.lemmas.List.{take_rest}
 use Rattle.std.specs.List.{position}
 use Rattle.sm_script.specs.declared.fault.ScriptFault.{ScriptFault}
 use Rattle.sm_script.specs.declared.player.Player.{Player}
 use Rattle.sm_script.specs.Pieces.{lines_from, rest_from}
-use Rattle.sm_script.specs.Players.{SoFar, Answered, Failed}
+use Rattle.sm_script.specs.Players.{SoFar, Answered, Breaks, Broken, Failed}
 use Rattle.sm_script.specs.Runs.{Stopped}
-use Rattle.sm_script.specs.Scenes.{Setting}
 use Rattle.sm_script.proofs.Piecing.{is_end, ends_found, unended_none}
-use Rattle.sm_script.proofs.Playing.{stopped-more}
+use Rattle.sm_script.proofs.Playing.{stopped-breaks, stopped-more}
+
+-- bytes behind the front are something
+pub some_behind : (front rest : List ℕ) → (length rest == 0) ≡ false → front ++ rest ≢ []
+some_behind front rest some none =
+    let all : length front + length rest ≡ 0 = sym (length-append front rest) ∙ ap length none in
+    let no : length rest ≡ 0 = omega (arith, all) in
+    let yes : (length rest == 0) ≡ true = eq-eqb (length rest) 0 no in
+    both_ways (length rest == 0) some yes
 
 module _ (first_front piece : List ℕ) (first : Player) (first_mid : Option (List ℕ)) where
   -- the lines that end before the rest were answered
@@ -58,9 +66,11 @@ module _ (first_front piece : List ℕ) (first : Player) (first_mid : Option (Li
 
     -- the next line failed
     pub taken-failed : (at : ℕ) (new : Option (List ℕ)) (fault : ScriptFault) → position is_end rest ≡ Some at →
-        Failed player mid new ((front ++ take at rest) ∷ []) fault → Failed first first_mid new (lines_from first_front piece) fault
+        Failed player mid new ((front ++ take at rest) ∷ []) fault →
+        Broken first first_mid new (lines_from first_front piece) (rest_from first_front piece) fault
     taken-failed at new fault found failed = λ setting old lines far.
-        let ends = ends_found front rest at found in
+        stopped-breaks setting old new (lines ++ lines_from first_front piece) (rest_from first_front piece) fault
+        (let ends = ends_found front rest at found in
         let line : List (List ℕ) = (front ++ take at rest) ∷ [] in
         let behind : List (List ℕ) = lines_from [] (drop (at + 1) rest) in
         let all : ((lines ++ so_far.taken) ++ line) ++ behind ≡ lines ++ lines_from first_front piece =
@@ -70,7 +80,7 @@ module _ (first_front piece : List ℕ) (first : Player) (first_mid : Option (Li
         ∙ ap (λ ls. lines ++ ls) (sym so_far.lines) in
         subst (λ (ls : List (List ℕ)). Stopped setting old new ls fault) all
         (stopped-more setting old new ((lines ++ so_far.taken) ++ line) behind fault
-        (failed setting old (lines ++ so_far.taken) (so_far.answered setting old lines far)))
+        (failed setting old (lines ++ so_far.taken) (so_far.answered setting old lines far))))
 
     module _ (none : position is_end rest ≡ None) where
       -- no line is left
@@ -87,7 +97,8 @@ module _ (first_front piece : List ℕ) (first : Player) (first_mid : Option (Li
 
       -- a fault came behind them
       pub all-failed : (new : Option (List ℕ)) (fault : ScriptFault) →
-          ((setting : Setting) (old : Option (List ℕ)) (lines : List (List ℕ)) → SoFar setting player old mid lines → Stopped setting old new lines fault) →
-          Failed first first_mid new (lines_from first_front piece) fault
+          Broken player mid new [] (front ++ rest) fault → Broken first first_mid new (lines_from first_front piece) (rest_from first_front piece) fault
       all-failed new fault fails = λ setting old lines far.
-          fails setting old (lines ++ lines_from first_front piece) (all-answered setting old lines far)
+          subst (λ (behind : List ℕ). Breaks setting old new (lines ++ lines_from first_front piece) behind fault) (sym all-rest)
+          (subst (λ (ls : List (List ℕ)). Breaks setting old new ls (front ++ rest) fault) (append-nil (lines ++ lines_from first_front piece))
+          (fails setting old (lines ++ lines_from first_front piece) (all-answered setting old lines far)))

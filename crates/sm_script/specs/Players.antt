@@ -48,7 +48,14 @@ EndsBy front lines ScriptFault.WriteFault = front ≡ []
 EndsBy front lines (ScriptFault.BadLine n) = (front ≢ []) × (n ≡ lines + 1)
 EndsBy front lines _ = ⊥
 
--- why a run breaks off behind these lines, or among them
-abbrev pub Breaks : Setting → Option (List ℕ) → Option (List ℕ) → List (List ℕ) → ScriptFault → Type 0
-Breaks setting old new lines ScriptFault.ReadFault = IsTold setting old new lines
-Breaks setting old new lines fault = Stopped setting old new lines fault
+-- why a run breaks off among these lines, or behind them, where these bytes of the next line are
+abbrev pub Breaks : Setting → Option (List ℕ) → Option (List ℕ) → List (List ℕ) → List ℕ → ScriptFault → Type 0
+Breaks setting old new lines rest ScriptFault.ReadFault = IsTold setting old new lines
+Breaks setting old new lines rest ScriptFault.NoMemory =
+    Stopped setting old new lines ScriptFault.NoMemory ⊎ ((rest ≢ []) × IsTold setting old new lines)
+Breaks setting old new lines rest fault = Stopped setting old new lines fault
+
+-- this fault came before these lines were all answered, or behind them, where these bytes of the next line are
+abbrev pub Broken : Player → Option (List ℕ) → Option (List ℕ) → List (List ℕ) → List ℕ → ScriptFault → Type 0
+Broken player mid new more rest fault = (setting : Setting) (old : Option (List ℕ)) (lines : List (List ℕ)) →
+    SoFar setting player old mid lines → Breaks setting old new (lines ++ more) rest fault

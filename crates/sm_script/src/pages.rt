@@ -1,5 +1,5 @@
 //! The pages of a pool.
-ghost use Rattle.std.specs.Prelude.{◌≡◌, ◌≤◌, IfSome};
+ghost use Rattle.std.specs.Prelude.{◌≤◌, SomeIff, option_map};
 
 /// As many pages as a pool may have: from 1 to 1,048,576.
 #[derive(Clone, Copy, Debug)]
@@ -9,9 +9,10 @@ pub struct Pages {
 }
 
 impl Pages {
-    /// So many pages, if a pool may have as many.
+    /// So many pages, or `None` where a pool may not have as many. Takes a constant time.
     pub fn new(count: u32) -> Option<Pages>
-        ensures { IfSome result (λ pages. pages.count ≡ count) }
+        ensures { SomeIff (option_map (λ pages. pages.count) result)
+            ((1 ≤ count) × (count ≤ 1048576)) count }
     {
         if count < 1 || 1_048_576 < count {
             return None;

@@ -1,6 +1,6 @@
 //! A run of a script, line by line.
-ghost use Rattle.std.specs.Prelude.{◌≡◌, ◌+◌, ◌^◌, ◌<◌, ◌≤◌, [], ◌∷◌, ◌++◌, List, ℕ, Option, IfOk, IfErr, OnOk};
-ghost use Rattle.sm_script.specs.Players.{Answered, Failed, SoFar};
+ghost use Rattle.std.specs.Prelude.{◌≡◌, ◌≢◌, ◌+◌, ◌^◌, ◌<◌, ◌≤◌, [], ◌∷◌, ◌++◌, List, ℕ, Option, IfOk, IfErr, OnOk};
+ghost use Rattle.sm_script.specs.Players.{Answered, Broken, Failed, SoFar};
 ghost use Rattle.sm_script.specs.Runs.{Stopped};
 ghost use Rattle.sm_script.specs.Scenes.{Setting};
 
@@ -96,11 +96,12 @@ impl Player {
         self.put_out(writer)
     }
 
-    // Gives up between two lines, for want of memory.
+    // Gives up for want of memory, at the next line or behind the last.
     pub(crate) fn give_in<W: Write>(&self, writer: &mut W) -> ScriptFault
-        ensures { (setting : Setting) (old : Option (List ℕ)) (lines : List (List ℕ)) →
-            SoFar setting self.now old (W.contents writer.old) lines →
-            Stopped setting old (W.contents writer.new) lines result }
+        ensures at { (line : List ℕ) →
+            Failed self.now (W.contents writer.old) (W.contents writer.new) (line ∷ []) result }
+        ensures behind { (rest : List ℕ) → rest ≢ [] →
+            Broken self.now (W.contents writer.old) (W.contents writer.new) [] rest result }
     {
         give_up(writer, self.out.as_slice(), self.lines, Stop::NoMemory)
     }

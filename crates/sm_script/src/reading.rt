@@ -1,7 +1,7 @@
 //! Bytes come in, in pieces that end anywhere.
 ghost use Rattle.std.specs.Prelude.{◌≡◌, ◌+◌, ◌^◌, ◌<◌, ◌≤◌, [], ◌∷◌, ◌++◌, length, IfErr, OnOk};
 ghost use Rattle.sm_script.specs.Pieces.{lines_from, rest_from};
-ghost use Rattle.sm_script.specs.Players.{Answered, Failed};
+ghost use Rattle.sm_script.specs.Players.{Answered, Broken, Failed};
 
 use crate::fault::ScriptFault;
 use crate::player::Player;
@@ -51,8 +51,9 @@ pub(crate) fn take_piece<W: Write>(
         player.new (W.contents writer.new) (lines_from front.old.items piece.now)) }
     ensures few { OnOk result (player.new.lines ≤ player.old.lines + length piece.now) }
     ensures rest { OnOk result (front.new.items ≡ rest_from front.old.items piece.now) }
-    ensures err { IfErr result (Failed player.old (W.contents writer.old)
-        (W.contents writer.new) (lines_from front.old.items piece.now)) }
+    ensures err { IfErr result (Broken player.old (W.contents writer.old)
+        (W.contents writer.new) (lines_from front.old.items piece.now)
+        (rest_from front.old.items piece.now)) }
 {
     let mut rest = piece;
     while let Some(at) = place_of(b'\n', rest) {
@@ -61,6 +62,9 @@ pub(crate) fn take_piece<W: Write>(
             Ok(()) => rest = &rest[at + 1..],
             Err(fault) => return Err(fault),
         }
+    }
+    if rest.is_empty() {
+        return Ok(());
     }
     match front.extend_from_slice(rest) {
         Ok(()) => Ok(()),

@@ -2,7 +2,7 @@
 ghost use Rattle.std.specs.Prelude.{◌≡◌, ◌+◌, ◌^◌, ◌<◌, ◌≤◌, [], ◌++◌, List, ℕ, Option, length, IfErr, OnOk};
 ghost use Rattle.std.specs.Io.KnownBytes.{Keeps};
 ghost use Rattle.sm_script.specs.Pieces.{lines_from, rest_from};
-ghost use Rattle.sm_script.specs.Players.{Answered, Breaks, EndsBy, Failed, SoFar};
+ghost use Rattle.sm_script.specs.Players.{Answered, Breaks, Broken, EndsBy, SoFar};
 ghost use Rattle.sm_script.specs.Runs.{Runs};
 ghost use Rattle.sm_script.specs.Scenes.{Setting};
 
@@ -29,7 +29,9 @@ const BLOCK: usize = 65_536;
 ///   first part of the text.
 /// - `BadLine`, `HistoryFull`: this line is bad, or makes a call where as many events were made as
 ///   may be. What went out is the text of the lines before it.
-/// - `NoMemory`: memory was refused. What went out is the text of some first lines.
+/// - `NoMemory`: memory was refused. What went out is the text of the lines before the one at hand:
+///   a whole line, or the front of one behind all whole lines that were read. It is nothing where
+///   memory was refused before the first read.
 ///
 /// Each line takes a time in proportion to its length and that of its text, a look into a table
 /// for each label, and the time of its call; a poll takes a look for its reader, and a binary
@@ -102,7 +104,8 @@ fn too_long<W: Write>(
     ensures { (setting : Setting) (old : Option (List ℕ)) (lines : List (List ℕ)) →
         SoFar setting player.old old (W.contents writer.old) lines →
         Breaks setting old (W.contents writer.new)
-        (lines ++ lines_from front.old.items piece.now) result }
+        (lines ++ lines_from front.old.items piece.now)
+        (rest_from front.old.items piece.now) result }
 {
     match answer_all(writer, player, front, piece) {
         Ok(()) => ScriptFault::ReadFault,
@@ -123,8 +126,9 @@ fn answer_all<W: Write>(
     ensures few { OnOk result (player.new.lines ≤ player.old.lines + length piece.now) }
     ensures rest { OnOk result (front.new.items ≡ rest_from front.old.items piece.now) }
     ensures empty { OnOk result (player.new.out.items ≡ []) }
-    ensures err { IfErr result (Failed player.old (W.contents writer.old)
-        (W.contents writer.new) (lines_from front.old.items piece.now)) }
+    ensures err { IfErr result (Broken player.old (W.contents writer.old)
+        (W.contents writer.new) (lines_from front.old.items piece.now)
+        (rest_from front.old.items piece.now)) }
 {
     match take_piece(player, writer, front, piece) {
         Ok(()) => player.put_out(writer),

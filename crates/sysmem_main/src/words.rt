@@ -1,4 +1,7 @@
 //! The words of the command line.
+ghost use Rattle.std.specs.Prelude.{option_map};
+ghost use Rattle.sysmem_main.specs.Asked.{AreAsked, pages_text};
+
 use clap::{Arg, ArgAction, ArgMatches, Command, value_parser};
 use sm_script::Pages;
 use std::alloc::{AllocError, Global};
@@ -71,9 +74,13 @@ pub fn command<'a>(alloc: Global) -> Result<Command<'a>, AllocError> {
         .subcommand(run)
 }
 
-/// The pages that the matches of a parse ask for. The range is tested once more, since the parse of a
-/// subcommand tells nothing of its values.
-pub fn pages_of(matches: &ArgMatches<'_>) -> Option<Pages> {
+/// The pages that the matches of a parse ask for: the number that stands behind the subcommand's
+/// `--pages`, or its default. `None` where there is no subcommand, or no such text, or the text is
+/// no number from 1 to 1,048,576. The range is tested once more, since the parse of a subcommand
+/// tells nothing of its values. Takes a time in proportion to the text.
+pub fn pages_of(matches: &ArgMatches<'_>) -> Option<Pages>
+    ensures { AreAsked (pages_text matches.now) (option_map (λ pages. pages.count) result) }
+{
     let (_, inner) = matches.subcommand()?;
     Pages::new(inner.get_one::<u32>("pages")?)
 }

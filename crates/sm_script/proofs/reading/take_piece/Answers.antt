@@ -1,5 +1,5 @@
 use Rattle.std.proofs.Common.{◌∙◌, sym}
-use Rattle.sm_script.proofs.Taking.{taken-none, taken-on, taken-failed, all-rest, all-answered, all-failed}
+use Rattle.sm_script.proofs.Taking.{taken-none, taken-on, taken-failed, all-rest, all-answered, all-failed, some_behind}
 use Rattle.sm_script.proofs.reading.take_piece.Goals as goal
 
 pub loop-at-init : goal.loop-at-init
@@ -24,4 +24,5 @@ returns-in-Ok-extend_from_slice-clause-rest g c = c.in-Ok-extend_from_slice.ensu
 
 pub returns-in-Err-extend_from_slice-clause-err : goal.returns-in-Err-extend_from_slice-clause-err
 returns-in-Err-extend_from_slice-clause-err g c =
-    all-failed _ _ _ _ _ _ _ _ c.loop-at.invariant (sym c.place_of.ensures.value ∙ c.in_default.is) _ _ c.give_in.ensures
+    all-failed _ _ _ _ _ _ _ _ c.loop-at.invariant (sym c.place_of.ensures.value ∙ c.in_default.is) _ _
+    (c.give_in.ensures.behind _ (some_behind _ c.loop-at.rest.now (sym c.is_empty.ensures ∙ c.if-is_empty.false)))

@@ -1,7 +1,7 @@
 use Rattle.std.proofs.Common.{◌≡◌, ◌<◌, ◌≤◌, [], ◌++◌, length, length-take, take, drop, arith, append-nil, take-append-drop, refl, sym, ap, ◌∙◌, subst}
 use Rattle.std.proofs.lemmas.List.{take-take}
 use Rattle.std.specs.Io.KnownBytes.{Consumes}
-use Rattle.sm_script.proofs.Running.{come-more, runs-unread, runs-broken, runs-ended, stopped-breaks, read-end}
+use Rattle.sm_script.proofs.Running.{come-more, runs-unread, runs-broken, runs-ended, read-end}
 use Rattle.sm_script.proofs.run.read_on.Goals as goal
 
 pub returns-in-Err : goal.returns-in-Err
@@ -35,7 +35,7 @@ returns-in-Err-answer_all g c = λ setting start.
     runs-broken _ _ _ _ _ _ _ _ c.turns.invariant setting start _ _ piece [] c.in-Err-answer_all.fault
     (subst (Consumes (g.R.Read.remaining c.turns.reader) (g.R.Read.remaining c.read.new.self)) (sym (append-nil piece)) c.in-Ok.ensures.bytes.0)
     (omega (arith, length-take c.in-Ok.n c.read.new.buf, c.if-left-n.false)) (λ some. absurd (some refl))
-    (λ begun lines far. stopped-breaks setting begun _ _ _ (c.in-Err-answer_all.ensures.err setting begun lines far))
+    (c.in-Err-answer_all.ensures.err setting)
 
 pub turns-preserved : goal.turns-preserved
 turns-preserved g c =

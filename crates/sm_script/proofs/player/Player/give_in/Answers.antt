@@ -1,6 +1,14 @@
-use Rattle.sm_script.proofs.Playing.{so_far-short}
+use Rattle.std.proofs.Common.{List, ℕ, append-nil, sym, subst}
+use Rattle.sm_script.specs.declared.stop.Stop.{Stop}
+use Rattle.sm_script.specs.Players.{Breaks}
+use Rattle.sm_script.proofs.Playing.{so_far-behind, so_far-stop}
 use Rattle.sm_script.proofs.player.Player.give_in.Goals as goal
 
-pub returns : goal.returns
-returns g c = λ setting old lines far.
-    so_far-short setting c.args.self.now old _ lines far _ c.args.self.now.lines _ (rw c.as_slice.ensures.value at c.give_up.ensures)
+pub returns-clause-at : goal.returns-clause-at
+returns-clause-at g c line = λ setting old lines far.
+    so_far-stop setting c.args.self.now old _ lines far _ line Stop.NoMemory _ (λ scene at. tt) (rw c.as_slice.ensures.value at c.give_up.ensures)
+
+pub returns-clause-behind : goal.returns-clause-behind
+returns-clause-behind g c rest some = λ setting old lines far.
+    subst (λ (ls : List (List ℕ)). Breaks setting old (g.W.Write.contents c.give_up.new.writer) ls rest c.give_up.result) (sym (append-nil lines))
+    (so_far-behind setting c.args.self.now old _ lines far _ c.args.self.now.lines rest _ some (rw c.as_slice.ensures.value at c.give_up.ensures))
