@@ -53,3 +53,4 @@ pub mod Forgotten
 pub mod Quiet
 mod Hanging
 mod LeftParents
+pub mod United

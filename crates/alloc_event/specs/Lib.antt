@@ -12,3 +12,4 @@ pub mod Scenes
 pub mod Settling
 pub mod Still
 pub mod Ties
+pub mod Units
