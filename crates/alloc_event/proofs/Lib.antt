@@ -54,3 +54,9 @@ pub mod Quiet
 mod Hanging
 mod LeftParents
 pub mod United
+pub mod Holding
+pub mod Amounts
+pub mod Keeping
+pub mod Reckoning
+pub mod Slots
+pub mod BornUnits

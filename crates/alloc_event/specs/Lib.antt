@@ -1,4 +1,5 @@
 pub mod Calm
+pub mod Counts
 pub mod Decisions
 pub mod Forest
 pub mod Forgetting
