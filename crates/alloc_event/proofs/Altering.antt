@@ -1,5 +1,5 @@
 -- A change to a collection that is there: what it keeps of the nodes, and where they lie.
-use Rattle.std.proofs.Common.{◌≡◌, ℕ, ◌<◌, ◌==◌, nat_lt, Bool, true, false, ◌||◌, ◌&&◌, not, List, [], ◌∷◌, ◌++◌, map, Option, Some, None, option_map, is_some, cond, refl, sym, ap, subst, ◌∙◌, inl, inr, arith}
+use Rattle.std.proofs.Common.{◌≡◌, ℕ, ◌<◌, ◌==◌, nat_lt, Bool, true, false, ◌||◌, ◌&&◌, not, List, [], ◌∷◌, ◌++◌, map, reverse, Option, Some, None, option_map, is_some, cond, refl, sym, ap, subst, ◌∙◌, inl, inr, arith}
 use Rattle.std.specs.List.{list_any, list_all, find, cons_option, AllByRecursion}
 use Rattle.std.specs.Option.{option_map_or, unwrap_or}
 use Rattle.std.proofs.lemmas.Bool.{eqb-true, eq-eqb, ne_eqb, ltb-true, lt-ltb, false≢true}
@@ -17,11 +17,13 @@ use Rattle.alloc_event.specs.Kept.{Shelf, AreRising, IsHung, IsKept, IsWhole, pu
 use Rattle.alloc_event.specs.Nodes.{affected, lost, is_taken}
 use Rattle.alloc_event.specs.Scenes.{IsSound, has_tracker_room}
 use Rattle.alloc_event.specs.Ties.{IsTied}
+use Rattle.alloc_event.specs.Units.{are_united}
 use Rattle.alloc_event.specs.Settling.{MayChange, changed, collection_or_new, is_birth, no_key, fits, is_there, is_kept}
 use Rattle.alloc_event.proofs.Finishing.{keys_in, looked-keys}
 use Rattle.alloc_event.proofs.Hanging.{hung_changed, looked_hung, looked_tied}
 use Rattle.alloc_event.proofs.Putting.{cases_place, above-weaker}
 use Rattle.alloc_event.proofs.Showing.{node_is, collection_is, filed_found}
+use Rattle.alloc_event.proofs.United.{united_mapped}
 use Rattle.alloc_event.proofs.Writing.{IsSameNode, IsSound-map}
 
 -- ---- what a change keeps
@@ -285,6 +287,12 @@ module _ (t : Table Node) (ss : List Shelf) (ok : IsKept t ss) (id : ℕ) (s : S
   altered-hung =
       subst (λ (d : Collection). IsHung t d.nodes) (sym (became ∙ ap (changed change no_key) loaded))
       (hung_changed t change no_key (collection_in t s) birth before.sound.distinct hung)
+
+  -- and are of their units
+  pub altered-united : are_united (reverse now.nodes) ≡ true
+  altered-united =
+      subst (λ (d : Collection). are_united (reverse d.nodes) ≡ true) (sym is_made)
+      (united_mapped made.of (record { key = λ n. (made.same n).key; parent = λ n. (made.same n).parent; attached = λ n. (made.same n).attached; head = λ n. (made.same n).head }) (nodes_with t s.keys) ∙ before.united)
 
   -- and the nodes before are tied to the table
   pub altered-tied : IsTied t c.nodes

@@ -260,7 +260,7 @@ all_map : {A : Type 0} (p q : A → Bool) (f : A → A) (xs : List A) → ((x : 
 all_map p q f [] same = refl
 all_map p q f (x ∷ xs) same = λ i. same x i && all_map p q f xs same i
 
-find_map : {A : Type 0} (p q : A → Bool) (f : A → A) (xs : List A) → ((x : A) → p (f x) ≡ q x) → find p (map f xs) ≡ option_map f (find q xs)
+pub find_map : {A : Type 0} (p q : A → Bool) (f : A → A) (xs : List A) → ((x : A) → p (f x) ≡ q x) → find p (map f xs) ≡ option_map f (find q xs)
 find_map p q f [] same = refl
 find_map {A = A} p q f (x ∷ xs) same = elim (either_way (q x)) [
   | inl e ↦ let h : p (f x) ≡ true = same x ∙ e in rw (h, e) refl

@@ -1,5 +1,5 @@
 -- A scene that was worked on, and what holds once it is put back.
-use Rattle.std.proofs.Common.{◌≡◌, ℕ, true, List, [], ◌++◌, map, not, None, sym, ap, subst, ◌∙◌}
+use Rattle.std.proofs.Common.{◌≡◌, ℕ, true, List, [], ◌++◌, map, reverse, not, None, sym, ap, subst, ◌∙◌}
 use Rattle.std.proofs.lemmas.Bool.{not-true}
 use Rattle.std.specs.List.{list_all, list_any, AllByRecursion}
 use Rattle.sm_names.specs.declared.keys.Interval.{Interval}
@@ -18,12 +18,14 @@ use Rattle.alloc_event.specs.Nodes.{is_over}
 use Rattle.alloc_event.specs.Parted.{are_parted}
 use Rattle.alloc_event.specs.Scenes.{IsSound, collection_of, held_pages, frame_of}
 use Rattle.alloc_event.specs.Settling.{Handles, put, given_back, standing}
+use Rattle.alloc_event.specs.Units.{are_united}
 use Rattle.alloc_event.proofs.Alike.{start_of}
 use Rattle.alloc_event.proofs.Calming.{calm_rested}
 use Rattle.alloc_event.proofs.Counted.{counted_put, filed_but, moved_but}
 use Rattle.alloc_event.proofs.Finishing.{collection-beside, keys_in, frames-keys, frames-of, places-filed, nodes-stored, collections-put, kept-put, whole-map, whole-unmap, whole-put}
 use Rattle.alloc_event.proofs.Pools.{pool_back}
 use Rattle.alloc_event.proofs.Putting.{filed-own, put-map}
+use Rattle.alloc_event.proofs.United.{united_frames}
 
 -- without the pages that went back it is sound
 sound-given_back : (handles : Handles) (c : Collection) → IsSound c → IsSound (given_back handles c)
@@ -81,18 +83,18 @@ module _ (handles : Handles) (t : Table Node) (ss : List Shelf) (start worked ba
         ∙ ap (λ c. put c (map (collection_in t) ss)) nodes_back
 
     -- all of them are whole
-    finished-whole : IsHung t worked.nodes.items → AllByRecursion (λ (s : Shelf). IsWhole (collection_in now s)) (put_shelf shelf_back ss)
-    finished-whole hung =
+    finished-whole : IsHung t worked.nodes.items → are_united (reverse start.nodes.items) ≡ true → AllByRecursion (λ (s : Shelf). IsWhole (collection_in now s)) (put_shelf shelf_back ss)
+    finished-whole hung united =
         let before = subst (AllByRecursion IsWhole) (put-map t (shelf_in start) ss) (whole-map t (put_shelf (shelf_in start) ss) kept.whole) in
         whole-unmap now (put_shelf shelf_back ss) (subst (AllByRecursion IsWhole) (sym finished-collections)
         (whole-put (given_back handles (collection_of worked)) (collection_in t (shelf_in start)) (map (collection_in t) ss) (sym same_id)
-        (record { sound = sound-given_back handles (collection_of worked) sound; rooted = hung.rooted }) before))
+        (record { sound = sound-given_back handles (collection_of worked) sound; rooted = hung.rooted; united = united_frames worked.nodes.items start.nodes.items frames united }) before))
 
     -- all that holds of forests holds
-    pub finished-kept : IsHung t worked.nodes.items → IsKept now (put_shelf shelf_back ss)
-    finished-kept hung =
+    pub finished-kept : IsHung t worked.nodes.items → are_united (reverse start.nodes.items) ≡ true → IsKept now (put_shelf shelf_back ss)
+    finished-kept hung united =
         let linked = (subst (IsHung t) (sym back_nodes) hung).linked in
-        kept-put t now start.id back.nodes.items stores kept.named back_filed back_of shelf_back (shelf_in start) ss (sym back_id) (sym keys_are) rising kept linked (finished-whole hung)
+        kept-put t now start.id back.nodes.items stores kept.named back_filed back_of shelf_back (shelf_in start) ss (sym back_id) (sym keys_are) rising kept linked (finished-whole hung united)
 
     -- the pool is the forest's
     pub finished-pool : (held : List Interval) → are_parted held ≡ true → held ≡ sorted_by start_of (pages_in (collection_of back) ++ beside (forest_of t ss) start.id) → held ≡ sorted_by start_of (map (λ (h : HeldPages). h.pages) (all_held (forest_of now (put_shelf shelf_back ss))))

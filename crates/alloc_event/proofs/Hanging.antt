@@ -29,7 +29,7 @@ in_all P (m ∷ ms) all n (inl is) = subst P (sym is) all.0
 in_all P (m ∷ ms) all n (inr on) = in_all P ms all.1 n on
 
 -- and what holds of each holds of all
-all_in : (P : Node → Type 0) (nodes : List Node) → ((n : Node) → In n nodes → P n) → AllByRecursion P nodes
+pub all_in : (P : Node → Type 0) (nodes : List Node) → ((n : Node) → In n nodes → P n) → AllByRecursion P nodes
 all_in P [] each = tt
 all_in P (n ∷ ns) each = (each n (inl refl), all_in P ns (λ m on. each m (inr on)))
 

@@ -32,7 +32,7 @@ map-reverse_aux f [] ys = refl
 map-reverse_aux f (x ∷ xs) ys = map-reverse_aux f xs (x ∷ ys)
 
 -- what is kept of a list that is turned round
-filter-reverse_aux : {A : Type 0} (p : A → Bool) (xs ys : List A) → filter p (reverse_aux xs ys) ≡ reverse_aux (filter p xs) (filter p ys)
+pub filter-reverse_aux : {A : Type 0} (p : A → Bool) (xs ys : List A) → filter p (reverse_aux xs ys) ≡ reverse_aux (filter p xs) (filter p ys)
 filter-reverse_aux p [] ys = refl
 filter-reverse_aux p (x ∷ xs) ys =
     filter-reverse_aux p xs (x ∷ ys)

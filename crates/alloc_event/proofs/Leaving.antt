@@ -48,7 +48,7 @@ rising-without key (s ∷ ss) rising = (above-without key s.id ss rising.0, risi
 
 module _ (t now : Table Node) (key : NodeKey) (node : Node) (out : TakesOut t now key node) where
   -- where the node is gone, so is what has the key
-  goes : node.gone ≡ true → (m : Node) → node_at t key ≡ Some m → m.gone ≡ true
+  pub goes : node.gone ≡ true → (m : Node) → node_at t key ≡ Some m → m.gone ≡ true
   goes gone m is = let same : Some node ≡ Some m = sym out.was ∙ is in let one : node ≡ m = cc in ap (λ (x : Node). x.gone) (sym one) ∙ gone
 
   -- the collections without the node

@@ -53,3 +53,10 @@ pub mod Forgotten
 pub mod Quiet
 mod Hanging
 mod LeftParents
+pub mod United
+pub mod Holding
+pub mod Amounts
+pub mod Keeping
+pub mod Reckoning
+pub mod Slots
+pub mod BornUnits

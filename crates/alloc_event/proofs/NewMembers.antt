@@ -20,7 +20,7 @@ use Rattle.sm_names.proofs.SamenessLaws.{and_left, both_ways, either_way, or_bot
 -- ---- lists
 
 -- where none passes, none is found
-find-none : {A : Type 0} (p : A → Bool) (xs : List A) → list_any p xs ≡ false → find p xs ≡ None
+pub find-none : {A : Type 0} (p : A → Bool) (xs : List A) → list_any p xs ≡ false → find p xs ≡ None
 find-none {A = A} p xs h = from (find p xs) (is_some-find p xs ∙ h)
   where
     from : (o : Option A) → is_some o ≡ false → o ≡ None
@@ -28,7 +28,7 @@ find-none {A = A} p xs h = from (find p xs) (is_some-find p xs ∙ h)
     from (Some x) e = cc
 
 -- and where none is found, none passes
-none-find : {A : Type 0} (p : A → Bool) (xs : List A) → find p xs ≡ None → list_any p xs ≡ false
+pub none-find : {A : Type 0} (p : A → Bool) (xs : List A) → find p xs ≡ None → list_any p xs ≡ false
 none-find p xs h = sym (is_some-find p xs) ∙ ap is_some h
 
 -- where none passes a test, none passes one that asks more

@@ -8,10 +8,10 @@ use Rattle.sm_names.specs.declared.keys.NodeKey.{NodeKey}
 use Rattle.sm_names.specs.declared.outcomes.Buffers.{Buffers}
 use Rattle.sm_names.specs.Sameness.{same_key}
 use Rattle.sm_names.specs.Timelines.{HeldPages}
-use Rattle.sm_names.proofs.ListLaws.{In-find}
-use Rattle.sm_names.proofs.SamenessLaws.{and_left, and_right, or_cases, or_none_left}
+use Rattle.sm_names.proofs.ListLaws.{In, In-find}
+use Rattle.sm_names.proofs.SamenessLaws.{and_left, and_right, either_way, or_cases, or_none_left, or_right, same_key-refl}
 use Rattle.node_table.specs.Table.{Table, node_at, row_at}
-use Rattle.node_table.proofs.Keys.{same_key-true}
+use Rattle.node_table.proofs.Keys.{same_key-true, true-same_key}
 use Rattle.alloc_event.specs.declared.change.Change.{Change}
 use Rattle.alloc_event.specs.declared.node.Node.{Node}
 use Rattle.alloc_event.specs.Decisions.{is_left_of}
@@ -21,6 +21,7 @@ use Rattle.alloc_event.specs.Nodes.{is_of, node_of, new_root}
 use Rattle.alloc_event.specs.Scenes.{IsSound, are_distinct, heads_itself}
 use Rattle.alloc_event.specs.Settling.{Handles, Settles, put, given_back, MayChange, collection_or_new, with_birth, is_kept}
 use Rattle.alloc_event.specs.Ties.{are_rooted}
+use Rattle.alloc_event.specs.Units.{are_united, shares_unit}
 use Rattle.alloc_event.proofs.Altering.{any-append, filed_at, kept_of, found_id, found_filed, found_whole, shelf_by, looked-of, none_above}
 use Rattle.alloc_event.proofs.Bearing.{born_key}
 use Rattle.alloc_event.proofs.Birthing.{keys_before, held_before, kept-born, helds-born, helds_in, born_looked, none_there, all-append}
@@ -28,9 +29,10 @@ use Rattle.alloc_event.proofs.Finishing.{keys_in, looked-keys, or_none_right, no
 use Rattle.alloc_event.proofs.Hanging.{looked_hung}
 use Rattle.alloc_event.proofs.KeptRoots.{rooted_birth}
 use Rattle.alloc_event.proofs.Lookups.{node_of-looked, same_key-swap}
-use Rattle.alloc_event.proofs.Rooted.{left_in, whole_rooted}
+use Rattle.alloc_event.proofs.Rooted.{distinct_one, left_in, whole_rooted}
 use Rattle.alloc_event.proofs.Showing.{node_is, collection_is}
 use Rattle.alloc_event.proofs.Storing.{row_there}
+use Rattle.alloc_event.proofs.United.{united_born}
 
 -- the collection with one more node behind
 abbrev pub grown : Collection → Node → Collection
@@ -46,7 +48,7 @@ pub record IsBefore (t : Table Node) (ss : List Shelf) (id : ℕ) (c : Collectio
 
 -- an empty collection is whole
 whole-empty : (id : ℕ) → IsWhole (record { id = id; nodes = []; buffers = None; held = [] })
-whole-empty id = record { sound = record { distinct = refl; heads = refl; one_root = refl; few = refl }; rooted = refl }
+whole-empty id = record { sound = record { distinct = refl; heads = refl; one_root = refl; few = refl }; rooted = refl; united = refl }
 
 -- by the shelf that is found
 before-by : (t : Table Node) (ss : List Shelf) → IsKept t ss → (id : ℕ) (o : Option Shelf) → find (λ (s : Shelf). s.id == id) ss ≡ o → IsBefore t ss id (unwrap_or (option_map (collection_in t) o) (record { id = id; nodes = []; buffers = None; held = [] }))
@@ -174,6 +176,20 @@ above_left t ss ok id (Some _) attached client event (Some _) (Child up n is own
     let found = found_above t ss ok c up n is (before.nodes ∙ ap (λ (i : ℕ). nodes_with t (keys_before i ss)) (sym own)) in
     left_in c.nodes n (In-find (is_of up) c.nodes n found).0 here
 
+-- and is the parent of the node, and of its unit where that heads none
+above_shares : (t : Table Node) (ss : List Shelf) → IsKept t ss → (id : ℕ) (parent : Option NodeKey) (attached : Bool) (client event : ℕ) (above : Option Node) → Above t ss id parent above → (key : NodeKey) (c : Collection) → IsBefore t ss id c → (q : Node) → In q c.nodes → shares_unit (born above attached id event client key) q ≡ true
+above_shares t ss ok id None attached client event None (Root none) key c before q on = refl
+above_shares t ss ok id None attached client event (Some _) at key c before q on = elim at [ ]
+above_shares t ss ok id (Some _) attached client event None at key c before q on = elim at [ ]
+above_shares t ss ok id (Some _) true client event (Some _) (Child up n is own here) key c before q on = refl
+above_shares t ss ok id (Some _) false client event (Some _) (Child up n is own here) key c before q on = elim (either_way (same_key q.key n.key)) [
+  | inl e ↦
+      let found = found_above t ss ok c up n is (before.nodes ∙ ap (λ (i : ℕ). nodes_with t (keys_before i ss)) (sym own)) in
+      let same : q ≡ n = distinct_one c.nodes before.whole.sound.distinct q n on (In-find (is_of up) c.nodes n found).0 (true-same_key q.key n.key e) in
+      or_right (not (same_key q.key n.key)) (same_key q.head n.head) (ap (λ (x : Node). same_key x.head n.head) same ∙ same_key-refl n.head)
+  | inr e ↦ rw e refl
+]
+
 -- it has the key that is named
 pub above_key : (t : Table Node) (ss : List Shelf) → IsKept t ss → (id : ℕ) (parent : Option NodeKey) (above : Option Node) → Above t ss id parent above → option_map (λ (n : Node). n.key) above ≡ parent
 above_key t ss ok id None None (Root none) = refl
@@ -220,6 +236,11 @@ module _ (t now : Table Node) (ss : List Shelf) (ok : IsKept t ss) (id : ℕ) (p
       (rooted_birth c0.nodes (whole_rooted c0 before.whole) node born_fresh
       (above_left t ss ok id parent attached client event above at key c0 before)).rooted
 
+  -- and are of their units
+  pub born_united : are_united (reverse born_collection.nodes) ≡ true
+  born_united =
+      united_born c0.nodes node (above_shares t ss ok id parent attached client event above at key c0 before) before.whole.united
+
   -- each node is of it
   pub born_all_of : all_of born_collection.id born_collection.nodes ≡ true
   born_all_of =
@@ -247,7 +268,7 @@ module _ (t now : Table Node) (ss : List Shelf) (ok : IsKept t ss) (id : ℕ) (p
   born_kept = kept-born t now node bears (shelf_by born_collection) ss ok
       (subst (λ (i : ℕ). keys_in born_collection.nodes ≡ keys_before i ss ++ node.key ∷ []) (sym before.id_is) born_keys)
       (subst (λ (i : ℕ). list_all (is_filed t i) (keys_before i ss) ≡ true) (sym before.id_is) before.filed)
-      (born_of ∙ sym before.id_is) (subst IsWhole (sym born_shown) (record { sound = born_sound; rooted = born_rooted }))
+      (born_of ∙ sym before.id_is) (subst IsWhole (sym born_shown) (record { sound = born_sound; rooted = born_rooted; united = born_united }))
 
   -- its nodes hang in the table
   pub born_hung : IsHung now born_collection.nodes

@@ -76,7 +76,7 @@ still_out handles c b fresh here out =
     λ i. record c { nodes = c.nodes ++ b ∷ []; held = keep_all (λ (h : HeldPages). not (is_home_in handles (record c { nodes = c.nodes ++ b ∷ [] }) h.buffer)) c.held out' i }
 
 -- a node that is born is not gone
-born_here : (above : Option Node) (attached : Bool) (id event client : ℕ) (key : NodeKey) → (born above attached id event client key).gone ≡ false
+pub born_here : (above : Option Node) (attached : Bool) (id event client : ℕ) (key : NodeKey) → (born above attached id event client key).gone ≡ false
 born_here None attached id event client key = refl
 born_here (Some above) attached id event client key = refl
 
@@ -178,8 +178,14 @@ module _ (t now : Table Node) (ss : List Shelf) (ok : IsKept t ss) (id : ℕ) (p
 
   module _ (behind : List Shelf) (placed : behind ≡ put_shelf (shelf_with (shelf_before id ss) key) ss) where
     -- the shelves show the collection with the node
-    behind_is : behind ≡ put_shelf (shelf_by (born_collection t now ss ok id parent attached client event above at key bears)) ss
+    pub behind_is : behind ≡ put_shelf (shelf_by (born_collection t now ss ok id parent attached client event above at key bears)) ss
     behind_is = placed ∙ ap (λ (s : Shelf). put_shelf s ss) shelf_is
+
+    -- and the collections are those with it
+    pub behind_shown : map (collection_in now) behind ≡ put (born_collection t now ss ok id parent attached client event above at key bears) (map (collection_in t) ss)
+    behind_shown = ap (map (collection_in now)) behind_is
+        ∙ put-map now (shelf_by (born_collection t now ss ok id parent attached client event above at key bears)) ss
+        ∙ (λ i. put (born_shown t now ss ok id parent attached client event above at key bears i) (still_collections t now node bears ss ok.filed i))
 
     -- nothing more is forced
     pub quiet_ok : (pool : ℕ) → Finishes pool handles t ss now behind after

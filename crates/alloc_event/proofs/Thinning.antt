@@ -22,6 +22,7 @@ use Rattle.alloc_event.proofs.LeftParents.{childless}
 use Rattle.alloc_event.proofs.Lookups.{looked-without}
 use Rattle.alloc_event.proofs.Rooted.{whole_rooted}
 use Rattle.alloc_event.proofs.TakingOut.{same_first}
+use Rattle.alloc_event.proofs.United.{united_filter}
 
 -- ---- lists of which some elements are kept
 
@@ -152,6 +153,7 @@ pub IsWhole-filter : (p : Node → Bool) (c : Collection) → ((n : Node) → In
 IsWhole-filter p c over ok = record {
   sound = IsSound-filter p c ok.sound;
   rooted = (rooted_filter c.nodes (whole_rooted c ok) p over).rooted;
+  united = united_filter p c.nodes ok.united;
 }
 
 -- ---- shelves with the keys that a table has

@@ -15,6 +15,7 @@ use Rattle.alloc_event.specs.Scenes.{IsSound, are_distinct, heads_itself}
 use Rattle.alloc_event.proofs.KeptRoots.{rooted_same}
 use Rattle.alloc_event.proofs.Lookups.{looked-map}
 use Rattle.alloc_event.proofs.Rooted.{whole_rooted}
+use Rattle.alloc_event.proofs.United.{united_mapped}
 
 -- the first is the second, but for what a change may make of it
 pub record IsSameNode (m n : Node) : Type 0 where
@@ -60,10 +61,11 @@ module _ (f : Node → Node) (same : (n : Node) → IsSameNode (f n) n) where
   }
 
   -- and whole, where no node goes
-  IsWhole-map : ((n : Node) → (f n).gone ≡ n.gone) → (c : Collection) → IsWhole c → IsWhole (with_nodes (map f) c)
+  pub IsWhole-map : ((n : Node) → (f n).gone ≡ n.gone) → (c : Collection) → IsWhole c → IsWhole (with_nodes (map f) c)
   IsWhole-map gone c ok = record {
     sound = IsSound-map c ok.sound;
     rooted = (rooted_same c.nodes (whole_rooted c ok) f (record { key = λ n. (same n).key; parent = λ n. (same n).parent; gone = gone })).rooted;
+    united = united_mapped f (record { key = λ n. (same n).key; parent = λ n. (same n).parent; attached = λ n. (same n).attached; head = λ n. (same n).head }) c.nodes ∙ ok.united;
   }
 
   -- a key is filed where it was

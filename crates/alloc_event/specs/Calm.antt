@@ -6,6 +6,8 @@ use Rattle.sm_names.specs.Words.{times}
 use Rattle.node_table.specs.Table.{Table}
 use Rattle.alloc_event.specs.declared.entry.Entry.{Entry}
 use Rattle.alloc_event.specs.declared.node.Node.{Node}
+use Rattle.alloc_event.specs.declared.units.Unit.{Unit}
+use Rattle.alloc_event.specs.Counts.{HaveUnits}
 use Rattle.alloc_event.specs.Decisions.{decided}
 use Rattle.alloc_event.specs.Forest.{Collection}
 use Rattle.alloc_event.specs.Kept.{IsKept, collection_in, is_strong, nodes_with, shelf_of, shelves_of}
@@ -40,10 +42,11 @@ put_in new (e ∷ es) =
     let on : List Entry = put_in new es in
     if e.id == new.id then new ∷ es else (if nat_lt new.id e.id then new ∷ e ∷ es else e ∷ on)
 
--- what holds of the table and the entries of each forest
-pub record IsForest (t : Table Node) (es : List Entry) : Type 0 where
+-- what holds of the table, the entries and the counts of units of each forest
+pub record IsForest (t : Table Node) (es : List Entry) (us : List Unit) : Type 0 where
   pub kept : IsKept t (shelves_of es)
   pub counted : AreCounted t es
+  pub units : HaveUnits us t es
 
 -- no node of the collection with this id is over
 abbrev pub AreTidy : Table Node → ℕ → List Entry → Type 0

@@ -1,11 +1,13 @@
 -- A change that forces nothing and is made in its place. No public clause cites this module.
-use Rattle.std.specs.Prelude.{◌≡◌, ◌≢◌, ℕ, Bool, true, false, if◌then◌else◌, List, Some, ◌==◌}
+use Rattle.std.specs.Prelude.{◌≡◌, ◌≢◌, ℕ, Bool, true, false, if◌then◌else◌, List, map, Some, ◌==◌}
 use Rattle.std.specs.List.{find, list_all, list_any}
 use Rattle.sm_names.specs.declared.messages.Call.{Call}
 use Rattle.node_table.specs.Table.{Table}
 use Rattle.alloc_event.specs.declared.change.Change.{Change}
 use Rattle.alloc_event.specs.declared.node.Node.{Node}
+use Rattle.alloc_event.specs.declared.units.Unit.{Unit}
 use Rattle.alloc_event.specs.Calm.{IsCalm, strong_count}
+use Rattle.alloc_event.specs.Counts.{AreUnits}
 use Rattle.alloc_event.specs.Kept.{Finishes, IsKept, SameTable, Shelf, collection_in, forest_of, is_filed, nodes_with}
 use Rattle.alloc_event.specs.Nodes.{is_over}
 use Rattle.alloc_event.specs.Settling.{Handles, MayChange, changed, collection_or_new, no_key}
@@ -24,20 +26,29 @@ is_plain (Call.Take key) = true
 is_plain (Call.TrackNode key) = true
 is_plain _ = false
 
--- the change may be made to the collection of the shelf, which is calm and has so many strong live nodes
-pub record IsOpen (t : Table Node) (ss : List Shelf) (s : Shelf) (change : Change) (lives : ℕ) : Type 0 where
+-- the call releases its node, or sets its constraints
+abbrev pub is_counted : Call → Bool
+is_counted (Call.SetConstraints key demand) = true
+is_counted (Call.Release key) = true
+is_counted _ = false
+
+-- the change may be made to the collection of the shelf, which is calm and has so many strong live nodes, and the
+-- units are counted
+pub record IsOpen (t : Table Node) (us : List Unit) (ss : List Shelf) (s : Shelf) (change : Change) (lives : ℕ) : Type 0 where
   pub kept : IsKept t ss
   pub found : find (λ (x : Shelf). x.id == s.id) ss ≡ Some s
   pub may : MayChange (forest_of t ss) s.id change
   pub calm : IsCalm (collection_in t s)
   pub strong : lives ≡ strong_count (nodes_with t s.keys)
+  pub units : AreUnits us (map (collection_in t) ss)
 
 -- the change was made, nothing is forced by it, and so many strong nodes are live then
-pub record IsMade (t now : Table Node) (ss : List Shelf) (s : Shelf) (change : Change) (lives : ℕ) : Type 0 where
+pub record IsMade (t now : Table Node) (us : List Unit) (ss : List Shelf) (s : Shelf) (change : Change) (lives : ℕ) : Type 0 where
   pub kept : IsKept now ss
   pub finishes : (pool : ℕ) (handles : Handles) → Finishes pool handles t ss now ss (changed change no_key (collection_or_new (forest_of t ss) s.id))
   pub calm : IsCalm (collection_in now s)
   pub strong : lives ≡ strong_count (nodes_with now s.keys)
   pub over : list_any is_over (nodes_with now s.keys) ≡ list_any is_over (nodes_with t s.keys)
   pub others : (x : Shelf) → x.id ≢ s.id → list_all (is_filed t x.id) x.keys ≡ true → collection_in now x ≡ collection_in t x
+  pub units : AreUnits us (map (collection_in now) ss)
   pub same : SameTable t now

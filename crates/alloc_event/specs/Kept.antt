@@ -18,6 +18,7 @@ use Rattle.alloc_event.specs.Nodes.{new_root, new_child}
 use Rattle.alloc_event.specs.Scenes.{held_pages, IsSound, has_tracker_room}
 use Rattle.alloc_event.specs.Decisions.{is_left_of}
 use Rattle.alloc_event.specs.Ties.{are_rooted}
+use Rattle.alloc_event.specs.Units.{are_united}
 
 -- a collection, with the keys of its nodes in their place
 pub record Shelf : Type 0 where
@@ -97,10 +98,12 @@ is_filed t id key = option_map_or (λ (n : Node). n.collection == id) (node_at t
 abbrev pub are_filed : Table Node → List Shelf → Bool
 are_filed t ss = list_all (λ (s : Shelf). list_all (is_filed t s.id) s.keys) ss
 
--- a collection as the forced steps ask for it, each of whose nodes that is not gone hangs on its parent
+-- a collection as the forced steps ask for it, each of whose nodes that is not gone hangs on its parent, and is of its unit
+-- or heads one
 pub record IsWhole (c : Collection) : Type 0 where
   pub sound : IsSound c
   pub rooted : are_rooted (reverse c.nodes) ≡ true
+  pub united : are_united (reverse c.nodes) ≡ true
 
 -- the nodes hang on their parents, and the table has the parent of each that is not gone
 pub record IsHung (t : Table Node) (nodes : List Node) : Type 0 where

@@ -1,4 +1,5 @@
 pub mod Calm
+pub mod Counts
 pub mod Decisions
 pub mod Forest
 pub mod Forgetting
@@ -12,3 +13,4 @@ pub mod Scenes
 pub mod Settling
 pub mod Still
 pub mod Ties
+pub mod Units

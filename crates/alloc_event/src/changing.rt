@@ -1,5 +1,5 @@
 //! Changes to a collection that is there, and the births of nodes.
-ghost use Rattle.std.specs.Prelude.{◌≡◌, ◌≤◌, ◌+◌, ◌==◌, nat_lt, if◌then◌else◌, false, true, None, Some, IfOk, IfSome, IsSome, OnOk, OnErr, length, option_copied, option_map, [], ◌∷◌, ◌++◌};
+ghost use Rattle.std.specs.Prelude.{◌≡◌, ◌≤◌, ◌+◌, ◌==◌, ◌<◌, nat_lt, vec_len, vec_capacity, if◌then◌else◌, false, true, None, Some, IfOk, IfSome, IsSome, OnOk, OnErr, length, option_copied, option_map, [], ◌∷◌, ◌++◌};
 ghost use Rattle.std.specs.List.{find};
 ghost use Rattle.std.specs.Option.{option_and_then, option_map_or};
 ghost use Rattle.sm_names.specs.declared.keys.NodeKey.{NodeKey as Key};
@@ -8,6 +8,7 @@ ghost use Rattle.node_table.specs.Changes.{Births};
 ghost use Rattle.alloc_event.specs.declared.entry.Entry.{Entry as Kept};
 ghost use Rattle.buffer_holds.specs.Counts.{total};
 ghost use Rattle.alloc_event.specs.Calm.{AreCounted, put_in};
+ghost use Rattle.alloc_event.specs.Counts.{HaveUnits};
 ghost use Rattle.alloc_event.specs.Forest.{IsPoolOf};
 ghost use Rattle.alloc_event.specs.Kept.{AreRising, IsKept, Bears, Gives, Finishes, SameTable, born, put_shelf, shelf_of, shelves_of, forest_of, has_room, loses_left};
 ghost use Rattle.alloc_event.specs.Scenes.{collection_of};
@@ -26,6 +27,7 @@ use crate::node::Node;
 use crate::scene::Scene;
 use crate::still::is_still;
 use crate::store::{load, put_entry, write};
+use crate::units::{Unit, bound, count_at, recount, start};
 use buffer_holds::Holds;
 use buffer_pool::Pool;
 use node_table::NodeTable;
@@ -96,11 +98,12 @@ fn settle_scene_change(
 }
 
 /// Makes a change to a collection that is there, and all that it forces: in its place, where the
-/// count of strong live nodes tells that nothing is forced, and else on a copy of the collection.
-/// `NoMemory` leaves the table, the entries and the pool as they were.
+/// counts tell that nothing is forced, and else on a copy of the collection, whose units are then
+/// counted anew. `NoMemory` leaves the table, the entries and the pool as they were.
 pub(crate) fn settle_change(
     table: &mut NodeTable<Node>,
     entries: &mut Vec<Entry>,
+    units: &mut Vec<Unit>,
     pool: &mut Pool,
     holds: &Holds,
     id: CollectionId,
@@ -108,6 +111,7 @@ pub(crate) fn settle_change(
 ) -> Result<(), NoMemory>
     requires kept { IsKept table.old (shelves_of entries.old.items) }
     requires counted { AreCounted table.old entries.old.items }
+    requires units { HaveUnits units.old.items table.old entries.old.items }
     requires change { MayChange (forest_of table.old (shelves_of entries.old.items)) id change.now }
     requires birth { is_birth change.now ≡ false }
     requires pool { IsPoolOf pool.old (forest_of table.old (shelves_of entries.old.items)) }
@@ -116,6 +120,7 @@ pub(crate) fn settle_change(
         (changed change.now no_key (collection_or_new (forest_of table.old (shelves_of entries.old.items)) id))) }
     ensures kept { OnOk result (IsKept table.new (shelves_of entries.new.items)) }
     ensures counted { OnOk result (AreCounted table.new entries.new.items) }
+    ensures units { HaveUnits units.new.items table.new entries.new.items }
     ensures pool { OnOk result (IsPoolOf pool.new (forest_of table.new (shelves_of entries.new.items))) }
     ensures size { pool.new.size ≡ pool.old.size }
     ensures same { SameTable table.old table.new }
@@ -123,10 +128,12 @@ pub(crate) fn settle_change(
     ensures err_entries { OnErr result (entries.new.items ≡ entries.old.items) }
     ensures err_pool { OnErr result (pool.new ≡ pool.old) }
 {
-    if settle_in_place(table, entries, id, change) {
+    if settle_in_place(table, entries, units, id, change) {
         return Ok(());
     }
-    settle_scene_change(table, entries, pool, holds, id, change)
+    settle_scene_change(table, entries, pool, holds, id, change)?;
+    recount(units, table, entries, id);
+    Ok(())
 }
 
 /// The node that is born with this key: a child of `above`, or a root of the collection.
@@ -441,9 +448,47 @@ fn bear_still(
     }
 }
 
-/// The birth of a node, and all that it forces. `NoMemory` leaves the table and the pool as they
-/// were, and of the entries all but their room.
-pub(crate) fn settle_birth(
+/// The birth of a node, where nothing else changes with it, counted for its unit. `NoMemory` leaves
+/// the table as it was, and of the entries and the units all but their room. It costs a constant
+/// and a binary search, growth spread over the births, and for a root the shift of the entries
+/// behind it.
+fn bear_counted(
+    table: &mut NodeTable<Node>,
+    entries: &mut Vec<Entry>,
+    units: &mut Vec<Unit>,
+    id: CollectionId,
+    parent: Option<NodeKey>,
+    attached: bool,
+    client: ClientId,
+    event: u64,
+) -> Result<NodeKey, NoMemory>
+    requires kept { IsKept table.old (shelves_of entries.old.items) }
+    requires counted { AreCounted table.old entries.old.items }
+    requires units { HaveUnits units.old.items table.old entries.old.items }
+    requires room { vec_len units.old < vec_capacity units.old }
+    requires change { MayChange (forest_of table.old (shelves_of entries.old.items)) id (Change.Birth parent attached client event) }
+    requires still { (handles : Handles) × IsStill handles
+        (collection_or_new (forest_of table.old (shelves_of entries.old.items)) id) }
+    ensures bears { IfOk result (λ key. Bears table.old table.new
+        (born (option_and_then (node_at table.old) parent) attached id event client key)) }
+    ensures entries { IfOk result (λ key. shelves_of entries.new.items
+        ≡ put_shelf (shelf_with (shelf_before id (shelves_of entries.old.items)) key) (shelves_of entries.old.items)) }
+    ensures counted { OnOk result (AreCounted table.new entries.new.items) }
+    ensures units { HaveUnits units.new.items table.new entries.new.items }
+    ensures err_counted { OnErr result (AreCounted table.old entries.new.items) }
+    ensures err_table { OnErr result (table.new ≡ table.old) }
+    ensures err_entries { OnErr result (shelves_of entries.new.items ≡ shelves_of entries.old.items) }
+{
+    let key = bear_still(table, entries, id, parent, attached, client, event)?;
+    bound(table);
+    start(units, key.slot as usize);
+    count_at(units, table, key);
+    Ok(key)
+}
+
+/// The birth of a node in a collection without a strong live node, and all that it forces.
+/// `NoMemory` leaves the table and the pool as they were, and of the entries all but their room.
+fn settle_unwatched(
     table: &mut NodeTable<Node>,
     entries: &mut Vec<Entry>,
     pool: &mut Pool,
@@ -471,9 +516,6 @@ pub(crate) fn settle_birth(
     ensures err_entries { OnErr result (shelves_of entries.new.items ≡ shelves_of entries.old.items) }
     ensures err_pool { OnErr result (pool.new ≡ pool.old) }
 {
-    if is_watched(entries, id) {
-        return bear_still(table, entries, id, parent, attached, client, event);
-    }
     let alloc = *entries.allocator();
     let Ok(scene) = load_or_new(alloc, table, entries, id) else {
         return Err(NoMemory);
@@ -484,4 +526,51 @@ pub(crate) fn settle_birth(
     settle_newborn(
         table, entries, pool, holds, id, parent, attached, client, event, scene,
     )
+}
+
+/// The birth of a node, and all that it forces. `NoMemory` leaves the table and the pool as they
+/// were, and of the entries and the units all but their room.
+pub(crate) fn settle_birth(
+    table: &mut NodeTable<Node>,
+    entries: &mut Vec<Entry>,
+    units: &mut Vec<Unit>,
+    pool: &mut Pool,
+    holds: &Holds,
+    id: CollectionId,
+    parent: Option<NodeKey>,
+    attached: bool,
+    client: ClientId,
+    event: u64,
+) -> Result<NodeKey, NoMemory>
+    requires kept { IsKept table.old (shelves_of entries.old.items) }
+    requires counted { AreCounted table.old entries.old.items }
+    requires units { HaveUnits units.old.items table.old entries.old.items }
+    requires change { MayChange (forest_of table.old (shelves_of entries.old.items)) id (Change.Birth parent attached client event) }
+    requires pool { IsPoolOf pool.old (forest_of table.old (shelves_of entries.old.items)) }
+    ensures ok { IfOk result (λ key. Finishes pool.old.size (total holds.now) table.old (shelves_of entries.old.items)
+        table.new (shelves_of entries.new.items)
+        (with_birth parent attached client event key (collection_or_new (forest_of table.old (shelves_of entries.old.items)) id))) }
+    ensures keys { IfOk result (λ key. Gives table.old table.new key) }
+    ensures kept { OnOk result (IsKept table.new (shelves_of entries.new.items)) }
+    ensures counted { OnOk result (AreCounted table.new entries.new.items) }
+    ensures units { HaveUnits units.new.items table.new entries.new.items }
+    ensures err_counted { OnErr result (AreCounted table.old entries.new.items) }
+    ensures pool { OnOk result (IsPoolOf pool.new (forest_of table.new (shelves_of entries.new.items))) }
+    ensures size { pool.new.size ≡ pool.old.size }
+    ensures err_table { OnErr result (table.new ≡ table.old) }
+    ensures err_entries { OnErr result (shelves_of entries.new.items ≡ shelves_of entries.old.items) }
+    ensures err_pool { OnErr result (pool.new ≡ pool.old) }
+{
+    if units.reserve(1).is_err() {
+        return Err(NoMemory);
+    }
+    if is_watched(entries, id) {
+        return bear_counted(table, entries, units, id, parent, attached, client, event);
+    }
+    let key = settle_unwatched(
+        table, entries, pool, holds, id, parent, attached, client, event,
+    )?;
+    start(units, key.slot as usize);
+    recount(units, table, entries, id);
+    Ok(key)
 }

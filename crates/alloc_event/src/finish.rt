@@ -1,11 +1,12 @@
 //! The forced steps of a collection that was changed, and what they leave in the table.
-ghost use Rattle.std.specs.Prelude.{◌≡◌, true, OnOk, OnErr};
+ghost use Rattle.std.specs.Prelude.{◌≡◌, true, reverse, OnOk, OnErr};
 ghost use Rattle.buffer_holds.specs.Counts.{total};
 ghost use Rattle.alloc_event.specs.Calm.{AreCounted, AreCountedBut};
 ghost use Rattle.alloc_event.specs.Forest.{IsPoolOf};
 ghost use Rattle.alloc_event.specs.Kept.{IsHung, IsKept, Finishes, SameTable, AreRising, all_of, shelf_in, shelves_of, put_shelf, forest_of};
 ghost use Rattle.alloc_event.specs.Parted.{are_parted};
 ghost use Rattle.alloc_event.specs.Scenes.{IsSound, collection_of};
+ghost use Rattle.alloc_event.specs.Units.{are_united};
 
 use crate::entry::Entry;
 use crate::kept::{count_strong, is_some_over};
@@ -36,6 +37,7 @@ pub(crate) fn finish(
     requires sound { IsSound (collection_of scene) }
     requires own { all_of scene.id scene.nodes.items ≡ true }
     requires hung { IsHung table.old scene.nodes.items }
+    requires united { are_united (reverse scene.nodes.items) ≡ true }
     requires counted { AreCountedBut table.old scene.id entries.old.items }
     requires pool { IsPoolOf pool.old (forest_of table.old (put_shelf (shelf_in scene) (shelves_of entries.old.items))) }
     ensures ok { OnOk result (Finishes pool.old.size (total holds.now) table.old (shelves_of entries.old.items)

@@ -20,6 +20,7 @@ use crate::kept::{held_by_page, is_over, live_by_birth};
 use crate::node::{End, Node};
 use crate::store::write;
 use crate::summary::Summary;
+use crate::units::Unit;
 use buffer_holds::Holds;
 use buffer_pool::Pool;
 use node_table::NodeTable;
@@ -33,6 +34,8 @@ pub struct Forest {
     table: NodeTable<Node>,
     // The collections, by rising id.
     entries: Vec<Entry>,
+    // What is counted of the unit whose head has the slot.
+    units: Vec<Unit>,
 }
 
 impl Model for Forest {
@@ -45,7 +48,7 @@ impl Model for Forest {
 
     ghost view = { λ f. forest_of f.table (shelves_of f.entries.items) };
 
-    ghost invariant = { λ f. IsForest f.table f.entries.items };
+    ghost invariant = { λ f. IsForest f.table f.entries.items f.units.items };
 }
 
 impl Forest {
@@ -56,6 +59,7 @@ impl Forest {
         Forest {
             table: NodeTable::new(alloc, limit),
             entries: Vec::new(alloc),
+            units: Vec::new(alloc),
         }
     }
 
@@ -66,15 +70,17 @@ impl Forest {
     /// `NoMemory` where a growth is refused, or no slot has a number left. The forest and the pool
     /// are then as they were.
     ///
-    /// A birth, an effect that neither releases its node nor sets its constraints, and no change of
-    /// nodes cost a binary search and a constant, growth spread over the births, where a strong
-    /// node of the collection is live all along. So does the birth of a root, but for the shift of
-    /// the collections behind its own.
+    /// Where a strong node of the collection is live all along, a birth, an effect and no change of
+    /// nodes cost a binary search and a constant, growth spread over the births. So does the birth
+    /// of a root, but for the shift of the collections behind its own. Of effects there are two
+    /// that cost more: one that leaves no node of its unit live, and one that leaves its unit ready
+    /// and without buffers.
     ///
-    /// Any other change costs a copy of the collection, and the question for the next step after
-    /// each that is made. A loss costs besides what `fall` costs, and a walk over what falls for
-    /// each node. Where no strong node is live, a birth that forces nothing and sends no buffer
-    /// home costs the copy and one question, and another a copy of the whole table besides.
+    /// These and any other change cost a copy of the collection, a pass over its units, and the
+    /// question for the next step after each that is made. A loss costs besides what `fall` costs,
+    /// and a walk over what falls for each node. Where no strong node is live, a birth that forces
+    /// nothing and sends no buffer home costs the copy, the pass and one question, and another a
+    /// copy of the whole table besides.
     pub fn settle(
         &mut self,
         pool: &mut Pool,
@@ -89,7 +95,7 @@ impl Forest {
         ensures size { pool.new.size ≡ pool.old.size }
         ensures kept { OnErr result ((self.new ≡ self.old) × (pool.new ≡ pool.old)) }
     {
-        let (table, entries) = (&mut self.table, &mut self.entries);
+        let (table, entries, units) = (&mut self.table, &mut self.entries, &mut self.units);
         if let Change::Birth {
             parent,
             attached,
@@ -98,11 +104,11 @@ impl Forest {
         } = change
         {
             let key = settle_birth(
-                table, entries, pool, holds, collection, parent, attached, client, event,
+                table, entries, units, pool, holds, collection, parent, attached, client, event,
             )?;
             return Ok(Some(key));
         }
-        settle_change(table, entries, pool, holds, collection, &change)?;
+        settle_change(table, entries, units, pool, holds, collection, &change)?;
         Ok(None)
     }
 

@@ -1,4 +1,5 @@
 //! Changes that force nothing, as the count of strong live nodes tells, made in their places.
+ghost use Rattle.std.specs.Option.{option_map_or};
 ghost use Rattle.std.specs.Prelude.{◌≡◌, ◌+◌, ℕ, List, None, Some, true, false, if◌then◌else◌, IfSome};
 ghost use Rattle.sm_names.specs.declared.keys.NodeKey.{NodeKey as Key};
 ghost use Rattle.sm_names.specs.declared.messages.Call.{Call as Asked};
@@ -6,8 +7,10 @@ ghost use Rattle.sm_names.specs.Timelines.{key_of};
 ghost use Rattle.node_table.specs.Table.{node_at};
 ghost use Rattle.alloc_event.specs.declared.change.Change.{Change as Changed};
 ghost use Rattle.alloc_event.specs.declared.node.Node.{Node as Kept};
+ghost use Rattle.alloc_event.specs.declared.units.Unit.{Unit as Counts};
 ghost use Rattle.alloc_event.specs.Calm.{AreCounted};
-ghost use Rattle.alloc_event.specs.InPlace.{IsMade, IsOpen, bit, is_plain};
+ghost use Rattle.alloc_event.specs.Counts.{HaveUnits};
+ghost use Rattle.alloc_event.specs.InPlace.{IsMade, IsOpen, bit, is_counted, is_plain};
 ghost use Rattle.alloc_event.specs.Kept.{Finishes, IsKept, SameTable, Shelf, forest_of, is_strong, shelves_of};
 ghost use Rattle.alloc_event.specs.Nodes.{affected};
 ghost use Rattle.alloc_event.specs.Scenes.{has_tracker_room};
@@ -18,7 +21,9 @@ use crate::effects::affect_one;
 use crate::entry::{Entry, place_of};
 use crate::kept::is_strong;
 use crate::node::Node;
+use crate::questions::is_live;
 use crate::store::write;
+use crate::units::{Unit, is_unready, put_unit, unit_in};
 use node_table::NodeTable;
 use sm_names::{Call, CollectionId, NodeKey};
 
@@ -66,8 +71,8 @@ fn affect_in_place(table: &mut NodeTable<Node>, strong: usize, call: &Call) -> O
     requires named { (key : Key) (n : Kept) → node_at table.old key ≡ Some n → n.key ≡ key }
     requires room { (key : Key) (n : Kept) → node_at table.old key ≡ Some n → has_tracker_room call.now n ≡ true }
     ensures none { result ≡ None → table.new ≡ table.old }
-    ensures some { IfSome result (λ left. (ss : List Shelf) (s : Shelf) →
-        IsOpen table.old ss s (Changed.Effect call.now) strong → IsMade table.old table.new ss s (Changed.Effect call.now) left) }
+    ensures some { IfSome result (λ left. (us : List Counts) (ss : List Shelf) (s : Shelf) →
+        IsOpen table.old us ss s (Changed.Effect call.now) strong → IsMade table.old table.new us ss s (Changed.Effect call.now) left) }
 {
     let Some(key) = plain_key(call) else {
         return None;
@@ -84,34 +89,129 @@ fn affect_in_place(table: &mut NodeTable<Node>, strong: usize, call: &Call) -> O
     Some(left)
 }
 
-/// Makes the change in its place, if the count of strong live nodes tells that nothing is forced.
-/// Answers how many there are then. With `None` nothing changed.
-fn change_in_place(table: &mut NodeTable<Node>, strong: usize, change: &Change) -> Option<usize>
-    requires named { (key : Key) (n : Kept) → node_at table.old key ≡ Some n → n.key ≡ key }
-    requires room { (call : Asked) (key : Key) (n : Kept) → change.now ≡ Changed.Effect call → node_at table.old key ≡ Some n → has_tracker_room call n ≡ true }
-    ensures none { result ≡ None → table.new ≡ table.old }
-    ensures some { IfSome result (λ left. (ss : List Shelf) (s : Shelf) →
-        IsOpen table.old ss s change.now strong → IsMade table.old table.new ss s change.now left) }
+/// The node that the call releases, or whose constraints it sets.
+fn counted_key(call: &Call) -> Option<NodeKey>
+    ensures { result ≡ (if is_counted call.now then key_of call.now else None) }
 {
-    match *change {
-        Change::Nothing if strong > 0 => Some(strong),
-        Change::Effect(call) => affect_in_place(table, strong, &call),
+    match *call {
+        Call::SetConstraints(key, _) | Call::Release(key) => Some(key),
         _ => None,
     }
 }
 
-/// Makes the change to a collection in its place, if it is none of nodes, or an effect that neither
-/// releases its node nor sets its constraints, and a strong node of the collection is live after
-/// it: then nothing is forced, and no buffer goes home. Answers whether it did; if not, nothing
-/// changed. It takes no memory, and costs a binary search and a constant.
+/// Whether there is a node with this key in an allocated unit.
+fn is_served(table: &NodeTable<Node>, key: NodeKey) -> bool
+    ensures { result ≡ option_map_or (λ n. n.allocated) (node_at table.now key) false }
+{
+    match table.get(key) {
+        Some(node) => node.allocated,
+        None => false,
+    }
+}
+
+/// Releases the node of the call in its place, or sets its constraints, if the counts tell that
+/// nothing is forced: a strong node is live after it, and one of the node's unit, and the unit has
+/// its buffers, or waits for another node, or did not wait for this one. Answers how many strong
+/// nodes are live then. With `None` nothing changed.
+fn count_in_place(
+    table: &mut NodeTable<Node>,
+    units: &mut Vec<Unit>,
+    strong: usize,
+    call: &Call,
+) -> Option<usize>
+    requires named { (key : Key) (n : Kept) → node_at table.old key ≡ Some n → n.key ≡ key }
+    requires room { (key : Key) (n : Kept) → node_at table.old key ≡ Some n → has_tracker_room call.now n ≡ true }
+    ensures none { result ≡ None → table.new ≡ table.old }
+    ensures none_units { result ≡ None → units.new.items ≡ units.old.items }
+    ensures some { IfSome result (λ left. (ss : List Shelf) (s : Shelf) →
+        IsOpen table.old units.old.items ss s (Changed.Effect call.now) strong →
+        IsMade table.old table.new units.new.items ss s (Changed.Effect call.now) left) }
+{
+    let Some(key) = counted_key(call) else {
+        return None;
+    };
+    let Some(node) = table.get(key).copied() else {
+        return None;
+    };
+    let slot = node.head.slot as usize;
+    if slot >= units.len() {
+        return None;
+    }
+    let unit = unit_in(units, slot);
+    let after = affected_by(&node, call);
+    let left = less(strong, is_strong(&node), is_strong(&after));
+    let live = less(unit.live, is_live(&node), is_live(&after));
+    let unready = less(unit.unready, is_unready(&node), is_unready(&after));
+    if left == 0 || live == 0 {
+        return None;
+    }
+    if is_unready(&node) && unready == 0 && !is_served(table, node.head) {
+        return None;
+    }
+    write(table, after);
+    put_unit(units, slot, Unit { live, unready });
+    Some(left)
+}
+
+/// Makes the effect of the call in its place, if the counts tell that nothing is forced. Answers
+/// how many strong nodes are live then. With `None` nothing changed.
+fn effect_in_place(
+    table: &mut NodeTable<Node>,
+    units: &mut Vec<Unit>,
+    strong: usize,
+    call: &Call,
+) -> Option<usize>
+    requires named { (key : Key) (n : Kept) → node_at table.old key ≡ Some n → n.key ≡ key }
+    requires room { (key : Key) (n : Kept) → node_at table.old key ≡ Some n → has_tracker_room call.now n ≡ true }
+    ensures none { result ≡ None → table.new ≡ table.old }
+    ensures none_units { result ≡ None → units.new.items ≡ units.old.items }
+    ensures some { IfSome result (λ left. (ss : List Shelf) (s : Shelf) →
+        IsOpen table.old units.old.items ss s (Changed.Effect call.now) strong →
+        IsMade table.old table.new units.new.items ss s (Changed.Effect call.now) left) }
+{
+    match affect_in_place(table, strong, call) {
+        Some(left) => Some(left),
+        None => count_in_place(table, units, strong, call),
+    }
+}
+
+/// Makes the change in its place, if the counts tell that nothing is forced. Answers how many
+/// strong nodes are live then. With `None` nothing changed.
+fn change_in_place(
+    table: &mut NodeTable<Node>,
+    units: &mut Vec<Unit>,
+    strong: usize,
+    change: &Change,
+) -> Option<usize>
+    requires named { (key : Key) (n : Kept) → node_at table.old key ≡ Some n → n.key ≡ key }
+    requires room { (call : Asked) (key : Key) (n : Kept) → change.now ≡ Changed.Effect call → node_at table.old key ≡ Some n → has_tracker_room call n ≡ true }
+    ensures none { result ≡ None → table.new ≡ table.old }
+    ensures none_units { result ≡ None → units.new.items ≡ units.old.items }
+    ensures some { IfSome result (λ left. (ss : List Shelf) (s : Shelf) →
+        IsOpen table.old units.old.items ss s change.now strong → IsMade table.old table.new units.new.items ss s change.now left) }
+{
+    match *change {
+        Change::Nothing if strong > 0 => Some(strong),
+        Change::Effect(call) => effect_in_place(table, units, strong, &call),
+        _ => None,
+    }
+}
+
+/// Makes the change to a collection in its place, if it is none of nodes, or an effect, and the
+/// counts tell that nothing is forced, and no buffer goes home: a strong node of the collection is
+/// live after it, and a release leaves a node of its unit live, and the unit does not become ready
+/// or has its buffers. Answers whether it did; if not, nothing changed. It takes no memory, and
+/// costs a binary search and a constant.
 pub(crate) fn settle_in_place(
     table: &mut NodeTable<Node>,
     entries: &mut Vec<Entry>,
+    units: &mut Vec<Unit>,
     id: CollectionId,
     change: &Change,
 ) -> bool
     requires kept { IsKept table.old (shelves_of entries.old.items) }
     requires counted { AreCounted table.old entries.old.items }
+    requires units { HaveUnits units.old.items table.old entries.old.items }
     requires change { MayChange (forest_of table.old (shelves_of entries.old.items)) id change.now }
     ensures no_table { result ≡ false → table.new ≡ table.old }
     ensures no_entries { result ≡ false → entries.new.items ≡ entries.old.items }
@@ -121,13 +221,14 @@ pub(crate) fn settle_in_place(
     ensures shelves { shelves_of entries.new.items ≡ shelves_of entries.old.items }
     ensures kept { result ≡ true → IsKept table.new (shelves_of entries.old.items) }
     ensures counted { result ≡ true → AreCounted table.new entries.new.items }
+    ensures units { HaveUnits units.new.items table.new entries.new.items }
     ensures same { SameTable table.old table.new }
 {
     let Some(at) = place_of(entries, id) else {
         return false;
     };
     let strong = entries[at].strong;
-    let Some(left) = change_in_place(table, strong, change) else {
+    let Some(left) = change_in_place(table, units, strong, change) else {
         return false;
     };
     entries[at].strong = left;

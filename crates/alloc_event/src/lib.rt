@@ -32,6 +32,7 @@ pub mod settling;
 mod still;
 mod store;
 pub mod summary;
+mod units;
 
 pub use change::Change;
 pub use forest::Forest;

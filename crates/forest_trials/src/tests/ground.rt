@@ -15,7 +15,7 @@ use std::alloc::Global;
 use std::test::Fail;
 
 /// How many nodes the forest has at most.
-pub const LIMIT: usize = 8;
+pub const LIMIT: usize = 1024;
 
 /// The one collection.
 pub const HERE: CollectionId = 5;

@@ -1,5 +1,5 @@
 -- The collection is worked on with the node that is born.
-use Rattle.std.proofs.Common.{◌≡◌, true, map, List, IfSome, IsSome, option_map, sym, ◌∙◌, ap, subst}
+use Rattle.std.proofs.Common.{◌≡◌, true, map, reverse, List, IfSome, IsSome, option_map, sym, ◌∙◌, ap, subst}
 use Rattle.sm_names.specs.Timelines.{HeldPages}
 use Rattle.sm_names.specs.Words.{sorted_by}
 use Rattle.buffer_holds.specs.Counts.{total}
@@ -8,12 +8,13 @@ use Rattle.alloc_event.specs.declared.node.Node.{Node}
 use Rattle.alloc_event.specs.Forest.{Collection, all_held}
 use Rattle.alloc_event.specs.Kept.{Gives, shelf_of, shelves_of, IsHung, IsKept, put_shelf, forest_of, all_of}
 use Rattle.alloc_event.specs.Scenes.{held_pages, IsSound}
+use Rattle.alloc_event.specs.Units.{are_united}
 use Rattle.alloc_event.proofs.Alike.{start_of}
 use Rattle.alloc_event.proofs.Altering.{shelf_by}
 use Rattle.alloc_event.proofs.Bearing.{born_key}
 use Rattle.alloc_event.proofs.Birthing.{still_collection, still_collections}
 use Rattle.alloc_event.proofs.Counted.{counted_but, moved_all}
-use Rattle.alloc_event.proofs.Newborn.{above_is, above_key, above_there, born_hung, born_kept, born_sound, born_all_of, born_held, born_is, grown_scene, Gives-same, Finishes-before}
+use Rattle.alloc_event.proofs.Newborn.{above_is, above_key, above_there, born_hung, born_kept, born_sound, born_united, born_all_of, born_held, born_is, grown_scene, Gives-same, Finishes-before}
 use Rattle.alloc_event.proofs.changing.settle_newborn.Goals as goal
 
 pub bear-requires-clause-parent : goal.bear-requires-clause-parent
@@ -52,6 +53,14 @@ finish-requires-clause-hung c =
     let at = above_is c.args.table.now (shelves_of c.args.entries.now.items) c.requires.kept c.args.id c.args.parent c.args.attached c.args.client c.args.event c.requires.change in
     let made = grown_scene _ c.args.scene.id c.add.new.nodes.items c.args.scene.nodes.items c.args.scene.buffers (map held_pages c.args.scene.held.items) c.newborn-node.result _ c.requires.scene c.in-Ok-add.ensures newborn_is in
     subst (λ (d : Collection). IsHung c.bear.new.table d.nodes) (sym made) (born_hung c.args.table.now c.bear.new.table (shelves_of c.args.entries.now.items) c.requires.kept c.args.id c.args.parent c.args.attached c.args.client c.args.event _ at c.in_ok-key.key bears)
+
+pub finish-requires-clause-united : goal.finish-requires-clause-united
+finish-requires-clause-united c =
+    let bears = rw (c.in-Ok.ensures, c.above_in-above.ensures) at c.in_ok-key.ensures.ok in
+    let newborn_is = rw c.above_in-above.ensures at c.newborn-node.ensures in
+    let at = above_is c.args.table.now (shelves_of c.args.entries.now.items) c.requires.kept c.args.id c.args.parent c.args.attached c.args.client c.args.event c.requires.change in
+    let made = grown_scene _ c.args.scene.id c.add.new.nodes.items c.args.scene.nodes.items c.args.scene.buffers (map held_pages c.args.scene.held.items) c.newborn-node.result _ c.requires.scene c.in-Ok-add.ensures newborn_is in
+    subst (λ (d : Collection). are_united (reverse d.nodes) ≡ true) (sym made) (born_united c.args.table.now c.bear.new.table (shelves_of c.args.entries.now.items) c.requires.kept c.args.id c.args.parent c.args.attached c.args.client c.args.event _ at c.in_ok-key.key bears)
 
 pub finish-requires-clause-own : goal.finish-requires-clause-own
 finish-requires-clause-own c =

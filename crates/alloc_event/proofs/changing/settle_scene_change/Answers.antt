@@ -4,7 +4,7 @@ use Rattle.std.proofs.lemmas.Bool.{false≢true}
 use Rattle.alloc_event.specs.Forest.{Collection, IsPoolOf}
 use Rattle.alloc_event.specs.Kept.{shelf_of, shelves_of, nodes_with}
 use Rattle.alloc_event.specs.Scenes.{collection_of}
-use Rattle.alloc_event.proofs.Altering.{change_kept, change_room, altered-kept, altered-forest, altered-hung, altered-sound, altered-tied, altered-of, altered-is}
+use Rattle.alloc_event.proofs.Altering.{change_kept, change_room, altered-kept, altered-forest, altered-hung, altered-sound, altered-tied, altered-united, altered-of, altered-is}
 use Rattle.alloc_event.proofs.Counted.{counted_but}
 use Rattle.alloc_event.proofs.LeftParents.{loss_left}
 use Rattle.alloc_event.proofs.Showing.{shelf_found}
@@ -54,6 +54,12 @@ finish-requires-clause-own c =
 pub finish-requires-clause-hung : goal.finish-requires-clause-hung
 finish-requires-clause-hung c =
     altered-hung c.args.table.now (shelves_of c.args.entries.now.items) c.requires.kept c.args.id (shelf_of c.in-Some.entry.now)
+    (shelf_found c.args.id c.args.entries.now.items ∙ ap (option_map shelf_of) (sym (rw c.deref.ensures.value at c.in-Some.ensures)))
+    c.args.change.now c.requires.birth (collection_of c.in-Ok.scene) (collection_of c.change_scene.new.scene) c.in-Ok.ensures c.in_ok-change_scene.ensures
+
+pub finish-requires-clause-united : goal.finish-requires-clause-united
+finish-requires-clause-united c =
+    altered-united c.args.table.now (shelves_of c.args.entries.now.items) c.requires.kept c.args.id (shelf_of c.in-Some.entry.now)
     (shelf_found c.args.id c.args.entries.now.items ∙ ap (option_map shelf_of) (sym (rw c.deref.ensures.value at c.in-Some.ensures)))
     c.args.change.now c.requires.birth (collection_of c.in-Ok.scene) (collection_of c.change_scene.new.scene) c.in-Ok.ensures c.in_ok-change_scene.ensures
 

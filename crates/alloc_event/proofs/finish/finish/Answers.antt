@@ -42,7 +42,7 @@ returns-clause-kept c =
     let settles = s.settles _ (pool_beside c.args.pool.now.held c.args.table.now (shelf_in c.args.scene) (shelves_of c.args.entries.now.items) c.requires.rising c.part.ensures c.requires.pool) in
     let hung = hung_settled c.args.table.now _ _ _ (collection_of c.args.scene) (collection_of c.settle_scene.new.scene) c.requires.sound.distinct c.requires.hung settles in
     rw placed (finished-kept (total c.args.holds.now) c.args.table.now (shelves_of c.args.entries.now.items) c.args.scene c.settle_scene.new.scene c.give_back.new.scene
-    c.requires.kept c.requires.rising c.requires.own s.sound s.id s.frames c.give_back.ensures.scene c.store.new.table (rw c.deref-2.ensures.value at c.store.ensures) c.in-Ok.keys.items keys hung)
+    c.requires.kept c.requires.rising c.requires.own s.sound s.id s.frames c.give_back.ensures.scene c.store.new.table (rw c.deref-2.ensures.value at c.store.ensures) c.in-Ok.keys.items keys hung c.requires.united)
 
 pub returns-clause-pool : goal.returns-clause-pool
 returns-clause-pool c =

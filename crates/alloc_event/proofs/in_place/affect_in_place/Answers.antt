@@ -8,12 +8,12 @@ use Rattle.alloc_event.specs.declared.node.Node.{Node}
 use Rattle.alloc_event.specs.Calm.{strong_count}
 use Rattle.alloc_event.specs.Kept.{is_strong, nodes_with}
 use Rattle.alloc_event.specs.Nodes.{affected}
-use Rattle.alloc_event.proofs.Effecting.{less_is, made_now, plain_affected, plain_named, strong_before, strong_is}
+use Rattle.alloc_event.proofs.Effecting.{less_is, plain_affected, plain_made, plain_named, strong_before, strong_is}
 use Rattle.alloc_event.proofs.Storing.{row_there}
 use Rattle.alloc_event.proofs.in_place.affect_in_place.Goals as goal
 
 pub returns-clause-some : goal.returns-clause-some
-returns-clause-some c ss s opens =
+returns-clause-some c us ss s opens =
     let n : Node = c.in-Some-copied.node in
     let named = plain_named c.args.call.now c.in-Some.key (sym c.plain_key.ensures ∙ c.in-Some.is) in
     let was : node_at c.args.table.now c.in-Some.key ≡ Some n = sym c.get.ensures ∙ sym c.copied.ensures ∙ c.in-Some-copied.is in
@@ -22,11 +22,11 @@ returns-clause-some c ss s opens =
     subst (λ (m : Node). c.write.new.table ≡ table_with_node c.args.table.now m.key m) after c.write.ensures.becomes in
     let writes : Writes c.args.table.now c.write.new.table (affected c.args.call.now n).key (affected c.args.call.now n) =
     subst (λ (m : Node). Writes c.args.table.now c.write.new.table m.key m) after c.write.ensures.writes in
-    let counted = strong_is c.args.table.now c.write.new.table c.args.call.now named.0 c.in-Some.key named.1 n was becomes writes ss s c.args.strong opens in
+    let counted = strong_is c.args.table.now c.write.new.table us c.args.call.now c.in-Some.key named.1 n was becomes writes ss s c.args.strong opens in
     let left : c.less-left.result ≡ strong_count (map (affected c.args.call.now) (nodes_with c.args.table.now s.keys)) =
     less_is c.args.strong c.less-left.result c.is_strong.result c.is_strong-2.result (is_strong n) (is_strong (affected c.args.call.now n))
-    c.less-left.ensures c.is_strong.ensures (c.is_strong-2.ensures ∙ ap is_strong after) (strong_before c.args.call.now named.0 n) _ counted in
-    made_now c.args.table.now c.write.new.table c.args.call.now named.0 c.in-Some.key named.1 n was becomes writes ss s c.args.strong opens
+    c.less-left.ensures c.is_strong.ensures (c.is_strong-2.ensures ∙ ap is_strong after) (strong_before c.args.call.now n) _ counted in
+    plain_made c.args.table.now c.write.new.table us c.args.call.now c.in-Some.key named.1 n was becomes writes ss s c.args.strong opens named.0
     c.less-left.result (lt-ltb 0 c.less-left.result (omega arith)) left
 
 pub write-requires : goal.write-requires

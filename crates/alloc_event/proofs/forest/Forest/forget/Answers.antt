@@ -7,13 +7,15 @@ use Rattle.node_table.specs.Table.{node_at}
 use Rattle.alloc_event.specs.declared.entry.Entry.{Entry}
 use Rattle.alloc_event.specs.Forest.{Forest, node_at as forest_node}
 use Rattle.alloc_event.specs.Calm.{IsCounted}
+use Rattle.alloc_event.specs.Counts.{AreUnits}
 use Rattle.alloc_event.specs.Kept.{collection_in, nodes_with, place_in, shelf_of, shelves_of}
 use Rattle.alloc_event.specs.Nodes.{is_over}
 use Rattle.alloc_event.proofs.Counted.{counted_set, dropped_all, drops_one, recounted}
 use Rattle.alloc_event.proofs.Entries.{place_is}
-use Rattle.alloc_event.proofs.Leaving.{kept-without, collections-without, set_without, shelf_without, never_none}
+use Rattle.alloc_event.proofs.Leaving.{goes, kept-without, collections-without, set_without, shelf_without, never_none}
 use Rattle.alloc_event.proofs.Lookups.{looked-kept}
 use Rattle.alloc_event.proofs.Showing.{node_is}
+use Rattle.alloc_event.proofs.Slots.{units_without}
 use Rattle.alloc_event.proofs.TakingOut.{SameKeys-shown, taken}
 use Rattle.alloc_event.proofs.forest.Forest.forget.Goals as goal
 
@@ -38,6 +40,7 @@ invariant_of-self c =
     let found = node_is c.self.inside.table (shelves_of c.self.inside.entries.items) c.self.invariant.kept c.args.key ∙ c.take_out-node.ensures.was in
     let over : is_over c.take_out-node.result ≡ true =
     ap (λ o. option_map_or is_over o false) (sym found) ∙ ap (λ (f : Forest). option_map_or is_over (forest_node f c.args.key) false) c.self.view_is ∙ c.requires.over in
+    let out = taken c.self.inside.table c.take_out-node.new.table c.args.key c.take_out-node.result c.take_out-node.ensures.out c.take_out-node.ensures.was in
     let drops = drops_one c.self.inside.table c.take_out-node.new.table c.args.key c.take_out-node.result c.take_out-node.ensures.was (and_left _ _ over) c.take_out-node.ensures.out.look in
     let none : node_at c.take_out-node.new.table c.args.key ≡ None = c.take_out-node.ensures.out.look c.args.key ∙ (rw (same_key-refl c.args.key) refl) in
     let old : Entry = c.index_mut.result.now in
@@ -51,6 +54,9 @@ invariant_of-self c =
           (λ there counted. let own : IsCounted c.take_out-node.new.table old = subst (IsCounted c.take_out-node.new.table) (sym was) counted in
           recounted c.take_out-node.new.table old e shown refl own.tidy own)
           (dropped_all c.self.inside.table c.take_out-node.new.table c.self.invariant.kept.named drops c.self.inside.entries.items c.self.invariant.kept.whole c.self.invariant.counted);
+      units = rw same (subst (AreUnits c.self.inside.units.items) (sym (collections-without c.self.inside.table c.take_out-node.new.table c.args.key c.take_out-node.result out c.self.invariant.kept.named (shelves_of c.self.inside.entries.items)))
+          (units_without c.self.inside.table c.self.inside.units.items c.args.key c.self.invariant.kept.named
+          (goes c.self.inside.table c.take_out-node.new.table c.args.key c.take_out-node.result out (and_left _ _ over)) (shelves_of c.self.inside.entries.items) c.self.invariant.units));
     }
 
 pub invariant_of-self-in_default : goal.invariant_of-self-in_default

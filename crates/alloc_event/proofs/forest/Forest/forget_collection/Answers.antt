@@ -1,13 +1,15 @@
 -- The entry has no node, and is removed.
-use Rattle.std.proofs.Common.{◌≡◌, Some, false, sym, ◌∙◌, ap, arith}
+use Rattle.std.proofs.Common.{◌≡◌, ◌==◌, not, map, Some, false, sym, ◌∙◌, ap, subst, arith}
 use Rattle.std.specs.Option.{option_map_or}
 use Rattle.std.proofs.lemmas.Bool.{false≢true}
-use Rattle.alloc_event.specs.Forest.{Forest, collection_at, is_left}
-use Rattle.alloc_event.specs.Kept.{place_in, shelves_of}
+use Rattle.alloc_event.specs.Counts.{AreUnits}
+use Rattle.alloc_event.specs.Forest.{Collection, Forest, collection_at, is_left}
+use Rattle.alloc_event.specs.Kept.{collection_in, place_in, shelves_of}
 use Rattle.alloc_event.proofs.Counted.{counted_removed}
 use Rattle.alloc_event.proofs.Emptying.{remove_shelf, collections_beside, kept-beside, left_none}
 use Rattle.alloc_event.proofs.Entries.{place_is, none_in}
 use Rattle.alloc_event.proofs.Showing.{collection_none}
+use Rattle.alloc_event.proofs.Slots.{units_some}
 use Rattle.alloc_event.proofs.forest.Forest.forget_collection.Goals as goal
 
 pub remove-requires : goal.remove-requires
@@ -24,6 +26,8 @@ invariant_of-self c =
       kept = rw same (kept-beside c.self.inside.table c.args.id (shelves_of c.self.inside.entries.items) c.self.invariant.kept
           (left_none c.self.inside.table c.args.id (shelves_of c.self.inside.entries.items) c.self.invariant.kept.filed left));
       counted = rw c.remove.ensures.items (counted_removed c.self.inside.table c.self.inside.entries.items c.in-Some.at c.self.invariant.counted);
+      units = rw same (subst (AreUnits c.self.inside.units.items) (sym (collections_beside c.self.inside.table c.args.id (shelves_of c.self.inside.entries.items)))
+          (units_some c.self.inside.units.items (λ (d : Collection). not (d.id == c.args.id)) (map (collection_in c.self.inside.table) (shelves_of c.self.inside.entries.items)) c.self.invariant.units));
     }
 
 pub returns-in-Some-clause-collections : goal.returns-in-Some-clause-collections

@@ -1,7 +1,18 @@
 -- The forest is what the table and the entries are then.
-use Rattle.alloc_event.specs.Kept.{shelves_of}
+use Rattle.std.proofs.Common.{map, subst, sym}
+use Rattle.alloc_event.specs.Counts.{AreUnits}
+use Rattle.alloc_event.specs.Kept.{collection_in, shelves_of}
+use Rattle.alloc_event.proofs.Slots.{units_over}
 use Rattle.alloc_event.proofs.TakingOut.{SameKeys-shown}
 use Rattle.alloc_event.proofs.forest.Forest.forget_over.Goals as goal
+
+pub invariant_of-self : goal.invariant_of-self
+invariant_of-self c = record {
+  kept = c.forget_over.ensures.kept;
+  counted = c.forget_over.ensures.counted;
+  units = subst (AreUnits c.self.inside.units.items) (sym c.forget_over.ensures.collections)
+      (units_over c.self.inside.units.items c.args.id (map (collection_in c.self.inside.table) (shelves_of c.self.inside.entries.items)) c.self.invariant.units);
+}
 
 pub returns-clause-keys : goal.returns-clause-keys
 returns-clause-keys c =

@@ -1,0 +1,74 @@
+-- The node is written, and the counts tell that nothing is forced.
+use Rattle.std.proofs.Common.{◌≡◌, ◌+◌, ◌<◌, ◌⊎◌, true, false, inl, inr, is_some, List, map, length, Some, sym, ◌∙◌, ap, subst, arith}
+use Rattle.std.proofs.lemmas.Bool.{lt-ltb}
+use Rattle.std.specs.Option.{option_map_or}
+use Rattle.sm_names.specs.Words.{times}
+use Rattle.sm_names.specs.Timelines.{key_of}
+use Rattle.node_table.specs.Table.{node_at}
+use Rattle.node_table.specs.Changes.{Writes}
+use Rattle.node_table.specs.Lending.{table_with_node}
+use Rattle.alloc_event.specs.declared.change.Change.{Change}
+use Rattle.alloc_event.specs.declared.node.Node.{Node}
+use Rattle.alloc_event.specs.declared.units.Unit.{Unit}
+use Rattle.alloc_event.specs.Calm.{strong_count}
+use Rattle.alloc_event.specs.Counts.{is_unready, lives_in, unit_at, waits_in}
+use Rattle.alloc_event.specs.InPlace.{IsMade, bit}
+use Rattle.alloc_event.specs.Kept.{is_strong, nodes_with}
+use Rattle.alloc_event.specs.Nodes.{affected}
+use Rattle.alloc_event.specs.Questions.{is_live_node}
+use Rattle.alloc_event.proofs.Altering.{same_affected}
+use Rattle.alloc_event.proofs.Effecting.{counted_made, counted_named, less_is, live_before, live_is, strong_before, strong_is, unready_before, unready_is}
+use Rattle.alloc_event.proofs.Storing.{row_there}
+use Rattle.alloc_event.proofs.in_place.count_in_place.Goals.{else-is_unready-via-then-is_unready+then-unready-eq0+else-not-is_served, else-is_unready-via-then-is_unready+else-unready-eq0, else-is_unready-via-else-is_unready}
+use Rattle.alloc_event.proofs.in_place.count_in_place.Goals as goal
+
+pub write-requires : goal.write-requires
+write-requires c =
+    let n : Node = c.in-Some-copied.node in
+    let was : node_at c.args.table.now c.in-Some.key ≡ Some n = sym c.get.ensures ∙ sym c.copied.ensures ∙ c.in-Some-copied.is in
+    let own : c.affected_by-after.result.key ≡ c.in-Some.key =
+    ap (λ (m : Node). m.key) c.affected_by-after.ensures ∙ (same_affected c.args.call.now n).key ∙ c.requires.named c.in-Some.key n was in
+    row_there c.args.table.now c.affected_by-after.result.key (ap is_some (ap (node_at c.args.table.now) own ∙ was))
+
+-- the node is in an allocated unit, or the unit waits for another, or did not wait for it
+guard : (c : goal.After-put_unit) → (is_unready c.in-Some-copied.node ≡ false) ⊎ ((0 < c.less-unready.result)
+    ⊎ (option_map_or (λ (m : Node). m.allocated) (node_at c.args.table.now c.in-Some-copied.node.head) false ≡ true))
+guard c = elim c.else-is_unready.branch [
+  | else-is_unready-via-then-is_unready+then-unready-eq0+else-not-is_served w ↦ inr (inr (sym w.is_served.ensures ∙ w.if-not-is_served.false))
+  | else-is_unready-via-then-is_unready+else-unready-eq0 w ↦ inr (inl (omega (arith, w.if-unready-eq0.false)))
+  | else-is_unready-via-else-is_unready w ↦ inl (sym c.is_unready-3.ensures ∙ w.if-is_unready.false)
+]
+
+pub returns-clause-some : goal.returns-clause-some
+returns-clause-some c ss s opens =
+    let n : Node = c.in-Some-copied.node in
+    let t = c.args.table.now in
+    let call = c.args.call.now in
+    let us = c.args.units.now.items in
+    let named : key_of call ≡ Some c.in-Some.key = counted_named call c.in-Some.key (sym c.counted_key.ensures ∙ c.in-Some.is) in
+    let was : node_at t c.in-Some.key ≡ Some n = sym c.get.ensures ∙ sym c.copied.ensures ∙ c.in-Some-copied.is in
+    let after : c.affected_by-after.result ≡ affected call n = c.affected_by-after.ensures in
+    let becomes : c.write.new.table ≡ table_with_node t (affected call n).key (affected call n) =
+    subst (λ (m : Node). c.write.new.table ≡ table_with_node t m.key m) after c.write.ensures.becomes in
+    let writes : Writes t c.write.new.table (affected call n).key (affected call n) =
+    subst (λ (m : Node). Writes t c.write.new.table m.key m) after c.write.ensures.writes in
+    let within : n.head.slot < length us = omega (arith, c.if-slot-len.false, c.len.ensures) in
+    let unit : c.unit_in-unit.result ≡ unit_at us n.head.slot = rw c.deref.ensures.value at c.unit_in-unit.ensures in
+    let left : c.less-left.result ≡ strong_count (map (affected call) (nodes_with t s.keys)) =
+    less_is c.args.strong c.less-left.result c.is_strong.result c.is_strong-2.result (is_strong n) (is_strong (affected call n))
+    c.less-left.ensures c.is_strong.ensures (c.is_strong-2.ensures ∙ ap is_strong after) (strong_before call n) _
+    (strong_is t c.write.new.table us call c.in-Some.key named n was becomes writes ss s c.args.strong opens) in
+    let live : c.less-live.result ≡ times (lives_in n.head) (map (affected call) (nodes_with t s.keys)) =
+    less_is c.unit_in-unit.result.live c.less-live.result c.is_live.result c.is_live-2.result (is_live_node n) (is_live_node (affected call n))
+    c.less-live.ensures c.is_live.ensures (c.is_live-2.ensures ∙ ap is_live_node after) (live_before call n) _
+    (live_is t c.write.new.table us call c.in-Some.key named n was becomes writes ss s c.args.strong opens within
+    ∙ ap (λ (u : Unit). u.live + bit (is_live_node (affected call n))) (sym unit)) in
+    let unready : c.less-unready.result ≡ times (waits_in n.head) (map (affected call) (nodes_with t s.keys)) =
+    less_is c.unit_in-unit.result.unready c.less-unready.result c.is_unready.result c.is_unready-2.result (is_unready n) (is_unready (affected call n))
+    c.less-unready.ensures c.is_unready.ensures (c.is_unready-2.ensures ∙ ap is_unready after) (unready_before call n) _
+    (unready_is t c.write.new.table us call c.in-Some.key named n was becomes writes ss s c.args.strong opens within
+    ∙ ap (λ (u : Unit). u.unready + bit (is_unready (affected call n))) (sym unit)) in
+    subst (λ (l : List Unit). IsMade t c.write.new.table l ss s (Change.Effect call) c.less-left.result) (sym c.put_unit.ensures)
+    (counted_made t c.write.new.table us call c.in-Some.key named n was becomes writes ss s c.args.strong opens within
+    (record { live = c.less-live.result; unready = c.less-unready.result }) live unready
+    c.less-left.result (lt-ltb 0 c.less-left.result (omega (arith, c.if-left-eq0.false))) left (omega (arith, c.if-live-eq0.false)) (guard c))

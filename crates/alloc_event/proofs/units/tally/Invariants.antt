@@ -1,0 +1,12 @@
+use Rattle.std.proofs.Common.{◌≡◌, length}
+use Rattle.alloc_event.specs.Counts.{tallied}
+use Rattle.alloc_event.specs.Kept.{nodes_with}
+use Rattle.alloc_event.proofs.units.tally.Given as goal
+
+-- what is made with the rest is what is made with all
+abbrev pub invariant-on : goal.invariant-on
+invariant-on l = record { same : tallied (nodes_with l.table l.rest) l.units.items ≡ tallied (nodes_with l.table l.keys) l.initial.units.items }
+
+-- each key is looked at once
+abbrev pub decreases-on : goal.decreases-on
+decreases-on l = length l.rest

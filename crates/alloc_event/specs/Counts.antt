@@ -1,0 +1,82 @@
+-- What is counted of units. No public clause cites this module.
+use Rattle.std.specs.Prelude.{◌≡◌, ◌≢◌, ℕ, ◌+◌, ◌<◌, Bool, ◌&&◌, not, nat_lt, if◌then◌else◌, slice_index_or, List, [], ◌∷◌, ◌++◌, map, length, set, is_some, ◌==◌}
+use Rattle.std.specs.List.{AllByRecursion}
+use Rattle.sm_names.specs.declared.keys.NodeKey.{NodeKey}
+use Rattle.sm_names.specs.Sameness.{same_key}
+use Rattle.sm_names.specs.Words.{times}
+use Rattle.node_table.specs.Table.{Table}
+use Rattle.alloc_event.specs.declared.entry.Entry.{Entry}
+use Rattle.alloc_event.specs.declared.node.Node.{Node}
+use Rattle.alloc_event.specs.declared.units.Unit.{Unit}
+use Rattle.alloc_event.specs.Forest.{Collection}
+use Rattle.alloc_event.specs.Kept.{collection_in, shelves_of}
+use Rattle.alloc_event.specs.Questions.{is_live_node, is_ready_node}
+
+-- ---- what is counted
+
+-- the node is live, and in the unit with this head
+abbrev pub lives_in : NodeKey → Node → Bool
+lives_in head n = is_live_node n && same_key n.head head
+
+-- the unit with this head waits for the node
+abbrev pub waits_in : NodeKey → Node → Bool
+waits_in head n = not (is_ready_node head n)
+
+-- its unit waits for the node
+abbrev pub is_unready : Node → Bool
+is_unready n = not n.gone && (not n.released && not (is_some n.constraints))
+
+-- the counts of the unit with this head
+abbrev pub unit_of : List Node → NodeKey → Unit
+unit_of nodes head = record { live = times (lives_in head) nodes; unready = times (waits_in head) nodes }
+
+-- those of no unit
+abbrev pub no_unit : Unit
+no_unit = record { live = 0; unready = 0 }
+
+-- the counts in this slot
+abbrev pub unit_at : List Unit → ℕ → Unit
+unit_at units slot = slice_index_or units slot no_unit
+
+-- each slot of a key of these nodes that is in the list has the counts of the unit with that head
+abbrev pub HasUnits : List Unit → List Node → Type 0
+HasUnits units nodes = AllByRecursion (λ (n : Node). n.key.slot < length units → unit_at units n.key.slot ≡ unit_of nodes n.key) nodes
+
+-- so of each collection
+abbrev pub AreUnits : List Unit → List Collection → Type 0
+AreUnits units cs = AllByRecursion (λ (c : Collection). HasUnits units c.nodes) cs
+
+-- and of each but the one with this id
+abbrev pub AreUnitsBut : List Unit → ℕ → List Collection → Type 0
+AreUnitsBut units id cs = AllByRecursion (λ (c : Collection). c.id ≢ id → HasUnits units c.nodes) cs
+
+-- so of each collection of a forest
+abbrev pub HaveUnits : List Unit → Table Node → List Entry → Type 0
+HaveUnits units t es = AreUnits units (map (collection_in t) (shelves_of es))
+
+-- ---- counting anew
+
+-- one more, if it counts and there is room for it
+abbrev pub raised : Bool → ℕ → ℕ
+raised is count = if is && nat_lt count 18446744073709551615 then count + 1 else count
+
+-- the slot is counted from nothing on; a slot right behind the list is added to it
+abbrev pub started : ℕ → List Unit → List Unit
+started slot units = if slot == length units then units ++ no_unit ∷ [] else set units slot no_unit
+
+-- the slots of these keys are counted from nothing on
+abbrev pub cleared : List NodeKey → List Unit → List Unit
+cleared [] units = units
+cleared (key ∷ keys) units = cleared keys (set units key.slot no_unit)
+
+-- the node is counted for its unit
+abbrev pub with_node : Node → List Unit → List Unit
+with_node n units = set units n.head.slot (record {
+  live = raised (is_live_node n) (unit_at units n.head.slot).live;
+  unready = raised (is_unready n) (unit_at units n.head.slot).unready;
+})
+
+-- each node is, if it is not gone
+abbrev pub tallied : List Node → List Unit → List Unit
+tallied [] units = units
+tallied (n ∷ ns) units = tallied ns (if n.gone then units else with_node n units)

@@ -1,0 +1,24 @@
+-- The units of a collection. No public clause cites this module.
+use Rattle.std.specs.Prelude.{Bool, true, false, ◌||◌, ◌&&◌, not, List, [], ◌∷◌, is_none}
+use Rattle.std.specs.List.{list_all}
+use Rattle.std.specs.Option.{option_map_or}
+use Rattle.sm_names.specs.Sameness.{same_key}
+use Rattle.alloc_event.specs.declared.node.Node.{Node}
+use Rattle.alloc_event.specs.Nodes.{is_of}
+
+-- the node heads a unit: it is a root, or attached
+abbrev pub is_head : Node → Bool
+is_head n = is_none n.parent || n.attached
+
+-- the other is the node's parent
+abbrev pub is_parent : Node → Node → Bool
+is_parent n other = option_map_or (λ p. is_of p other) n.parent false
+
+-- unless it heads a unit the node is of the other's, if that is its parent
+abbrev pub shares_unit : Node → Node → Bool
+shares_unit n other = is_head n || (not (is_parent n other) || same_key other.head n.head)
+
+-- so does each with those behind it; the newest stands first
+abbrev pub are_united : List Node → Bool
+are_united [] = true
+are_united (n ∷ older) = list_all (shares_unit n) older && are_united older
