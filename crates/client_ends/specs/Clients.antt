@@ -59,10 +59,43 @@ pub record MadeAll (old new : Seen) (asked : List Call) (told : List Reply) : Ty
   pub calls : calls_of added ≡ asked
   pub replies : replies_of added ≡ told
 
--- one event was made, whose reply is the reason, or none
-abbrev pub MadeOr : Seen → Seen → Call → Why → Type 0
-MadeOr old new call (Why.Reply reply) = Made old new call reply
-MadeOr old new call (Why.Fault fault) = new ≡ old
+-- the reply is Done
+abbrev pub is_done : Reply → Bool
+is_done Reply.Done = true
+is_done _ = false
+
+-- a Release that was answered so has spent its end
+abbrev pub is_over : Reply → Bool
+is_over Reply.Done = true
+is_over (Reply.PeerClosed cause origin) = true
+is_over _ = false
+
+-- the reply tells of a new token
+abbrev pub is_token : Reply → Bool
+is_token (Reply.Token key collection) = true
+is_token _ = false
+
+-- of a new tracker
+abbrev pub is_tracker : Reply → Bool
+is_tracker (Reply.Tracker id) = true
+is_tracker _ = false
+
+-- of handles that were taken
+abbrev pub is_taken : Reply → Bool
+is_taken (Reply.Taken collection strength set) = true
+is_taken _ = false
+
+-- of what was in a parcel, or that none waited
+abbrev pub is_found : Reply → Bool
+is_found (Reply.Collected key kind collection) = true
+is_found (Reply.CollectedHandle buffer strength) = true
+is_found Reply.Empty = true
+is_found _ = false
+
+-- one event was made, whose reply is the reason and none of those that were hoped for, or no event was
+abbrev pub MadeOr : (Reply → Bool) → Seen → Seen → Call → Why → Type 0
+MadeOr hoped old new call (Why.Reply reply) = Made old new call reply × (hoped reply ≡ false)
+MadeOr hoped old new call (Why.Fault fault) = new ≡ old
 
 -- a handle: who has it, its buffer, and its strength
 pub record Grip : Type 0 where
@@ -105,21 +138,10 @@ with_gain (Some strength) units = with_one strength units
 abbrev pub SameHandles : Amounts → Amounts → Type 0
 SameHandles a b = (a.strong ≡ b.strong) × (a.weak ≡ b.weak)
 
--- the reply is Done
-abbrev pub is_done : Reply → Bool
-is_done Reply.Done = true
-is_done _ = false
-
 -- the event was made and answered Done
 abbrev pub made_done : Result Reply StepFault → Bool
 made_done (Ok reply) = is_done reply
 made_done (Err fault) = false
-
--- a Release that was answered so has spent its end
-abbrev pub is_over : Reply → Bool
-is_over Reply.Done = true
-is_over (Reply.PeerClosed cause origin) = true
-is_over _ = false
 
 -- the call opens, drops and moves no handle, and collects nothing
 abbrev pub is_plain : Call → Bool

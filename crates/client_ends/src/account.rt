@@ -1,14 +1,17 @@
 //! What a client counts.
-ghost use Rattle.std.specs.Prelude.{◌≡◌, ◌+◌, ◌≤◌, ◌↔◌, [], Some, false, true, IfOk, OnErr, Err, length};
+ghost use Rattle.std.specs.Prelude.{◌≡◌, ◌+◌, ◌≤◌, ◌↔◌, [], Some, false, true, IfOk, OnErr, Err, length, vec_len, vec_capacity};
 ghost use Rattle.sm_names.specs.declared.outcomes.StepFault.{StepFault as Fault};
+ghost use Rattle.sm_names.specs.declared.messages.Call.{Call as Asked};
 ghost use Rattle.lifetime_core.specs.Kinds.{fits_call};
 ghost use Rattle.service_lock.specs.States.{after};
 ghost use Rattle.service_lock.specs.Units.{Counts, HasUnitFor};
 ghost use Rattle.client_ends.specs.Clients.{IsTold, SameHandles, gained, is_done, lets_go, made_done, may_gain, nothing, unit_of, with_gain};
+ghost use Rattle.client_ends.specs.Taking.{grips_by, told_taken};
 
 use crate::spare::refused;
+use crate::taking::{Room, hand_out, taken_by};
 use service_lock::{State, Units, apply, books, pass};
-use sm_names::{Call, ClientId, Reply, StepFault, Strength};
+use sm_names::{Call, ClientId, NodeKey, Reply, StepFault, Strength};
 use std::alloc::Global;
 use std::marker::Model;
 use std::sync::ledger::Ledger;
@@ -174,6 +177,37 @@ impl<E: Ledger, S: Ledger, W: Ledger> Account<E, S, W> {
         let reply = self.make(state, client, call)?;
         if let Some(strength) = gained(&asked, &reply) {
             pass(state, &mut self.units, unit, strength);
+        }
+        Ok(reply)
+    }
+
+    /// Makes a Take, whose handles go where room was made for them.
+    #[tactic(auto, using(crate::proofs::TakeLaws::after_taking))]
+    pub fn make_taking(
+        &mut self,
+        state: &mut State<E, S, W>,
+        client: ClientId,
+        key: NodeKey,
+        room: &mut Room<E, S, W>,
+    ) -> Result<Reply, StepFault>
+        requires none { SameHandles self.old.units nothing }
+        requires empty { room.old.handles.items ≡ [] }
+        requires space { 64 ≤ vec_capacity room.old.handles }
+        requires spares { 64 ≤ vec_len room.old.spares }
+        ensures none { SameHandles self.new.units nothing }
+        ensures share { IfOk result (λ r.
+            self.new.units.events ≡ self.old.units.events + 1) }
+        ensures told { IfOk result (λ r. IsTold self.old.own self.new.own (Asked.Take key) r) }
+        ensures handles { IfOk result (λ r.
+            room.new.handles.items ≡ grips_by client (told_taken r)) }
+        ensures fault { OnErr result (self.new ≡ self.old) }
+        ensures empty { OnErr result (room.new.handles.items ≡ []) }
+        ensures full { (result ≡ Err Fault.HistoryFull)
+            ↔ (state.old.limits.events ≤ length state.old.history) }
+    {
+        let reply = self.make(state, client, Call::Take(key))?;
+        if let Some(taken) = taken_by(&reply) {
+            hand_out(state, &mut self.units, room, client, &taken);
         }
         Ok(reply)
     }

@@ -6,8 +6,9 @@ ghost use Rattle.sm_names.specs.declared.outcomes.StepFault.{StepFault as Fault}
 ghost use Rattle.client_ends.specs.declared.why.Why.{Why as Reason};
 ghost use Rattle.lifetime_core.specs.Kinds.{fits_call};
 ghost use Rattle.service_lock.specs.States.{after};
-ghost use Rattle.client_ends.specs.Clients.{Made, MadeOr, is_over, is_plain, last_reply, lets_go, unit_of};
+ghost use Rattle.client_ends.specs.Clients.{Made, MadeOr, is_done, is_found, is_over, is_plain, is_taken, is_token, is_tracker, last_reply, lets_go, unit_of};
 ghost use Rattle.client_ends.specs.Collecting.{Collected};
+ghost use Rattle.client_ends.specs.Taking.{Took};
 
 use crate::account::{Account, Own};
 use crate::ended::Ended;
@@ -15,9 +16,10 @@ use crate::ends::{CollectionEnd, TokenEnd};
 use crate::handle::Handle;
 use crate::held::End;
 use crate::spare::empty;
+use crate::taking::make_room;
 use crate::why::Why;
 use service_lock::{Service, State, Units, apply, take_tracker};
-use sm_names::{BufferName, Call, ClientId, Kind, Reply, StepFault, Strength};
+use sm_names::{BufferName, Call, ClientId, Kind, NodeKey, Reply, StepFault, Strength};
 use std::alloc::Global;
 use std::marker::Model;
 use std::sync::Wait;
@@ -156,7 +158,7 @@ impl<E: Ledger, S: Ledger, W: Ledger> Client<E, S, W> {
         ensures { MatchResult result
             (λ t. (t.client ≡ self.old.id)
             × Made self.old self.new call (Told.Token t.key t.collection))
-            (λ w. MadeOr self.old self.new call w) }
+            (λ w. MadeOr is_token self.old self.new call w) }
     {
         match self.event(rt, service, call) {
             Ok(Reply::Token { key, collection }) => Ok(TokenEnd::new(self.id, key, collection)),
@@ -175,7 +177,7 @@ impl<E: Ledger, S: Ledger, W: Ledger> Client<E, S, W> {
         requires { is_plain call ≡ true }
         ensures { MatchResult result
             (λ _. Made self.old self.new call Told.Done)
-            (λ w. MadeOr self.old self.new call w) }
+            (λ w. MadeOr is_done self.old self.new call w) }
     {
         match self.event(rt, service, call) {
             Ok(Reply::Done) => Ok(()),
@@ -194,7 +196,7 @@ impl<E: Ledger, S: Ledger, W: Ledger> Client<E, S, W> {
         requires { is_plain call ≡ true }
         ensures { MatchResult result
             (λ r. Made self.old self.new call r × (is_over r ≡ true))
-            (λ w. MadeOr self.old self.new call w) }
+            (λ w. MadeOr is_over self.old self.new call w) }
     {
         match self.event(rt, service, call) {
             Ok(Reply::Done) => Ok(Reply::Done),
@@ -215,7 +217,7 @@ impl<E: Ledger, S: Ledger, W: Ledger> Client<E, S, W> {
         requires { is_plain call ≡ true }
         ensures { MatchResult result
             (λ t. Made self.old self.new call (Told.Tracker t.tracker))
-            (λ w. MadeOr self.old self.new call w) }
+            (λ w. MadeOr is_tracker self.old self.new call w) }
     {
         let mut guard = service.lock(rt);
         let state = guard.state_mut();
@@ -242,7 +244,7 @@ impl<E: Ledger, S: Ledger, W: Ledger> Client<E, S, W> {
         requires call { lets_go call ≡ Some strength }
         ensures made { MatchResult result
             (λ _. Made self.old self.new call Told.Done)
-            (λ w. MadeOr self.old self.new call w) }
+            (λ w. MadeOr is_done self.old self.new call w) }
         ensures unit { OnErr result (unit.new ≡ unit.old) }
     {
         let mut guard = service.lock(rt);
@@ -265,7 +267,7 @@ impl<E: Ledger, S: Ledger, W: Ledger> Client<E, S, W> {
         ensures { MatchResult result
             (λ h. (h ≡ record { client = self.old.id; buffer = buffer; strength = strength })
             × Made self.old self.new (Asked.DupHandle buffer strength) Told.Done)
-            (λ w. MadeOr self.old self.new (Asked.DupHandle buffer strength) w) }
+            (λ w. MadeOr is_done self.old self.new (Asked.DupHandle buffer strength) w) }
     {
         let mut guard = service.lock(rt);
         self.doubled_in(guard.state_mut(), buffer, strength)
@@ -281,7 +283,7 @@ impl<E: Ledger, S: Ledger, W: Ledger> Client<E, S, W> {
         ensures made { MatchResult result
             (λ h. (h ≡ record { client = self.old.id; buffer = buffer; strength = strength })
             × Made self.old self.new (Asked.DupHandle buffer strength) Told.Done)
-            (λ w. MadeOr self.old self.new (Asked.DupHandle buffer strength) w) }
+            (λ w. MadeOr is_done self.old self.new (Asked.DupHandle buffer strength) w) }
         ensures full { (result ≡ Err (Reason.Fault Fault.HistoryFull))
             ↔ (state.old.limits.events ≤ length state.old.history) }
     {
@@ -297,6 +299,52 @@ impl<E: Ledger, S: Ledger, W: Ledger> Client<E, S, W> {
         }
     }
 
+    // The handles that the Take opens.
+    pub(crate) fn taken<R: Wait>(
+        &mut self,
+        rt: &R,
+        alloc: Global,
+        service: &Service<E, S, W>,
+        key: NodeKey,
+    ) -> Result<Vec<Handle<E, S, W>>, Why>
+        ensures { MatchResult result
+            (λ hs. Took self.old self.new key hs.items)
+            (λ w. MadeOr is_taken self.old self.new (Asked.Take key) w) }
+    {
+        let mut guard = service.lock(rt);
+        self.taken_in(alloc, guard.state_mut(), key)
+    }
+
+    // The same, under a lock that was taken.
+    fn taken_in(
+        &mut self,
+        alloc: Global,
+        state: &mut State<E, S, W>,
+        key: NodeKey,
+    ) -> Result<Vec<Handle<E, S, W>>, Why>
+        ensures made { MatchResult result
+            (λ hs. Took self.old self.new key hs.items)
+            (λ w. MadeOr is_taken self.old self.new (Asked.Take key) w) }
+        ensures full { (result ≡ Err (Reason.Fault Fault.HistoryFull))
+            ↔ (state.old.limits.events ≤ length state.old.history) }
+    {
+        let mut room = match make_room(alloc, state) {
+            Ok(room) => room,
+            Err(fault) => return Err(Why::Fault(fault)),
+        };
+        match self.account.make_taking(state, self.id, key, &mut room) {
+            Ok(Reply::Taken { .. }) => return Ok(room.handles()),
+            Ok(reply) => {
+                room.end();
+                return Err(Why::Reply(reply));
+            }
+            Err(fault) => {
+                room.end();
+                return Err(Why::Fault(fault));
+            }
+        }
+    }
+
     /// Takes the first parcel that waits for the client: an end or a handle, which is the client's
     /// from now on, or `None` where no parcel waits. Costs one event.
     pub fn collect<R: Wait>(
@@ -306,7 +354,7 @@ impl<E: Ledger, S: Ledger, W: Ledger> Client<E, S, W> {
     ) -> Result<Option<End<E, S, W>>, Why>
         ensures { MatchResult result
             (λ found. Collected self.old self.new found)
-            (λ w. MadeOr self.old self.new Asked.Collect w) }
+            (λ w. MadeOr is_found self.old self.new Asked.Collect w) }
     {
         let mut guard = service.lock(rt);
         self.collect_in(guard.state_mut())
@@ -316,7 +364,7 @@ impl<E: Ledger, S: Ledger, W: Ledger> Client<E, S, W> {
     fn collect_in(&mut self, state: &mut State<E, S, W>) -> Result<Option<End<E, S, W>>, Why>
         ensures made { MatchResult result
             (λ found. Collected self.old self.new found)
-            (λ w. MadeOr self.old self.new Asked.Collect w) }
+            (λ w. MadeOr is_found self.old self.new Asked.Collect w) }
         ensures full { (result ≡ Err (Reason.Fault Fault.HistoryFull))
             ↔ (state.old.limits.events ≤ length state.old.history) }
     {
@@ -370,7 +418,7 @@ impl<E: Ledger, S: Ledger, W: Ledger> Client<E, S, W> {
         ensures { MatchResult result
             (λ t. (t.client ≡ self.old.id)
             × Made self.old self.new Asked.OpenRoot (Told.Token t.key t.collection))
-            (λ w. MadeOr self.old self.new Asked.OpenRoot w) }
+            (λ w. MadeOr is_token self.old self.new Asked.OpenRoot w) }
     {
         self.new_end(rt, service, Call::OpenRoot)
     }

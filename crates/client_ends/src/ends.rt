@@ -2,7 +2,7 @@
 ghost use Rattle.std.specs.Prelude.{◌≡◌, MatchResult, true};
 ghost use Rattle.sm_names.specs.declared.messages.Call.{Call as Asked};
 ghost use Rattle.sm_names.specs.declared.messages.Reply.{Reply as Told};
-ghost use Rattle.client_ends.specs.Clients.{Made, MadeOr, is_over};
+ghost use Rattle.client_ends.specs.Clients.{Made, MadeOr, is_done, is_over, is_tracker};
 
 use crate::client::Client;
 use crate::ended::Ended;
@@ -139,7 +139,7 @@ impl<K> EndOf<K> {
         ensures { MatchResult result
             (λ t. Made client.old client.new
             (Asked.TrackNode self.now.key) (Told.Tracker t.tracker))
-            (λ w. MadeOr client.old client.new (Asked.TrackNode self.now.key) w) }
+            (λ w. MadeOr is_tracker client.old client.new (Asked.TrackNode self.now.key) w) }
     {
         client.tracker(rt, service, Call::TrackNode(self.key))
     }
@@ -157,7 +157,7 @@ impl<K> EndOf<K> {
         ensures { MatchResult result
             (λ _. Made client.old client.new (Asked.Give self.key to) Told.Done)
             (λ k. (k.value ≡ self)
-            × MadeOr client.old client.new (Asked.Give self.key to) k.why) }
+            × MadeOr is_done client.old client.new (Asked.Give self.key to) k.why) }
     {
         match client.done(rt, service, Call::Give(self.key, to)) {
             Ok(()) => {
@@ -180,7 +180,7 @@ impl<K> EndOf<K> {
         ensures { MatchResult result
             (λ r. Made client.old client.new (Asked.Release self.key) r × (is_over r ≡ true))
             (λ k. (k.value ≡ self)
-            × MadeOr client.old client.new (Asked.Release self.key) k.why) }
+            × MadeOr is_over client.old client.new (Asked.Release self.key) k.why) }
     {
         match client.released(rt, service, Call::Release(self.key)) {
             Ok(reply) => {
@@ -203,7 +203,7 @@ impl<K> EndOf<K> {
         ensures { MatchResult result
             (λ _. Made client.old client.new (Asked.Close self.key) Told.Done)
             (λ k. (k.value ≡ self)
-            × MadeOr client.old client.new (Asked.Close self.key) k.why) }
+            × MadeOr is_done client.old client.new (Asked.Close self.key) k.why) }
     {
         match client.done(rt, service, Call::Close(self.key)) {
             Ok(()) => {

@@ -2,7 +2,7 @@
 ghost use Rattle.std.specs.Prelude.{◌≡◌, MatchResult, Some};
 ghost use Rattle.sm_names.specs.declared.messages.Call.{Call as Asked};
 ghost use Rattle.sm_names.specs.declared.messages.Reply.{Reply as Told};
-ghost use Rattle.client_ends.specs.Clients.{Made, MadeOr, lets_go, unit_of};
+ghost use Rattle.client_ends.specs.Clients.{Made, MadeOr, is_done, is_tracker, lets_go, unit_of};
 
 use crate::client::Client;
 use crate::ended::Ended;
@@ -96,7 +96,7 @@ impl<E: Ledger, S: Ledger, W: Ledger> Handle<E, S, W> {
         ensures { MatchResult result
             (λ h. (h ≡ self.now) × Made client.old client.new
             (Asked.DupHandle self.now.buffer self.now.strength) Told.Done)
-            (λ w. MadeOr client.old client.new
+            (λ w. MadeOr is_done client.old client.new
             (Asked.DupHandle self.now.buffer self.now.strength) w) }
     {
         client.doubled(rt, service, self.buffer, self.strength)
@@ -115,7 +115,8 @@ impl<E: Ledger, S: Ledger, W: Ledger> Handle<E, S, W> {
         ensures { MatchResult result
             (λ t. Made client.old client.new
             (Asked.TrackWeak self.now.buffer) (Told.Tracker t.tracker))
-            (λ w. MadeOr client.old client.new (Asked.TrackWeak self.now.buffer) w) }
+            (λ w. MadeOr is_tracker client.old client.new
+            (Asked.TrackWeak self.now.buffer) w) }
     {
         client.tracker(rt, service, Call::TrackWeak(self.buffer))
     }
@@ -132,7 +133,7 @@ impl<E: Ledger, S: Ledger, W: Ledger> Handle<E, S, W> {
         ensures { MatchResult result
             (λ _. Made client.old client.new
             (Asked.DropHandle self.buffer self.strength) Told.Done)
-            (λ k. (k.value ≡ self) × MadeOr client.old client.new
+            (λ k. (k.value ≡ self) × MadeOr is_done client.old client.new
             (Asked.DropHandle self.buffer self.strength) k.why) }
     {
         let call = Call::DropHandle(self.buffer, self.strength);
@@ -152,7 +153,7 @@ impl<E: Ledger, S: Ledger, W: Ledger> Handle<E, S, W> {
         ensures { MatchResult result
             (λ _. Made client.old client.new
             (Asked.GiveHandle self.buffer self.strength to) Told.Done)
-            (λ k. (k.value ≡ self) × MadeOr client.old client.new
+            (λ k. (k.value ≡ self) × MadeOr is_done client.old client.new
             (Asked.GiveHandle self.buffer self.strength to) k.why) }
     {
         let call = Call::GiveHandle(self.buffer, self.strength, to);
@@ -170,7 +171,7 @@ impl<E: Ledger, S: Ledger, W: Ledger> Handle<E, S, W> {
         requires { lets_go call ≡ Some self.strength }
         ensures { MatchResult result
             (λ _. Made client.old client.new call Told.Done)
-            (λ k. (k.value ≡ self) × MadeOr client.old client.new call k.why) }
+            (λ k. (k.value ≡ self) × MadeOr is_done client.old client.new call k.why) }
     {
         let Handle {
             client: holder,

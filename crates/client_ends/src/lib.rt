@@ -13,16 +13,20 @@
 mod account;
 mod client;
 mod collections;
+mod draft;
 mod ended;
 mod ends;
 mod handle;
 mod held;
 mod spare;
+mod syncing;
+mod taking;
 mod tokens;
 mod why;
 
 pub use account::Own;
 pub use client::{Client, join};
+pub use draft::{Draft, Part, Synced};
 pub use ended::{Ended, end};
 pub use ends::{Bound, CollectionEnd, EndOf, TokenEnd, Unbound};
 pub use handle::Handle;
