@@ -17,7 +17,8 @@ use std::sync::ledger::Ledger;
 use trackers::Tracker;
 
 impl CollectionEnd {
-    /// Makes an attached child token (`fuchsia.sysmem2.BufferCollection.AttachToken`). Costs one event.
+    /// Makes an attached child token (`fuchsia.sysmem2.BufferCollection.AttachToken`). Costs one
+    /// event.
     pub fn attach_token<E: Ledger, S: Ledger, W: Ledger, R: Wait>(
         &self,
         rt: &R,
@@ -67,8 +68,8 @@ impl CollectionEnd {
     }
 
     /// Opens a handle on each buffer that is not doomed, in the order of their indices
-    /// (`fuchsia.sysmem2.BufferCollection.WaitForAllBuffersAllocated`, without the wait): strong or weak,
-    /// as the node is. Where the unit is not allocated, the reason is the reply Pending.
+    /// (`fuchsia.sysmem2.BufferCollection.WaitForAllBuffersAllocated`, without the wait): strong or
+    /// weak, as the node is. Where the unit is not allocated, the reason is the reply Pending.
     ///
     /// `NoMemory` also where there is no room for 64 handles, asked for before the event. Costs one
     /// event and a look at each of 64 buffers.
@@ -88,8 +89,8 @@ impl CollectionEnd {
     }
 
     /// A tracker that fires once at most so many buffers are left
-    /// (`fuchsia.sysmem2.BufferCollection.AttachLifetimeTracking`). It is read without the lock. Costs
-    /// one event, and a binary search among all trackers.
+    /// (`fuchsia.sysmem2.BufferCollection.AttachLifetimeTracking`). It is read without the lock.
+    /// Costs one event, and a binary search among all trackers.
     pub fn track_lifetime<E: Ledger, S: Ledger, W: Ledger, R: Wait>(
         &self,
         rt: &R,

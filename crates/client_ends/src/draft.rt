@@ -51,8 +51,8 @@ pub struct Part {
     pub replies: Vec<Reply>,
 }
 
-/// What a draft told that was made whole: its token, the new ends, and all replies in order, that of
-/// the Sync last.
+/// What a draft told that was made whole: its token, the new ends, and all replies in order, that
+/// of the Sync last.
 pub struct Synced {
     pub token: TokenEnd,
     pub made: Vec<TokenEnd>,
@@ -130,7 +130,8 @@ impl Draft {
         }
     }
 
-    /// Gives the token back. The drafted calls are not made, and there is no event. It takes no lock.
+    /// Gives the token back. The drafted calls are not made, and there is no event. It takes no
+    /// lock.
     pub fn abandon(self) -> TokenEnd
         ensures { result ≡ self.token }
     {
@@ -138,13 +139,13 @@ impl Draft {
         token
     }
 
-    /// Makes the drafted calls in order, and then a Sync (`fuchsia.sysmem2.Node.Sync`), all under one
-    /// lock, one event each.
+    /// Makes the drafted calls in order, and then a Sync (`fuchsia.sysmem2.Node.Sync`), all under
+    /// one lock, one event each.
     ///
-    /// At a fault the calls before it were made: their ends and replies are handed out, and the draft
-    /// that comes back has the others. `HistoryFull` and `NoMemory` come as for one event; `NoMemory`
-    /// also, before all events, where there is no room for the ends and replies. Costs one event for
-    /// each call, and one for the Sync.
+    /// At a fault the calls before it were made: their ends and replies are handed out, and the
+    /// draft that comes back has the others. `HistoryFull` and `NoMemory` come as for one event;
+    /// `NoMemory` also, before all events, where there is no room for the ends and replies. Costs
+    /// one event for each call, and one for the Sync.
     pub fn sync<E: Ledger, S: Ledger, W: Ledger, R: Wait>(
         self,
         rt: &R,

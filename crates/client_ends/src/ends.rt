@@ -127,8 +127,8 @@ impl<K> EndOf<K> {
         client.event(rt, service, Call::SetWeakOk(self.key, children))
     }
 
-    /// A tracker that fires once the node is gone (`fuchsia.sysmem2.Node.AttachNodeTracking`). It is
-    /// read without the lock. Costs one event, and a binary search among all trackers.
+    /// A tracker that fires once the node is gone (`fuchsia.sysmem2.Node.AttachNodeTracking`). It
+    /// is read without the lock. Costs one event, and a binary search among all trackers.
     pub fn track_node<E: Ledger, S: Ledger, W: Ledger, R: Wait>(
         &self,
         rt: &R,
@@ -168,8 +168,9 @@ impl<K> EndOf<K> {
         }
     }
 
-    /// Leaves without a failure, and spends the end (`fuchsia.sysmem2.Node.Release`): answered Done,
-    /// or PeerClosed where its node is gone. Else the end comes back with the reason. Costs one event.
+    /// Leaves without a failure, and spends the end (`fuchsia.sysmem2.Node.Release`): answered
+    /// Done, or PeerClosed where its node is gone. Else the end comes back with the reason. Costs
+    /// one event.
     pub fn release<E: Ledger, S: Ledger, W: Ledger, R: Wait>(
         self,
         rt: &R,

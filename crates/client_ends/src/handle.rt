@@ -16,8 +16,8 @@ use trackers::Tracker;
 
 /// An open handle, with its unit of the book of its strength. It must be spent.
 ///
-/// A contract sees who has it, its buffer, and its strength. Each call of a handle takes its holder's
-/// `Client`, and makes one event of that client.
+/// A contract sees who has it, its buffer, and its strength. Each call of a handle takes its
+/// holder's `Client`, and makes one event of that client.
 pub struct Handle<E: Ledger, S: Ledger, W: Ledger> {
     client: ClientId,
     buffer: BufferName,
@@ -103,8 +103,8 @@ impl<E: Ledger, S: Ledger, W: Ledger> Handle<E, S, W> {
     }
 
     /// A tracker that fires once the buffer is doomed (the field `close_weak_asap` of
-    /// `fuchsia.sysmem2.VmoBuffer`). Only a weak handle has one: else the call is refused. It is read
-    /// without the lock. Costs one event, and a binary search among all trackers.
+    /// `fuchsia.sysmem2.VmoBuffer`). Only a weak handle has one: else the call is refused. It is
+    /// read without the lock. Costs one event, and a binary search among all trackers.
     pub fn track_weak<R: Wait>(
         &self,
         rt: &R,
@@ -121,8 +121,8 @@ impl<E: Ledger, S: Ledger, W: Ledger> Handle<E, S, W> {
         client.tracker(rt, service, Call::TrackWeak(self.buffer))
     }
 
-    /// Drops the handle: its unit leaves its book. Where the answer is not Done the handle comes back
-    /// with the reason. Costs one event.
+    /// Drops the handle: its unit leaves its book. Where the answer is not Done the handle comes
+    /// back with the reason. Costs one event.
     pub fn drop_handle<R: Wait>(
         self,
         rt: &R,
@@ -140,8 +140,8 @@ impl<E: Ledger, S: Ledger, W: Ledger> Handle<E, S, W> {
         self.let_go(rt, service, client, call)
     }
 
-    /// Gives the handle to another client, who collects it: its unit goes under the lock with it. Where
-    /// the answer is not Done the handle comes back with the reason. Costs one event.
+    /// Gives the handle to another client, who collects it: its unit goes under the lock with it.
+    /// Where the answer is not Done the handle comes back with the reason. Costs one event.
     pub fn give<R: Wait>(
         self,
         rt: &R,

@@ -45,8 +45,8 @@ impl TokenEnd {
         client.event(rt, service, Call::SetDispensable(self.key()))
     }
 
-    /// Turns the token into a collection (`fuchsia.sysmem2.Allocator.BindSharedCollection`). Where the
-    /// answer is not Done the token comes back with the reason. Costs one event.
+    /// Turns the token into a collection (`fuchsia.sysmem2.Allocator.BindSharedCollection`). Where
+    /// the answer is not Done the token comes back with the reason. Costs one event.
     pub fn bind<E: Ledger, S: Ledger, W: Ledger, R: Wait>(
         self,
         rt: &R,

@@ -1,4 +1,3 @@
 pub mod MarkLaws
 pub mod MoveLaws
 pub mod SoundLaws
-pub mod ToldLaws

@@ -1,5 +1,6 @@
 -- What a contract sees of the state under the lock, and what an event makes of it.
 use Rattle.std.specs.Prelude.{◌≡◌, ℕ, List, [], ◌∷◌, ◌++◌, length}
+use Rattle.std.specs.List.{cons_option}
 use Rattle.sm_names.specs.declared.keys.Strength.{Strength}
 use Rattle.sm_names.specs.declared.keys.Strength.TheVariants.{Strong, Weak}
 use Rattle.sm_names.specs.declared.messages.Call.{Call}
@@ -10,6 +11,7 @@ use Rattle.sm_names.specs.Timelines.{timeline}
 use Rattle.event_laws.specs.HandleSums.{all_moving, all_open}
 use Rattle.lifetime_core.specs.Shown.{Shows}
 use Rattle.lifetime_core.specs.State.{State}
+use Rattle.lifetime_core.specs.Theorem.{tracker_told}
 use Rattle.service_lock.specs.Units.{Sums}
 
 -- a pool of so many pages, the limits, the record, and the trackers that are still to be taken
@@ -19,16 +21,11 @@ pub record View : Type 0 where
   pub history : List Entry
   pub untaken : List ℕ
 
--- the tracker that the reply tells of
-abbrev pub told_tracker : Reply → List ℕ
-told_tracker (Reply.Tracker id) = id ∷ []
-told_tracker _ = []
-
 -- the state after one more event
 abbrev pub after : View → ℕ → Call → Reply → View
 after s client call reply = record s {
   history = s.history ++ (client, call, reply) ∷ [];
-  untaken = s.untaken ++ told_tracker reply;
+  untaken = s.untaken ++ cons_option (tracker_told reply) [];
 }
 
 -- the book of this strength counts the handles that are open, and those in parcels are carried

@@ -7,7 +7,6 @@ use Rattle.service_lock.specs.declared.moves.Moves.{Moves}
 use Rattle.service_lock.specs.Counting.{moves_by}
 use Rattle.service_lock.specs.States.{IsSound, View, after}
 use Rattle.service_lock.proofs.SoundLaws.{fits, pushed, there, written}
-use Rattle.service_lock.proofs.ToldLaws.{untaken_after}
 use Rattle.service_lock.proofs.event.apply.Goals as goal
 
 pub write-requires-2-clause-fits : goal.write-requires-2-clause-fits
@@ -63,7 +62,7 @@ returns-clause-made g c =
     let log : List Entry = c.state.inside.log.items in
     let e : Entry = (c.args.client, c.args.call, c.in_ok-reply.reply) in
     let items : c.push_reserved.new.self.items ≡ log ++ e ∷ [] = pushed log c.reserve.new.self.items c.push_reserved.new.self.items e c.reserve.ensures.items c.push_reserved.ensures.items in
-    let ids = untaken_after c.state.inside.core c.step.new.self e.0 e.1 e.2 c.in_ok-reply.ensures.answer c.in_ok-reply.ensures.kind c.in_ok-reply.ensures.after in
+    let ids = c.in_ok-reply.ensures.untaken in
     let pools = c.in_ok-reply.ensures.after.pool in
     let seen : View = record {
       pool = c.state.inside.core.pool;

@@ -1,0 +1,84 @@
+//! A service for each scene.
+ghost use Rattle.service_lock.specs.Units.{AreFor};
+
+use super::crowd::crowd;
+use super::drafting::drafts;
+use super::limits::last_event;
+use super::memory::again;
+use super::remains::remains;
+use super::typed::typed;
+use client_ends::{Client, end};
+use service_lock::{Blanks, PARTS, Service};
+use sm_names::Limits;
+use std::alloc::Global;
+use std::marker::Brand;
+use std::process::Abort;
+use std::sync::Wait;
+use std::sync::ledger::{Blank, Ledger};
+use std::thread::Threads;
+
+/// What is played.
+#[derive(Clone, Copy)]
+pub enum Scene {
+    Drafts,
+    Typed,
+    LastEvent,
+    Remains,
+    Memory,
+    Crowd,
+}
+
+// How many events the scene may make.
+fn limits(scene: Scene) -> Option<Limits> {
+    match scene {
+        Scene::LastEvent => Limits::new(2, 4, 4, 4, 4),
+        _ => Some(Limits::full()),
+    }
+}
+
+/// Plays the scene on a service that has seen nothing, ends it, and lets the client go. This is
+/// whether memory was refused, where the scene can bear it.
+pub fn stage<R: Threads + Wait + Abort + Sync>(rt: &R, alloc: Global, scene: Scene) -> bool {
+    let blanks = Blanks {
+        events: Blank::new(PARTS),
+        strong: Blank::new(PARTS),
+        weak: Blank::new(PARTS),
+    };
+    play::<Brand, Brand, Brand, _>(rt, alloc, blanks, scene)
+}
+
+fn play<
+    E: Ledger + Send + Sync,
+    S: Ledger + Send + Sync,
+    W: Ledger + Send + Sync,
+    R: Threads + Wait + Abort + Sync,
+>(rt: &R, alloc: Global, blanks: Blanks, scene: Scene) -> bool
+    requires { AreFor E.name E.parts S.name S.parts W.name W.parts blanks }
+{
+    let limits = match limits(scene) {
+        Some(limits) => limits,
+        None => panic!(rt; "limits"),
+    };
+    let service = match Service::<E, S, W>::new(alloc, blanks, 16, limits) {
+        Ok(service) => service,
+        Err(_) => panic!(rt; "service"),
+    };
+    match scene {
+        Scene::Drafts => leave(drafts(rt, alloc, &service), service),
+        Scene::Typed => leave(typed(rt, alloc, &service), service),
+        Scene::LastEvent => last_event(rt, alloc, service),
+        Scene::Remains => remains(rt, alloc, service),
+        Scene::Crowd => crowd(rt, alloc, service),
+        Scene::Memory => {
+            let (client, refused) = again(rt, alloc, &service);
+            leave(client, service);
+            return refused;
+        }
+    }
+    false
+}
+
+// The service ends, and the client goes.
+fn leave<E: Ledger, S: Ledger, W: Ledger>(client: Client<E, S, W>, service: Service<E, S, W>) {
+    client.spend(&end(service));
+}
