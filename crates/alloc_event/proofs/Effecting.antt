@@ -1,6 +1,6 @@
 -- The effect of a call that is made in its place, and what the count of strong live nodes becomes.
 use Rattle.std.proofs.Common.{◌≡◌, ◌≢◌, ℕ, ◌+◌, ◌==◌, nat_lt, Bool, true, false, ◌||◌, ◌&&◌, not, if◌then◌else◌, is_some, ◌<◌, ◌⊎◌, inl, inr, List, [], ◌∷◌, map, length, get_or, set, Option, Some, None, option_map, refl, sym, ap, subst, ◌∙◌, arith}
-use Rattle.std.proofs.lemmas.Bool.{eqb-true, not-true}
+use Rattle.std.proofs.lemmas.Bool.{eq-eqb, eqb-true, not-true}
 use Rattle.std.proofs.lemmas.List.{get_or-set_other, get_or-set_same, get_or_default, length-set}
 use Rattle.std.specs.List.{find, list_all, list_any}
 use Rattle.std.specs.Option.{option_map_or, unwrap_or}
@@ -12,7 +12,8 @@ use Rattle.sm_names.specs.Sameness.{same_key}
 use Rattle.sm_names.specs.Timelines.{key_of}
 use Rattle.sm_names.specs.Words.{times}
 use Rattle.sm_names.proofs.ListLaws.{In, In-find, In-map, In-map-back}
-use Rattle.sm_names.proofs.SamenessLaws.{and_both, and_left, and_right, both_ways, either_way, same_key-refl, same_key-true}
+use Rattle.sm_names.proofs.SamenessLaws.{and_both, and_left, and_right, both_ways, either_way, or_right, same_key-refl, same_key-true}
+use Rattle.sm_names.proofs.StandingLaws.{In-any}
 use Rattle.node_table.specs.Table.{Table, node_at}
 use Rattle.node_table.specs.Changes.{Writes}
 use Rattle.node_table.specs.Lending.{table_with_node}
@@ -21,12 +22,12 @@ use Rattle.alloc_event.specs.declared.entry.Entry.{Entry}
 use Rattle.alloc_event.specs.declared.node.Node.{Node}
 use Rattle.alloc_event.specs.declared.units.Unit.{Unit}
 use Rattle.alloc_event.specs.Calm.{AreCounted, IsCalm, IsCounted, strong_count}
-use Rattle.alloc_event.specs.Counts.{AreUnits, HasUnits, HaveUnits, is_unready, lives_in, no_unit, unit_at, unit_of, waits_in}
+use Rattle.alloc_event.specs.Counts.{AreUnits, HasBelow, HasUnits, HaveUnits, is_unready, lives_in, no_unit, unit_at, unit_of, waits_in}
 use Rattle.alloc_event.specs.Decisions.{has_strong}
 use Rattle.alloc_event.specs.Forest.{Collection, beside, with_nodes}
 use Rattle.alloc_event.specs.InPlace.{IsMade, IsOpen, bit, is_counted, is_plain}
 use Rattle.alloc_event.specs.Kept.{Finishes, IsKept, IsWhole, Shelf, Stores, are_filed, collection_in, forest_of, is_filed, is_strong, nodes_with, place_in, put_shelf, shelf_of, shelves_of}
-use Rattle.alloc_event.specs.Nodes.{affected, is_over}
+use Rattle.alloc_event.specs.Nodes.{affected, is_over, is_of}
 use Rattle.alloc_event.specs.Questions.{is_live_node}
 use Rattle.alloc_event.specs.Settling.{Handles, MayChange, Rests, changed, collection_or_new, given_back, is_kept, is_there, no_key, put, standing}
 use Rattle.alloc_event.specs.Units.{is_head}
@@ -37,8 +38,8 @@ use Rattle.alloc_event.proofs.Counted.{counted_but, counted_put, filed_every, mo
 use Rattle.alloc_event.proofs.Entries.{IsPlace, set_put}
 use Rattle.alloc_event.proofs.Finishing.{collection-beside, collections-put}
 use Rattle.alloc_event.proofs.Hanging.{all_in, in_all, looked_there}
-use Rattle.alloc_event.proofs.Holding.{head_there}
-use Rattle.alloc_event.proofs.Keeping.{calm_changed}
+use Rattle.alloc_event.proofs.Holding.{hangs_in, head_there, holds_unit}
+use Rattle.alloc_event.proofs.Keeping.{calm_changed, lives_held}
 use Rattle.alloc_event.proofs.LeftParents.{loss_left}
 use Rattle.alloc_event.proofs.Lookups.{looked-map}
 use Rattle.alloc_event.proofs.Putting.{put-map}
@@ -392,6 +393,32 @@ module _ (t now : Table Node) (us : List Unit) (call : Call) (key : NodeKey) (na
       ∙ (count_is (waits_in n.head)
       ∙ (λ i. (sym (unit_is within) i).unready + bit (waits_own n.head (f n) own_unit_now i)))
 
+  own_of : n.collection ≡ s.id
+  own_of = eqb-true n.collection s.id (all-In (λ (x : Node). x.collection == s.id) nodes n on (looked-of t s.id s.keys (found_filed t s.id ss s opens.kept.filed opens.found)))
+
+  -- an attached child holds the unit
+  below_holds : HasBelow t key n.collection → list_any (holds_unit (map f nodes) n.head) (map f nodes) ≡ true
+  below_holds below =
+      let m : Node = below.node in
+      let there : is_there (forest_of t ss) s.id below.child ≡ true =
+      ap (λ (o : Option Node). option_map_or (λ (x : Node). x.collection == s.id && not x.gone) o false) (node_is t ss opens.kept below.child ∙ below.at)
+      ∙ and_both (m.collection == s.id) (not m.gone) (eq-eqb m.collection s.id (below.of ∙ own_of)) (ap not below.here) in
+      let found : IsLeft nodes below.child = left_node nodes below.child (loss_left t ss opens.kept s.id (Change.Loss below.child Cause.Lost)
+      (record { named = there; room = λ e. cc; heads = refl; trackers = λ k x e. cc }) s opens.found) in
+      let both : Some m ≡ Some found.node = sym below.at ∙ (ap (node_at t) (sym found.is) ∙ at_key found.node found.on) in
+      let one : m ≡ found.node = cc in
+      let child_on : In m nodes = subst (λ (x : Node). In x nodes) (sym one) found.on in
+      let up : (f m).parent ≡ Some key = (same m).parent ∙ sym (opens.kept.linked below.child m below.at below.here) ∙ below.under in
+      let in_unit : list_any (λ (q : Node). is_of key q && same_key q.head n.head) (map f nodes) ≡ true =
+      In-any (λ (q : Node). is_of key q && same_key q.head n.head) (map f nodes) (f n) (In-map-back f nodes n on)
+      (and_both (is_of key (f n)) (same_key (f n).head n.head) (ap (λ (k : NodeKey). same_key k key) own ∙ same_key-refl key) own_unit_now) in
+      let hangs : hangs_in (map f nodes) n.head (f m) ≡ true =
+      ap (λ (o : Option NodeKey). option_map_or (λ p. list_any (λ (q : Node). is_of p q && same_key q.head n.head) (map f nodes)) o false) up ∙ in_unit in
+      In-any (holds_unit (map f nodes) n.head) (map f nodes) (f m) (In-map-back f nodes m child_on)
+      (and_both (not (f m).gone) _ (ap not ((remains_affected call m).gone ∙ below.here))
+      (or_right (same_key (f m).head n.head && not (f m).released) ((f m).attached && hangs_in (map f nodes) n.head (f m))
+      (and_both (f m).attached (hangs_in (map f nodes) n.head (f m)) ((same m).attached ∙ below.attached) hangs)))
+
   module _ (within : n.head.slot < length us) (next : Unit) (live_next : next.live ≡ times (lives_in n.head) (map f nodes))
       (unready_next : next.unready ≡ times (waits_in n.head) (map f nodes)) where
     abbrev after_one : List Unit
@@ -443,15 +470,19 @@ module _ (t now : Table Node) (us : List Unit) (call : Call) (key : NodeKey) (na
             ∙ sym (other_unit x.key e))
 
     -- the unit keeps a live node, and where it has no buffers it does not become ready
-    pub counted_made : (lives : ℕ) → nat_lt 0 lives ≡ true → lives ≡ strong_count (map f nodes) → 0 < next.live →
+    pub counted_made : (lives : ℕ) → nat_lt 0 lives ≡ true → lives ≡ strong_count (map f nodes) → (0 < next.live) ⊎ HasBelow t key n.collection →
         (is_unready n ≡ false) ⊎ ((0 < next.unready) ⊎ (option_map_or (λ (m : Node). m.allocated) (node_at t n.head) false ≡ true)) →
         IsMade t now after_one ss s (Change.Effect call) lives
     counted_made lives some lives_is live guard =
         made_now after_one lives some lives_is
         (subst IsCalm (sym now_is) (calm_changed (collection_in t s) whole f same (λ m. (remains_affected call m).gone) (λ m. (remains_affected call m).allocated) n on alone
-        (omega (arith, live_next, live)) (guarded guard) opens.calm))
+        (holds live) (guarded guard) opens.calm))
         (units_join after_one stays_one has_one)
       where
+        holds : (0 < next.live) ⊎ HasBelow t key n.collection → list_any (holds_unit (map f nodes) n.head) (map f nodes) ≡ true
+        holds (inl some) = lives_held (map f nodes) n.head (omega (arith, live_next, some))
+        holds (inr below) = below_holds below
+
         guarded : (is_unready n ≡ false) ⊎ ((0 < next.unready) ⊎ (option_map_or (λ (m : Node). m.allocated) (node_at t n.head) false ≡ true)) →
             (waits_in n.head n ≡ false) ⊎ ((0 < times (waits_in n.head) (map f nodes)) ⊎ ((h : Node) → In h nodes → h.key ≡ n.head → h.allocated ≡ true))
         guarded (inl settled) = inl (waits_own n.head n own_unit ∙ settled)

@@ -189,10 +189,22 @@ module _ (nodes : List Node) (f : Node → Node) (same : (n : Node) → IsSameNo
             from false false was is all on = refl
             from false true was is all on = on all
 
--- where one node changes, its unit keeps a live one, and no unit that waits for its buffers becomes ready
+-- a live node holds its unit
+pub lives_held : (nodes : List Node) (head : NodeKey) → 0 < times (lives_in head) nodes → list_any (holds_unit nodes head) nodes ≡ true
+lives_held nodes head some =
+    let x = In-list_any (lives_in head) nodes (some_pass (lives_in head) nodes some) in
+    In-any (holds_unit nodes head) nodes x.0 x.1 (lives_hold x.0.gone x.0.released (same_key x.0.head head) (x.0.attached && hangs_in nodes head x.0) x.2)
+  where
+    lives_hold : (g r s b : Bool) → ((not g && not r) && s) ≡ true → (not g && ((s && not r) || b)) ≡ true
+    lives_hold true r s b h = cc
+    lives_hold false true s b h = cc
+    lives_hold false false true b h = refl
+    lives_hold false false false b h = cc
+
+-- where one node changes, something holds its unit still, and no unit that waits for its buffers becomes ready
 pub calm_changed : (c : Collection) → IsWhole c → (f : Node → Node) → ((n : Node) → IsSameNode (f n) n) → ((n : Node) → (f n).gone ≡ n.gone) →
     ((n : Node) → (f n).allocated ≡ n.allocated) → (n : Node) → In n c.nodes → ((m : Node) → same_key n.key m.key ≡ false → f m ≡ m) →
-    0 < times (lives_in n.head) (map f c.nodes) →
+    list_any (holds_unit (map f c.nodes) n.head) (map f c.nodes) ≡ true →
     (waits_in n.head n ≡ false) ⊎ ((0 < times (waits_in n.head) (map f c.nodes)) ⊎ ((h : Node) → In h c.nodes → h.key ≡ n.head → h.allocated ≡ true)) →
     IsCalm c → IsCalm (with_nodes (map f) c)
 calm_changed c whole f same gone alloc n on alone lives guard calm =
@@ -205,19 +217,11 @@ calm_changed c whole f same gone alloc n on alone lives guard calm =
     let held : are_held c.nodes ≡ true =
     held_where c.nodes whole.sound.distinct whole.sound.heads whole.rooted whole.united
     (none-find (is_deserted_node c.nodes) c.nodes was.no_end) in
-    let x = In-list_any (lives_in n.head) (map f c.nodes) (some_pass (lives_in n.head) (map f c.nodes) lives) in
-    let holds : holds_unit (map f c.nodes) n.head x.0 ≡ true = lives_hold x.0.gone x.0.released (same_key x.0.head n.head) (x.0.attached && hangs_in (map f c.nodes) n.head x.0) x.2 in
     let held' : are_held (map f c.nodes) ≡ true =
-    held_still c.nodes f same gone alloc n on alone' one (In-any (holds_unit (map f c.nodes) n.head) (map f c.nodes) x.0 x.1 holds) held in
+    held_still c.nodes f same gone alloc n on alone' one lives held in
     calm_none (with_nodes (map f) c) (record {
       no_end = find-none (is_deserted_node (map f c.nodes)) (map f c.nodes)
           (none_deserted (map f c.nodes) whole'.sound.distinct whole'.sound.heads whole'.rooted whole'.united held');
       no_root = waiting_none c.nodes f same gone alloc ready was.no_root;
       no_head = later_none c.nodes f same gone alloc ready c.buffers was.no_head;
     })
-  where
-    lives_hold : (g r s b : Bool) → ((not g && not r) && s) ≡ true → (not g && ((s && not r) || b)) ≡ true
-    lives_hold true r s b h = cc
-    lives_hold false true s b h = cc
-    lives_hold false false true b h = refl
-    lives_hold false false false b h = cc

@@ -1,10 +1,10 @@
 -- What is counted of units. No public clause cites this module.
-use Rattle.std.specs.Prelude.{◌≡◌, ◌≢◌, ℕ, ◌+◌, ◌<◌, Bool, ◌&&◌, not, nat_lt, if◌then◌else◌, slice_index_or, List, [], ◌∷◌, ◌++◌, map, length, set, is_some, ◌==◌}
+use Rattle.std.specs.Prelude.{◌≡◌, ◌≢◌, ℕ, ◌+◌, ◌<◌, Bool, ◌&&◌, not, nat_lt, if◌then◌else◌, slice_index_or, List, [], ◌∷◌, ◌++◌, map, length, set, is_some, ◌==◌, true, false, Some}
 use Rattle.std.specs.List.{AllByRecursion}
 use Rattle.sm_names.specs.declared.keys.NodeKey.{NodeKey}
 use Rattle.sm_names.specs.Sameness.{same_key}
 use Rattle.sm_names.specs.Words.{times}
-use Rattle.node_table.specs.Table.{Table}
+use Rattle.node_table.specs.Table.{Table, node_at, parent_at}
 use Rattle.alloc_event.specs.declared.entry.Entry.{Entry}
 use Rattle.alloc_event.specs.declared.node.Node.{Node}
 use Rattle.alloc_event.specs.declared.units.Unit.{Unit}
@@ -53,6 +53,16 @@ AreUnitsBut units id cs = AllByRecursion (λ (c : Collection). c.id ≢ id → H
 -- so of each collection of a forest
 abbrev pub HaveUnits : List Unit → Table Node → List Entry → Type 0
 HaveUnits units t es = AreUnits units (map (collection_in t) (shelves_of es))
+
+-- the table has a child of the node that is attached, and not gone, and of this collection
+pub record HasBelow (t : Table Node) (key : NodeKey) (id : ℕ) : Type 0 where
+  pub child : NodeKey
+  pub node : Node
+  pub at : node_at t child ≡ Some node
+  pub under : parent_at t child ≡ Some key
+  pub attached : node.attached ≡ true
+  pub here : node.gone ≡ false
+  pub of : node.collection ≡ id
 
 -- ---- counting anew
 

@@ -1,17 +1,17 @@
 //! A collection or an attached subtree that ends, since no node of it is live.
-ghost use Rattle.std.specs.Prelude.{◌≡◌, ◌||◌};
+ghost use Rattle.std.specs.Prelude.{◌≡◌, ◌||◌, true};
 ghost use Rattle.std.specs.List.{find};
 ghost use Rattle.std.specs.Option.{option_map};
 ghost use Rattle.alloc_event.specs.Nodes.{after_end};
-ghost use Rattle.alloc_event.specs.Questions.{is_deserted_node};
+ghost use Rattle.alloc_event.specs.Questions.{is_deserted_node, is_live_at, is_live_node};
 
 use crate::node::Node;
-use crate::questions::{is_under, some_live_under};
+use crate::questions::{is_live, is_under, some_live_under};
 use sm_names::NodeKey;
 
 /// Of the roots and attached nodes that are not gone, with no live node at or below them, the one
-/// that was born first. It ends. For each head of a unit it takes one walk over the nodes
-/// where the head is live, and else a walk for each live one.
+/// that was born first. It ends. One walk, and for each head of a unit that is released one more,
+/// or a walk for each live node.
 pub fn ending(nodes: &[Node]) -> Option<NodeKey>
     ensures { result ≡ option_map (λ n. n.key) (find (is_deserted_node nodes.now) nodes.now) }
 {
@@ -23,10 +23,15 @@ pub fn ending(nodes: &[Node]) -> Option<NodeKey>
     None
 }
 
-/// Whether the node is a root or attached, not gone, and no live node is at or below it.
+/// Whether the node, which is one of these if it is live, is a root or attached, not gone, and no
+/// live node is at or below it.
 fn is_deserted(nodes: &[Node], node: &Node) -> bool
+    requires { is_live_node node.now ≡ true → is_live_at nodes.now node.now.key ≡ true }
     ensures { result ≡ is_deserted_node nodes.now node.now }
 {
+    if is_live(node) {
+        return false;
+    }
     (node.parent.is_none() || node.attached) && !node.gone && !some_live_under(nodes, node.key)
 }
 

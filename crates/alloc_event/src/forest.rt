@@ -73,8 +73,8 @@ impl Forest {
     /// Where a strong node of the collection is live all along, a birth, an effect and no change of
     /// nodes cost a binary search and a constant, growth spread over the births. So does the birth
     /// of a root, but for the shift of the collections behind its own. Of effects there are two
-    /// that cost more: one that leaves no node of its unit live, and one that leaves its unit ready
-    /// and without buffers.
+    /// that cost more: the release that leaves no node of its unit live, unless the node's first
+    /// child heads a unit, and one that leaves its unit ready and without buffers.
     ///
     /// These and any other change cost a copy of the collection, a pass over its units, and the
     /// question for the next step after each that is made. A loss costs besides what `fall` costs,

@@ -22,7 +22,7 @@ use node_table::NodeTable;
 use sm_names::{CollectionId, NodeKey};
 
 /// The first child of the node.
-fn first_child(table: &NodeTable<Node>, key: NodeKey) -> Option<NodeKey>
+pub(crate) fn first_child(table: &NodeTable<Node>, key: NodeKey) -> Option<NodeKey>
     ensures { MatchOption result (children_at table.now key ≡ []) (IsChild table.now key) }
 {
     table.first_child(key)

@@ -1,6 +1,6 @@
 //! Changes that force nothing, as the count of strong live nodes tells, made in their places.
 ghost use Rattle.std.specs.Option.{option_map_or};
-ghost use Rattle.std.specs.Prelude.{◌≡◌, ◌+◌, ℕ, List, None, Some, true, false, if◌then◌else◌, IfSome};
+ghost use Rattle.std.specs.Prelude.{◌≡◌, ◌<◌, ◌⊎◌, ◌+◌, ◌==◌, ◌&&◌, not, ℕ, List, None, Some, true, false, if◌then◌else◌, IfSome};
 ghost use Rattle.sm_names.specs.declared.keys.NodeKey.{NodeKey as Key};
 ghost use Rattle.sm_names.specs.declared.messages.Call.{Call as Asked};
 ghost use Rattle.sm_names.specs.Timelines.{key_of};
@@ -9,7 +9,7 @@ ghost use Rattle.alloc_event.specs.declared.change.Change.{Change as Changed};
 ghost use Rattle.alloc_event.specs.declared.node.Node.{Node as Kept};
 ghost use Rattle.alloc_event.specs.declared.units.Unit.{Unit as Counts};
 ghost use Rattle.alloc_event.specs.Calm.{AreCounted};
-ghost use Rattle.alloc_event.specs.Counts.{HaveUnits};
+ghost use Rattle.alloc_event.specs.Counts.{HasBelow, HaveUnits};
 ghost use Rattle.alloc_event.specs.InPlace.{IsMade, IsOpen, bit, is_counted, is_plain};
 ghost use Rattle.alloc_event.specs.Kept.{Finishes, IsKept, SameTable, Shelf, forest_of, is_strong, shelves_of};
 ghost use Rattle.alloc_event.specs.Nodes.{affected};
@@ -19,6 +19,7 @@ ghost use Rattle.alloc_event.specs.Settling.{Handles, MayChange, changed, collec
 use crate::change::Change;
 use crate::effects::affect_one;
 use crate::entry::{Entry, place_of};
+use crate::forgetting::first_child;
 use crate::kept::is_strong;
 use crate::node::Node;
 use crate::questions::is_live;
@@ -109,10 +110,38 @@ fn is_served(table: &NodeTable<Node>, key: NodeKey) -> bool
     }
 }
 
+/// Whether the node with this key is attached, not gone, and of the collection.
+fn heads_unit(table: &NodeTable<Node>, key: NodeKey, id: CollectionId) -> bool
+    ensures { result ≡ option_map_or (λ n. n.attached && (not n.gone && n.collection == id)) (node_at table.now key) false }
+{
+    match table.get(key) {
+        Some(node) => node.attached && !node.gone && node.collection == id,
+        None => false,
+    }
+}
+
+/// Whether the first child of the node is attached, not gone, and of the collection.
+fn has_unit_below(table: &NodeTable<Node>, key: NodeKey, id: CollectionId) -> bool
+    ensures { result ≡ true → HasBelow table.now key id }
+{
+    match first_child(table, key) {
+        Some(child) => heads_unit(table, child, id),
+        None => false,
+    }
+}
+
+/// Whether something holds the unit of the node with this key: so many live nodes of it, or the
+/// node's first child, which heads a unit.
+fn is_held(table: &NodeTable<Node>, live: usize, key: NodeKey, id: CollectionId) -> bool
+    ensures { result ≡ true → (0 < live) ⊎ HasBelow table.now key id }
+{
+    live > 0 || has_unit_below(table, key, id)
+}
+
 /// Releases the node of the call in its place, or sets its constraints, if the counts tell that
-/// nothing is forced: a strong node is live after it, and one of the node's unit, and the unit has
-/// its buffers, or waits for another node, or did not wait for this one. Answers how many strong
-/// nodes are live then. With `None` nothing changed.
+/// nothing is forced: a strong node is live after it, and one of the node's unit, or its first
+/// child heads a unit, and the node's unit has its buffers, or waits for another node, or did not
+/// wait for this one. Answers how many strong nodes are live then. With `None` nothing changed.
 fn count_in_place(
     table: &mut NodeTable<Node>,
     units: &mut Vec<Unit>,
@@ -142,7 +171,7 @@ fn count_in_place(
     let left = less(strong, is_strong(&node), is_strong(&after));
     let live = less(unit.live, is_live(&node), is_live(&after));
     let unready = less(unit.unready, is_unready(&node), is_unready(&after));
-    if left == 0 || live == 0 {
+    if left == 0 || !is_held(table, live, key, node.collection) {
         return None;
     }
     if is_unready(&node) && unready == 0 && !is_served(table, node.head) {
@@ -199,8 +228,8 @@ fn change_in_place(
 
 /// Makes the change to a collection in its place, if it is none of nodes, or an effect, and the
 /// counts tell that nothing is forced, and no buffer goes home: a strong node of the collection is
-/// live after it, and a release leaves a node of its unit live, and the unit does not become ready
-/// or has its buffers. Answers whether it did; if not, nothing changed. It takes no memory, and
+/// live after it, and a release leaves a node of its unit live or a unit that its first child
+/// heads, and the unit does not become ready or has its buffers. Answers whether it did; if not, nothing changed. It takes no memory, and
 /// costs a binary search and a constant.
 pub(crate) fn settle_in_place(
     table: &mut NodeTable<Node>,

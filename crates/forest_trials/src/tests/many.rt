@@ -94,3 +94,23 @@ fn many_waiting_units_are_allocated_by_one_call(rt: HostRuntime) -> Result<(), F
     assert_eq!(rt; allocated(&ground, &keys), 101);
     Ok(())
 }
+
+#[test]
+fn a_chain_of_many_units_ends_from_below(rt: HostRuntime) -> Result<(), Fail> {
+    let mut ground = Ground::new(rt.alloc())?;
+    let mut keys = Vec::with_capacity(rt.alloc(), 500)?;
+    let mut above = None;
+    for _ in 0..500 {
+        let key = ground.bear(above, above.is_some())?;
+        keys.push(key)?;
+        above = Some(key);
+    }
+    for key in keys.iter().take(499) {
+        ground.release(*key)?;
+    }
+    assert_eq!(rt; ground.forest().live()?.len(), 1);
+    assert!(rt; ground.forest().strong_live(5));
+    ground.release(keys[499])?;
+    assert_eq!(rt; ground.forest().live()?.len(), 0);
+    Ok(())
+}

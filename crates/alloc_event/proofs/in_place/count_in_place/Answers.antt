@@ -71,4 +71,4 @@ returns-clause-some c ss s opens =
     subst (λ (l : List Unit). IsMade t c.write.new.table l ss s (Change.Effect call) c.less-left.result) (sym c.put_unit.ensures)
     (counted_made t c.write.new.table us call c.in-Some.key named n was becomes writes ss s c.args.strong opens within
     (record { live = c.less-live.result; unready = c.less-unready.result }) live unready
-    c.less-left.result (lt-ltb 0 c.less-left.result (omega (arith, c.if-left-eq0.false))) left (omega (arith, c.if-live-eq0.false)) (guard c))
+    c.less-left.result (lt-ltb 0 c.less-left.result (omega (arith, c.if-left-eq0.false))) left (c.is_held.ensures c.if-not-is_held.false) (guard c))
