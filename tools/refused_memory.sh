@@ -2,7 +2,7 @@
 # Runs tests with the first allocation refused, then with the second, and so on until a run meets no
 # refusal. Each test checks what a refusal leaves, and prints a line where it met one.
 #   tools/refused_memory.sh [-j JOBS] [CRATE..]
-# JOBS (2) runs are made at once. With no CRATE it takes the four that have such tests. Of core_trials
+# JOBS (2) runs are made at once. With no CRATE it takes the five that have such tests. Of core_trials
 # all tests count, of the others those with `memory` in their names: the rest take success for granted.
 set -u
 cd "$(dirname "$0")/../crates" || exit 1
@@ -12,7 +12,7 @@ if [ "${1-}" = -j ]; then
   shift 2
 fi
 crates=("$@")
-[ ${#crates[@]} = 0 ] && crates=(buffer_holds trackers script_trials core_trials)
+[ ${#crates[@]} = 0 ] && crates=(buffer_holds trackers script_trials core_trials ends_trials)
 logs=$(mktemp -d) || exit 1
 trap 'rm -r "$logs"' EXIT
 
