@@ -8,7 +8,7 @@
 set -euo pipefail
 cd "$(dirname "$0")/.."
 crates=("$@")
-[ ${#crates[@]} = 0 ] && crates=(part_trials script_trials core_trials)
+[ ${#crates[@]} = 0 ] && crates=(part_trials script_trials core_trials ends_trials)
 room=$(mktemp -d)
 trap 'rm -r "$room"' EXIT
 cc -O1 -Wall -Wextra -Werror -shared -fPIC -o "$room/refuse.so" tools/refuse.c

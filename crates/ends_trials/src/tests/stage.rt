@@ -39,6 +39,17 @@ fn limits(scene: Scene) -> Option<Limits> {
 /// Plays the scene on a service that has seen nothing, ends it, and lets the client go. This is
 /// whether memory was refused, where the scene can bear it.
 pub fn stage<R: Threads + Wait + Abort + Sync>(rt: &R, alloc: Global, scene: Scene) -> bool {
+    match start(rt, alloc, scene) {
+        Some(refused) => refused,
+        None => match start(rt, alloc, scene) {
+            Some(_) => true,
+            None => panic!(rt; "no service"),
+        },
+    }
+}
+
+// The same, once: `None` where there was no memory for a service.
+fn start<R: Threads + Wait + Abort + Sync>(rt: &R, alloc: Global, scene: Scene) -> Option<bool> {
     let blanks = Blanks {
         events: Blank::new(PARTS),
         strong: Blank::new(PARTS),
@@ -52,17 +63,14 @@ fn play<
     S: Ledger + Send + Sync,
     W: Ledger + Send + Sync,
     R: Threads + Wait + Abort + Sync,
->(rt: &R, alloc: Global, blanks: Blanks, scene: Scene) -> bool
+>(rt: &R, alloc: Global, blanks: Blanks, scene: Scene) -> Option<bool>
     requires { AreFor E.name E.parts S.name S.parts W.name W.parts blanks }
 {
     let limits = match limits(scene) {
         Some(limits) => limits,
         None => panic!(rt; "limits"),
     };
-    let service = match Service::<E, S, W>::new(alloc, blanks, 16, limits) {
-        Ok(service) => service,
-        Err(_) => panic!(rt; "service"),
-    };
+    let service = Service::<E, S, W>::new(alloc, blanks, 16, limits).ok()?;
     match scene {
         Scene::Drafts => leave(drafts(rt, alloc, &service), service),
         Scene::Typed => leave(typed(rt, alloc, &service), service),
@@ -72,10 +80,10 @@ fn play<
         Scene::Memory => {
             let (client, refused) = again(rt, alloc, &service);
             leave(client, service);
-            return refused;
+            return Some(refused);
         }
     }
-    false
+    Some(false)
 }
 
 // The service ends, and the client goes.

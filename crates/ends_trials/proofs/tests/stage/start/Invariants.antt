@@ -1,4 +1,4 @@
-use Rattle.ends_trials.proofs.tests.stage.stage.Given as goal
+use Rattle.ends_trials.proofs.tests.stage.start.Given as goal
 
 -- each ledger is that of its blank
 abbrev pub ghosts-play-E-Ledger : goal.ghosts-play-E-Ledger
