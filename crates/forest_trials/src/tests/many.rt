@@ -1,21 +1,48 @@
 //! Collections of 1,000 nodes.
 use super::demand;
-use super::ground::Ground;
+use super::ground::{Ground, HERE};
 use sm_names::NodeKey;
 use std::alloc::Global;
 use std::test::Fail;
 
-// A root and so many children of its unit, or each of a unit of its own; the root's key comes first.
-fn family(alloc: Global, children: usize, attached: bool) -> Result<(Ground, Vec<NodeKey>), Fail> {
-    let mut ground = Ground::new(alloc)?;
-    let mut keys = Vec::with_capacity(alloc, children + 1)?;
-    let root = ground.bear(None, false)?;
-    keys.push(root)?;
-    for _ in 0..children {
+// So many children of the node, whose keys are added.
+fn bear_each(
+    ground: &mut Ground,
+    keys: &mut Vec<NodeKey>,
+    root: NodeKey,
+    count: usize,
+    attached: bool,
+) -> Result<(), Fail> {
+    for _ in 0..count {
         let key = ground.bear(Some(root), attached)?;
         keys.push(key)?;
     }
+    Ok(())
+}
+
+// A root and so many children of its unit, or each of a unit of its own; the root's key comes first.
+fn family(alloc: Global, children: usize, attached: bool) -> Result<(Ground, Vec<NodeKey>), Fail> {
+    let mut ground = Ground::new(alloc)?;
+    let mut keys = Vec::new(alloc);
+    let root = ground.bear(None, false)?;
+    keys.push(root)?;
+    bear_each(&mut ground, &mut keys, root, children, attached)?;
     Ok((ground, keys))
+}
+
+fn ask_each(ground: &mut Ground, keys: &[NodeKey]) -> Result<(), Fail> {
+    let asked = demand(0, 1, 4096)?;
+    for key in keys {
+        ground.ask(*key, asked)?;
+    }
+    Ok(())
+}
+
+fn release_each(ground: &mut Ground, keys: &[NodeKey]) -> Result<(), Fail> {
+    for key in keys {
+        ground.release(*key)?;
+    }
+    Ok(())
 }
 
 fn is_allocated(ground: &Ground, key: NodeKey) -> bool {
@@ -25,92 +52,60 @@ fn is_allocated(ground: &Ground, key: NodeKey) -> bool {
     }
 }
 
-fn allocated(ground: &Ground, keys: &[NodeKey]) -> usize {
-    keys.iter().filter(|key| is_allocated(ground, **key)).count()
+// Whether each of them is allocated, or none.
+fn are_allocated(ground: &Ground, keys: &[NodeKey], yes: bool) -> bool {
+    for key in keys {
+        if is_allocated(ground, *key) != yes {
+            return false;
+        }
+    }
+    true
+}
+
+// Whether the nodes wait for the last of them to ask, and are allocated then.
+fn wait_for_last(ground: &mut Ground, keys: &[NodeKey]) -> Result<bool, Fail> {
+    let Some((last, others)) = keys.split_last() else {
+        return Ok(false);
+    };
+    ask_each(ground, others)?;
+    let waited = are_allocated(ground, keys, false);
+    ground.ask(*last, demand(0, 1, 4096)?)?;
+    Ok(waited && are_allocated(ground, keys, true))
+}
+
+// Whether the nodes wait for the first of them to ask, where the others ask or are released.
+fn wait_for_first(ground: &mut Ground, keys: &[NodeKey], release: bool) -> Result<bool, Fail> {
+    let Some((first, others)) = keys.split_first() else {
+        return Ok(false);
+    };
+    if release {
+        release_each(ground, others)?;
+    } else {
+        ask_each(ground, others)?;
+    }
+    let waited = are_allocated(ground, keys, false);
+    ground.ask(*first, demand(0, 1, 4096)?)?;
+    Ok(waited && are_allocated(ground, keys, true))
 }
 
 #[test]
 fn a_unit_of_many_waits_for_the_last(rt: HostRuntime) -> Result<(), Fail> {
     let (mut ground, keys) = family(rt.alloc(), 999, false)?;
-    let asked = demand(0, 1, 4096)?;
-    for key in keys.iter().take(999) {
-        ground.ask(*key, asked)?;
-    }
-    assert_eq!(rt; allocated(&ground, &keys), 0);
-    ground.ask(keys[0], asked)?;
-    assert_eq!(rt; allocated(&ground, &keys), 0);
-    ground.ask(keys[999], asked)?;
-    assert_eq!(rt; allocated(&ground, &keys), 1000);
-    ground.ask(keys[500], asked)?;
-    assert_eq!(rt; allocated(&ground, &keys), 1000);
-    Ok(())
-}
-
-// All nodes but the first are released, the last born first or last, and the first asks.
-fn released(alloc: Global, falling: bool) -> Result<(usize, usize), Fail> {
-    let (mut ground, keys) = family(alloc, 999, false)?;
-    for at in 1..1000 {
-        let key = keys[if falling { 1000 - at } else { at }];
-        ground.release(key)?;
-    }
-    let before = allocated(&ground, &keys);
-    ground.ask(keys[0], demand(0, 1, 4096)?)?;
-    Ok((before, allocated(&ground, &keys)))
-}
-
-#[test]
-fn many_are_released_in_order_of_birth(rt: HostRuntime) -> Result<(), Fail> {
-    assert_eq!(rt; released(rt.alloc(), false)?, (0, 1000));
+    assert!(rt; wait_for_last(&mut ground, &keys)?);
     Ok(())
 }
 
 #[test]
-fn many_are_released_the_last_born_first(rt: HostRuntime) -> Result<(), Fail> {
-    assert_eq!(rt; released(rt.alloc(), true)?, (0, 1000));
-    Ok(())
-}
-
-#[test]
-fn the_last_live_node_of_many_ends_them(rt: HostRuntime) -> Result<(), Fail> {
-    let (mut ground, keys) = family(rt.alloc(), 99, false)?;
-    for key in keys.iter().take(99) {
-        ground.release(*key)?;
-    }
-    assert_eq!(rt; ground.forest().live()?.len(), 1);
-    ground.release(keys[99])?;
-    assert_eq!(rt; ground.forest().live()?.len(), 0);
+fn a_unit_of_many_waits_for_none_that_is_released(rt: HostRuntime) -> Result<(), Fail> {
+    let (mut ground, keys) = family(rt.alloc(), 999, false)?;
+    assert!(rt; wait_for_first(&mut ground, &keys, true)?);
+    assert!(rt; ground.forest().strong_live(HERE));
     Ok(())
 }
 
 #[test]
 fn many_waiting_units_are_allocated_by_one_call(rt: HostRuntime) -> Result<(), Fail> {
-    let (mut ground, keys) = family(rt.alloc(), 100, true)?;
-    let asked = demand(0, 1, 4096)?;
-    for key in keys.iter().skip(1) {
-        ground.ask(*key, asked)?;
-    }
-    assert_eq!(rt; allocated(&ground, &keys), 0);
-    ground.ask(keys[0], asked)?;
-    assert_eq!(rt; allocated(&ground, &keys), 101);
-    Ok(())
-}
-
-#[test]
-fn a_chain_of_many_units_ends_from_below(rt: HostRuntime) -> Result<(), Fail> {
-    let mut ground = Ground::new(rt.alloc())?;
-    let mut keys = Vec::with_capacity(rt.alloc(), 500)?;
-    let mut above = None;
-    for _ in 0..500 {
-        let key = ground.bear(above, above.is_some())?;
-        keys.push(key)?;
-        above = Some(key);
-    }
-    for key in keys.iter().take(499) {
-        ground.release(*key)?;
-    }
-    assert_eq!(rt; ground.forest().live()?.len(), 1);
-    assert!(rt; ground.forest().strong_live(5));
-    ground.release(keys[499])?;
-    assert_eq!(rt; ground.forest().live()?.len(), 0);
+    let (mut ground, keys) = family(rt.alloc(), 300, true)?;
+    assert!(rt; wait_for_first(&mut ground, &keys, false)?);
     Ok(())
 }
