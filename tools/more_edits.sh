@@ -60,7 +60,7 @@ try_edit() {
   elif ! grep -q '^logic=not-proved' "$log"; then
     said="BAD EDIT: it did not reach the prover: $(head -n 3 "$log" | tr '\n' ' ')"
   else
-    said="refused: $(grep -m 1 -E '^(note: )?[^ ]+:[0-9]+:[0-9]+: ' "$log" | cut -c 1-150)"
+    said="refused: $(grep -m 1 -E ': error|is not proved' "$log" | cut -c 1-150)"
   fi
   (cd "$crate" && find . -mindepth 1 -maxdepth 1 ! -name out -exec rm -rf {} +)
   tar -x -C "$crate" -f "$room/$lane.tar"
