@@ -1,7 +1,10 @@
-//! What each client had its part in: its own list of the events that it made, beside the record of
-//! all events.
+//! Each client's own list of the events that it made, and its part of the record of all events.
 #![tactic(auto)]
 
+mod line;
 mod own;
+mod parts;
 
+pub use line::ClientLine;
 pub use own::Own;
+pub use parts::Parts;

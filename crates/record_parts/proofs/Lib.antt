@@ -1,0 +1,5 @@
+pub mod DifferLaws
+pub mod LineLaws
+pub mod LinkLaws
+pub mod SameLaws
+pub mod SetLaws

@@ -1,0 +1,153 @@
+//! Each client's part of the record.
+ghost use Rattle.std.specs.Prelude.{◌≡◌, ◌∷◌, ◌<◌, ◌^◌, IfOk, MatchOption, length, replicate};
+ghost use Rattle.record_parts.specs.Lines.{line_of, lines_of};
+ghost use Rattle.record_parts.specs.Links.{Links, Stands, rest_at};
+ghost use Rattle.record_parts.specs.Members.{AreAmong, IsFirstAbsent, joined};
+ghost use Rattle.record_parts.specs.Parts.{DifferAt, note, part};
+
+use crate::line::{Balance, ClientLine, NOTHING};
+use crate::own::Own;
+use sm_names::{Call, ClientId, NoMemory, Reply, Strength};
+use std::alloc::Global;
+use std::marker::Model;
+
+/// The record of all events, with each client's events chained. A contract sees the record.
+#[derive(Drop)]
+pub struct Parts<'a> {
+    record: &'a [(ClientId, Call, Reply)],
+    first: Vec<u64>,
+    next: Vec<u64>,
+}
+
+impl<'a> Model for Parts<'a> {
+    ghost use Rattle.std.specs.Prelude.{List, ◌<◌, ◌^◌, length};
+    ghost use Rattle.sm_names.specs.Marks.{Entry};
+    ghost use Rattle.record_parts.specs.Links.{Links};
+
+    ghost Value = { List Entry };
+
+    ghost view = { λ p. p.«record».now };
+
+    ghost invariant = { λ p. (length p.«record».now < 2 ^ 32)
+        × Links 0 p.first.items p.next.items p.«record».now };
+}
+
+// An entry of the record, as its client was told of it.
+fn noted(event: u64, entry: &(ClientId, Call, Reply)) -> Own
+    ensures { result ≡ note event entry.now }
+{
+    let (_, call, reply) = *entry;
+    Own { event, call, reply }
+}
+
+// Chains the events of each client, from the last one on.
+fn chain(record: &[(ClientId, Call, Reply)], first: &mut [u64], next: &mut [u64])
+    requires first { first.old ≡ replicate (length «record».now) 0 }
+    requires next { length next.old ≡ length «record».now }
+    ensures { Links 0 first.new next.new «record».now }
+{
+    let mut passed = record.len();
+    while passed > 0 {
+        passed -= 1;
+        let client = record[passed].0;
+        if client <= passed as u64 {
+            next[passed] = first[client as usize];
+            first[client as usize] = passed as u64 + 1;
+        }
+    }
+}
+
+impl<'a> Parts<'a> {
+    /// Chains each client's events of the record, in one pass over it.
+    pub fn new(alloc: Global, record: &'a [(ClientId, Call, Reply)]) -> Result<Parts<'a>, NoMemory>
+        requires { length «record».now < 2 ^ 32 }
+        ensures { IfOk result (λ p. p ≡ «record».now) }
+    {
+        let Ok(mut first) = vec![in alloc; 0; record.len()] else {
+            return Err(NoMemory);
+        };
+        let Ok(mut next) = vec![in alloc; 0; record.len()] else {
+            return Err(NoMemory);
+        };
+        chain(record, first.as_mut_slice(), next.as_mut_slice());
+        Ok(Parts {
+            record,
+            first,
+            next,
+        })
+    }
+
+    // The first event of the client's part, or 0.
+    fn first_of(&self, client: ClientId) -> u64
+        ensures stands { Stands self.now client result }
+        ensures rest { rest_at self.now client result ≡ part client self.now }
+        ensures few { length self.now < 2 ^ 32 }
+    {
+        if client < self.record.len() as u64 {
+            self.first[client as usize]
+        } else {
+            0
+        }
+    }
+
+    // What the client was told at this event, and the next event of its part, or 0.
+    fn step(&self, client: ClientId, event: u64) -> (Own, u64)
+        requires some { 0 < event }
+        requires stands { Stands self.now client event }
+        ensures event { result.0.event ≡ event }
+        ensures stands { Stands self.now client result.1 }
+        ensures rest { rest_at self.now client event ≡ result.0 ∷ rest_at self.now client result.1 }
+    {
+        let record = self.record;
+        let at = (event - 1) as usize;
+        (noted(event, &record[at]), self.next[at])
+    }
+
+    /// Where a client's own list is not its part: the event of the part at the first place where they
+    /// differ, or of the list, if the part is over.
+    pub fn differ(&self, client: ClientId, own: &[Own]) -> Option<u64>
+        ensures { MatchOption result (own.now ≡ part client self.now)
+            (λ event. DifferAt event own.now (part client self.now)) }
+    {
+        let mut event = self.first_of(client);
+        let mut left = own;
+        while event != 0 {
+            let (told, next) = self.step(client, event);
+            let Some((mine, more)) = left.split_first() else {
+                return Some(event);
+            };
+            if !mine.is(&told) {
+                return Some(event);
+            }
+            left = more;
+            event = next;
+        }
+        match left.first() {
+            Some(mine) => Some(mine.event),
+            None => None,
+        }
+    }
+
+    /// How many events the client made, and how many handles of each strength it has open.
+    pub fn line(&self, client: ClientId) -> ClientLine
+        ensures { result ≡ line_of self.now client }
+    {
+        let mut events = 0;
+        let mut strong = NOTHING;
+        let mut weak = NOTHING;
+        let mut event = self.first_of(client);
+        while event != 0 {
+            let (own, next) = self.step(client, event);
+            events += 1;
+            strong.count(Strength::Strong, &own);
+            weak.count(Strength::Weak, &own);
+            event = next;
+        }
+        ClientLine {
+            client,
+            events,
+            strong: strong.gained.saturating_sub(strong.lost),
+            weak: weak.gained.saturating_sub(weak.lost),
+        }
+    }
+}
