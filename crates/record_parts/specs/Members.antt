@@ -1,5 +1,5 @@
 -- Who joined.
-use Rattle.std.specs.Prelude.{ℕ, ◌+◌, ◌==◌, ◌≡◌, Bool, true, false, if◌then◌else◌, List, [], ◌∷◌, ◌++◌, is_some}
+use Rattle.std.specs.Prelude.{ℕ, ◌+◌, ◌==◌, ◌≡◌, Bool, true, false, if◌then◌else◌, List, [], ◌∷◌, ◌++◌, is_some, ◌<◌, length, get_or}
 use Rattle.std.specs.List.{All, list_any}
 use Rattle.sm_names.specs.Ends.{joined_at}
 use Rattle.sm_names.specs.Marks.{Entry}
@@ -34,3 +34,7 @@ pub record IsFirstAbsent (ids : List ℕ) (history : List Entry) (client : ℕ) 
   pub joined : joined history ≡ before ++ client ∷ after
   pub present : AreAmong ids before
   pub absent : is_among ids client ≡ false
+
+-- the first clients, by their numbers, are marked where they are among these
+pub record Marks (present : List Bool) (ids : List ℕ) : Type 0 where
+  pub each : (k : ℕ) → k < length present → get_or present k false ≡ is_among ids (k + 1)

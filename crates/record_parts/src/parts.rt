@@ -1,8 +1,8 @@
 //! Each client's part of the record.
-ghost use Rattle.std.specs.Prelude.{◌≡◌, ◌∷◌, ◌<◌, ◌^◌, IfOk, MatchOption, length, replicate};
+ghost use Rattle.std.specs.Prelude.{◌≡◌, ◌∷◌, ◌<◌, ◌^◌, IfOk, MatchOption, false, length, replicate};
 ghost use Rattle.record_parts.specs.Lines.{line_of, lines_of};
 ghost use Rattle.record_parts.specs.Links.{Links, Stands, rest_at};
-ghost use Rattle.record_parts.specs.Members.{AreAmong, IsFirstAbsent, joined};
+ghost use Rattle.record_parts.specs.Members.{AreAmong, IsFirstAbsent, Marks, is_join, joined};
 ghost use Rattle.record_parts.specs.Parts.{DifferAt, note, part};
 
 use crate::line::{Balance, ClientLine, NOTHING};
@@ -54,6 +54,33 @@ fn chain(record: &[(ClientId, Call, Reply)], first: &mut [u64], next: &mut [u64]
             next[passed] = first[client as usize];
             first[client as usize] = passed as u64 + 1;
         }
+    }
+}
+
+// Whether the event made a client.
+fn is_join(entry: &(ClientId, Call, Reply)) -> bool
+    ensures { result ≡ is_join entry.now }
+{
+    match entry.1 {
+        Call::Join => match entry.2 {
+            Reply::Joined(_) => true,
+            _ => false,
+        },
+        _ => false,
+    }
+}
+
+// Marks each of these clients at the place before its number.
+fn mark(ids: &[ClientId], present: &mut [bool])
+    requires { present.old ≡ replicate (length present.old) false }
+    ensures { Marks present.new ids.now }
+{
+    let mut rest = ids;
+    while let Some((id, others)) = rest.split_first() {
+        if *id > 0 && *id <= present.len() as u64 {
+            present[(*id - 1) as usize] = true;
+        }
+        rest = others;
     }
 }
 
@@ -149,5 +176,48 @@ impl<'a> Parts<'a> {
             strong: strong.gained.saturating_sub(strong.lost),
             weak: weak.gained.saturating_sub(weak.lost),
         }
+    }
+
+    /// A line for each client that joined, in order. `NoMemory` where memory is refused.
+    pub fn lines(&self, alloc: Global) -> Result<Vec<ClientLine>, NoMemory>
+        ensures { IfOk result (λ lines. lines.items ≡ lines_of self.now) }
+    {
+        let mut lines = Vec::new(alloc);
+        let mut rest = self.record;
+        let mut event: u64 = 1;
+        while let Some((entry, later)) = rest.split_first() {
+            if is_join(entry) && lines.push(self.line(event)).is_err() {
+                return Err(NoMemory);
+            }
+            rest = later;
+            event += 1;
+        }
+        Ok(lines)
+    }
+
+    /// The first client that joined and is not among these. `NoMemory` where memory is refused.
+    pub fn first_absent(
+        &self,
+        alloc: Global,
+        ids: &[ClientId],
+    ) -> Result<Option<ClientId>, NoMemory>
+        ensures { IfOk result (λ found. MatchOption found (AreAmong ids.now (joined self.now))
+            (λ client. IsFirstAbsent ids.now self.now client)) }
+    {
+        let record = self.record;
+        let Ok(mut present) = vec![in alloc; false; record.len()] else {
+            return Err(NoMemory);
+        };
+        mark(ids, present.as_mut_slice());
+        let mut rest = record;
+        let mut at: usize = 0;
+        while let Some((entry, later)) = rest.split_first() {
+            if is_join(entry) && !present[at] {
+                return Ok(Some(at as u64 + 1));
+            }
+            rest = later;
+            at += 1;
+        }
+        Ok(None)
     }
 }
