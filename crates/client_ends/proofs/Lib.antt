@@ -1,0 +1,4 @@
+pub mod DraftLaws
+pub mod MadeLaws
+pub mod TakeLaws
+pub mod UnitLaws

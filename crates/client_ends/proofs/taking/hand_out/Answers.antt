@@ -1,0 +1,67 @@
+use Rattle.std.proofs.Common.{◌≡◌, ◌<◌, ◌++◌, ◌∷◌, [], ◌∙◌, true, false, ◌==◌, ap, arith, length, refl, sym}
+use Rattle.std.specs.Int.{bit_at}
+use Rattle.client_ends.specs.Clients.{Grip}
+use Rattle.client_ends.specs.Taking.{grips_at}
+use Rattle.event_laws.specs.HandleSums.{indices_in}
+use Rattle.client_ends.proofs.TakeLaws.{grips_all, grips_first, grips_with, grips_without, none_left, same_events, unit_there, units_behind, units_first, units_stay}
+use Rattle.client_ends.proofs.taking.hand_out.Goals as goal
+use Rattle.client_ends.proofs.taking.hand_out.Goals.{then-has_bit, else-has_bit}
+
+pub handing-init : goal.handing-init
+handing-init g c = record {
+  units = units_first c.args.units.now c.args.taken.now c.requires.units;
+  events = refl;
+  handles = grips_first c.args.client c.args.taken.now c.args.room.now.handles.items c.requires.none;
+  few = omega (arith, c.args.room.now.handles.ok, ap length c.requires.none);
+  space = c.requires.space;
+  spares = omega (arith, c.requires.spares);
+}
+
+pub hand_one-handle-requires-clause-unit : goal.hand_one-handle-requires-clause-unit
+hand_one-handle-requires-clause-unit g c =
+    unit_there c.handing.index c.args.taken.now.set c.args.taken.now.strength c.handing.units c.handing-test.true
+    (sym c.has_bit.ensures ∙ c.if-has_bit.true) c.handing.invariant.units
+
+pub handing-preserved : goal.handing-preserved
+handing-preserved g c =
+    let i = c.handing.index in
+    let taken = c.args.taken.now in
+    let so = c.handing.invariant in
+    let low : i < 64 = c.handing-test.true in
+    let all = grips_at c.args.client taken (indices_in taken.set) in
+    let items = c.handing.room.handles.items in
+    elim c.if-has_bit.branch [
+      | then-has_bit w ↦
+          let bit : (bit_at taken.set i == 1) ≡ true = sym c.has_bit.ensures ∙ w.if-has_bit.true in
+          let passed = w.hand_one-handle.ensures.units in
+          let pushed = w.push_reserved.ensures.items ∙ ap (λ (h : Grip). items ++ h ∷ []) w.hand_one-handle.ensures.handle in
+          record {
+            units = rw w.units-is (units_behind i taken.set taken.strength c.handing.units w.hand_one-handle.new.units low bit so.units passed);
+            events = rw w.units-is (same_events taken.strength c.handing.units w.hand_one-handle.new.units passed ∙ so.events);
+            handles = rw w.room-is (rw pushed (grips_with i taken.set c.args.client taken items all low bit so.handles));
+            few = rw w.room-is (omega (arith, w.push_reserved.ensures.len, so.few));
+            space = rw w.room-is (omega (arith, w.push_reserved.ensures.capacity, so.space));
+            spares = rw w.room-is (omega (arith, w.hand_one-handle.ensures.spares, so.spares));
+          }
+      | else-has_bit w ↦
+          let bit : (bit_at taken.set i == 1) ≡ false = sym c.has_bit.ensures ∙ w.if-has_bit.false in
+          record {
+            units = rw w.units-is (units_stay i taken.set taken.strength c.handing.units low bit so.units);
+            events = rw w.units-is so.events;
+            handles = rw w.room-is (grips_without i taken.set c.args.client taken items all low bit so.handles);
+            few = rw w.room-is (omega (arith, so.few));
+            space = rw w.room-is so.space;
+            spares = rw w.room-is (omega (arith, so.spares));
+          }
+    ]
+
+pub returns-clause-units : goal.returns-clause-units
+returns-clause-units g c =
+    let all : c.handing.index ≡ 64 = omega (arith, c.handing-test.false, c.handing.auto.index-end) in
+    none_left c.handing.index c.args.taken.now.set c.args.taken.now.strength c.handing.units all c.handing.invariant.units
+
+pub returns-clause-handles : goal.returns-clause-handles
+returns-clause-handles g c =
+    let all : c.handing.index ≡ 64 = omega (arith, c.handing-test.false, c.handing.auto.index-end) in
+    grips_all c.handing.index c.args.taken.now.set c.args.client c.args.taken.now c.handing.room.handles.items
+    (grips_at c.args.client c.args.taken.now (indices_in c.args.taken.now.set)) all c.handing.invariant.handles

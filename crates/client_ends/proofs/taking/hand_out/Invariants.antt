@@ -1,0 +1,18 @@
+use Rattle.std.proofs.Common.{◌≡◌, ◌≤◌, ◌+◌, ◌-◌, ◌++◌, length, vec_len}
+use Rattle.std.specs.Prelude.{vec_capacity}
+use Rattle.event_laws.specs.HandleSums.{indices_in}
+use Rattle.client_ends.specs.Clients.{SameHandles}
+use Rattle.client_ends.specs.Taking.{grips_at, handful}
+use Rattle.client_ends.proofs.TakeLaws.{indices_from}
+use Rattle.client_ends.proofs.taking.hand_out.Given as goal
+
+-- the units of the handles that are still to come are there, and the handles before them were handed out
+abbrev pub invariant-handing : goal.invariant-handing
+invariant-handing g l = record {
+  units : SameHandles l.units (handful l.taken.strength (length (indices_from l.index (64 - l.index) l.taken.set)));
+  events : l.units.events ≡ l.fn.units.events;
+  handles : l.room.handles.items ++ grips_at l.client l.taken (indices_from l.index (64 - l.index) l.taken.set) ≡ grips_at l.client l.taken (indices_in l.taken.set);
+  few : vec_len l.room.handles ≤ l.index;
+  space : 64 ≤ vec_capacity l.room.handles;
+  spares : 64 ≤ vec_len l.room.spares + l.index;
+}

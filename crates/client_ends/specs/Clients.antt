@@ -1,0 +1,153 @@
+-- What a contract sees of clients and of what they hold.
+use Rattle.std.specs.Prelude.{Some, None, Result, Ok, Err, ◌≡◌, ℕ, ◌+◌, ◌-◌, Bool, true, false, List, [], ◌∷◌, ◌++◌, length, slice_get, map, Option, option_map}
+use Rattle.sm_names.specs.declared.keys.NodeKey.{NodeKey}
+use Rattle.sm_names.specs.declared.keys.BufferName.{BufferName}
+use Rattle.sm_names.specs.declared.keys.Strength.{Strength}
+use Rattle.sm_names.specs.declared.messages.Call.{Call}
+use Rattle.sm_names.specs.declared.messages.Reply.{Reply}
+use Rattle.sm_names.specs.declared.outcomes.StepFault.{StepFault}
+use Rattle.service_lock.specs.Units.{Amounts, with_one}
+use Rattle.client_ends.specs.declared.account.Own.{Own}
+use Rattle.client_ends.specs.declared.why.Why.{Why}
+
+-- the amounts of a client's shares, and its own list
+pub record Sums : Type 0 where
+  pub units : Amounts
+  pub own : List Own
+
+-- a client: its id, the amount of its share of the events, and its own list
+pub record Seen : Type 0 where
+  pub id : ℕ
+  pub share : ℕ
+  pub own : List Own
+
+-- an end: its holder, its node, and the node's collection
+pub record Tag : Type 0 where
+  pub client : ℕ
+  pub key : NodeKey
+  pub collection : ℕ
+
+-- the reply of the last entry
+abbrev pub last_reply : List Own → Option Reply
+last_reply own = option_map (λ (o : Own). o.reply) (slice_get own (length own - 1))
+
+-- the list with one entry more, of this call and this reply
+pub record IsTold (old new : List Own) (call : Call) (reply : Reply) : Type 0 where
+  pub event : ℕ
+  pub next : new ≡ old ++ record { event = event; call = call; reply = reply } ∷ []
+
+-- the client made one event, of this call and this reply: its share rose by one, and it stands last in its own list
+pub record Made (old new : Seen) (call : Call) (reply : Reply) : Type 0 where
+  pub id : new.id ≡ old.id
+  pub share : new.share ≡ old.share + 1
+  pub told : IsTold old.own new.own call reply
+
+-- the calls of the entries
+abbrev pub calls_of : List Own → List Call
+calls_of own = map (λ (o : Own). o.call) own
+
+-- their replies
+abbrev pub replies_of : List Own → List Reply
+replies_of own = map (λ (o : Own). o.reply) own
+
+-- the client made one event for each of these calls, in this order, with these replies, and no other
+pub record MadeAll (old new : Seen) (asked : List Call) (told : List Reply) : Type 0 where
+  pub id : new.id ≡ old.id
+  pub share : new.share ≡ old.share + length asked
+  pub added : List Own
+  pub own : new.own ≡ old.own ++ added
+  pub calls : calls_of added ≡ asked
+  pub replies : replies_of added ≡ told
+
+-- the reply is Done
+abbrev pub is_done : Reply → Bool
+is_done Reply.Done = true
+is_done _ = false
+
+-- a Release that was answered so has spent its end
+abbrev pub is_over : Reply → Bool
+is_over Reply.Done = true
+is_over (Reply.PeerClosed cause origin) = true
+is_over _ = false
+
+-- the reply tells of a new token
+abbrev pub is_token : Reply → Bool
+is_token (Reply.Token key collection) = true
+is_token _ = false
+
+-- of a new tracker
+abbrev pub is_tracker : Reply → Bool
+is_tracker (Reply.Tracker id) = true
+is_tracker _ = false
+
+-- of handles that were taken
+abbrev pub is_taken : Reply → Bool
+is_taken (Reply.Taken collection strength set) = true
+is_taken _ = false
+
+-- of what was in a parcel, or that none waited
+abbrev pub is_found : Reply → Bool
+is_found (Reply.Collected key kind collection) = true
+is_found (Reply.CollectedHandle buffer strength) = true
+is_found Reply.Empty = true
+is_found _ = false
+
+-- one event was made, whose reply is the reason and none of those that were hoped for, or no event was
+abbrev pub MadeOr : (Reply → Bool) → Seen → Seen → Call → Why → Type 0
+MadeOr hoped old new call (Why.Reply reply) = Made old new call reply × (hoped reply ≡ false)
+MadeOr hoped old new call (Why.Fault fault) = new ≡ old
+
+-- a handle: who has it, its buffer, and its strength
+pub record Grip : Type 0 where
+  pub client : ℕ
+  pub buffer : BufferName
+  pub strength : Strength
+
+-- nothing of any book
+abbrev pub nothing : Amounts
+nothing = record { events = 0; strong = 0; weak = 0 }
+
+-- the unit of one handle of this strength
+abbrev pub unit_of : Strength → Amounts
+unit_of strength = with_one strength nothing
+
+-- the strength of the handle that the call drops or gives: no other call lets one go
+abbrev pub lets_go : Call → Option Strength
+lets_go (Call.DropHandle buffer strength) = Some strength
+lets_go (Call.GiveHandle buffer strength to) = Some strength
+lets_go _ = None
+
+-- the call can bring its caller one handle
+abbrev pub may_gain : Call → Bool
+may_gain (Call.DupHandle buffer strength) = true
+may_gain Call.Collect = true
+may_gain _ = false
+
+-- the strength of the handle that the event brought: no other call brings one alone
+abbrev pub gained : Call → Reply → Option Strength
+gained (Call.DupHandle buffer strength) Reply.Done = Some strength
+gained Call.Collect (Reply.CollectedHandle buffer strength) = Some strength
+gained _ _ = None
+
+-- the amounts with the handle that was brought
+abbrev pub with_gain : Option Strength → Amounts → Amounts
+with_gain None units = units
+with_gain (Some strength) units = with_one strength units
+
+-- the amounts have the same handles
+abbrev pub SameHandles : Amounts → Amounts → Type 0
+SameHandles a b = (a.strong ≡ b.strong) × (a.weak ≡ b.weak)
+
+-- the event was made and answered Done
+abbrev pub made_done : Result Reply StepFault → Bool
+made_done (Ok reply) = is_done reply
+made_done (Err fault) = false
+
+-- the call opens, drops and moves no handle, and collects nothing
+abbrev pub is_plain : Call → Bool
+is_plain Call.Collect = false
+is_plain (Call.Take key) = false
+is_plain (Call.DupHandle buffer strength) = false
+is_plain (Call.DropHandle buffer strength) = false
+is_plain (Call.GiveHandle buffer strength to) = false
+is_plain _ = true

@@ -1,0 +1,219 @@
+//! What a client counts.
+ghost use Rattle.std.specs.Prelude.{◌≡◌, ◌+◌, ◌≤◌, ◌↔◌, [], Some, false, true, IfOk, OnErr, Err, length, vec_len, vec_capacity};
+ghost use Rattle.sm_names.specs.declared.outcomes.StepFault.{StepFault as Fault};
+ghost use Rattle.sm_names.specs.declared.messages.Call.{Call as Asked};
+ghost use Rattle.lifetime_core.specs.Kinds.{fits_call};
+ghost use Rattle.service_lock.specs.States.{after};
+ghost use Rattle.service_lock.specs.Units.{Counts, HasUnitFor};
+ghost use Rattle.client_ends.specs.Clients.{IsTold, SameHandles, gained, is_done, lets_go, made_done, may_gain, nothing, unit_of, with_gain};
+ghost use Rattle.client_ends.specs.Taking.{grips_by, told_taken};
+
+use crate::spare::refused;
+use crate::taking::{Room, hand_out, taken_by};
+use service_lock::{State, Units, apply, books, pass};
+use sm_names::{Call, ClientId, NodeKey, Reply, StepFault, Strength};
+use std::alloc::Global;
+use std::marker::Model;
+use std::sync::ledger::Ledger;
+
+/// An event that a client made: its number, from 1, its call, and its reply.
+#[derive(Clone, Copy)]
+pub struct Own {
+    pub event: u64,
+    pub call: Call,
+    pub reply: Reply,
+}
+
+// Whether the event was made and answered Done.
+fn was_done(made: &Result<Reply, StepFault>) -> bool
+    ensures { result ≡ made_done made.now }
+{
+    match *made {
+        Ok(Reply::Done) => true,
+        _ => false,
+    }
+}
+
+// The strength of the handle that the event brought.
+fn gained(call: &Call, reply: &Reply) -> Option<Strength>
+    ensures { result ≡ gained call.now reply.now }
+{
+    match *call {
+        Call::DupHandle(_, strength) => match *reply {
+            Reply::Done => Some(strength),
+            _ => None,
+        },
+        Call::Collect => match *reply {
+            Reply::CollectedHandle {
+                buffer: _,
+                strength,
+            } => Some(strength),
+            _ => None,
+        },
+        _ => None,
+    }
+}
+
+/// A client's shares of the books, and its own list of the events that it made after its Join.
+pub(crate) struct Account<E: Ledger, S: Ledger, W: Ledger> {
+    pub units: Units<E, S, W>,
+    own: Vec<Own>,
+}
+
+impl<E: Ledger, S: Ledger, W: Ledger> Model for Account<E, S, W> {
+    ghost use Rattle.std.specs.Prelude.{◌≡◌, ◌+◌, vec_len};
+    ghost use Rattle.client_ends.specs.Clients.{Sums};
+
+    ghost Value = { Sums };
+
+    ghost view = { λ a. record { units = a.units; own = a.own.items } };
+
+    ghost invariant = { λ a. a.units.events ≡ vec_len a.own + 1 };
+}
+
+impl<E: Ledger, S: Ledger, W: Ledger> Account<E, S, W> {
+    /// The account of a client that has made its Join alone.
+    pub fn new(alloc: Global, units: Units<E, S, W>) -> Account<E, S, W>
+        requires { units.events ≡ 1 }
+        ensures { result ≡ record { units = units; own = [] } }
+    {
+        Account {
+            units,
+            own: Vec::new(alloc),
+        }
+    }
+
+    /// The list.
+    pub fn own(&self) -> &[Own]
+        ensures value { result.now ≡ self.now.own }
+        ensures share { self.now.units.events ≡ length self.now.own + 1 }
+    {
+        self.own.as_slice()
+    }
+
+    /// Makes one event, and counts it.
+    pub fn make(
+        &mut self,
+        state: &mut State<E, S, W>,
+        client: ClientId,
+        call: Call,
+    ) -> Result<Reply, StepFault>
+        requires { HasUnitFor call self.old.units }
+        ensures counts { IfOk result (λ r. Counts self.old.units self.new.units call r) }
+        ensures told { IfOk result (λ r. IsTold self.old.own self.new.own call r) }
+        ensures kind { IfOk result (λ r. fits_call call r ≡ true) }
+        ensures state { IfOk result (λ r. state.new ≡ after state.old client call r) }
+        ensures fault { OnErr result ((self.new ≡ self.old) × (state.new ≡ state.old)) }
+        ensures full { (result ≡ Err Fault.HistoryFull)
+            ↔ (state.old.limits.events ≤ length state.old.history) }
+    {
+        if self.own.reserve(1).is_err() {
+            return Err(refused(state));
+        }
+        let asked = call;
+        let reply = apply(state, &mut self.units, client, call)?;
+        let event = books(state).events;
+        self.own.push_reserved(Own {
+            event,
+            call: asked,
+            reply,
+        });
+        Ok(reply)
+    }
+
+    /// Makes an event that drops or gives a handle, whose unit is lent. It stays with its lender
+    /// unless the answer is Done.
+    #[tactic(auto, using(crate::proofs::UnitLaws::has_unit, crate::proofs::UnitLaws::after_letting_go))]
+    pub fn make_with(
+        &mut self,
+        state: &mut State<E, S, W>,
+        client: ClientId,
+        call: Call,
+        strength: Strength,
+        unit: &mut Units<E, S, W>,
+    ) -> Result<Reply, StepFault>
+        requires none { SameHandles self.old.units nothing }
+        requires unit { unit.old ≡ unit_of strength }
+        requires call { lets_go call ≡ Some strength }
+        ensures none { SameHandles self.new.units nothing }
+        ensures share { IfOk result (λ r.
+            self.new.units.events ≡ self.old.units.events + 1) }
+        ensures told { IfOk result (λ r. IsTold self.old.own self.new.own call r) }
+        ensures unit { IfOk result (λ r. is_done r ≡ false → unit.new ≡ unit.old) }
+        ensures fault { OnErr result ((self.new ≡ self.old) × (unit.new ≡ unit.old)) }
+        ensures full { (result ≡ Err Fault.HistoryFull)
+            ↔ (state.old.limits.events ≤ length state.old.history) }
+    {
+        pass(state, unit, &mut self.units, strength);
+        let made = self.make(state, client, call);
+        if !was_done(&made) {
+            pass(state, &mut self.units, unit, strength);
+        }
+        made
+    }
+
+    /// Makes an event that may bring a handle, whose unit the lent one takes.
+    #[tactic(auto, using(crate::proofs::UnitLaws::needs_none, crate::proofs::UnitLaws::after_gaining))]
+    pub fn make_gaining(
+        &mut self,
+        state: &mut State<E, S, W>,
+        client: ClientId,
+        call: Call,
+        unit: &mut Units<E, S, W>,
+    ) -> Result<Reply, StepFault>
+        requires none { SameHandles self.old.units nothing }
+        requires unit { unit.old ≡ nothing }
+        requires call { may_gain call ≡ true }
+        ensures none { SameHandles self.new.units nothing }
+        ensures share { IfOk result (λ r.
+            self.new.units.events ≡ self.old.units.events + 1) }
+        ensures told { IfOk result (λ r. IsTold self.old.own self.new.own call r) }
+        ensures unit { IfOk result (λ r. unit.new ≡ with_gain (gained call r) nothing) }
+        ensures fault { OnErr result ((self.new ≡ self.old) × (unit.new ≡ unit.old)) }
+        ensures full { (result ≡ Err Fault.HistoryFull)
+            ↔ (state.old.limits.events ≤ length state.old.history) }
+    {
+        let asked = call;
+        let reply = self.make(state, client, call)?;
+        if let Some(strength) = gained(&asked, &reply) {
+            pass(state, &mut self.units, unit, strength);
+        }
+        Ok(reply)
+    }
+
+    /// Makes a Take, whose handles go where room was made for them.
+    #[tactic(auto, using(crate::proofs::TakeLaws::after_taking))]
+    pub fn make_taking(
+        &mut self,
+        state: &mut State<E, S, W>,
+        client: ClientId,
+        key: NodeKey,
+        room: &mut Room<E, S, W>,
+    ) -> Result<Reply, StepFault>
+        requires none { SameHandles self.old.units nothing }
+        requires empty { room.old.handles.items ≡ [] }
+        requires space { 64 ≤ vec_capacity room.old.handles }
+        requires spares { 64 ≤ vec_len room.old.spares }
+        ensures none { SameHandles self.new.units nothing }
+        ensures share { IfOk result (λ r.
+            self.new.units.events ≡ self.old.units.events + 1) }
+        ensures told { IfOk result (λ r. IsTold self.old.own self.new.own (Asked.Take key) r) }
+        ensures handles { IfOk result (λ r.
+            room.new.handles.items ≡ grips_by client (told_taken r)) }
+        ensures fault { OnErr result (self.new ≡ self.old) }
+        ensures empty { OnErr result (room.new.handles.items ≡ []) }
+        ensures full { (result ≡ Err Fault.HistoryFull)
+            ↔ (state.old.limits.events ≤ length state.old.history) }
+    {
+        let reply = self.make(state, client, Call::Take(key))?;
+        if let Some(taken) = taken_by(&reply) {
+            hand_out(state, &mut self.units, room, client, &taken);
+        }
+        Ok(reply)
+    }
+
+    /// Lets the account go.
+    pub fn spend(self) {
+        let Account { units: _, own: _ } = self;
+    }
+}

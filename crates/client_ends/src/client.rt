@@ -1,0 +1,431 @@
+//! Clients.
+ghost use Rattle.std.specs.Prelude.{◌≡◌, ◌+◌, ◌≤◌, ◌↔◌, Some, [], true, Err, IfOk, OnErr, MatchResult, length};
+ghost use Rattle.sm_names.specs.declared.messages.Call.{Call as Asked};
+ghost use Rattle.sm_names.specs.declared.messages.Reply.{Reply as Told};
+ghost use Rattle.sm_names.specs.declared.outcomes.StepFault.{StepFault as Fault};
+ghost use Rattle.client_ends.specs.declared.why.Why.{Why as Reason};
+ghost use Rattle.lifetime_core.specs.Kinds.{fits_call};
+ghost use Rattle.service_lock.specs.States.{after};
+ghost use Rattle.client_ends.specs.Clients.{Made, MadeOr, is_done, is_found, is_over, is_plain, is_taken, is_token, is_tracker, last_reply, lets_go, unit_of};
+ghost use Rattle.client_ends.specs.Collecting.{Collected};
+ghost use Rattle.client_ends.specs.Taking.{Took};
+
+use crate::account::{Account, Own};
+use crate::ended::Ended;
+use crate::ends::{CollectionEnd, TokenEnd};
+use crate::handle::Handle;
+use crate::held::End;
+use crate::spare::empty;
+use crate::taking::make_room;
+use crate::why::Why;
+use service_lock::{Service, State, Units, apply, take_tracker};
+use sm_names::{BufferName, Call, ClientId, Kind, NodeKey, Reply, StepFault, Strength};
+use std::alloc::Global;
+use std::marker::Model;
+use std::sync::Wait;
+use std::sync::ledger::Ledger;
+use trackers::Tracker;
+
+/// A client. It must be spent: at the end of the service, at the latest.
+///
+/// A contract sees its id, the amount of its share of the book of events, and its own list.
+pub struct Client<E: Ledger, S: Ledger, W: Ledger> {
+    id: ClientId,
+    account: Account<E, S, W>,
+}
+
+impl<E: Ledger, S: Ledger, W: Ledger> Model for Client<E, S, W> {
+    ghost use Rattle.std.specs.Prelude.{◌≡◌};
+    ghost use Rattle.client_ends.specs.Clients.{Seen};
+
+    ghost Value = { Seen };
+
+    ghost view = { λ c. record {
+      id = c.id;
+      share = c.account.units.events;
+      own = c.account.own;
+    } };
+
+    ghost invariant = { λ c. (c.account.units.strong ≡ 0) × (c.account.units.weak ≡ 0) };
+}
+
+/// A new client, which made one event, its Join: it has no entry of its own yet.
+///
+/// A fault is no event: `HistoryFull` where the record has as many entries as may be, and else
+/// `NoMemory`. Costs one event.
+pub fn join<E: Ledger, S: Ledger, W: Ledger, R: Wait>(
+    rt: &R,
+    alloc: Global,
+    service: &Service<E, S, W>,
+) -> Result<Client<E, S, W>, StepFault>
+    ensures { IfOk result (λ c. (c.own ≡ []) × (c.share ≡ 1)) }
+{
+    let mut guard = service.lock(rt);
+    join_in(alloc, guard.state_mut())
+}
+
+// The same, under a lock that was taken: the event is the client's Join.
+fn join_in<E: Ledger, S: Ledger, W: Ledger>(
+    alloc: Global,
+    state: &mut State<E, S, W>,
+) -> Result<Client<E, S, W>, StepFault>
+    ensures client { IfOk result (λ c. (c.own ≡ []) × (c.share ≡ 1)) }
+    ensures event { IfOk result (λ c.
+        state.new ≡ after state.old 0 Asked.Join (Told.Joined c.id)) }
+    ensures full { (result ≡ Err Fault.HistoryFull)
+        ↔ (state.old.limits.events ≤ length state.old.history) }
+{
+    let mut units = empty(state)?;
+    match apply(state, &mut units, 0, Call::Join)? {
+        Reply::Joined(id) => Ok(Client {
+            id,
+            account: Account::new(alloc, units),
+        }),
+        _ => unreachable!(),
+    }
+}
+
+impl<E: Ledger, S: Ledger, W: Ledger> Client<E, S, W> {
+    /// Its id: the number of its Join. It takes no lock, nor do `own` and `last`.
+    pub fn id(&self) -> ClientId
+        ensures { result ≡ self.now.id }
+    {
+        self.id
+    }
+
+    /// Its own list: the events that it made after its Join, in order. Its share of the book of
+    /// events is the length of the list and one more, for the Join.
+    pub fn own(&self) -> &[Own]
+        ensures value { result.now ≡ self.now.own }
+        ensures share { self.now.share ≡ length self.now.own + 1 }
+    {
+        self.account.own()
+    }
+
+    /// The reply of the last event of its own list, `None` where that is empty.
+    pub fn last(&self) -> Option<Reply>
+        ensures value { result ≡ last_reply self.now.own }
+        ensures share { self.now.share ≡ length self.now.own + 1 }
+    {
+        match self.account.own().last() {
+            Some(own) => Some(own.reply),
+            None => None,
+        }
+    }
+
+    // Makes an event that opens and moves no handle, under a lock that was taken.
+    pub(crate) fn event_in(
+        &mut self,
+        state: &mut State<E, S, W>,
+        call: Call,
+    ) -> Result<Reply, StepFault>
+        requires { is_plain call ≡ true }
+        ensures made { MatchResult result
+            (λ r. Made self.old self.new call r) (λ _. self.new ≡ self.old) }
+        ensures kind { IfOk result (λ r. fits_call call r ≡ true) }
+        ensures state { IfOk result (λ r. state.new ≡ after state.old self.old.id call r) }
+        ensures fault { OnErr result (state.new ≡ state.old) }
+        ensures full { (result ≡ Err Fault.HistoryFull)
+            ↔ (state.old.limits.events ≤ length state.old.history) }
+    {
+        self.account.make(state, self.id, call)
+    }
+
+    // The same, which takes the lock.
+    pub(crate) fn event<R: Wait>(
+        &mut self,
+        rt: &R,
+        service: &Service<E, S, W>,
+        call: Call,
+    ) -> Result<Reply, StepFault>
+        requires { is_plain call ≡ true }
+        ensures made { MatchResult result
+            (λ r. Made self.old self.new call r) (λ _. self.new ≡ self.old) }
+        ensures kind { IfOk result (λ r. fits_call call r ≡ true) }
+    {
+        let mut guard = service.lock(rt);
+        self.event_in(guard.state_mut(), call)
+    }
+
+    // The new end that the event makes.
+    pub(crate) fn new_end<R: Wait>(
+        &mut self,
+        rt: &R,
+        service: &Service<E, S, W>,
+        call: Call,
+    ) -> Result<TokenEnd, Why>
+        requires { is_plain call ≡ true }
+        ensures { MatchResult result
+            (λ t. (t.client ≡ self.old.id)
+            × Made self.old self.new call (Told.Token t.key t.collection))
+            (λ w. MadeOr is_token self.old self.new call w) }
+    {
+        match self.event(rt, service, call) {
+            Ok(Reply::Token { key, collection }) => Ok(TokenEnd::new(self.id, key, collection)),
+            Ok(reply) => Err(Why::Reply(reply)),
+            Err(fault) => Err(Why::Fault(fault)),
+        }
+    }
+
+    // Whether the event was answered Done.
+    pub(crate) fn done<R: Wait>(
+        &mut self,
+        rt: &R,
+        service: &Service<E, S, W>,
+        call: Call,
+    ) -> Result<(), Why>
+        requires { is_plain call ≡ true }
+        ensures { MatchResult result
+            (λ _. Made self.old self.new call Told.Done)
+            (λ w. MadeOr is_done self.old self.new call w) }
+    {
+        match self.event(rt, service, call) {
+            Ok(Reply::Done) => Ok(()),
+            Ok(reply) => Err(Why::Reply(reply)),
+            Err(fault) => Err(Why::Fault(fault)),
+        }
+    }
+
+    // The answer of the event, if it spends the end that it releases.
+    pub(crate) fn released<R: Wait>(
+        &mut self,
+        rt: &R,
+        service: &Service<E, S, W>,
+        call: Call,
+    ) -> Result<Reply, Why>
+        requires { is_plain call ≡ true }
+        ensures { MatchResult result
+            (λ r. Made self.old self.new call r × (is_over r ≡ true))
+            (λ w. MadeOr is_over self.old self.new call w) }
+    {
+        match self.event(rt, service, call) {
+            Ok(Reply::Done) => Ok(Reply::Done),
+            Ok(Reply::PeerClosed { cause, origin }) => Ok(Reply::PeerClosed { cause, origin }),
+            Ok(reply) => Err(Why::Reply(reply)),
+            Err(fault) => Err(Why::Fault(fault)),
+        }
+    }
+
+    // The tracker that the event makes.
+    #[tactic(auto, using(crate::proofs::UnitLaws::untaken_last))]
+    pub(crate) fn tracker<R: Wait>(
+        &mut self,
+        rt: &R,
+        service: &Service<E, S, W>,
+        call: Call,
+    ) -> Result<Tracker, Why>
+        requires { is_plain call ≡ true }
+        ensures { MatchResult result
+            (λ t. Made self.old self.new call (Told.Tracker t.tracker))
+            (λ w. MadeOr is_tracker self.old self.new call w) }
+    {
+        let mut guard = service.lock(rt);
+        let state = guard.state_mut();
+        match self.event_in(state, call) {
+            Ok(Reply::Tracker(id)) => match take_tracker(state, id) {
+                Some(tracker) => Ok(tracker),
+                None => unreachable!(),
+            },
+            Ok(reply) => Err(Why::Reply(reply)),
+            Err(fault) => Err(Why::Fault(fault)),
+        }
+    }
+
+    // Makes the event that lets a handle go, whose unit is lent.
+    pub(crate) fn let_go<R: Wait>(
+        &mut self,
+        rt: &R,
+        service: &Service<E, S, W>,
+        call: Call,
+        strength: Strength,
+        unit: &mut Units<E, S, W>,
+    ) -> Result<(), Why>
+        requires unit { unit.old ≡ unit_of strength }
+        requires call { lets_go call ≡ Some strength }
+        ensures made { MatchResult result
+            (λ _. Made self.old self.new call Told.Done)
+            (λ w. MadeOr is_done self.old self.new call w) }
+        ensures unit { OnErr result (unit.new ≡ unit.old) }
+    {
+        let mut guard = service.lock(rt);
+        let state = guard.state_mut();
+        match self.account.make_with(state, self.id, call, strength, unit) {
+            Ok(Reply::Done) => Ok(()),
+            Ok(reply) => Err(Why::Reply(reply)),
+            Err(fault) => Err(Why::Fault(fault)),
+        }
+    }
+
+    // One more handle of this buffer and strength.
+    pub(crate) fn doubled<R: Wait>(
+        &mut self,
+        rt: &R,
+        service: &Service<E, S, W>,
+        buffer: BufferName,
+        strength: Strength,
+    ) -> Result<Handle<E, S, W>, Why>
+        ensures { MatchResult result
+            (λ h. (h ≡ record { client = self.old.id; buffer = buffer; strength = strength })
+            × Made self.old self.new (Asked.DupHandle buffer strength) Told.Done)
+            (λ w. MadeOr is_done self.old self.new (Asked.DupHandle buffer strength) w) }
+    {
+        let mut guard = service.lock(rt);
+        self.doubled_in(guard.state_mut(), buffer, strength)
+    }
+
+    // The same, under a lock that was taken.
+    fn doubled_in(
+        &mut self,
+        state: &mut State<E, S, W>,
+        buffer: BufferName,
+        strength: Strength,
+    ) -> Result<Handle<E, S, W>, Why>
+        ensures made { MatchResult result
+            (λ h. (h ≡ record { client = self.old.id; buffer = buffer; strength = strength })
+            × Made self.old self.new (Asked.DupHandle buffer strength) Told.Done)
+            (λ w. MadeOr is_done self.old self.new (Asked.DupHandle buffer strength) w) }
+        ensures full { (result ≡ Err (Reason.Fault Fault.HistoryFull))
+            ↔ (state.old.limits.events ≤ length state.old.history) }
+    {
+        let mut unit = match empty(state) {
+            Ok(unit) => unit,
+            Err(fault) => return Err(Why::Fault(fault)),
+        };
+        let call = Call::DupHandle(buffer, strength);
+        match self.account.make_gaining(state, self.id, call, &mut unit) {
+            Ok(Reply::Done) => Ok(Handle::new(self.id, buffer, strength, unit)),
+            Ok(reply) => Err(Why::Reply(reply)),
+            Err(fault) => Err(Why::Fault(fault)),
+        }
+    }
+
+    // The handles that the Take opens.
+    pub(crate) fn taken<R: Wait>(
+        &mut self,
+        rt: &R,
+        alloc: Global,
+        service: &Service<E, S, W>,
+        key: NodeKey,
+    ) -> Result<Vec<Handle<E, S, W>>, Why>
+        ensures { MatchResult result
+            (λ hs. Took self.old self.new key hs.items)
+            (λ w. MadeOr is_taken self.old self.new (Asked.Take key) w) }
+    {
+        let mut guard = service.lock(rt);
+        self.taken_in(alloc, guard.state_mut(), key)
+    }
+
+    // The same, under a lock that was taken.
+    fn taken_in(
+        &mut self,
+        alloc: Global,
+        state: &mut State<E, S, W>,
+        key: NodeKey,
+    ) -> Result<Vec<Handle<E, S, W>>, Why>
+        ensures made { MatchResult result
+            (λ hs. Took self.old self.new key hs.items)
+            (λ w. MadeOr is_taken self.old self.new (Asked.Take key) w) }
+        ensures full { (result ≡ Err (Reason.Fault Fault.HistoryFull))
+            ↔ (state.old.limits.events ≤ length state.old.history) }
+    {
+        let mut room = match make_room(alloc, state) {
+            Ok(room) => room,
+            Err(fault) => return Err(Why::Fault(fault)),
+        };
+        match self.account.make_taking(state, self.id, key, &mut room) {
+            Ok(Reply::Taken { .. }) => return Ok(room.handles()),
+            Ok(reply) => {
+                room.end();
+                return Err(Why::Reply(reply));
+            }
+            Err(fault) => {
+                room.end();
+                return Err(Why::Fault(fault));
+            }
+        }
+    }
+
+    /// Takes the first parcel that waits for the client: an end or a handle, which is the client's
+    /// from now on, or `None` where no parcel waits. Costs one event.
+    pub fn collect<R: Wait>(
+        &mut self,
+        rt: &R,
+        service: &Service<E, S, W>,
+    ) -> Result<Option<End<E, S, W>>, Why>
+        ensures { MatchResult result
+            (λ found. Collected self.old self.new found)
+            (λ w. MadeOr is_found self.old self.new Asked.Collect w) }
+    {
+        let mut guard = service.lock(rt);
+        self.collect_in(guard.state_mut())
+    }
+
+    // The same, under a lock that was taken.
+    fn collect_in(&mut self, state: &mut State<E, S, W>) -> Result<Option<End<E, S, W>>, Why>
+        ensures made { MatchResult result
+            (λ found. Collected self.old self.new found)
+            (λ w. MadeOr is_found self.old self.new Asked.Collect w) }
+        ensures full { (result ≡ Err (Reason.Fault Fault.HistoryFull))
+            ↔ (state.old.limits.events ≤ length state.old.history) }
+    {
+        let mut unit = match empty(state) {
+            Ok(unit) => unit,
+            Err(fault) => return Err(Why::Fault(fault)),
+        };
+        match self
+            .account
+            .make_gaining(state, self.id, Call::Collect, &mut unit)
+        {
+            Ok(
+                Reply::Collected {
+                    key,
+                    kind: Kind::Token,
+                    collection,
+                },
+            ) => Ok(Some(End::Token(TokenEnd::new(self.id, key, collection)))),
+            Ok(
+                Reply::Collected {
+                    key,
+                    kind: Kind::Collection,
+                    collection,
+                },
+            ) => Ok(Some(End::Collection(CollectionEnd::new(self.id, key, collection)))),
+            Ok(Reply::CollectedHandle { buffer, strength }) => {
+                Ok(Some(End::Handle(Handle::new(self.id, buffer, strength, unit))))
+            }
+            Ok(Reply::Empty) => Ok(None),
+            Ok(reply) => Err(Why::Reply(reply)),
+            Err(fault) => Err(Why::Fault(fault)),
+        }
+    }
+
+    /// Shuts the client: it is given nothing more, and asks for no more ends or trackers. Answered
+    /// Shut with the number of parcels that wait for it. Costs one event.
+    pub fn shut<R: Wait>(&mut self, rt: &R, service: &Service<E, S, W>) -> Result<Reply, StepFault>
+        ensures { MatchResult result
+            (λ r. Made self.old self.new Asked.Shut r) (λ _. self.new ≡ self.old) }
+    {
+        self.event(rt, service, Call::Shut)
+    }
+
+    /// Makes a collection, and answers its root token
+    /// (`fuchsia.sysmem2.Allocator.AllocateSharedCollection`). Costs one event.
+    pub fn open_root<R: Wait>(
+        &mut self,
+        rt: &R,
+        service: &Service<E, S, W>,
+    ) -> Result<TokenEnd, Why>
+        ensures { MatchResult result
+            (λ t. (t.client ≡ self.old.id)
+            × Made self.old self.new Asked.OpenRoot (Told.Token t.key t.collection))
+            (λ w. MadeOr is_token self.old self.new Asked.OpenRoot w) }
+    {
+        self.new_end(rt, service, Call::OpenRoot)
+    }
+
+    /// Lets the client go without an event, after the service was ended.
+    pub fn spend(self, _ended: &Ended<E, S, W>) {
+        let Client { id: _, account } = self;
+        account.spend();
+    }
+}

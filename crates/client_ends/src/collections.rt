@@ -1,0 +1,109 @@
+//! What collections alone can do.
+ghost use Rattle.std.specs.Prelude.{◌≡◌, MatchResult};
+ghost use Rattle.sm_names.specs.declared.messages.Call.{Call as Asked};
+ghost use Rattle.sm_names.specs.declared.messages.Reply.{Reply as Told};
+ghost use Rattle.client_ends.specs.Clients.{Made, MadeOr, is_taken, is_token, is_tracker};
+ghost use Rattle.client_ends.specs.Taking.{Took};
+
+use crate::client::Client;
+use crate::ends::{CollectionEnd, TokenEnd};
+use crate::handle::Handle;
+use crate::why::Why;
+use service_lock::Service;
+use sm_names::{Call, Constraints, Reply, StepFault};
+use std::alloc::Global;
+use std::sync::Wait;
+use std::sync::ledger::Ledger;
+use trackers::Tracker;
+
+impl CollectionEnd {
+    /// Makes an attached child token (`fuchsia.sysmem2.BufferCollection.AttachToken`). Costs one event.
+    pub fn attach_token<E: Ledger, S: Ledger, W: Ledger, R: Wait>(
+        &self,
+        rt: &R,
+        service: &Service<E, S, W>,
+        client: &mut Client<E, S, W>,
+    ) -> Result<TokenEnd, Why>
+        requires holder { self.now.client ≡ client.old.id }
+        ensures { MatchResult result
+            (λ t. (t.client ≡ client.old.id) × Made client.old client.new
+            (Asked.AttachToken self.now.key) (Told.Token t.key t.collection))
+            (λ w. MadeOr is_token client.old client.new (Asked.AttachToken self.now.key) w) }
+    {
+        client.new_end(rt, service, Call::AttachToken(self.key()))
+    }
+
+    /// Says what the node asks of the buffers (`fuchsia.sysmem2.BufferCollection.SetConstraints`).
+    /// Costs one event.
+    pub fn set_constraints<E: Ledger, S: Ledger, W: Ledger, R: Wait>(
+        &self,
+        rt: &R,
+        service: &Service<E, S, W>,
+        client: &mut Client<E, S, W>,
+        constraints: Constraints,
+    ) -> Result<Reply, StepFault>
+        requires holder { self.now.client ≡ client.old.id }
+        ensures { MatchResult result
+            (λ r. Made client.old client.new (Asked.SetConstraints self.now.key constraints) r)
+            (λ _. client.new ≡ client.old) }
+    {
+        client.event(rt, service, Call::SetConstraints(self.key(), constraints))
+    }
+
+    /// Asks whether the node's unit is allocated: Allocated, or Pending
+    /// (`fuchsia.sysmem2.BufferCollection.CheckAllBuffersAllocated`). Costs one event.
+    pub fn check<E: Ledger, S: Ledger, W: Ledger, R: Wait>(
+        &self,
+        rt: &R,
+        service: &Service<E, S, W>,
+        client: &mut Client<E, S, W>,
+    ) -> Result<Reply, StepFault>
+        requires holder { self.now.client ≡ client.old.id }
+        ensures { MatchResult result
+            (λ r. Made client.old client.new (Asked.Check self.now.key) r)
+            (λ _. client.new ≡ client.old) }
+    {
+        client.event(rt, service, Call::Check(self.key()))
+    }
+
+    /// Opens a handle on each buffer that is not doomed, in the order of their indices
+    /// (`fuchsia.sysmem2.BufferCollection.WaitForAllBuffersAllocated`, without the wait): strong or weak,
+    /// as the node is. Where the unit is not allocated, the reason is the reply Pending.
+    ///
+    /// `NoMemory` also where there is no room for 64 handles, asked for before the event. Costs one
+    /// event and a look at each of 64 buffers.
+    pub fn take<E: Ledger, S: Ledger, W: Ledger, R: Wait>(
+        &self,
+        rt: &R,
+        alloc: Global,
+        service: &Service<E, S, W>,
+        client: &mut Client<E, S, W>,
+    ) -> Result<Vec<Handle<E, S, W>>, Why>
+        requires holder { self.now.client ≡ client.old.id }
+        ensures { MatchResult result
+            (λ hs. Took client.old client.new self.now.key hs.items)
+            (λ w. MadeOr is_taken client.old client.new (Asked.Take self.now.key) w) }
+    {
+        client.taken(rt, alloc, service, self.key())
+    }
+
+    /// A tracker that fires once at most so many buffers are left
+    /// (`fuchsia.sysmem2.BufferCollection.AttachLifetimeTracking`). It is read without the lock. Costs
+    /// one event, and a binary search among all trackers.
+    pub fn track_lifetime<E: Ledger, S: Ledger, W: Ledger, R: Wait>(
+        &self,
+        rt: &R,
+        service: &Service<E, S, W>,
+        client: &mut Client<E, S, W>,
+        most: u32,
+    ) -> Result<Tracker, Why>
+        requires holder { self.now.client ≡ client.old.id }
+        ensures { MatchResult result
+            (λ t. Made client.old client.new
+            (Asked.TrackLifetime self.now.key most) (Told.Tracker t.tracker))
+            (λ w. MadeOr is_tracker client.old client.new
+            (Asked.TrackLifetime self.now.key most) w) }
+    {
+        client.tracker(rt, service, Call::TrackLifetime(self.key(), most))
+    }
+}

@@ -1,0 +1,190 @@
+//! Handles.
+ghost use Rattle.std.specs.Prelude.{◌≡◌, MatchResult, Some};
+ghost use Rattle.sm_names.specs.declared.messages.Call.{Call as Asked};
+ghost use Rattle.sm_names.specs.declared.messages.Reply.{Reply as Told};
+ghost use Rattle.client_ends.specs.Clients.{Made, MadeOr, is_done, is_tracker, lets_go, unit_of};
+
+use crate::client::Client;
+use crate::ended::Ended;
+use crate::why::{Kept, Why};
+use service_lock::{Service, Units};
+use sm_names::{BufferName, Call, ClientId, Strength};
+use std::marker::Model;
+use std::sync::Wait;
+use std::sync::ledger::Ledger;
+use trackers::Tracker;
+
+/// An open handle, with its unit of the book of its strength. It must be spent.
+///
+/// A contract sees who has it, its buffer, and its strength. Each call of a handle takes its holder's
+/// `Client`, and makes one event of that client.
+pub struct Handle<E: Ledger, S: Ledger, W: Ledger> {
+    client: ClientId,
+    buffer: BufferName,
+    strength: Strength,
+    unit: Units<E, S, W>,
+}
+
+impl<E: Ledger, S: Ledger, W: Ledger> Model for Handle<E, S, W> {
+    ghost use Rattle.std.specs.Prelude.{◌≡◌};
+    ghost use Rattle.client_ends.specs.Clients.{Grip, unit_of};
+
+    ghost Value = { Grip };
+
+    ghost view = { λ h. record { client = h.client; buffer = h.buffer; strength = h.strength } };
+
+    ghost invariant = { λ h. h.unit ≡ unit_of h.strength };
+}
+
+impl<E: Ledger, S: Ledger, W: Ledger> Handle<E, S, W> {
+    pub(crate) fn new(
+        client: ClientId,
+        buffer: BufferName,
+        strength: Strength,
+        unit: Units<E, S, W>,
+    ) -> Handle<E, S, W>
+        requires { unit ≡ unit_of strength }
+        ensures { result ≡ record { client = client; buffer = buffer; strength = strength } }
+    {
+        Handle {
+            client,
+            buffer,
+            strength,
+            unit,
+        }
+    }
+
+    /// Lets the handle go without an event, after the service was ended.
+    pub fn spend(self, _ended: &Ended<E, S, W>) {
+        let Handle {
+            client: _,
+            buffer: _,
+            strength: _,
+            unit: _,
+        } = self;
+    }
+
+    /// Who has it. It takes no lock, nor do `buffer` and `strength`.
+    pub fn client(&self) -> ClientId
+        ensures { result ≡ self.now.client }
+    {
+        self.client
+    }
+
+    /// Its buffer.
+    pub fn buffer(&self) -> BufferName
+        ensures { result ≡ self.now.buffer }
+    {
+        self.buffer
+    }
+
+    /// Its strength.
+    pub fn strength(&self) -> Strength
+        ensures { result ≡ self.now.strength }
+    {
+        self.strength
+    }
+
+    /// One more handle like this one. Costs one event.
+    pub fn duplicate<R: Wait>(
+        &self,
+        rt: &R,
+        service: &Service<E, S, W>,
+        client: &mut Client<E, S, W>,
+    ) -> Result<Handle<E, S, W>, Why>
+        requires holder { self.now.client ≡ client.old.id }
+        ensures { MatchResult result
+            (λ h. (h ≡ self.now) × Made client.old client.new
+            (Asked.DupHandle self.now.buffer self.now.strength) Told.Done)
+            (λ w. MadeOr is_done client.old client.new
+            (Asked.DupHandle self.now.buffer self.now.strength) w) }
+    {
+        client.doubled(rt, service, self.buffer, self.strength)
+    }
+
+    /// A tracker that fires once the buffer is doomed (the field `close_weak_asap` of
+    /// `fuchsia.sysmem2.VmoBuffer`). Only a weak handle has one: else the call is refused. It is read
+    /// without the lock. Costs one event, and a binary search among all trackers.
+    pub fn track_weak<R: Wait>(
+        &self,
+        rt: &R,
+        service: &Service<E, S, W>,
+        client: &mut Client<E, S, W>,
+    ) -> Result<Tracker, Why>
+        requires holder { self.now.client ≡ client.old.id }
+        ensures { MatchResult result
+            (λ t. Made client.old client.new
+            (Asked.TrackWeak self.now.buffer) (Told.Tracker t.tracker))
+            (λ w. MadeOr is_tracker client.old client.new
+            (Asked.TrackWeak self.now.buffer) w) }
+    {
+        client.tracker(rt, service, Call::TrackWeak(self.buffer))
+    }
+
+    /// Drops the handle: its unit leaves its book. Where the answer is not Done the handle comes back
+    /// with the reason. Costs one event.
+    pub fn drop_handle<R: Wait>(
+        self,
+        rt: &R,
+        service: &Service<E, S, W>,
+        client: &mut Client<E, S, W>,
+    ) -> Result<(), Kept<Handle<E, S, W>>>
+        requires holder { self.client ≡ client.old.id }
+        ensures { MatchResult result
+            (λ _. Made client.old client.new
+            (Asked.DropHandle self.buffer self.strength) Told.Done)
+            (λ k. (k.value ≡ self) × MadeOr is_done client.old client.new
+            (Asked.DropHandle self.buffer self.strength) k.why) }
+    {
+        let call = Call::DropHandle(self.buffer, self.strength);
+        self.let_go(rt, service, client, call)
+    }
+
+    /// Gives the handle to another client, who collects it: its unit goes under the lock with it. Where
+    /// the answer is not Done the handle comes back with the reason. Costs one event.
+    pub fn give<R: Wait>(
+        self,
+        rt: &R,
+        service: &Service<E, S, W>,
+        client: &mut Client<E, S, W>,
+        to: ClientId,
+    ) -> Result<(), Kept<Handle<E, S, W>>>
+        requires holder { self.client ≡ client.old.id }
+        ensures { MatchResult result
+            (λ _. Made client.old client.new
+            (Asked.GiveHandle self.buffer self.strength to) Told.Done)
+            (λ k. (k.value ≡ self) × MadeOr is_done client.old client.new
+            (Asked.GiveHandle self.buffer self.strength to) k.why) }
+    {
+        let call = Call::GiveHandle(self.buffer, self.strength, to);
+        self.let_go(rt, service, client, call)
+    }
+
+    // Makes a call that lets the handle go.
+    fn let_go<R: Wait>(
+        self,
+        rt: &R,
+        service: &Service<E, S, W>,
+        client: &mut Client<E, S, W>,
+        call: Call,
+    ) -> Result<(), Kept<Handle<E, S, W>>>
+        requires { lets_go call ≡ Some self.strength }
+        ensures { MatchResult result
+            (λ _. Made client.old client.new call Told.Done)
+            (λ k. (k.value ≡ self) × MadeOr is_done client.old client.new call k.why) }
+    {
+        let Handle {
+            client: holder,
+            buffer,
+            strength,
+            mut unit,
+        } = self;
+        match client.let_go(rt, service, call, strength, &mut unit) {
+            Ok(()) => Ok(()),
+            Err(why) => Err(Kept {
+                value: Handle::new(holder, buffer, strength, unit),
+                why,
+            }),
+        }
+    }
+}

@@ -1,0 +1,34 @@
+//! Clients of the service, and what they hold: values that must be spent.
+//!
+//! Each call that takes the service makes one event, unless it says otherwise: the event counts in
+//! the client's share of the book, stands last in the client's own list with the call and the reply,
+//! and the answer is that reply. A call that ends in a `StepFault` is no event, and changes neither
+//! share nor list: `HistoryFull` comes where the record has as many entries as may be, also where
+//! memory would be refused, and `NoMemory` where memory is refused.
+//!
+//! One event costs the lock, the core's step, and a place at the end of the record and of the own
+//! list, which grow by doubling. No call searches a list.
+#![tactic(auto)]
+
+mod account;
+mod client;
+mod collections;
+mod draft;
+mod ended;
+mod ends;
+mod handle;
+mod held;
+mod spare;
+mod syncing;
+mod taking;
+mod tokens;
+mod why;
+
+pub use account::Own;
+pub use client::{Client, join};
+pub use draft::{Draft, Part, Synced};
+pub use ended::{Ended, end};
+pub use ends::{Bound, CollectionEnd, EndOf, TokenEnd, Unbound};
+pub use handle::Handle;
+pub use held::{End, Held};
+pub use why::{Kept, Why};

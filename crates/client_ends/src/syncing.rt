@@ -1,0 +1,167 @@
+//! The calls of a draft, made one after another.
+ghost use Rattle.std.specs.Prelude.{◌≡◌, ◌+◌, ◌<◌, ◌≤◌, ◌↔◌, [], ◌∷◌, ◌++◌, IfErr, IfOk, OnErr, OnOk, length, true, vec_capacity, vec_len};
+ghost use Rattle.std.specs.VecDeque.{deque_len};
+ghost use Rattle.sm_names.specs.declared.messages.Call.{Call as Asked};
+ghost use Rattle.sm_names.specs.declared.outcomes.StepFault.{StepFault as Fault};
+ghost use Rattle.client_ends.specs.Clients.{is_plain};
+ghost use Rattle.client_ends.specs.Drafts.{Went, WentFar, WentFirst, WentOn, drafted_call, drafted_calls, token_in};
+
+use crate::client::Client;
+use crate::draft::{Drafted, Part};
+use crate::ends::TokenEnd;
+use service_lock::State;
+use sm_names::{Call, ClientId, NodeKey, Reply, StepFault};
+use std::alloc::AllocError;
+use std::collections::VecDeque;
+use std::sync::ledger::Ledger;
+
+/// Makes room for the ends and replies of so many events.
+pub(crate) fn make_room(part: &mut Part, events: usize) -> Result<(), AllocError>
+    ensures replies { part.new.replies.items ≡ part.old.replies.items }
+    ensures made { part.new.made.items ≡ part.old.made.items }
+    ensures replies_room { OnOk result (vec_len part.new.replies + events
+        ≤ vec_capacity part.new.replies) }
+    ensures made_room { OnOk result (vec_len part.new.made + events
+        ≤ vec_capacity part.new.made) }
+{
+    part.replies.reserve(events)?;
+    part.made.reserve(events)?;
+    Ok(())
+}
+
+// The call of the node that was drafted.
+fn call_of(key: NodeKey, drafted: Drafted) -> Call
+    ensures call { result ≡ drafted_call key drafted }
+    ensures plain { is_plain result ≡ true }
+{
+    match drafted {
+        Drafted::Duplicate => Call::Duplicate(key),
+        Drafted::SetDispensable => Call::SetDispensable(key),
+        Drafted::SetWeak => Call::SetWeak(key),
+        Drafted::SetWeakOk(children) => Call::SetWeakOk(key, children),
+    }
+}
+
+// Keeps the reply, and the end that it tells of.
+fn keep(client: ClientId, reply: &Reply, part: &mut Part)
+    requires replies_room { vec_len part.old.replies < vec_capacity part.old.replies }
+    requires made_room { vec_len part.old.made < vec_capacity part.old.made }
+    ensures replies { part.new.replies.items ≡ part.old.replies.items ++ reply.now ∷ [] }
+    ensures tokens { part.new.made.items ≡ part.old.made.items ++ token_in client reply.now }
+    ensures one_reply { vec_len part.new.replies ≡ vec_len part.old.replies + 1 }
+    ensures one_token { vec_len part.new.made ≤ vec_len part.old.made + 1 }
+    ensures same_replies { vec_capacity part.new.replies ≡ vec_capacity part.old.replies }
+    ensures same_made { vec_capacity part.new.made ≡ vec_capacity part.old.made }
+{
+    if let Reply::Token { key, collection } = *reply {
+        part.made
+            .push_reserved(TokenEnd::new(client, key, collection));
+    }
+    part.replies.push_reserved(*reply);
+}
+
+// Makes one call.
+fn make_next<E: Ledger, S: Ledger, W: Ledger>(
+    state: &mut State<E, S, W>,
+    client: &mut Client<E, S, W>,
+    call: Call,
+    part: &mut Part,
+) -> Result<(), StepFault>
+    requires plain { is_plain call ≡ true }
+    requires replies_room { vec_len part.old.replies < vec_capacity part.old.replies }
+    requires made_room { vec_len part.old.made < vec_capacity part.old.made }
+    ensures went { OnOk result (WentOn client.old client.new call
+        part.old.replies.items part.new.replies.items part.old.made.items part.new.made.items) }
+    ensures kept { OnErr result ((client.new ≡ client.old) × (part.new ≡ part.old)) }
+    ensures full { IfErr result (λ f. (f ≡ Fault.HistoryFull)
+        ↔ (state.new.limits.events ≤ length state.new.history)) }
+    ensures one_reply { vec_len part.new.replies ≤ vec_len part.old.replies + 1 }
+    ensures one_token { vec_len part.new.made ≤ vec_len part.old.made + 1 }
+    ensures same_replies { vec_capacity part.new.replies ≡ vec_capacity part.old.replies }
+    ensures same_made { vec_capacity part.new.made ≡ vec_capacity part.old.made }
+{
+    let reply = client.event_in(state, call)?;
+    keep(client.id(), &reply, part);
+    Ok(())
+}
+
+// Makes the first of the calls, which leaves them.
+fn make_first<E: Ledger, S: Ledger, W: Ledger>(
+    state: &mut State<E, S, W>,
+    client: &mut Client<E, S, W>,
+    key: NodeKey,
+    calls: &mut VecDeque<Drafted>,
+    part: &mut Part,
+) -> Result<(), StepFault>
+    requires some { 0 < deque_len calls.old }
+    requires replies_room { vec_len part.old.replies + deque_len calls.old
+        < vec_capacity part.old.replies }
+    requires made_room { vec_len part.old.made + deque_len calls.old < vec_capacity part.old.made }
+    ensures went { OnOk result (WentFirst client.old client.new key calls.old.items calls.new.items
+        part.old.replies.items part.new.replies.items part.old.made.items part.new.made.items) }
+    ensures fewer { OnOk result (deque_len calls.new + 1 ≡ deque_len calls.old) }
+    ensures kept { OnErr result ((client.new ≡ client.old) × (calls.new.items ≡ calls.old.items)
+        × (part.new.replies.items ≡ part.old.replies.items)
+        × (part.new.made.items ≡ part.old.made.items)) }
+    ensures full { IfErr result (λ f. (f ≡ Fault.HistoryFull)
+        ↔ (state.new.limits.events ≤ length state.new.history)) }
+    ensures replies_room { vec_len part.new.replies + deque_len calls.new
+        < vec_capacity part.new.replies }
+    ensures made_room { vec_len part.new.made + deque_len calls.new < vec_capacity part.new.made }
+{
+    let drafted = calls[0];
+    make_next(state, client, call_of(key, drafted), part)?;
+    calls.pop_front();
+    Ok(())
+}
+
+// Makes the calls in order, until a fault, and leaves those that were not made.
+fn make_drafted<E: Ledger, S: Ledger, W: Ledger>(
+    state: &mut State<E, S, W>,
+    client: &mut Client<E, S, W>,
+    key: NodeKey,
+    calls: &mut VecDeque<Drafted>,
+    part: &mut Part,
+) -> Result<(), StepFault>
+    requires none { (part.old.replies.items ≡ []) × (part.old.made.items ≡ []) }
+    requires replies_room { vec_len part.old.replies + deque_len calls.old
+        < vec_capacity part.old.replies }
+    requires made_room { vec_len part.old.made + deque_len calls.old < vec_capacity part.old.made }
+    ensures far { WentFar client.old client.new (drafted_calls key calls.old.items)
+        (drafted_calls key calls.new.items) part.new.replies.items part.new.made.items }
+    ensures none { OnOk result (calls.new.items ≡ []) }
+    ensures full { IfErr result (λ f. (f ≡ Fault.HistoryFull)
+        ↔ (state.new.limits.events ≤ length state.new.history)) }
+    ensures replies_room { vec_len part.new.replies < vec_capacity part.new.replies }
+    ensures made_room { vec_len part.new.made < vec_capacity part.new.made }
+{
+    'making: while !calls.is_empty() {
+        make_first(state, client, key, calls, part)?;
+    }
+    Ok(())
+}
+
+/// Makes the calls in order, and then a Sync, until a fault, and leaves those that were not made.
+#[tactic(auto, using(crate::proofs::DraftLaws::went_all))]
+pub(crate) fn make_all<E: Ledger, S: Ledger, W: Ledger>(
+    state: &mut State<E, S, W>,
+    client: &mut Client<E, S, W>,
+    key: NodeKey,
+    calls: &mut VecDeque<Drafted>,
+    part: &mut Part,
+) -> Result<(), StepFault>
+    requires none { (part.old.replies.items ≡ []) × (part.old.made.items ≡ []) }
+    requires replies_room { vec_len part.old.replies + deque_len calls.old
+        < vec_capacity part.old.replies }
+    requires made_room { vec_len part.old.made + deque_len calls.old < vec_capacity part.old.made }
+    ensures all { OnOk result (Went client.old client.new
+        (drafted_calls key calls.old.items ++ Asked.Sync key ∷ [])
+        part.new.replies.items part.new.made.items) }
+    ensures far { OnErr result (WentFar client.old client.new (drafted_calls key calls.old.items)
+        (drafted_calls key calls.new.items) part.new.replies.items part.new.made.items) }
+    ensures full { IfErr result (λ f. (f ≡ Fault.HistoryFull)
+        ↔ (state.new.limits.events ≤ length state.new.history)) }
+{
+    make_drafted(state, client, key, calls, part)?;
+    make_next(state, client, Call::Sync(key), part)
+}

@@ -1,0 +1,67 @@
+//! What tokens alone can do.
+ghost use Rattle.std.specs.Prelude.{◌≡◌, MatchResult};
+ghost use Rattle.sm_names.specs.declared.messages.Call.{Call as Asked};
+ghost use Rattle.sm_names.specs.declared.messages.Reply.{Reply as Told};
+ghost use Rattle.client_ends.specs.Clients.{Made, MadeOr, is_done, is_token};
+
+use crate::client::Client;
+use crate::ends::{CollectionEnd, TokenEnd};
+use crate::why::{Kept, Why};
+use service_lock::Service;
+use sm_names::{Call, Reply, StepFault};
+use std::sync::Wait;
+use std::sync::ledger::Ledger;
+
+impl TokenEnd {
+    /// Makes a child token (`fuchsia.sysmem2.BufferCollectionToken.Duplicate`). Costs one event.
+    pub fn duplicate<E: Ledger, S: Ledger, W: Ledger, R: Wait>(
+        &self,
+        rt: &R,
+        service: &Service<E, S, W>,
+        client: &mut Client<E, S, W>,
+    ) -> Result<TokenEnd, Why>
+        requires holder { self.now.client ≡ client.old.id }
+        ensures { MatchResult result
+            (λ t. (t.client ≡ client.old.id) × Made client.old client.new
+            (Asked.Duplicate self.now.key) (Told.Token t.key t.collection))
+            (λ w. MadeOr is_token client.old client.new (Asked.Duplicate self.now.key) w) }
+    {
+        client.new_end(rt, service, Call::Duplicate(self.key()))
+    }
+
+    /// Once the node's unit is allocated, its failure goes no further up
+    /// (`fuchsia.sysmem2.BufferCollectionToken.SetDispensable`). Costs one event.
+    pub fn set_dispensable<E: Ledger, S: Ledger, W: Ledger, R: Wait>(
+        &self,
+        rt: &R,
+        service: &Service<E, S, W>,
+        client: &mut Client<E, S, W>,
+    ) -> Result<Reply, StepFault>
+        requires holder { self.now.client ≡ client.old.id }
+        ensures { MatchResult result
+            (λ r. Made client.old client.new (Asked.SetDispensable self.now.key) r)
+            (λ _. client.new ≡ client.old) }
+    {
+        client.event(rt, service, Call::SetDispensable(self.key()))
+    }
+
+    /// Turns the token into a collection (`fuchsia.sysmem2.Allocator.BindSharedCollection`). Where the
+    /// answer is not Done the token comes back with the reason. Costs one event.
+    pub fn bind<E: Ledger, S: Ledger, W: Ledger, R: Wait>(
+        self,
+        rt: &R,
+        service: &Service<E, S, W>,
+        client: &mut Client<E, S, W>,
+    ) -> Result<CollectionEnd, Kept<TokenEnd>>
+        requires holder { self.client ≡ client.old.id }
+        ensures { MatchResult result
+            (λ end. (end ≡ self) × Made client.old client.new (Asked.Bind self.key) Told.Done)
+            (λ k. (k.value ≡ self)
+            × MadeOr is_done client.old client.new (Asked.Bind self.key) k.why) }
+    {
+        match client.done(rt, service, Call::Bind(self.key())) {
+            Ok(()) => Ok(self.into_kind()),
+            Err(why) => Err(Kept { value: self, why }),
+        }
+    }
+}
