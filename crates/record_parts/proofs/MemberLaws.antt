@@ -41,9 +41,11 @@ marked_more present id others ids some within so = record { each = λ k below. e
 
 -- an id that is none of the numbers marks nothing
 pub marked_not : (present : List Bool) (id : ℕ) (others ids : List ℕ) → (0 < id → length present < id) → IsMarked present (id ∷ others) ids → IsMarked present others ids
-marked_not present id others ids out so = record { each = λ k below.
-    let no : (id == k + 1) ≡ false = ne_eqb id (k + 1) (λ e. absurd (omega (arith, e, below, out (omega (arith, e))))) in
-    rw no at (so.each k below) }
+marked_not present id others ids out so = record {
+  each = λ k below.
+      let no : (id == k + 1) ≡ false = ne_eqb id (k + 1) (λ e. absurd (omega (arith, e, below, out (omega (arith, e))))) in
+      rw no at (so.each k below);
+}
 
 -- once nothing is left to be marked, all are
 pub marked_all : (present : List Bool) (rest ids : List ℕ) → length rest ≡ 0 → IsMarked present rest ids → Marks present ids

@@ -1,5 +1,5 @@
 //! Each client's part of the record.
-ghost use Rattle.std.specs.Prelude.{◌≡◌, ◌∷◌, ◌<◌, ◌^◌, IfOk, MatchOption, false, length, replicate};
+ghost use Rattle.std.specs.Prelude.{◌≡◌, ◌∷◌, ◌<◌, ◌*◌, ◌^◌, IfOk, MatchOption, false, length, replicate};
 ghost use Rattle.record_parts.specs.Lines.{line_of, lines_of};
 ghost use Rattle.record_parts.specs.Links.{Links, Stands, rest_at};
 ghost use Rattle.record_parts.specs.Members.{AreAmong, IsFirstAbsent, Marks, is_join, joined};
@@ -20,7 +20,7 @@ pub struct Parts<'a> {
 }
 
 impl<'a> Model for Parts<'a> {
-    ghost use Rattle.std.specs.Prelude.{List, ◌<◌, ◌^◌, length};
+    ghost use Rattle.std.specs.Prelude.{List};
     ghost use Rattle.sm_names.specs.Marks.{Entry};
     ghost use Rattle.record_parts.specs.Links.{Links};
 
@@ -28,8 +28,7 @@ impl<'a> Model for Parts<'a> {
 
     ghost view = { λ p. p.«record».now };
 
-    ghost invariant = { λ p. (length p.«record».now < 2 ^ 32)
-        × Links 0 p.first.items p.next.items p.«record».now };
+    ghost invariant = { λ p. Links 0 p.first.items p.next.items p.«record».now };
 }
 
 // An entry of the record, as its client was told of it.
@@ -87,7 +86,6 @@ fn mark(ids: &[ClientId], present: &mut [bool])
 impl<'a> Parts<'a> {
     /// Chains each client's events of the record, in one pass over it.
     pub fn new(alloc: Global, record: &'a [(ClientId, Call, Reply)]) -> Result<Parts<'a>, NoMemory>
-        requires { length «record».now < 2 ^ 32 }
         ensures { IfOk result (λ p. p ≡ «record».now) }
     {
         let Ok(mut first) = vec![in alloc; 0; record.len()] else {
@@ -108,7 +106,7 @@ impl<'a> Parts<'a> {
     fn first_of(&self, client: ClientId) -> u64
         ensures stands { Stands self.now client result }
         ensures rest { rest_at self.now client result ≡ part client self.now }
-        ensures few { length self.now < 2 ^ 32 }
+        ensures few { length self.now * 80 < 2 ^ 63 }
     {
         if client < self.record.len() as u64 {
             self.first[client as usize]

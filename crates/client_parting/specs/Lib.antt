@@ -1,0 +1,2 @@
+pub mod Partings
+pub mod Stacks
