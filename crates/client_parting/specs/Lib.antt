@@ -1,2 +1,3 @@
+pub mod Gatherings
 pub mod Partings
 pub mod Stacks

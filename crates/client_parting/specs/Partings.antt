@@ -132,6 +132,10 @@ pub record IsGone (old new : Seen) (held refused : Holds) : Type 0 where
   pub collected : length goes.told ≡ waiting_in goes.shut
   pub done : goes.left ≡ []
 
+-- a client that was stopped by a fault: before its Shut, with all that it held, or later
+abbrev pub IsBroken : Seen → Seen → Holds → Holds → Type 0
+IsBroken old new held back = ((new ≡ old) × (back ≡ held)) ⊎ Goes old new held back
+
 -- what is left of a client that is gone: the client as it was last, and what was refused
 pub record Remains : Type 0 where
   pub client : Seen

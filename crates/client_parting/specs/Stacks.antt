@@ -6,7 +6,8 @@ use Rattle.client_ends.specs.declared.held.End.{End}
 use Rattle.client_ends.specs.declared.held.Held.{Held}
 use Rattle.client_ends.specs.Clients.{Made, MadeAll, Seen}
 use Rattle.client_parting.specs.Partings.{Holds, Thing, collection_in, end_told, handle_in, handle_told, kept_of, parting_call, sorted, thing_of, token_in}
-use Rattle.std.specs.Prelude.{replicate, Option, None, Some}
+use Rattle.client_parting.specs.declared.leaving.Room.{Room}
+use Rattle.std.specs.Prelude.{replicate, Option, None, Some, Bool, true}
 
 -- the things on a stack, the top first
 abbrev pub top_first : {E S W : Type 0} → List (End E S W) → List Thing
@@ -65,3 +66,20 @@ pub record Parts (old new : Seen) (all left : List Thing) (kept : Holds) : Type 
   pub made : MadeAll old new (map parting_call parted) answers
   pub all_is : all ≡ parted ++ left
   pub kept_is : kept ≡ sorted (kept_of parted answers)
+
+-- at most so many Collects were made, and all of them unless there was a fault
+pub record CollectsFor (all : Bool) (most : ℕ) (old new : Seen) (ends handles : List Thing) : Type 0 where
+  pub told : List Reply
+  pub collects : Collects old new told ends handles
+  pub within : length told ≤ most
+  pub whole : all ≡ true → length told ≡ most
+
+-- empty lists with room for so many, and room for them in the lists of what is held
+pub record IsRoom {E S W : Type 0} (room : Room E S W) (held : Held E S W) (waiting : ℕ) : Type 0 where
+  pub ends : (room.ends.items ≡ []) × (waiting ≤ vec_capacity room.ends)
+  pub handles : (room.handles.items ≡ []) × (waiting ≤ vec_capacity room.handles)
+  pub none : room.stack.items ≡ []
+  pub stack : vec_len held.tokens + vec_len held.collections + vec_len held.handles + waiting + waiting ≤ vec_capacity room.stack
+  pub tokens : vec_len held.tokens + waiting ≤ vec_capacity held.tokens
+  pub collections : vec_len held.collections + waiting ≤ vec_capacity held.collections
+  pub for_handles : vec_len held.handles + waiting ≤ vec_capacity held.handles

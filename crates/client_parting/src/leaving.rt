@@ -1,9 +1,8 @@
 //! How a client goes.
-ghost use Rattle.std.specs.Prelude.{◌≡◌, ◌+◌, ◌<◌, ◌≤◌, ◌×◌, ◌∷◌, [], ℕ, List, length, map, vec_len, vec_capacity, MatchResult, IfOk, IfErr, OnErr, OnOk};
+ghost use Rattle.std.specs.Prelude.{◌≡◌, ◌+◌, ◌<◌, ◌≤◌, ◌++◌, [], map, vec_len, vec_capacity, MatchResult, IfOk, IfErr, IfSome, OnOk, is_ok};
 ghost use Rattle.std.specs.List.{All};
-ghost use Rattle.sm_names.specs.declared.messages.Reply.{Reply as Told};
-ghost use Rattle.client_parting.specs.Partings.{AreOf, Goes, IsGone, held_in, owner_of, thing_of, waiting_in};
-ghost use Rattle.client_parting.specs.Stacks.{Collects, CollectsOne, HasRoomFor, Parts, PartsWith, kept_things, top_first};
+ghost use Rattle.client_parting.specs.Partings.{AreOf, Collection, Handle as Handed, IsBroken, IsGone, Token, held_in, owner_of, sorted, thing_of, waiting_in};
+ghost use Rattle.client_parting.specs.Stacks.{CollectsFor, CollectsOne, HasRoomFor, IsRoom, Parts, PartsWith, kept_things, top_first};
 
 use crate::things::{put, put_all, stack_collections, stack_ends, stack_handles, stack_tokens};
 use crate::wreck::Wreck;
@@ -32,7 +31,10 @@ struct Room<E: Ledger, S: Ledger, W: Ledger> {
 }
 
 // How many things there are at most, if that is a number.
-fn most<E: Ledger, S: Ledger, W: Ledger>(held: &Held<E, S, W>, waiting: usize) -> Option<usize> {
+fn most<E: Ledger, S: Ledger, W: Ledger>(held: &Held<E, S, W>, waiting: usize) -> Option<usize>
+    ensures { IfSome result (λ most. most ≡ vec_len held.now.tokens
+        + vec_len held.now.collections + vec_len held.now.handles + waiting + waiting) }
+{
     let ends = held.tokens.len().checked_add(held.collections.len())?;
     let all = ends.checked_add(held.handles.len())?;
     all.checked_add(waiting)?.checked_add(waiting)
@@ -43,7 +45,10 @@ fn make_room<E: Ledger, S: Ledger, W: Ledger>(
     alloc: Global,
     held: &mut Held<E, S, W>,
     waiting: usize,
-) -> Result<Room<E, S, W>, NoMemory> {
+) -> Result<Room<E, S, W>, NoMemory>
+    ensures same { held_in held.new ≡ held_in held.old }
+    ensures room { IfOk result (λ room. IsRoom room held.new waiting) }
+{
     let Some(most) = most(held, waiting) else {
         return Err(NoMemory);
     };
@@ -84,7 +89,7 @@ fn collect_one<E: Ledger, S: Ledger, W: Ledger, R: Wait>(
 ) -> Result<(), StepFault>
     requires ends { vec_len ends.old < vec_capacity ends.old }
     requires handles { vec_len handles.old < vec_capacity handles.old }
-    ensures { MatchResult result
+    ensures made { MatchResult result
         (λ _. CollectsOne client.old client.new (map thing_of ends.old.items)
         (map thing_of ends.new.items) (map thing_of handles.old.items)
         (map thing_of handles.new.items))
@@ -115,11 +120,21 @@ fn collect_all<E: Ledger, S: Ledger, W: Ledger, R: Wait>(
     rt: &R,
     service: &Service<E, S, W>,
     client: &mut Client<E, S, W>,
-    room: &mut Room<E, S, W>,
+    ends: &mut Vec<End<E, S, W>>,
+    handles: &mut Vec<End<E, S, W>>,
     waiting: usize,
-) -> Result<(), StepFault> {
-    for _ in 0..waiting {
-        collect_one(rt, service, client, &mut room.ends, &mut room.handles)?;
+) -> Result<(), StepFault>
+    requires ends { (ends.old.items ≡ []) × (waiting ≤ vec_capacity ends.old) }
+    requires handles { (handles.old.items ≡ []) × (waiting ≤ vec_capacity handles.old) }
+    ensures made { CollectsFor (is_ok result) waiting client.old client.new
+        (map thing_of ends.new.items) (map thing_of handles.new.items) }
+    ensures ends { vec_len ends.new ≤ waiting }
+    ensures handles { vec_len handles.new ≤ waiting }
+{
+    let mut left = waiting;
+    while left > 0 {
+        collect_one(rt, service, client, ends, handles)?;
+        left -= 1;
     }
     Ok(())
 }
@@ -163,7 +178,15 @@ fn part_with_all<E: Ledger, S: Ledger, W: Ledger, R: Wait>(
     client: &mut Client<E, S, W>,
     stack: &mut Vec<End<E, S, W>>,
     kept: &mut Held<E, S, W>,
-) -> Result<(), StepFault> {
+) -> Result<(), StepFault>
+    requires owner { All (λ t. owner_of t ≡ client.old.id) (top_first stack.old.items) }
+    requires none { held_in kept.old ≡ sorted [] }
+    requires room { HasRoomFor kept.old (top_first stack.old.items) }
+    ensures parts { Parts client.old client.new (top_first stack.old.items)
+        (top_first stack.new.items) (held_in kept.new) }
+    ensures all { OnOk result (vec_len stack.new ≡ 0) }
+    ensures room { HasRoomFor kept.new (top_first stack.new.items) }
+{
     while let Some(thing) = stack.pop() {
         match part_with(rt, service, client, thing) {
             Ok(None) => {}
@@ -181,7 +204,18 @@ fn part_with_all<E: Ledger, S: Ledger, W: Ledger, R: Wait>(
 fn stack_all<E: Ledger, S: Ledger, W: Ledger>(
     room: Room<E, S, W>,
     held: &mut Held<E, S, W>,
-) -> Vec<End<E, S, W>> {
+) -> Vec<End<E, S, W>>
+    requires none { room.stack.items ≡ [] }
+    requires room { vec_len room.ends + vec_len room.handles + vec_len held.old.tokens
+        + vec_len held.old.collections + vec_len held.old.handles ≤ vec_capacity room.stack }
+    ensures things { top_first result.items ≡ map thing_of room.ends.items
+        ++ (map Token held.old.tokens.items ++ (map Collection held.old.collections.items
+        ++ (map thing_of room.handles.items ++ map Handed held.old.handles.items))) }
+    ensures none { held_in held.new ≡ sorted [] }
+    ensures tokens { vec_capacity held.new.tokens ≡ vec_capacity held.old.tokens }
+    ensures collections { vec_capacity held.new.collections ≡ vec_capacity held.old.collections }
+    ensures handles { vec_capacity held.new.handles ≡ vec_capacity held.old.handles }
+{
     let Room {
         mut ends,
         mut handles,
@@ -215,6 +249,7 @@ pub fn vanish<E: Ledger, S: Ledger, W: Ledger, R: Wait>(
 ) -> Result<Wreck<E, S, W>, (Client<E, S, W>, Held<E, S, W>, StepFault)>
     requires { AreOf client.id (held_in held) }
     ensures gone { IfOk result (λ w. IsGone client w.client (held_in held) w.refused) }
+    ensures fault { IfErr result (λ e. IsBroken client e.0 (held_in held) (held_in e.1)) }
 {
     let mut client = client;
     let mut held = held;
@@ -226,7 +261,14 @@ pub fn vanish<E: Ledger, S: Ledger, W: Ledger, R: Wait>(
         Ok(room) => room,
         Err(_) => return Err((client, held, StepFault::NoMemory)),
     };
-    let collected = collect_all(rt, service, &mut client, &mut room, waiting);
+    let collected = collect_all(
+        rt,
+        service,
+        &mut client,
+        &mut room.ends,
+        &mut room.handles,
+        waiting,
+    );
     let mut stack = stack_all(room, &mut held);
     let parted = match collected {
         Ok(()) => part_with_all(rt, service, &mut client, &mut stack, &mut held),

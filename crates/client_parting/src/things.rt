@@ -79,10 +79,7 @@ pub(crate) fn stack_handles<E: Ledger, S: Ledger, W: Ledger>(
 }
 
 /// Puts one thing last into the list of its kind.
-pub(crate) fn put<E: Ledger, S: Ledger, W: Ledger>(
-    held: &mut Held<E, S, W>,
-    thing: End<E, S, W>,
-)
+pub(crate) fn put<E: Ledger, S: Ledger, W: Ledger>(held: &mut Held<E, S, W>, thing: End<E, S, W>)
     requires { HasRoomFor held.old (thing_of thing ∷ []) }
     ensures put { held_in held.new ≡ both (held_in held.old) (sorted_one (thing_of thing)) }
     ensures tokens { vec_capacity held.new.tokens ≡ vec_capacity held.old.tokens }
