@@ -7,7 +7,7 @@ use Rattle.client_ends.specs.declared.held.Held.{Held}
 use Rattle.client_ends.specs.Clients.{Made, MadeAll, Seen}
 use Rattle.client_parting.specs.Partings.{Holds, Thing, collection_in, end_told, handle_in, handle_told, kept_of, parting_call, sorted, thing_of, token_in}
 use Rattle.client_parting.specs.declared.leaving.Room.{Room}
-use Rattle.std.specs.Prelude.{replicate, Option, None, Some, Bool, true}
+use Rattle.std.specs.Prelude.{replicate, Option, None, Some, Bool, true, ◌⊎◌}
 
 -- the things on a stack, the top first
 abbrev pub top_first : {E S W : Type 0} → List (End E S W) → List Thing
@@ -83,3 +83,8 @@ pub record IsRoom {E S W : Type 0} (room : Room E S W) (held : Held E S W) (wait
   pub tokens : vec_len held.tokens + waiting ≤ vec_capacity held.tokens
   pub collections : vec_len held.collections + waiting ≤ vec_capacity held.collections
   pub for_handles : vec_len held.handles + waiting ≤ vec_capacity held.handles
+
+-- the same, and it parted with none unless this is so
+pub record PartsIf (may : Bool) (old new : Seen) (all left : List Thing) (kept : Holds) : Type 0 where
+  pub parts : Parts old new all left kept
+  pub turn : (parts.parted ≡ []) ⊎ (may ≡ true)

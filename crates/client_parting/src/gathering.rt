@@ -1,8 +1,9 @@
 //! What all clients have at the end, against the record under the lock.
 ghost use Rattle.std.specs.Prelude.{◌≡◌, ◌+◌, ◌<◌, ℕ, IfOk, IfErr, IfNone, IfSome, MatchOption, MatchResult, length, map};
 ghost use Rattle.std.specs.List.{All, count_by};
+ghost use Rattle.service_lock.specs.States.{View};
 ghost use Rattle.sm_names.specs.Sameness.{same_strength};
-ghost use Rattle.client_parting.specs.Gatherings.{IsFirstMismatch, IsFound, IsGathered, Matches, all_handed, handed, id_of, ids_of, own_of};
+ghost use Rattle.client_parting.specs.Gatherings.{IsFirstMismatch, IsFound, IsGathered, IsSo, Matches, all_handed, handed, id_of, ids_of, own_of};
 
 use crate::wreck::Wreck;
 use client_ends::{Client, EndOf, Ended, Handle, Held, Own, end};
@@ -167,7 +168,10 @@ pub fn compare<E: Ledger, S: Ledger, W: Ledger>(
     alloc: Global,
     state: &State<E, S, W>,
     parts: &[Holding<E, S, W>],
-) -> Result<Report, GatherFault> {
+) -> Result<Report, GatherFault>
+    ensures gathered { IfOk result (λ r. IsGathered state.now parts.now r) }
+    ensures so { IfErr result (λ f. IsSo state.now parts.now f) }
+{
     let Ok(view) = Parts::new(alloc, entries(state)) else {
         return Err(GatherFault::NoMemory);
     };
@@ -211,6 +215,8 @@ pub fn gather<E: Ledger, S: Ledger, W: Ledger, R: Wait>(
     parts: Vec<Holding<E, S, W>>,
 ) -> (Vec<Holding<E, S, W>>, Result<Report, GatherFault>)
     ensures parts { result.0 ≡ parts }
+    ensures gathered { IfOk result.1 (λ r. (s : View) × IsGathered s parts.items r) }
+    ensures so { IfErr result.1 (λ f. (s : View) × IsSo s parts.items f) }
 {
     let guard = service.lock(rt);
     let answer = compare(alloc, guard.state(), parts.as_slice());

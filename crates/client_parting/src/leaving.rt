@@ -1,8 +1,8 @@
 //! How a client goes.
-ghost use Rattle.std.specs.Prelude.{◌≡◌, ◌+◌, ◌<◌, ◌≤◌, ◌++◌, [], map, vec_len, vec_capacity, MatchResult, IfOk, IfErr, IfSome, OnOk, is_ok};
+ghost use Rattle.std.specs.Prelude.{◌≡◌, ◌+◌, ◌<◌, ◌≤◌, ◌++◌, [], map, vec_len, vec_capacity, MatchResult, IfOk, IfErr, IfSome, OnOk, is_ok, true};
 ghost use Rattle.std.specs.List.{All};
 ghost use Rattle.client_parting.specs.Partings.{AreOf, Collection, Handle as Handed, IsBroken, IsGone, Token, held_in, owner_of, sorted, thing_of, waiting_in};
-ghost use Rattle.client_parting.specs.Stacks.{CollectsFor, CollectsOne, HasRoomFor, IsRoom, Parts, PartsWith, kept_things, top_first};
+ghost use Rattle.client_parting.specs.Stacks.{CollectsFor, CollectsOne, HasRoomFor, IsRoom, Parts, PartsIf, PartsWith, kept_things, top_first};
 
 use crate::things::{put, put_all, stack_collections, stack_ends, stack_handles, stack_tokens};
 use crate::wreck::Wreck;
@@ -200,6 +200,29 @@ fn part_with_all<E: Ledger, S: Ledger, W: Ledger, R: Wait>(
     Ok(())
 }
 
+// The same, once all was collected.
+fn part_if<E: Ledger, S: Ledger, W: Ledger, R: Wait>(
+    rt: &R,
+    service: &Service<E, S, W>,
+    client: &mut Client<E, S, W>,
+    collected: Result<(), StepFault>,
+    stack: &mut Vec<End<E, S, W>>,
+    kept: &mut Held<E, S, W>,
+) -> Result<(), StepFault>
+    requires owner { All (λ t. owner_of t ≡ client.old.id) (top_first stack.old.items) }
+    requires none { held_in kept.old ≡ sorted [] }
+    requires room { HasRoomFor kept.old (top_first stack.old.items) }
+    ensures parts { PartsIf (is_ok collected) client.old client.new (top_first stack.old.items)
+        (top_first stack.new.items) (held_in kept.new) }
+    ensures all { OnOk result ((vec_len stack.new ≡ 0) × (is_ok collected ≡ true)) }
+    ensures room { HasRoomFor kept.new (top_first stack.new.items) }
+{
+    match collected {
+        Ok(()) => part_with_all(rt, service, client, stack, kept),
+        Err(fault) => Err(fault),
+    }
+}
+
 // Puts all that the client has on the stack, and leaves the lists empty.
 fn stack_all<E: Ledger, S: Ledger, W: Ledger>(
     room: Room<E, S, W>,
@@ -270,10 +293,7 @@ pub fn vanish<E: Ledger, S: Ledger, W: Ledger, R: Wait>(
         waiting,
     );
     let mut stack = stack_all(room, &mut held);
-    let parted = match collected {
-        Ok(()) => part_with_all(rt, service, &mut client, &mut stack, &mut held),
-        Err(fault) => Err(fault),
-    };
+    let parted = part_if(rt, service, &mut client, collected, &mut stack, &mut held);
     match parted {
         Ok(()) => {
             stack.destroy_empty();
