@@ -1,5 +1,5 @@
 -- Parts, one after another.
-use Rattle.std.proofs.Common.{ℕ, ◌≡◌, ◌≤◌, ◌<◌, ◌+◌, ◌∙◌, refl, sym, ap, subst, inl, inr, List, [], ◌∷◌, ◌++◌, append_assoc, append-nil, length, arith}
+use Rattle.std.proofs.Common.{ℕ, ◌≡◌, ◌<◌, ◌+◌, ◌∙◌, sym, ap, subst, inl, inr, List, [], ◌∷◌, ◌++◌, append_assoc, append-nil, length, arith}
 use Rattle.std.proofs.lemmas.List.Elements.{All-nil, All-push, All-weaker}
 use Rattle.std.proofs.lemmas.List.Sums.{sum_by-cons}
 use Rattle.sm_names.specs.declared.keys.Strength.{Strength}
@@ -68,10 +68,11 @@ found_other history parts rest others p event found now so on differs is = recor
       differs = differs;
       before = All-push (λ q. id_of q < id_of p → Matches history q) so.seen p before (λ less. absurd (omega (arith, less)));
     }
+
     other : (o : Option (ℕ × ℕ)) → Found history so.seen o → IsFound o (id_of p) event now → Found history (so.seen ++ p ∷ []) (Some now)
     other None all first =
         subst (λ (n : ℕ × ℕ). Mismatch history (so.seen ++ p ∷ []) n.0 n.1) (sym first)
-            (mine (All-weaker (Matches history) (λ q. id_of q < id_of p → Matches history q) (λ q m less. m) so.seen all))
+        (mine (All-weaker (Matches history) (λ q. id_of q < id_of p → Matches history q) (λ q m less. m) so.seen all))
     other (Some at) m (inl kept) =
         let still : Mismatch history (so.seen ++ p ∷ []) at.0 at.1 = record {
           own = m.own;
@@ -81,7 +82,7 @@ found_other history parts rest others p event found now so on differs is = recor
         subst (λ (n : ℕ × ℕ). Mismatch history (so.seen ++ p ∷ []) n.0 n.1) (sym kept.1) still
     other (Some at) m (inr less) =
         subst (λ (n : ℕ × ℕ). Mismatch history (so.seen ++ p ∷ []) n.0 n.1) (sym less.1)
-            (mine (All-weaker (λ q. id_of q < at.0 → Matches history q) (λ q. id_of q < id_of p → Matches history q) (λ q was below. was (omega (arith, below, less.0))) so.seen m.before))
+        (mine (All-weaker (λ q. id_of q < at.0 → Matches history q) (λ q. id_of q < id_of p → Matches history q) (λ q was below. was (omega (arith, below, less.0))) so.seen m.before))
 
 -- and once all were looked at, that is the first of all
 pub found_all : {E S W : Type 0} (history : List Entry) (parts rest : List (Holding E S W)) → length rest ≡ 0 → FoundSoFar history parts rest None → All (Matches history) parts

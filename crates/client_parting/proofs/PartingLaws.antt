@@ -31,7 +31,7 @@ pub collects_more : (old mid new : Seen) (told : List Reply) (ends handles ends'
 collects_more old mid new told ends handles ends' handles' so one = record {
   made =
       let calls : replicate (length (told ++ one.reply ∷ [])) Call.Collect ≡ replicate (length told) Call.Collect ++ Call.Collect ∷ [] =
-          ap (λ n. replicate n Call.Collect) (length-append told (one.reply ∷ [])) ∙ replicate_push (length told) Call.Collect in
+      ap (λ n. replicate n Call.Collect) (length-append told (one.reply ∷ [])) ∙ replicate_push (length told) Call.Collect in
       subst (λ cs. MadeAll old new cs (told ++ one.reply ∷ [])) (sym calls) (made_more old mid new (replicate (length told) Call.Collect) Call.Collect told one.reply so.made one.made);
   ends_are = one.end ∙ grown (λ n. end_told n) ends so.ends_are;
   handles_are = one.handle ∙ grown (λ n. handle_told n) handles so.handles_are;
@@ -123,10 +123,13 @@ sorted_held held = λ i. record {
         ∙ (ap (λ l. l ++ flat_map f (map Collection held.collections ++ map Handle held.handles)) x
         ∙ ap (λ l. a ++ l) (flat-append f (map Collection held.collections) (map Handle held.handles)
         ∙ (ap (λ l. l ++ flat_map f (map Handle held.handles)) y ∙ ap (λ l. b ++ l) z)))
+
     tokens : flat_map token_in (map Token held.tokens ++ (map Collection held.collections ++ map Handle held.handles)) ≡ held.tokens
     tokens = three token_in held.tokens [] [] (flat_tokens held.tokens) (no_token_c held.collections) (no_token_h held.handles) ∙ append-nil held.tokens
+
     collections : flat_map collection_in (map Token held.tokens ++ (map Collection held.collections ++ map Handle held.handles)) ≡ held.collections
     collections = three collection_in [] held.collections [] (no_collection_t held.tokens) (flat_collections held.collections) (no_collection_h held.handles) ∙ append-nil held.collections
+
     handles : flat_map handle_in (map Token held.tokens ++ (map Collection held.collections ++ map Handle held.handles)) ≡ held.handles
     handles = three handle_in [] [] held.handles (no_handle_t held.tokens) (no_handle_c held.collections) (flat_handles held.handles)
 
@@ -210,9 +213,9 @@ owners client told ends handles held of ends_are handles_are =
     let first : All P ends = subst (All P) (sym ends_are) (flat_owner client (end_told client) (end_owner client) told) in
     let later : All P handles = subst (All P) (sym handles_are) (flat_owner client (handle_told client) (handle_owner client) told) in
     All-append P ends (map Token held.tokens ++ (map Collection held.collections ++ (handles ++ map Handle held.handles))) first
-        (All-append P (map Token held.tokens) (map Collection held.collections ++ (handles ++ map Handle held.handles)) (All-map P Token held.tokens of.tokens)
-            (All-append P (map Collection held.collections) (handles ++ map Handle held.handles) (All-map P Collection held.collections of.collections)
-                (All-append P handles (map Handle held.handles) later (All-map P Handle held.handles of.handles))))
+    (All-append P (map Token held.tokens) (map Collection held.collections ++ (handles ++ map Handle held.handles)) (All-map P Token held.tokens of.tokens)
+    (All-append P (map Collection held.collections) (handles ++ map Handle held.handles) (All-map P Collection held.collections of.collections)
+    (All-append P handles (map Handle held.handles) later (All-map P Handle held.handles of.handles))))
 
 -- a reply tells of one thing at most, of its kind
 end_no_handle : (n : ℕ) (r : Reply) → flat_map handle_in (end_told n r) ≡ []
@@ -274,15 +277,60 @@ pub room_all : {E S W : Type 0} (before after : Held E S W) (n waiting : ℕ) (t
 room_all before after n waiting told ends handles all few ends_are handles_are is none t c h same_t same_c same_h =
     let held : Holds = held_in before in
     record {
-      tokens = omega (arith, few, t, same_t, before.tokens.ok.0, after.tokens.ok.0, ap (λ x. length x.tokens) none, ap (λ l. length (flat_map token_in l)) is, many_of token_in ends handles held,
-          ap (λ l. length (flat_map token_in l)) ends_are, no_more token_in (end_told n) (end_one_token n) told, ap length (flat_tokens held.tokens), ap length (no_token_c held.collections), ap length (no_token_h held.handles),
-          ap (λ l. length (flat_map token_in l)) handles_are, ap length (none_of token_in (handle_told n) (handle_no_token n) told));
-      collections = omega (arith, few, c, same_c, before.collections.ok.0, after.collections.ok.0, ap (λ x. length x.collections) none, ap (λ l. length (flat_map collection_in l)) is, many_of collection_in ends handles held,
-          ap (λ l. length (flat_map collection_in l)) ends_are, no_more collection_in (end_told n) (end_one_collection n) told, ap length (no_collection_t held.tokens), ap length (flat_collections held.collections),
-          ap length (no_collection_h held.handles), ap (λ l. length (flat_map collection_in l)) handles_are, ap length (none_of collection_in (handle_told n) (handle_no_collection n) told));
-      handles = omega (arith, few, h, same_h, before.handles.ok.0, after.handles.ok.0, ap (λ x. length x.handles) none, ap (λ l. length (flat_map handle_in l)) is, many_of handle_in ends handles held,
-          ap (λ l. length (flat_map handle_in l)) ends_are, ap length (none_of handle_in (end_told n) (end_no_handle n) told), ap length (no_handle_t held.tokens), ap length (no_handle_c held.collections),
-          ap length (flat_handles held.handles), ap (λ l. length (flat_map handle_in l)) handles_are, no_more handle_in (handle_told n) (handle_one_handle n) told);
+      tokens = omega (
+        arith,
+        few,
+        t,
+        same_t,
+        before.tokens.ok.0,
+        after.tokens.ok.0,
+        ap (λ x. length x.tokens) none,
+        ap (λ l. length (flat_map token_in l)) is,
+        many_of token_in ends handles held,
+        ap (λ l. length (flat_map token_in l)) ends_are,
+        no_more token_in (end_told n) (end_one_token n) told,
+        ap length (flat_tokens held.tokens),
+        ap length (no_token_c held.collections),
+        ap length (no_token_h held.handles),
+        ap (λ l. length (flat_map token_in l)) handles_are,
+        ap length (none_of token_in (handle_told n) (handle_no_token n) told),
+      );
+      collections = omega (
+        arith,
+        few,
+        c,
+        same_c,
+        before.collections.ok.0,
+        after.collections.ok.0,
+        ap (λ x. length x.collections) none,
+        ap (λ l. length (flat_map collection_in l)) is,
+        many_of collection_in ends handles held,
+        ap (λ l. length (flat_map collection_in l)) ends_are,
+        no_more collection_in (end_told n) (end_one_collection n) told,
+        ap length (no_collection_t held.tokens),
+        ap length (flat_collections held.collections),
+        ap length (no_collection_h held.handles),
+        ap (λ l. length (flat_map collection_in l)) handles_are,
+        ap length (none_of collection_in (handle_told n) (handle_no_collection n) told),
+      );
+      handles = omega (
+        arith,
+        few,
+        h,
+        same_h,
+        before.handles.ok.0,
+        after.handles.ok.0,
+        ap (λ x. length x.handles) none,
+        ap (λ l. length (flat_map handle_in l)) is,
+        many_of handle_in ends handles held,
+        ap (λ l. length (flat_map handle_in l)) ends_are,
+        ap length (none_of handle_in (end_told n) (end_no_handle n) told),
+        ap length (no_handle_t held.tokens),
+        ap length (no_handle_c held.collections),
+        ap length (flat_handles held.handles),
+        ap (λ l. length (flat_map handle_in l)) handles_are,
+        no_more handle_in (handle_told n) (handle_one_handle n) told,
+      );
     }
 
 -- an empty stack

@@ -1,5 +1,5 @@
 -- Stacks of things, and things by kind.
-use Rattle.std.proofs.Common.{ℕ, ◌≡◌, ◌≤◌, ◌+◌, ◌∙◌, refl, sym, ap, List, [], ◌∷◌, ◌++◌, append_assoc, append-nil, length, length-append, map, reverse, arith}
+use Rattle.std.proofs.Common.{◌≡◌, ◌+◌, ◌∙◌, refl, sym, ap, List, [], ◌∷◌, ◌++◌, append_assoc, append-nil, length, length-append, map, arith}
 use Rattle.std.specs.Prelude.{flat_map, vec_capacity}
 use Rattle.client_ends.specs.declared.held.Held.{Held}
 use Rattle.std.proofs.lemmas.List.{map-append, reverse-append}
@@ -120,5 +120,6 @@ room_put old new x y all later is room same put tokens collections handles = rec
   where
     many : {A : Type 0} (f : Thing → List A) → length (flat_map f all) ≡ length (f x) + length (flat_map f later)
     many f = ap (λ l. length (flat_map f l)) is ∙ length-append (f x) (flat_map f later)
+
     grown : {A : Type 0} (f : Holds → List A) → length (f (held_in new)) ≡ length (f (both (held_in old) (sorted_one y)))
     grown f = ap (λ h. length (f h)) put

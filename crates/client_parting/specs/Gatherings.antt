@@ -1,5 +1,5 @@
 -- All parts, against the record.
-use Rattle.std.specs.Prelude.{ℕ, ◌≡◌, ◌≤◌, ◌<◌, ◌+◌, List, [], ◌∷◌, map, length, Option, Some, None, ◌⊎◌, ◌-◌, ⊤}
+use Rattle.std.specs.Prelude.{ℕ, ◌≡◌, ◌≤◌, ◌<◌, List, map, length, Option, Some, None, ◌⊎◌, ◌-◌, ⊤}
 use Rattle.std.specs.List.{All, count_by, sum_by}
 use Rattle.sm_names.specs.declared.keys.Strength.{Strength}
 use Rattle.sm_names.specs.declared.keys.Strength.TheVariants.{Strong, Weak}

@@ -163,7 +163,19 @@ fn first_mismatch<E: Ledger, S: Ledger, W: Ledger>(
     }
 }
 
-/// Compares the parts with what lies under the lock.
+/// Compares the parts with what lies under the lock, client by client, in one pass over the record.
+/// It makes no event, merges no shares and changes nothing.
+///
+/// Answered Ok, the record is a legal history of so many events, each client that joined has its
+/// part here, each own list is just that client's part of the record, and all open handles are here.
+/// Else, in this order: `NoMemory` where memory is refused; `MissingClient` with the first client that
+/// joined and has no part here; `OpenValues` where more or fewer handles of a strength are open than
+/// are here, with how many are missing, 0 where none are; `RecordMismatch` for the least client whose
+/// list is not its part, with the event of the part at the first place where they differ, or of the
+/// list, if the part is over.
+///
+/// Costs three passes over the record, one over each own list, and one over all handles; memory for
+/// two numbers and a bit for each event, a number for each part, and a line for each client.
 pub fn compare<E: Ledger, S: Ledger, W: Ledger>(
     alloc: Global,
     state: &State<E, S, W>,
@@ -207,7 +219,8 @@ pub fn compare<E: Ledger, S: Ledger, W: Ledger>(
     }
 }
 
-/// Compares all parts with the record under the lock, and hands them back.
+/// Compares all parts with the record under the lock, and hands them all back, whatever the answer,
+/// which is that of `compare`. It makes no event. Costs the lock and what `compare` does.
 pub fn gather<E: Ledger, S: Ledger, W: Ledger, R: Wait>(
     rt: &R,
     alloc: Global,
@@ -253,7 +266,8 @@ fn spend<E: Ledger, S: Ledger, W: Ledger>(
     client.spend(ended);
 }
 
-/// Ends the service, and lets all parts go without events. It takes no lock and no memory.
+/// Ends the service, and lets all parts go without events. It takes no lock and no memory. Costs a
+/// constant for each value.
 pub fn end_service<E: Ledger, S: Ledger, W: Ledger>(
     service: Service<E, S, W>,
     parts: Vec<Holding<E, S, W>>,

@@ -12,6 +12,8 @@ use std::alloc::Global;
 use std::marker::Model;
 
 /// The record of all events, with each client's events chained. A contract sees the record.
+///
+/// A client's part is what it made after its Join, whose number is the client's id.
 #[derive(Drop)]
 pub struct Parts<'a> {
     record: &'a [(ClientId, Call, Reply)],
@@ -84,7 +86,8 @@ fn mark(ids: &[ClientId], present: &mut [bool])
 }
 
 impl<'a> Parts<'a> {
-    /// Chains each client's events of the record, in one pass over it.
+    /// Chains each client's events of the record, in one pass over it, with two numbers of memory for
+    /// each event. `NoMemory` where that is refused.
     pub fn new(alloc: Global, record: &'a [(ClientId, Call, Reply)]) -> Result<Parts<'a>, NoMemory>
         ensures { IfOk result (λ p. p ≡ «record».now) }
     {
@@ -129,7 +132,8 @@ impl<'a> Parts<'a> {
     }
 
     /// Where a client's own list is not its part: the event of the part at the first place where they
-    /// differ, or of the list, if the part is over.
+    /// differ, or of the list, if the part is over. `None` where the list is the part. Costs a step for
+    /// each event of the list.
     pub fn differ(&self, client: ClientId, own: &[Own]) -> Option<u64>
         ensures { MatchOption result (own.now ≡ part client self.now)
             (λ event. DifferAt event own.now (part client self.now)) }
@@ -153,7 +157,8 @@ impl<'a> Parts<'a> {
         }
     }
 
-    /// How many events the client made, and how many handles of each strength it has open.
+    /// How many events the client made after its Join, and how many handles of each strength it has
+    /// open by them. Costs a step for each of these events.
     pub fn line(&self, client: ClientId) -> ClientLine
         ensures { result ≡ line_of self.now client }
     {
@@ -176,7 +181,8 @@ impl<'a> Parts<'a> {
         }
     }
 
-    /// A line for each client that joined, in order. `NoMemory` where memory is refused.
+    /// A line for each client that joined, in order. `NoMemory` where memory is refused. Costs two
+    /// steps for each event of the record.
     pub fn lines(&self, alloc: Global) -> Result<Vec<ClientLine>, NoMemory>
         ensures { IfOk result (λ lines. lines.items ≡ lines_of self.now) }
     {
@@ -193,7 +199,8 @@ impl<'a> Parts<'a> {
         Ok(lines)
     }
 
-    /// The first client that joined and is not among these. `NoMemory` where memory is refused.
+    /// The first client that joined and is not among these, `None` where all are. `NoMemory` where
+    /// memory is refused. Costs a step for each of these and for each event of the record.
     pub fn first_absent(
         &self,
         alloc: Global,

@@ -7,12 +7,11 @@ use client_parting::{Holding, Wreck, end_service, gather};
 use service_lock::{Service, core};
 use sm_names::ClientId;
 use std::alloc::Global;
-use std::mem;
 use std::process::Abort;
 use std::sync::Wait;
 use std::sync::ledger::Ledger;
-use std::thread;
 use std::thread::Threads;
+use std::{mem, thread};
 
 // How many threads there are, and how many calls each makes; the first two go half-way.
 const THREADS: usize = 4;
@@ -248,8 +247,9 @@ pub fn crowd<
     seats.destroy_empty();
     let (parts, report) = gather(rt, alloc, &service, parts);
     match report {
-        Ok(report) => assert!(rt; report.lines.len() == THREADS && report.strong == 0
-            && report.weak == 0),
+        Ok(report) => assert!(rt;
+            report.lines.len() == THREADS && report.strong == 0 && report.weak == 0
+        ),
         Err(_) => panic!(rt; "not gathered"),
     }
     let guard = service.lock(rt);

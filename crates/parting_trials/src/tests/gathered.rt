@@ -77,8 +77,9 @@ pub fn gathered<E: Ledger, S: Ledger, W: Ledger, R: Wait + Abort>(
         Ok(report) => {
             assert!(rt; report.events == 5 && report.strong == 2 && report.weak == 0);
             match report.lines.as_slice() {
-                [line] => assert!(rt; line.client == id && line.events == 4
-                    && line.strong == 2 && line.weak == 0),
+                [line] => assert!(rt;
+                    line.client == id && line.events == 4 && line.strong == 2 && line.weak == 0
+                ),
                 _ => panic!(rt; "other lines"),
             }
         }

@@ -65,9 +65,7 @@ pub fn handed<E: Ledger, S: Ledger, W: Ledger, R: Wait + Abort>(
     }
     let (parts, report) = gather(rt, alloc, &service, parts);
     match report {
-        Ok(report) => {
-            assert!(rt; report.events == 10 && report.strong == 0 && report.weak == 0)
-        }
+        Ok(report) => { assert!(rt; report.events == 10 && report.strong == 0 && report.weak == 0) }
         Err(_) => panic!(rt; "not gathered"),
     }
     end_service(service, parts);

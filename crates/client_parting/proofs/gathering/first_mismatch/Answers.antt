@@ -1,6 +1,6 @@
-use Rattle.std.proofs.Common.{ℕ, ◌≡◌, ◌∙◌, ap, subst, sym, Some}
+use Rattle.std.proofs.Common.{ℕ, ◌∙◌, ap, subst, sym}
 use Rattle.record_parts.specs.Parts.{DifferAt, part}
-use Rattle.client_parting.specs.Gatherings.{IsFound, own_of, id_of}
+use Rattle.client_parting.specs.Gatherings.{IsFound, own_of}
 use Rattle.client_parting.proofs.GatherLaws.{FoundSoFar, found_first, found_other, found_same}
 use Rattle.client_parting.proofs.gathering.first_mismatch.Goals as goal
 
@@ -23,4 +23,4 @@ pub returns-in-Some-found : goal.returns-in-Some-found
 returns-in-Some-found g c =
     let at : ℕ × ℕ = (c.in-Some-found.field-0-0, c.in-Some-found.event) in
     found_first c.args.view.now c.args.parts.now c.loop-part.rest.now at c.in_default.ensures.cases
-        (subst (FoundSoFar c.args.view.now c.args.parts.now c.loop-part.rest.now) c.in-Some-found.is c.loop-part.invariant)
+    (subst (FoundSoFar c.args.view.now c.args.parts.now c.loop-part.rest.now) c.in-Some-found.is c.loop-part.invariant)

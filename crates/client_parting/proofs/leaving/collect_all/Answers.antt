@@ -1,4 +1,4 @@
-use Rattle.std.proofs.Common.{◌≡◌, ◌∷◌, ◌++◌, [], length, length-append, map, arith}
+use Rattle.std.proofs.Common.{◌∷◌, ◌++◌, [], length-append, map, arith}
 use Rattle.client_parting.specs.Partings.{thing_of}
 use Rattle.client_parting.proofs.PartingLaws.{collects_more}
 use Rattle.client_parting.proofs.leaving.collect_all.Goals as goal

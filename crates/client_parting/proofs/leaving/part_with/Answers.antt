@@ -1,4 +1,4 @@
-use Rattle.std.proofs.Common.{◌≡◌, ap}
+use Rattle.std.proofs.Common.{ap}
 use Rattle.sm_names.specs.declared.messages.Call.{Call}
 use Rattle.client_parting.specs.Partings.{parting_call, thing_of}
 use Rattle.client_parting.proofs.PartingLaws.{parted_done}

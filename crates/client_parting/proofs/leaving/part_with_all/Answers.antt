@@ -1,7 +1,7 @@
-use Rattle.std.proofs.Common.{◌≡◌, ◌∷◌, ◌∙◌, [], Some, None, ap, subst, sym}
+use Rattle.std.proofs.Common.{◌≡◌, ◌∷◌, ◌∙◌, [], ap, subst, sym}
 use Rattle.std.specs.List.{All}
 use Rattle.std.proofs.lemmas.List.Elements.{All-head, All-tail}
-use Rattle.client_parting.specs.Partings.{Thing, held_in, owner_of, sorted, thing_of}
+use Rattle.client_parting.specs.Partings.{Thing, held_in, owner_of, thing_of}
 use Rattle.client_parting.specs.Stacks.{PartsWith, both, kept_things, top_first}
 use Rattle.client_parting.proofs.PartingLaws.{kept_same, parts_more, parts_none}
 use Rattle.client_parting.proofs.ThingLaws.{both_none, room_less, room_put, sorted_single, top_pop}

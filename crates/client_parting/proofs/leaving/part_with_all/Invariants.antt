@@ -1,4 +1,4 @@
-use Rattle.std.proofs.Common.{◌≡◌, vec_capacity, vec_len, ◌≤◌}
+use Rattle.std.proofs.Common.{◌≡◌, vec_len}
 use Rattle.std.specs.List.{All}
 use Rattle.client_parting.specs.Partings.{held_in, owner_of}
 use Rattle.client_parting.specs.Stacks.{HasRoomFor, Parts, top_first}

@@ -1,6 +1,6 @@
-use Rattle.std.proofs.Common.{ℕ, ◌≡◌, ◌∙◌, inr, ap, is_ok, map, subst, sym, List, length, arith}
+use Rattle.std.proofs.Common.{◌≡◌, ◌∙◌, inr, ap, is_ok, map, subst, sym, length, arith}
 use Rattle.std.specs.List.{All}
-use Rattle.client_parting.specs.Partings.{AreOf, Holds, IsGone, Thing, held_in, owner_of, thing_of, waiting_in}
+use Rattle.client_parting.specs.Partings.{AreOf, IsGone, held_in, owner_of, thing_of}
 use Rattle.client_parting.specs.Stacks.{CollectsFor, top_first}
 use Rattle.client_parting.proofs.PartingLaws.{goes, gone, owners, room_all, shut_only, stacked, top_none}
 use Rattle.client_parting.proofs.leaving.vanish.Goals as goal
@@ -27,7 +27,7 @@ part_if-parted-requires-clause-room g c =
     let room = c.in-Ok-make_room.ensures.room in
     let stack = c.stack_all-stack.ensures in
     room_all c.make_room.new.held c.stack_all-stack.new.held c.shut.new.self.id c.waiting_in.result made.told ends handles (top_first c.stack_all-stack.result.items) made.within made.collects.ends_are made.collects.handles_are
-        stack.things stack.none room.tokens room.collections room.for_handles stack.tokens stack.collections stack.handles
+    stack.things stack.none room.tokens room.collections room.for_handles stack.tokens stack.collections stack.handles
 
 pub returns-in-Ok-parted-clause-gone : goal.returns-in-Ok-parted-clause-gone
 returns-in-Ok-parted-clause-gone g c =
@@ -38,8 +38,8 @@ returns-in-Ok-parted-clause-gone g c =
     let collects = subst (λ n. CollectsFor (is_ok c.collect_all-collected.result) n c.shut.new.self far ends handles) c.waiting_in.ensures c.collect_all-collected.ensures.made in
     let none : length c.part_if-parted.new.stack.items ≡ 0 = omega (arith, c.in-Ok-parted.ensures.all.0, c.part_if-parted.new.stack.ok.0) in
     let over = gone c.args.client c.shut.new.self far c.part_if-parted.new.client c.in-Ok.reply (is_ok c.collect_all-collected.result) ends handles (top_first c.stack_all-stack.result.items)
-        (top_first c.part_if-parted.new.stack.items) (held_in c.args.held) (held_in c.part_if-parted.new.kept) c.in-Ok.ensures collects c.part_if-parted.ensures.parts is (top_none c.part_if-parted.new.stack.items none)
-        c.in-Ok-parted.ensures.all.1 in
+    (top_first c.part_if-parted.new.stack.items) (held_in c.args.held) (held_in c.part_if-parted.new.kept) c.in-Ok.ensures collects c.part_if-parted.ensures.parts is (top_none c.part_if-parted.new.stack.items none)
+    c.in-Ok-parted.ensures.all.1 in
     subst (λ w. IsGone c.args.client w.client (held_in c.args.held) w.refused) (sym c.new.ensures) over
 
 pub returns-in-Err-parted-clause-fault : goal.returns-in-Err-parted-clause-fault
@@ -50,4 +50,4 @@ returns-in-Err-parted-clause-fault g c =
     let far = c.collect_all-collected.new.client in
     let collects = subst (λ n. CollectsFor (is_ok c.collect_all-collected.result) n c.shut.new.self far ends handles) c.waiting_in.ensures c.collect_all-collected.ensures.made in
     inr (goes c.args.client c.shut.new.self far c.part_if-parted.new.client c.in-Ok.reply (is_ok c.collect_all-collected.result) ends handles (top_first c.stack_all-stack.result.items)
-        (top_first c.part_if-parted.new.stack.items) (held_in c.args.held) (held_in c.part_if-parted.new.kept) (held_in c.put_all.new.held) c.in-Ok.ensures collects c.part_if-parted.ensures.parts is c.put_all.ensures)
+    (top_first c.part_if-parted.new.stack.items) (held_in c.args.held) (held_in c.part_if-parted.new.kept) (held_in c.put_all.new.held) c.in-Ok.ensures collects c.part_if-parted.ensures.parts is c.put_all.ensures)
