@@ -7,7 +7,7 @@ use Rattle.sm_names.specs.declared.messages.Call.{Call}
 use Rattle.sm_names.specs.declared.messages.Reply.{Reply}
 use Rattle.sm_names.specs.declared.outcomes.StepFault.{StepFault}
 use Rattle.service_lock.specs.Units.{Amounts, with_one}
-use Rattle.client_ends.specs.declared.account.Own.{Own}
+use Rattle.record_parts.specs.declared.own.Own.{Own}
 use Rattle.client_ends.specs.declared.why.Why.{Why}
 
 -- the amounts of a client's shares, and its own list

@@ -10,19 +10,12 @@ ghost use Rattle.client_ends.specs.Taking.{grips_by, told_taken};
 
 use crate::spare::refused;
 use crate::taking::{Room, hand_out, taken_by};
+use record_parts::Own;
 use service_lock::{State, Units, apply, books, pass};
 use sm_names::{Call, ClientId, NodeKey, Reply, StepFault, Strength};
 use std::alloc::Global;
 use std::marker::Model;
 use std::sync::ledger::Ledger;
-
-/// An event that a client made: its number, from 1, its call, and its reply.
-#[derive(Clone, Copy)]
-pub struct Own {
-    pub event: u64,
-    pub call: Call,
-    pub reply: Reply,
-}
 
 // Whether the event was made and answered Done.
 fn was_done(made: &Result<Reply, StepFault>) -> bool

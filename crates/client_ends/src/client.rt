@@ -10,7 +10,7 @@ ghost use Rattle.client_ends.specs.Clients.{Made, MadeOr, is_done, is_found, is_
 ghost use Rattle.client_ends.specs.Collecting.{Collected};
 ghost use Rattle.client_ends.specs.Taking.{Took};
 
-use crate::account::{Account, Own};
+use crate::account::Account;
 use crate::ended::Ended;
 use crate::ends::{CollectionEnd, TokenEnd};
 use crate::handle::Handle;
@@ -18,6 +18,7 @@ use crate::held::End;
 use crate::spare::empty;
 use crate::taking::make_room;
 use crate::why::Why;
+use record_parts::Own;
 use service_lock::{Service, State, Units, apply, take_tracker};
 use sm_names::{BufferName, Call, ClientId, Kind, NodeKey, Reply, StepFault, Strength};
 use std::alloc::Global;

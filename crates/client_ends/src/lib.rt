@@ -24,11 +24,11 @@ mod taking;
 mod tokens;
 mod why;
 
-pub use account::Own;
 pub use client::{Client, join};
 pub use draft::{Draft, Part, Synced};
 pub use ended::{Ended, end};
 pub use ends::{Bound, CollectionEnd, EndOf, TokenEnd, Unbound};
 pub use handle::Handle;
 pub use held::{End, Held};
+pub use record_parts::Own;
 pub use why::{Kept, Why};

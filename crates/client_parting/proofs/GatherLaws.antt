@@ -1,0 +1,99 @@
+-- Parts, one after another.
+use Rattle.std.proofs.Common.{ℕ, ◌≡◌, ◌<◌, ◌+◌, ◌∙◌, sym, ap, subst, inl, inr, List, [], ◌∷◌, ◌++◌, append_assoc, append-nil, length, arith}
+use Rattle.std.proofs.lemmas.List.Elements.{All-nil, All-push, All-weaker}
+use Rattle.std.proofs.lemmas.List.Sums.{sum_by-cons}
+use Rattle.sm_names.specs.declared.keys.Strength.{Strength}
+use Rattle.client_parting.specs.declared.gathering.Holding.{Holding}
+use Rattle.client_parting.specs.Gatherings.{IsFirstMismatch, IsFound, Matches, all_handed, handed, id_of, own_of}
+use Rattle.record_parts.specs.declared.own.Own.{Own}
+use Rattle.record_parts.specs.Parts.{DifferAt, part}
+use Rattle.sm_names.specs.Marks.{Entry}
+use Rattle.std.specs.List.{All}
+use Rattle.std.specs.Prelude.{Option, Some, None}
+
+-- the own list of this client is not its part, and those of lesser clients are
+pub record Mismatch {E S W : Type 0} (history : List Entry) (seen : List (Holding E S W)) (client event : ℕ) : Type 0 where
+  pub own : List Own
+  pub differs : DifferAt event own (part client history)
+  pub before : All (λ p. id_of p < client → Matches history p) seen
+
+-- the handles of one part, and of the others
+pub handed-cons : {E S W : Type 0} (strength : Strength) (part : Holding E S W) (others : List (Holding E S W)) → all_handed strength (part ∷ others) ≡ handed strength part + all_handed strength others
+handed-cons strength part others = sum_by-cons (handed strength) part others
+
+-- what was found: nothing, and the lists are the parts, or the mismatch of the least client
+abbrev pub Found : {E S W : Type 0} → List Entry → List (Holding E S W) → Option (ℕ × ℕ) → Type 0
+Found history seen None = All (Matches history) seen
+Found history seen (Some at) = Mismatch history seen at.0 at.1
+
+-- what was found among the first parts, and what is left to be looked at
+pub record FoundSoFar {E S W : Type 0} (history : List Entry) (parts rest : List (Holding E S W)) (found : Option (ℕ × ℕ)) : Type 0 where
+  pub seen : List (Holding E S W)
+  pub all : parts ≡ seen ++ rest
+  pub is : Found history seen found
+
+-- at first nothing was looked at
+pub found_none : {E S W : Type 0} (history : List Entry) (parts rest : List (Holding E S W)) → rest ≡ parts → FoundSoFar history parts rest None
+found_none history parts rest is = record { seen = []; all = sym is; is = All-nil (Matches history) }
+
+-- a part whose list is its client's part changes nothing
+pub found_same : {E S W : Type 0} (history : List Entry) (parts rest others : List (Holding E S W)) (p : Holding E S W) (found : Option (ℕ × ℕ)) → FoundSoFar history parts rest found → rest ≡ p ∷ others →
+    Matches history p → FoundSoFar history parts others found
+found_same history parts rest others p found so on same = record {
+  seen = so.seen ++ p ∷ [];
+  all = so.all ∙ (ap (λ l. so.seen ++ l) on ∙ sym (append_assoc so.seen (p ∷ []) others));
+  is = still found so.is;
+}
+  where
+    still : (o : Option (ℕ × ℕ)) → Found history so.seen o → Found history (so.seen ++ p ∷ []) o
+    still None all = All-push (Matches history) so.seen p all same
+    still (Some at) m = record {
+      own = m.own;
+      differs = m.differs;
+      before = All-push (λ q. id_of q < at.0 → Matches history q) so.seen p m.before (λ _. same);
+    }
+
+-- one whose list is not leaves the one of the lesser client
+pub found_other : {E S W : Type 0} (history : List Entry) (parts rest others : List (Holding E S W)) (p : Holding E S W) (event : ℕ) (found : Option (ℕ × ℕ)) (now : ℕ × ℕ) →
+    FoundSoFar history parts rest found → rest ≡ p ∷ others → DifferAt event (own_of p) (part (id_of p) history) → IsFound found (id_of p) event now → FoundSoFar history parts others (Some now)
+found_other history parts rest others p event found now so on differs is = record {
+  seen = so.seen ++ p ∷ [];
+  all = so.all ∙ (ap (λ l. so.seen ++ l) on ∙ sym (append_assoc so.seen (p ∷ []) others));
+  is = other found so.is is;
+}
+  where
+    mine : All (λ q. id_of q < id_of p → Matches history q) so.seen → Mismatch history (so.seen ++ p ∷ []) (id_of p) event
+    mine before = record {
+      own = own_of p;
+      differs = differs;
+      before = All-push (λ q. id_of q < id_of p → Matches history q) so.seen p before (λ less. absurd (omega (arith, less)));
+    }
+
+    other : (o : Option (ℕ × ℕ)) → Found history so.seen o → IsFound o (id_of p) event now → Found history (so.seen ++ p ∷ []) (Some now)
+    other None all first =
+        subst (λ (n : ℕ × ℕ). Mismatch history (so.seen ++ p ∷ []) n.0 n.1) (sym first)
+        (mine (All-weaker (Matches history) (λ q. id_of q < id_of p → Matches history q) (λ q m less. m) so.seen all))
+    other (Some at) m (inl kept) =
+        let still : Mismatch history (so.seen ++ p ∷ []) at.0 at.1 = record {
+          own = m.own;
+          differs = m.differs;
+          before = All-push (λ q. id_of q < at.0 → Matches history q) so.seen p m.before (λ less. absurd (omega (arith, less, kept.0)));
+        } in
+        subst (λ (n : ℕ × ℕ). Mismatch history (so.seen ++ p ∷ []) n.0 n.1) (sym kept.1) still
+    other (Some at) m (inr less) =
+        subst (λ (n : ℕ × ℕ). Mismatch history (so.seen ++ p ∷ []) n.0 n.1) (sym less.1)
+        (mine (All-weaker (λ q. id_of q < at.0 → Matches history q) (λ q. id_of q < id_of p → Matches history q) (λ q was below. was (omega (arith, below, less.0))) so.seen m.before))
+
+-- and once all were looked at, that is the first of all
+pub found_all : {E S W : Type 0} (history : List Entry) (parts rest : List (Holding E S W)) → length rest ≡ 0 → FoundSoFar history parts rest None → All (Matches history) parts
+found_all history parts [] none so = subst (All (Matches history)) (sym (so.all ∙ append-nil so.seen)) so.is
+found_all history parts (p ∷ ps) none so = absurd (omega (arith, none))
+
+pub found_first : {E S W : Type 0} (history : List Entry) (parts rest : List (Holding E S W)) (at : ℕ × ℕ) → length rest ≡ 0 → FoundSoFar history parts rest (Some at) → IsFirstMismatch history parts at.1
+found_first history parts [] at none so = record {
+  client = at.0;
+  own = so.is.own;
+  differs = so.is.differs;
+  before = subst (All (λ p. id_of p < at.0 → Matches history p)) (sym (so.all ∙ append-nil so.seen)) so.is.before;
+}
+found_first history parts (p ∷ ps) at none so = absurd (omega (arith, none))

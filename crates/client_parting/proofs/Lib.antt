@@ -1,0 +1,3 @@
+pub mod GatherLaws
+pub mod PartingLaws
+pub mod ThingLaws

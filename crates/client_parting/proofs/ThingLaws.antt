@@ -1,0 +1,125 @@
+-- Stacks of things, and things by kind.
+use Rattle.std.proofs.Common.{◌≡◌, ◌+◌, ◌∙◌, refl, sym, ap, List, [], ◌∷◌, ◌++◌, append_assoc, append-nil, length, length-append, map, arith}
+use Rattle.std.specs.Prelude.{flat_map, vec_capacity}
+use Rattle.client_ends.specs.declared.held.Held.{Held}
+use Rattle.std.proofs.lemmas.List.{map-append, reverse-append}
+use Rattle.client_ends.specs.declared.held.End.{End}
+use Rattle.client_ends.specs.Clients.{Grip, Tag}
+use Rattle.client_parting.specs.Partings.{Collection, Handle, Holds, Thing, Token, collection_in, handle_in, held_in, sorted, thing_of, token_in}
+use Rattle.client_parting.specs.Stacks.{HasRoomFor, both, sorted_one, top_first}
+
+-- the last one that is put on a stack is its top
+pub top_push : {E S W : Type 0} (items : List (End E S W)) (e : End E S W) → top_first (items ++ e ∷ []) ≡ thing_of e ∷ top_first items
+top_push items e = ap (map thing_of) (reverse-append items (e ∷ []))
+
+-- so is the last of a list that goes on the stack from its end
+pub stack_more : {E S W X : Type 0} (f : X → Thing) (xs rest : List X) (x : X) (stack grown : List (End E S W)) (e : End E S W) →
+    xs ≡ rest ++ x ∷ [] → grown ≡ stack ++ e ∷ [] → thing_of e ≡ f x → map f rest ++ top_first grown ≡ map f xs ++ top_first stack
+stack_more f xs rest x stack grown e last on is =
+    let top : top_first grown ≡ f x ∷ top_first stack = ap top_first on ∙ (top_push stack e ∙ ap (λ t. t ∷ top_first stack) is) in
+    let whole : map f xs ≡ map f rest ++ f x ∷ [] = ap (map f) last ∙ map-append f rest (x ∷ []) in
+    ap (λ l. map f rest ++ l) top ∙ (sym (append_assoc (map f rest) (f x ∷ []) (top_first stack)) ∙ ap (λ l. l ++ top_first stack) (sym whole))
+
+-- the things of a list come one by one
+pub flat-append : {A B : Type 0} (f : A → List B) (xs ys : List A) → flat_map f (xs ++ ys) ≡ flat_map f xs ++ flat_map f ys
+flat-append f [] ys = refl
+flat-append f (x ∷ xs) ys = ap (λ l. f x ++ l) (flat-append f xs ys) ∙ sym (append_assoc (f x) (flat_map f xs) (flat_map f ys))
+
+-- kind by kind too
+pub sorted-append : (xs ys : List Thing) → sorted (xs ++ ys) ≡ both (sorted xs) (sorted ys)
+sorted-append xs ys = λ i. record {
+  tokens = flat-append token_in xs ys i;
+  collections = flat-append collection_in xs ys i;
+  handles = flat-append handle_in xs ys i;
+}
+
+pub sorted-cons : (x : Thing) (xs : List Thing) → sorted (x ∷ xs) ≡ both (sorted_one x) (sorted xs)
+sorted-cons x xs = refl
+
+pub both_assoc : (a b c : Holds) → both (both a b) c ≡ both a (both b c)
+both_assoc a b c = λ i. record {
+  tokens = append_assoc a.tokens b.tokens c.tokens i;
+  collections = append_assoc a.collections b.collections c.collections i;
+  handles = append_assoc a.handles b.handles c.handles i;
+}
+
+pub both_none : (a : Holds) → both a (sorted []) ≡ a
+both_none a = λ i. record {
+  tokens = append-nil a.tokens i;
+  collections = append-nil a.collections i;
+  handles = append-nil a.handles i;
+}
+
+-- things of one kind
+pub flat_tokens : (ts : List Tag) → flat_map token_in (map Token ts) ≡ ts
+flat_tokens [] = refl
+flat_tokens (t ∷ ts) = ap (λ l. t ∷ l) (flat_tokens ts)
+
+pub flat_collections : (ts : List Tag) → flat_map collection_in (map Collection ts) ≡ ts
+flat_collections [] = refl
+flat_collections (t ∷ ts) = ap (λ l. t ∷ l) (flat_collections ts)
+
+pub flat_handles : (hs : List Grip) → flat_map handle_in (map Handle hs) ≡ hs
+flat_handles [] = refl
+flat_handles (h ∷ hs) = ap (λ l. h ∷ l) (flat_handles hs)
+
+-- have none of another
+pub no_token_c : (ts : List Tag) → flat_map token_in (map Collection ts) ≡ []
+no_token_c [] = refl
+no_token_c (t ∷ ts) = no_token_c ts
+
+pub no_token_h : (hs : List Grip) → flat_map token_in (map Handle hs) ≡ []
+no_token_h [] = refl
+no_token_h (h ∷ hs) = no_token_h hs
+
+pub no_collection_t : (ts : List Tag) → flat_map collection_in (map Token ts) ≡ []
+no_collection_t [] = refl
+no_collection_t (t ∷ ts) = no_collection_t ts
+
+pub no_collection_h : (hs : List Grip) → flat_map collection_in (map Handle hs) ≡ []
+no_collection_h [] = refl
+no_collection_h (h ∷ hs) = no_collection_h hs
+
+pub no_handle_t : (ts : List Tag) → flat_map handle_in (map Token ts) ≡ []
+no_handle_t [] = refl
+no_handle_t (t ∷ ts) = no_handle_t ts
+
+pub no_handle_c : (ts : List Tag) → flat_map handle_in (map Collection ts) ≡ []
+no_handle_c [] = refl
+no_handle_c (t ∷ ts) = no_handle_c ts
+
+-- one thing, by kind
+pub sorted_single : (x : Thing) → sorted (x ∷ []) ≡ sorted_one x
+sorted_single x = both_none (sorted_one x)
+
+-- ---- room
+
+-- the top comes off a stack
+pub top_pop : {E S W : Type 0} (items rest : List (End E S W)) (e : End E S W) → items ≡ rest ++ e ∷ [] → top_first items ≡ thing_of e ∷ top_first rest
+top_pop items rest e is = ap top_first is ∙ top_push rest e
+
+-- who has room for all has room for those after the first
+pub room_less : {E S W : Type 0} (held : Held E S W) (x : Thing) (all later : List Thing) → all ≡ x ∷ later → HasRoomFor held all → HasRoomFor held later
+room_less held x all later is room = record {
+  tokens = omega (arith, room.tokens, many token_in);
+  collections = omega (arith, room.collections, many collection_in);
+  handles = omega (arith, room.handles, many handle_in);
+}
+  where
+    many : {A : Type 0} (f : Thing → List A) → length (flat_map f all) ≡ length (f x) + length (flat_map f later)
+    many f = ap (λ l. length (flat_map f l)) is ∙ length-append (f x) (flat_map f later)
+
+-- also after the first was put into its list
+pub room_put : {E S W : Type 0} (old new : Held E S W) (x y : Thing) (all later : List Thing) → all ≡ x ∷ later → HasRoomFor old all → y ≡ x → held_in new ≡ both (held_in old) (sorted_one y) →
+    vec_capacity new.tokens ≡ vec_capacity old.tokens → vec_capacity new.collections ≡ vec_capacity old.collections → vec_capacity new.handles ≡ vec_capacity old.handles → HasRoomFor new later
+room_put old new x y all later is room same put tokens collections handles = record {
+  tokens = omega (arith, room.tokens, many token_in, grown (λ h. h.tokens), length-append (held_in old).tokens (token_in y), ap (λ t. length (token_in t)) same, new.tokens.ok.0, old.tokens.ok.0, tokens);
+  collections = omega (arith, room.collections, many collection_in, grown (λ h. h.collections), length-append (held_in old).collections (collection_in y), ap (λ t. length (collection_in t)) same, new.collections.ok.0, old.collections.ok.0, collections);
+  handles = omega (arith, room.handles, many handle_in, grown (λ h. h.handles), length-append (held_in old).handles (handle_in y), ap (λ t. length (handle_in t)) same, new.handles.ok.0, old.handles.ok.0, handles);
+}
+  where
+    many : {A : Type 0} (f : Thing → List A) → length (flat_map f all) ≡ length (f x) + length (flat_map f later)
+    many f = ap (λ l. length (flat_map f l)) is ∙ length-append (f x) (flat_map f later)
+
+    grown : {A : Type 0} (f : Holds → List A) → length (f (held_in new)) ≡ length (f (both (held_in old) (sorted_one y)))
+    grown f = ap (λ h. length (f h)) put

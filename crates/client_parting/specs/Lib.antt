@@ -1,0 +1,3 @@
+pub mod Gatherings
+pub mod Partings
+pub mod Stacks

@@ -1,0 +1,13 @@
+//! How clients go, and what is compared at the end: clients that vanish with all that they hold, and
+//! all parts gathered against the record under the lock.
+#![tactic(auto)]
+
+mod gathering;
+mod leaving;
+mod things;
+mod wreck;
+
+pub use gathering::{GatherFault, Holding, Report, compare, end_service, gather};
+pub use leaving::vanish;
+pub use record_parts::ClientLine;
+pub use wreck::Wreck;

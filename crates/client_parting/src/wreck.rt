@@ -1,0 +1,66 @@
+//! What is left of a client that is gone.
+ghost use Rattle.std.specs.Prelude.{◌≡◌, ◌+◌, length};
+ghost use Rattle.client_parting.specs.Partings.{held_in};
+
+use client_ends::{Client, Ended, Held, Own};
+use sm_names::ClientId;
+use std::marker::Model;
+use std::sync::ledger::Ledger;
+
+/// What is left of a client that is gone: its own list, and what it could not part with. It must be
+/// spent: at the end of the service, at the latest.
+pub struct Wreck<E: Ledger, S: Ledger, W: Ledger> {
+    client: Client<E, S, W>,
+    refused: Held<E, S, W>,
+}
+
+impl<E: Ledger, S: Ledger, W: Ledger> Model for Wreck<E, S, W> {
+    ghost use Rattle.client_parting.specs.Partings.{Remains, held_in};
+
+    ghost Value = { Remains };
+
+    ghost view = { λ w. record { client = w.client; refused = held_in w.refused } };
+}
+
+impl<E: Ledger, S: Ledger, W: Ledger> Wreck<E, S, W> {
+    pub(crate) fn new(client: Client<E, S, W>, refused: Held<E, S, W>) -> Wreck<E, S, W>
+        ensures { result ≡ record { client = client; refused = held_in refused } }
+    {
+        Wreck { client, refused }
+    }
+
+    /// The id of the client that is gone. It takes no lock, nor do the other readers.
+    pub fn id(&self) -> ClientId
+        ensures { result ≡ self.now.client.id }
+    {
+        self.client.id()
+    }
+
+    /// The client's own list: the events that it made after its Join, in order.
+    pub fn own(&self) -> &[Own]
+        ensures { result.now ≡ self.now.client.own }
+    {
+        self.client.own()
+    }
+
+    /// How many events the client's own list has.
+    pub fn events(&self) -> u64
+        ensures value { result ≡ length self.now.client.own }
+        ensures share { self.now.client.share ≡ result + 1 }
+    {
+        self.client.own().len() as u64
+    }
+
+    /// What the client could not part with: its Close or DropHandle was not answered Done.
+    pub(crate) fn refused(&self) -> &Held<E, S, W>
+        ensures { held_in result.now ≡ self.now.refused }
+    {
+        &self.refused
+    }
+
+    /// Takes it apart.
+    pub(crate) fn into_parts(self) -> (Client<E, S, W>, Held<E, S, W>) {
+        let Wreck { client, refused } = self;
+        (client, refused)
+    }
+}

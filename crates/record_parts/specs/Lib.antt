@@ -1,0 +1,4 @@
+pub mod Lines
+pub mod Links
+pub mod Members
+pub mod Parts
