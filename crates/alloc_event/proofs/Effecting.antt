@@ -35,7 +35,7 @@ use Rattle.alloc_event.proofs.Amounts.{times_changed}
 use Rattle.alloc_event.proofs.Altering.{found_filed, found_put, found_whole, looked-of, same_affected}
 use Rattle.alloc_event.proofs.Calming.{IsPlain, any_map, calm_map, rests_strong, times_map}
 use Rattle.alloc_event.proofs.Counted.{counted_but, counted_put, filed_every, moved_but, set_shelves}
-use Rattle.alloc_event.proofs.Entries.{IsPlace, set_put}
+use Rattle.alloc_event.proofs.Done.{done_by}
 use Rattle.alloc_event.proofs.Finishing.{collection-beside, collections-put}
 use Rattle.alloc_event.proofs.Hanging.{all_in, in_all, looked_there}
 use Rattle.alloc_event.proofs.Holding.{hangs_in, head_there, holds_unit}
@@ -286,47 +286,17 @@ module _ (t now : Table Node) (us : List Unit) (call : Call) (key : NodeKey) (na
     count_now : lives ≡ strong_count (nodes_with now s.keys)
     count_now = lives_is ∙ ap strong_count (sym nodes_now)
 
-    strong_now : has_strong (collection_in now s).nodes ≡ true
-    strong_now = strong_lives (nodes_with now s.keys) lives some count_now
-
     -- the change makes what the table has then
     change_is : changed (Change.Effect call) no_key (collection_or_new (forest_of t ss) s.id) ≡ collection_in now s
     change_is = ap (λ (o : Option Collection). changed (Change.Effect call) no_key (unwrap_or o (record { id = s.id; nodes = []; buffers = None; held = [] })))
         (collection_is t s.id ss ∙ ap (option_map (collection_in t)) opens.found)
         ∙ sym now_is
 
-    -- it is put among the others
-    put_is : map (collection_in now) ss ≡ put (collection_in now s) (map (collection_in t) ss)
-    put_is =
-        let placed : put_shelf s ss ≡ ss = found_put s ss opens.kept.rising opens.found in
-        ap (map (collection_in now)) (sym placed)
-        ∙ collections-put t now s.id (f n ∷ []) stores opens.kept.named (and_both (is_filed t s.id (f n).key) true filed refl) s s ss refl refl opens.kept.rising
-        (ap (are_filed t) placed ∙ opens.kept.filed)
-
     pub made_now : IsMade t now after ss s (Change.Effect call) lives
     made_now = record {
-      kept = kept_now;
-      finishes = λ pool handles.
-          let rests = rests_strong (collection_in now s) calm_now strong_now pool handles in
-          let back : given_back handles (collection_in now s) ≡ collection_in now s = nothing_back handles (collection_in now s) strong_now in
-          subst (λ (c : Collection). Finishes pool handles t ss now ss c) (sym change_is)
-          (record {
-            after = collection_in now s;
-            settles = Rests (collection_in now s) (rests (beside (forest_of t ss) s.id));
-            collections = put_is ∙ ap (λ (c : Collection). put c (map (collection_in t) ss)) (sym back);
-            rests = ap (λ (c : Collection). forced pool (standing handles (beside (forest_of now ss) s.id) c)) back ∙ rests (beside (forest_of now ss) s.id);
-          });
-      calm = calm_now;
-      strong = count_now;
+      done = done_by t now ss s opens.kept opens.found (Change.Effect call) (f n ∷ []) stores (and_both (is_filed t s.id (f n).key) true filed refl)
+          kept_now change_is after lives some count_now calm_now units_now;
       over = ap (list_any is_over) nodes_now ∙ any_map is_over is_over f nodes (λ m. (remains_affected call m).over);
-      others = beside_same;
-      units = units_now;
-      same = record {
-        first = ap (λ (x : Table Node). x.first) becomes;
-        nexts = ap (λ (x : Table Node). x.nexts) becomes;
-        limit = ap (λ (x : Table Node). x.limit) becomes;
-        len = writes.len;
-      };
     }
 
   -- ---- the units
@@ -498,7 +468,7 @@ made_nothing t us ss s strong some opens =
     let is : changed Change.Nothing no_key (collection_or_new (forest_of t ss) s.id) ≡ collection_in t s =
     ap (λ (o : Option Collection). unwrap_or o (record { id = s.id; nodes = []; buffers = None; held = [] }))
     (collection_is t s.id ss ∙ ap (option_map (collection_in t)) opens.found) in
-    record {
+    record { done = record {
       kept = opens.kept;
       finishes = λ pool handles.
           let rests = rests_strong (collection_in t s) opens.calm lives pool handles in
@@ -513,59 +483,7 @@ made_nothing t us ss s strong some opens =
           });
       calm = opens.calm;
       strong = opens.strong;
-      over = refl;
       others = λ x differ own_filed. refl;
       units = opens.units;
       same = record { first = refl; nexts = refl; limit = refl; len = refl };
-    }
-
--- ---- the entry at its place
-
-module _ (t : Table Node) (es : List Entry) (id at : ℕ) (old : Entry) (place : IsPlace id es at) (is : old ≡ get_or es at old)
-    (kept : IsKept t (shelves_of es)) (all : AreCounted t es) (us : List Unit) (units : HaveUnits us t es) (change : Change) (may : MayChange (forest_of t (shelves_of es)) id change) where
-  own_id : old.id ≡ id
-  own_id = ap (λ (e : Entry). e.id) is ∙ place.id_is old
-
-  found : find (λ (e : Entry). e.id == id) es ≡ Some old
-  found = place.found old ∙ ap Some (sym is)
-
-  pub opens_at : IsOpen t us (shelves_of es) (shelf_of old) change old.strong
-  opens_at =
-      let counted : IsCounted t old = found_counted t id es old all found in
-      record {
-        kept = kept;
-        found = subst (λ (i : ℕ). find (λ (x : Shelf). x.id == i) (shelves_of es) ≡ Some (shelf_of old)) (sym own_id) (shelf_found id es ∙ ap (option_map shelf_of) found);
-        may = subst (λ (i : ℕ). MayChange (forest_of t (shelves_of es)) i change) (sym own_id) may;
-        calm = counted.calm;
-        strong = counted.strong;
-        units = units;
-      }
-
-  module _ (now : Table Node) (after : List Unit) (left : ℕ) (made : IsMade t now after (shelves_of es) (shelf_of old) change left)
-      (new : Entry) (same : shelf_of new ≡ shelf_of old) (strong : new.strong ≡ left) (tidy : new.tidy ≡ old.tidy) where
-    pub shelves_at : shelves_of (set es at new) ≡ shelves_of es
-    shelves_at = set_shelves es at new (λ within. same ∙ ap shelf_of (is ∙ get_or_default es at old new within))
-
-    pub finishes_at : (pool : ℕ) (handles : Handles) → Finishes pool handles t (shelves_of es) now (shelves_of es)
-        (changed change no_key (collection_or_new (forest_of t (shelves_of es)) id))
-    finishes_at pool handles =
-        subst (λ (i : ℕ). Finishes pool handles t (shelves_of es) now (shelves_of es) (changed change no_key (collection_or_new (forest_of t (shelves_of es)) i)))
-        own_id (made.finishes pool handles)
-
-    new_id : new.id ≡ id
-    new_id = ap (λ (s : Shelf). s.id) same ∙ own_id
-
-    -- each entry is counted then
-    pub counted_at : place_in id es ≡ Some at → AreCounted now (set es at new)
-    counted_at told =
-        subst (AreCounted now) (sym (set_put new es at kept.rising (subst (λ (i : ℕ). place_in i es ≡ Some at) (sym new_id) told)))
-        (counted_put now new es kept.rising
-        (moved_but t now new.id es (filed_every t new.id es kept.filed)
-        (λ e differ filed. made.others (shelf_of e) (λ one. differ (one ∙ sym (ap (λ (s : Shelf). s.id) same))) filed)
-        (counted_but t new.id es all))
-        (record {
-          calm = subst (λ (s : Shelf). IsCalm (collection_in now s)) (sym same) made.calm;
-          strong = strong ∙ made.strong ∙ ap (λ (s : Shelf). strong_count (nodes_with now s.keys)) (sym same);
-          tidy = λ h. ap (λ (s : Shelf). list_any is_over (nodes_with now s.keys)) same ∙ made.over
-              ∙ (found_counted t id es old all found).tidy (sym tidy ∙ h);
-        }))
+    }; over = refl }

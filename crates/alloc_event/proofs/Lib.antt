@@ -48,6 +48,7 @@ pub mod Thinning
 pub mod Walking
 pub mod Tidying
 pub mod Dropping
+mod Done
 mod Effecting
 pub mod Forgotten
 pub mod Quiet

@@ -43,12 +43,16 @@ pub record IsOpen (t : Table Node) (us : List Unit) (ss : List Shelf) (s : Shelf
   pub units : AreUnits us (map (collection_in t) ss)
 
 -- the change was made, nothing is forced by it, and so many strong nodes are live then
-pub record IsMade (t now : Table Node) (us : List Unit) (ss : List Shelf) (s : Shelf) (change : Change) (lives : ℕ) : Type 0 where
+pub record IsDone (t now : Table Node) (us : List Unit) (ss : List Shelf) (s : Shelf) (change : Change) (lives : ℕ) : Type 0 where
   pub kept : IsKept now ss
   pub finishes : (pool : ℕ) (handles : Handles) → Finishes pool handles t ss now ss (changed change no_key (collection_or_new (forest_of t ss) s.id))
   pub calm : IsCalm (collection_in now s)
   pub strong : lives ≡ strong_count (nodes_with now s.keys)
-  pub over : list_any is_over (nodes_with now s.keys) ≡ list_any is_over (nodes_with t s.keys)
   pub others : (x : Shelf) → x.id ≢ s.id → list_all (is_filed t x.id) x.keys ≡ true → collection_in now x ≡ collection_in t x
   pub units : AreUnits us (map (collection_in now) ss)
   pub same : SameTable t now
+
+-- so it was, and as many nodes as before are over
+pub record IsMade (t now : Table Node) (us : List Unit) (ss : List Shelf) (s : Shelf) (change : Change) (lives : ℕ) : Type 0 where
+  pub done : IsDone t now us ss s change lives
+  pub over : list_any is_over (nodes_with now s.keys) ≡ list_any is_over (nodes_with t s.keys)

@@ -1,14 +1,16 @@
 -- The change is made in its place, and the entry of the collection has the count.
-use Rattle.std.proofs.Common.{◌≡◌, List, Some, map, get_or, set, refl, sym, ◌∙◌, ap, subst, arith}
+use Rattle.std.proofs.Common.{◌≡◌, true, false, List, Some, map, get_or, set, refl, sym, ◌∙◌, ap, subst, arith}
 use Rattle.std.proofs.lemmas.List.{get_or_default}
+use Rattle.std.specs.List.{list_any}
 use Rattle.alloc_event.specs.declared.change.Change.{Change}
 use Rattle.alloc_event.specs.declared.entry.Entry.{Entry}
 use Rattle.alloc_event.specs.Counts.{AreUnits}
 use Rattle.alloc_event.specs.InPlace.{IsMade, IsOpen}
-use Rattle.alloc_event.specs.Kept.{Finishes, Shelf, collection_in, place_in, shelf_of, shelves_of, forest_of}
+use Rattle.alloc_event.specs.Kept.{Finishes, Shelf, collection_in, nodes_with, place_in, shelf_of, shelves_of, forest_of}
+use Rattle.alloc_event.specs.Nodes.{is_over}
 use Rattle.alloc_event.specs.Settling.{changed, collection_or_new, no_key}
 use Rattle.alloc_event.proofs.Altering.{tracker_room}
-use Rattle.alloc_event.proofs.Effecting.{counted_at, finishes_at, opens_at, shelves_at}
+use Rattle.alloc_event.proofs.Done.{counted_at, finishes_at, opens_at, shelves_at, tidy_at}
 use Rattle.alloc_event.proofs.Entries.{IsPlace, place_is}
 use Rattle.alloc_event.proofs.in_place.settle_in_place.Goals as goal
 
@@ -63,9 +65,13 @@ module _ (c : goal.After-entries-1) where
   made : IsMade c.args.table.now c.change_in_place.new.table c.change_in_place.new.units.items (shelves_of es) (shelf_of old) c.args.change.now c.in-Some-change_in_place.left
   made = c.in-Some-change_in_place.ensures.some (shelves_of es) (shelf_of old) opens
 
+  tidies : new.tidy ≡ true → list_any is_over (nodes_with c.change_in_place.new.table old.keys.items) ≡ false
+  tidies h = made.over ∙ tidy_at c.args.table.now es c.args.id c.in-Some.at old place is c.requires.kept c.requires.counted c.args.units.now.items c.requires.units c.args.change.now c.requires.change
+      (sym (ap (λ (x : Entry). x.tidy) again) ∙ h)
+
   same_shelves : shelves_of (set es c.in-Some.at new) ≡ shelves_of es
   same_shelves = shelves_at c.args.table.now es c.args.id c.in-Some.at old place is c.requires.kept c.requires.counted c.args.units.now.items c.requires.units c.args.change.now c.requires.change
-      c.change_in_place.new.table c.change_in_place.new.units.items c.in-Some-change_in_place.left made new (ap shelf_of again) refl (ap (λ (x : Entry). x.tidy) again)
+      c.change_in_place.new.table c.change_in_place.new.units.items c.in-Some-change_in_place.left made.done new (ap shelf_of again) refl tidies
 
 pub returns-clause-ok : goal.returns-clause-ok
 returns-clause-ok c h pool handles =
@@ -73,21 +79,21 @@ returns-clause-ok c h pool handles =
     (changed c.args.change.now no_key (collection_or_new (forest_of c.args.table.now (shelves_of c.args.entries.now.items)) c.args.id)))
     (sym (same_shelves c))
     (finishes_at c.args.table.now c.args.entries.now.items c.args.id c.in-Some.at (old c) (place c) (is c) c.requires.kept c.requires.counted c.args.units.now.items c.requires.units c.args.change.now c.requires.change
-    c.change_in_place.new.table c.change_in_place.new.units.items c.in-Some-change_in_place.left (made c) (new c) (ap shelf_of (again c)) refl (ap (λ (x : Entry). x.tidy) (again c)) pool handles)
+    c.change_in_place.new.table c.change_in_place.new.units.items c.in-Some-change_in_place.left (made c).done (new c) (ap shelf_of (again c)) refl (tidies c) pool handles)
 
 pub returns-clause-shelves : goal.returns-clause-shelves
 returns-clause-shelves c = same_shelves c
 
 pub returns-clause-kept : goal.returns-clause-kept
-returns-clause-kept c h = (made c).kept
+returns-clause-kept c h = (made c).done.kept
 
 pub returns-clause-counted : goal.returns-clause-counted
 returns-clause-counted c h =
     counted_at c.args.table.now c.args.entries.now.items c.args.id c.in-Some.at (old c) (place c) (is c) c.requires.kept c.requires.counted c.args.units.now.items c.requires.units c.args.change.now c.requires.change
-    c.change_in_place.new.table c.change_in_place.new.units.items c.in-Some-change_in_place.left (made c) (new c) (ap shelf_of (again c)) refl (ap (λ (x : Entry). x.tidy) (again c)) (told c)
+    c.change_in_place.new.table c.change_in_place.new.units.items c.in-Some-change_in_place.left (made c).done (new c) (ap shelf_of (again c)) refl (tidies c) (told c)
 
 pub returns-clause-same : goal.returns-clause-same
-returns-clause-same c = (made c).same
+returns-clause-same c = (made c).done.same
 
 pub returns-clause-units : goal.returns-clause-units
-returns-clause-units c = subst (λ (ss : List Shelf). AreUnits c.change_in_place.new.units.items (map (collection_in c.change_in_place.new.table) ss)) (sym (same_shelves c)) (made c).units
+returns-clause-units c = subst (λ (ss : List Shelf). AreUnits c.change_in_place.new.units.items (map (collection_in c.change_in_place.new.table) ss)) (sym (same_shelves c)) (made c).done.units

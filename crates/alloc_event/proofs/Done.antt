@@ -1,0 +1,143 @@
+-- A change that was made in its place and forces nothing: the forest then, and the entry of its collection.
+use Rattle.std.proofs.Common.{◌≡◌, ◌≢◌, ℕ, ◌+◌, ◌==◌, nat_lt, Bool, true, false, ◌||◌, ◌&&◌, not, if◌then◌else◌, is_some, ◌<◌, ◌⊎◌, inl, inr, List, [], ◌∷◌, map, length, get_or, set, Option, Some, None, option_map, refl, sym, ap, subst, ◌∙◌, arith}
+use Rattle.std.proofs.lemmas.Bool.{eq-eqb, eqb-true, not-true}
+use Rattle.std.proofs.lemmas.List.{get_or-set_other, get_or-set_same, get_or_default, length-set}
+use Rattle.std.specs.List.{find, list_all, list_any}
+use Rattle.std.specs.Option.{option_map_or, unwrap_or}
+use Rattle.sm_names.specs.declared.keys.NodeKey.{NodeKey}
+use Rattle.sm_names.specs.declared.messages.Call.{Call}
+use Rattle.sm_names.specs.declared.outcomes.Cause.{Cause}
+use Rattle.sm_names.specs.Forced.{forced}
+use Rattle.sm_names.specs.Sameness.{same_key}
+use Rattle.sm_names.specs.Timelines.{key_of}
+use Rattle.sm_names.specs.Words.{times}
+use Rattle.sm_names.proofs.ListLaws.{In, In-find, In-map, In-map-back}
+use Rattle.sm_names.proofs.SamenessLaws.{and_both, and_left, and_right, both_ways, either_way, or_right, same_key-refl, same_key-true}
+use Rattle.sm_names.proofs.StandingLaws.{In-any}
+use Rattle.node_table.specs.Table.{Table, node_at}
+use Rattle.node_table.specs.Changes.{Writes}
+use Rattle.node_table.specs.Lending.{table_with_node}
+use Rattle.alloc_event.specs.declared.change.Change.{Change}
+use Rattle.alloc_event.specs.declared.entry.Entry.{Entry}
+use Rattle.alloc_event.specs.declared.node.Node.{Node}
+use Rattle.alloc_event.specs.declared.units.Unit.{Unit}
+use Rattle.alloc_event.specs.Calm.{AreCounted, IsCalm, IsCounted, strong_count}
+use Rattle.alloc_event.specs.Counts.{AreUnits, HasBelow, HasUnits, HaveUnits, is_unready, lives_in, no_unit, unit_at, unit_of, waits_in}
+use Rattle.alloc_event.specs.Decisions.{has_strong}
+use Rattle.alloc_event.specs.Forest.{Collection, beside, with_nodes}
+use Rattle.alloc_event.specs.InPlace.{IsDone, IsOpen}
+use Rattle.alloc_event.specs.Kept.{Finishes, IsKept, IsWhole, Shelf, Stores, are_filed, collection_in, forest_of, is_filed, is_strong, nodes_with, place_in, put_shelf, shelf_of, shelves_of}
+use Rattle.alloc_event.specs.Nodes.{affected, is_over, is_of}
+use Rattle.alloc_event.specs.Questions.{is_live_node}
+use Rattle.alloc_event.specs.Settling.{Handles, MayChange, Rests, changed, collection_or_new, given_back, is_kept, is_there, no_key, put, standing}
+use Rattle.alloc_event.specs.Units.{is_head}
+use Rattle.alloc_event.proofs.Amounts.{times_changed}
+use Rattle.alloc_event.proofs.Altering.{found_filed, found_put, found_whole, looked-of, same_affected}
+use Rattle.alloc_event.proofs.Calming.{IsPlain, any_map, calm_map, rests_strong, times_map}
+use Rattle.alloc_event.proofs.Counted.{counted_but, counted_put, filed_every, moved_but, set_shelves}
+use Rattle.alloc_event.proofs.Entries.{IsPlace, set_put}
+use Rattle.alloc_event.proofs.Finishing.{collection-beside, collections-put, keys_in}
+use Rattle.alloc_event.proofs.Hanging.{all_in, in_all, looked_there}
+use Rattle.alloc_event.proofs.Holding.{hangs_in, head_there, holds_unit}
+use Rattle.alloc_event.proofs.LeftParents.{loss_left}
+use Rattle.alloc_event.proofs.Lookups.{looked-map}
+use Rattle.alloc_event.proofs.Putting.{put-map}
+use Rattle.alloc_event.proofs.Reckoning.{lives_other, lives_own, waits_other, waits_own}
+use Rattle.alloc_event.proofs.Rooted.{IsLeft, left_node}
+use Rattle.alloc_event.proofs.Showing.{collection_is, node_is, shelf_found}
+use Rattle.alloc_event.proofs.Slots.{Stays, all_at, but_all, but_join, but_moved, but_stays, one_shelf, one_slot, units_mapped}
+use Rattle.alloc_event.proofs.Steps.{all-In}
+use Rattle.alloc_event.proofs.Storing.{Stores-more, Stores-none}
+use Rattle.alloc_event.proofs.Watched.{found_counted, nothing_back, strong_lives}
+use Rattle.alloc_event.proofs.Writing.{IsSameNode, kept-map, look-changed, parents-written}
+
+
+-- where nodes were written, and nothing is forced while a strong one lives
+module _ (t now : Table Node) (ss : List Shelf) (s : Shelf) (kept : IsKept t ss) (found : find (λ (x : Shelf). x.id == s.id) ss ≡ Some s)
+    (change : Change) (ns : List Node) (stores : Stores t now ns) (filed : list_all (is_filed t s.id) (keys_in ns) ≡ true) where
+  -- it is put among the others
+  put_is : map (collection_in now) ss ≡ put (collection_in now s) (map (collection_in t) ss)
+  put_is =
+      let placed : put_shelf s ss ≡ ss = found_put s ss kept.rising found in
+      ap (map (collection_in now)) (sym placed)
+      ∙ collections-put t now s.id ns stores kept.named filed s s ss refl refl kept.rising
+      (ap (are_filed t) placed ∙ kept.filed)
+
+  pub done_by : IsKept now ss → changed change no_key (collection_or_new (forest_of t ss) s.id) ≡ collection_in now s →
+      (after : List Unit) (lives : ℕ) → nat_lt 0 lives ≡ true → lives ≡ strong_count (nodes_with now s.keys) → IsCalm (collection_in now s) →
+      AreUnits after (map (collection_in now) ss) → IsDone t now after ss s change lives
+  done_by kept_now change_is after lives some count_now calm_now units_now =
+      let strong_now : has_strong (collection_in now s).nodes ≡ true = strong_lives (nodes_with now s.keys) lives some count_now in
+      record {
+        kept = kept_now;
+        finishes = λ pool handles.
+            let rests = rests_strong (collection_in now s) calm_now strong_now pool handles in
+            let back : given_back handles (collection_in now s) ≡ collection_in now s = nothing_back handles (collection_in now s) strong_now in
+            subst (λ (c : Collection). Finishes pool handles t ss now ss c) (sym change_is)
+            (record {
+              after = collection_in now s;
+              settles = Rests (collection_in now s) (rests (beside (forest_of t ss) s.id));
+              collections = put_is ∙ ap (λ (c : Collection). put c (map (collection_in t) ss)) (sym back);
+              rests = ap (λ (c : Collection). forced pool (standing handles (beside (forest_of now ss) s.id) c)) back ∙ rests (beside (forest_of now ss) s.id);
+            });
+        calm = calm_now;
+        strong = count_now;
+        others = λ x differ own_filed. collection-beside t now s.id ns stores kept.named filed x differ own_filed;
+        units = units_now;
+        same = stores.same;
+      }
+
+-- ---- the entry at its place
+
+module _ (t : Table Node) (es : List Entry) (id at : ℕ) (old : Entry) (place : IsPlace id es at) (is : old ≡ get_or es at old)
+    (kept : IsKept t (shelves_of es)) (all : AreCounted t es) (us : List Unit) (units : HaveUnits us t es) (change : Change) (may : MayChange (forest_of t (shelves_of es)) id change) where
+  own_id : old.id ≡ id
+  own_id = ap (λ (e : Entry). e.id) is ∙ place.id_is old
+
+  found : find (λ (e : Entry). e.id == id) es ≡ Some old
+  found = place.found old ∙ ap Some (sym is)
+
+  pub opens_at : IsOpen t us (shelves_of es) (shelf_of old) change old.strong
+  opens_at =
+      let counted : IsCounted t old = found_counted t id es old all found in
+      record {
+        kept = kept;
+        found = subst (λ (i : ℕ). find (λ (x : Shelf). x.id == i) (shelves_of es) ≡ Some (shelf_of old)) (sym own_id) (shelf_found id es ∙ ap (option_map shelf_of) found);
+        may = subst (λ (i : ℕ). MayChange (forest_of t (shelves_of es)) i change) (sym own_id) may;
+        calm = counted.calm;
+        strong = counted.strong;
+        units = units;
+      }
+
+  -- where it was tidy none of its nodes was over
+  pub tidy_at : old.tidy ≡ true → list_any is_over (nodes_with t old.keys.items) ≡ false
+  tidy_at h = (found_counted t id es old all found).tidy h
+
+  module _ (now : Table Node) (after : List Unit) (left : ℕ) (made : IsDone t now after (shelves_of es) (shelf_of old) change left)
+      (new : Entry) (same : shelf_of new ≡ shelf_of old) (strong : new.strong ≡ left)
+      (tidy : new.tidy ≡ true → list_any is_over (nodes_with now old.keys.items) ≡ false) where
+    pub shelves_at : shelves_of (set es at new) ≡ shelves_of es
+    shelves_at = set_shelves es at new (λ within. same ∙ ap shelf_of (is ∙ get_or_default es at old new within))
+
+    pub finishes_at : (pool : ℕ) (handles : Handles) → Finishes pool handles t (shelves_of es) now (shelves_of es)
+        (changed change no_key (collection_or_new (forest_of t (shelves_of es)) id))
+    finishes_at pool handles =
+        subst (λ (i : ℕ). Finishes pool handles t (shelves_of es) now (shelves_of es) (changed change no_key (collection_or_new (forest_of t (shelves_of es)) i)))
+        own_id (made.finishes pool handles)
+
+    new_id : new.id ≡ id
+    new_id = ap (λ (s : Shelf). s.id) same ∙ own_id
+
+    -- each entry is counted then
+    pub counted_at : place_in id es ≡ Some at → AreCounted now (set es at new)
+    counted_at told =
+        subst (AreCounted now) (sym (set_put new es at kept.rising (subst (λ (i : ℕ). place_in i es ≡ Some at) (sym new_id) told)))
+        (counted_put now new es kept.rising
+        (moved_but t now new.id es (filed_every t new.id es kept.filed)
+        (λ e differ filed. made.others (shelf_of e) (λ one. differ (one ∙ sym (ap (λ (s : Shelf). s.id) same))) filed)
+        (counted_but t new.id es all))
+        (record {
+          calm = subst (λ (s : Shelf). IsCalm (collection_in now s)) (sym same) made.calm;
+          strong = strong ∙ made.strong ∙ ap (λ (s : Shelf). strong_count (nodes_with now s.keys)) (sym same);
+          tidy = λ h. ap (λ (s : Shelf). list_any is_over (nodes_with now s.keys)) same ∙ tidy h;
+        }))

@@ -1,0 +1,67 @@
+-- Nodes that fall in their places. No public clause cites this module.
+use Rattle.std.specs.Prelude.{◌≡◌, ◌≢◌, ℕ, ◌-◌, Bool, false, ◌||◌, ◌&&◌, ◌==◌, nat_lt, if◌then◌else◌, List, [], ◌∷◌, set, Some}
+use Rattle.std.specs.List.{AllPairs, find, list_any}
+use Rattle.std.specs.Option.{option_map_or}
+use Rattle.sm_names.specs.declared.keys.NodeKey.{NodeKey}
+use Rattle.sm_names.specs.declared.outcomes.Cause.{Cause}
+use Rattle.sm_names.specs.declared.outcomes.Fault.{Fault}
+use Rattle.node_table.specs.Table.{Table, children_at, node_at, parent_at}
+use Rattle.node_table.specs.Forest.{IsForest}
+use Rattle.failure_domains.specs.Falls.{IsByLayers}
+use Rattle.alloc_event.specs.declared.change.Change.{Change}
+use Rattle.alloc_event.specs.declared.node.Node.{Node}
+use Rattle.alloc_event.specs.declared.units.Unit.{Unit}
+use Rattle.alloc_event.specs.Counts.{is_unready, unit_at}
+use Rattle.alloc_event.specs.InPlace.{IsDone}
+use Rattle.alloc_event.specs.Kept.{Shelf, nodes_with}
+use Rattle.alloc_event.specs.Nodes.{is_over}
+use Rattle.alloc_event.specs.Questions.{is_live_node}
+use Rattle.alloc_event.specs.Ties.{IsFall}
+
+-- one less, if it counted and there is one
+abbrev pub lowered : Bool → ℕ → ℕ
+lowered is count = if is && nat_lt 0 count then count - 1 else count
+
+-- the node is counted no longer for its unit
+abbrev pub without_node : Node → List Unit → List Unit
+without_node n units = set units n.head.slot (record {
+  live = lowered (is_live_node n) (unit_at units n.head.slot).live;
+  unready = lowered (is_unready n) (unit_at units n.head.slot).unready;
+})
+
+-- each node is counted no longer, if it is not gone
+abbrev pub untallied : List Node → List Unit → List Unit
+untallied [] units = units
+untallied (n ∷ ns) units = untallied ns (if n.gone then units else without_node n units)
+
+-- what a failure takes of the table: each key once, layer by layer
+pub record IsTaken (t : Table Node) (origin : NodeKey) (keys : List NodeKey) : Type 0 where
+  pub fall : IsFall t origin keys
+  pub once : AllPairs (λ (a b : NodeKey). a ≢ b) keys
+  pub layers : IsByLayers (children_at t) keys
+
+-- the first of the keys has a parent, whose unit has this head; the key heads a unit itself, or not
+pub record IsTop (t : Table Node) (keys : List NodeKey) (head : NodeKey) (attached : Bool) : Type 0 where
+  pub key : NodeKey
+  pub rest : List NodeKey
+  pub first : keys ≡ key ∷ rest
+  pub node : Node
+  pub at : node_at t key ≡ Some node
+  pub parent : NodeKey
+  pub up : parent_at t key ≡ Some parent
+  pub above : Node
+  pub there : node_at t parent ≡ Some above
+  pub head_is : head ≡ above.head
+  pub attached_is : attached ≡ node.attached
+  pub forest : IsForest t
+
+-- a node of the unit lives, and the unit does not become ready by what falls, or has its buffers
+abbrev pub is_kept_up : Table Node → Unit → Unit → NodeKey → Bool → Bool
+is_kept_up t before after head attached =
+    nat_lt 0 after.live && (attached || (before.unready == 0
+    || (nat_lt 0 after.unready || option_map_or (λ n. n.allocated) (node_at t head) false)))
+
+-- the loss was made in its place, of these nodes as they are then
+pub record IsLost (t now : Table Node) (us : List Unit) (ss : List Shelf) (s : Shelf) (fault : Fault) (lives : ℕ) (fallen : List Node) : Type 0 where
+  pub done : IsDone t now us ss s (Change.Loss fault.origin fault.cause) lives
+  pub over : list_any is_over fallen ≡ false → list_any is_over (nodes_with t s.keys) ≡ false → list_any is_over (nodes_with now s.keys) ≡ false
