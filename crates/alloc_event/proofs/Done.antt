@@ -51,7 +51,6 @@ use Rattle.alloc_event.proofs.Storing.{Stores-more, Stores-none}
 use Rattle.alloc_event.proofs.Watched.{found_counted, nothing_back, strong_lives}
 use Rattle.alloc_event.proofs.Writing.{IsSameNode, kept-map, look-changed, parents-written}
 
-
 -- where nodes were written, and nothing is forced while a strong one lives
 module _ (t now : Table Node) (ss : List Shelf) (s : Shelf) (kept : IsKept t ss) (found : find (λ (x : Shelf). x.id == s.id) ss ≡ Some s)
     (change : Change) (ns : List Node) (stores : Stores t now ns) (filed : list_all (is_filed t s.id) (keys_in ns) ≡ true) where
@@ -91,7 +90,7 @@ module _ (t now : Table Node) (ss : List Shelf) (s : Shelf) (kept : IsKept t ss)
 
 module _ (t : Table Node) (es : List Entry) (id at : ℕ) (old : Entry) (place : IsPlace id es at) (is : old ≡ get_or es at old)
     (kept : IsKept t (shelves_of es)) (all : AreCounted t es) (us : List Unit) (units : HaveUnits us t es) (change : Change) (may : MayChange (forest_of t (shelves_of es)) id change) where
-  own_id : old.id ≡ id
+  pub own_id : old.id ≡ id
   own_id = ap (λ (e : Entry). e.id) is ∙ place.id_is old
 
   found : find (λ (e : Entry). e.id == id) es ≡ Some old

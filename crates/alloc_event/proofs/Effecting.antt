@@ -468,22 +468,25 @@ made_nothing t us ss s strong some opens =
     let is : changed Change.Nothing no_key (collection_or_new (forest_of t ss) s.id) ≡ collection_in t s =
     ap (λ (o : Option Collection). unwrap_or o (record { id = s.id; nodes = []; buffers = None; held = [] }))
     (collection_is t s.id ss ∙ ap (option_map (collection_in t)) opens.found) in
-    record { done = record {
-      kept = opens.kept;
-      finishes = λ pool handles.
-          let rests = rests_strong (collection_in t s) opens.calm lives pool handles in
-          let back : given_back handles (collection_in t s) ≡ collection_in t s = nothing_back handles (collection_in t s) lives in
-          subst (λ (c : Collection). Finishes pool handles t ss t ss c) (sym is)
-          (record {
-            after = collection_in t s;
-            settles = Rests (collection_in t s) (rests (beside (forest_of t ss) s.id));
-            collections = ap (map (collection_in t)) (sym (found_put s ss opens.kept.rising opens.found)) ∙ put-map t s ss
-                ∙ ap (λ (c : Collection). put c (map (collection_in t) ss)) (sym back);
-            rests = ap (λ (c : Collection). forced pool (standing handles (beside (forest_of t ss) s.id) c)) back ∙ rests (beside (forest_of t ss) s.id);
-          });
-      calm = opens.calm;
-      strong = opens.strong;
-      others = λ x differ own_filed. refl;
-      units = opens.units;
-      same = record { first = refl; nexts = refl; limit = refl; len = refl };
-    }; over = refl }
+    record {
+      done = record {
+        kept = opens.kept;
+        finishes = λ pool handles.
+            let rests = rests_strong (collection_in t s) opens.calm lives pool handles in
+            let back : given_back handles (collection_in t s) ≡ collection_in t s = nothing_back handles (collection_in t s) lives in
+            subst (λ (c : Collection). Finishes pool handles t ss t ss c) (sym is)
+            (record {
+              after = collection_in t s;
+              settles = Rests (collection_in t s) (rests (beside (forest_of t ss) s.id));
+              collections = ap (map (collection_in t)) (sym (found_put s ss opens.kept.rising opens.found)) ∙ put-map t s ss
+                  ∙ ap (λ (c : Collection). put c (map (collection_in t) ss)) (sym back);
+              rests = ap (λ (c : Collection). forced pool (standing handles (beside (forest_of t ss) s.id) c)) back ∙ rests (beside (forest_of t ss) s.id);
+            });
+        calm = opens.calm;
+        strong = opens.strong;
+        others = λ x differ own_filed. refl;
+        units = opens.units;
+        same = record { first = refl; nexts = refl; limit = refl; len = refl };
+      };
+      over = refl;
+    }

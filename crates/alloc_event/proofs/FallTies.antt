@@ -25,7 +25,7 @@ use Rattle.alloc_event.proofs.Hanging.{in_all}
 use Rattle.alloc_event.proofs.Rooted.{AreOne, HasLine, IsLeft, left_in, left_node, line_of}
 
 -- keys are told apart by their test
-key_equivalence : IsEquivalence same_key
+pub key_equivalence : IsEquivalence same_key
 key_equivalence = record {
   refl = same_key-refl;
   symm = λ a b. both_tests (same_key a b) (same_key b a) (same_key-comm a b) (same_key-comm b a);

@@ -131,14 +131,14 @@ module _ (nodes : List Node) (distinct : are_distinct nodes ≡ true) (heads : l
   linked : (n : Node) → In n nodes → n.gone ≡ false → up n.key ≡ n.parent
   linked n on here = ap (λ (o : Option Node). option_map_or (λ (m : Node). m.parent) o None) (found_by_key nodes n distinct on)
 
-  abbrev line : NodeKey → List NodeKey
+  abbrev pub line : NodeKey → List NodeKey
   line key = above_among (reverse nodes) key
 
   chain : (key : NodeKey) → is_left_of nodes key ≡ true → IsChain up key (line key)
   chain key left = (line_of nodes up one linked rooted key left).chain
 
   -- a node's line goes on as its parent's
-  step : (n : Node) → In n nodes → n.gone ≡ false → (p : NodeKey) → n.parent ≡ Some p → line n.key ≡ p ∷ line p
+  pub step : (n : Node) → In n nodes → n.gone ≡ false → (p : NodeKey) → n.parent ≡ Some p → line n.key ≡ p ∷ line p
   step n on here p is =
       one_line up n.key (line n.key) (p ∷ line p) (chain n.key (left_in nodes n on here))
       (linked n on here ∙ is, chain p (left_parent nodes rooted n p on here is))
@@ -160,13 +160,13 @@ module _ (nodes : List Node) (distinct : are_distinct nodes ≡ true) (heads : l
   -- ---- units
 
   -- a node with the key of one that is left is not gone
-  still_here : (q : Node) → In q nodes → is_left_of nodes q.key ≡ true → q.gone ≡ false
+  pub still_here : (q : Node) → In q nodes → is_left_of nodes q.key ≡ true → q.gone ≡ false
   still_here q on left =
       let x = left_node nodes q.key left in
       ap (λ (m : Node). m.gone) (one q x.node on x.on (sym x.is)) ∙ x.here
 
   -- a head that is not gone heads its own unit
-  own_head : (n : Node) → In n nodes → is_head n ≡ true → n.head ≡ n.key
+  pub own_head : (n : Node) → In n nodes → is_head n ≡ true → n.head ≡ n.key
   own_head n on h =
       let own : heads_itself n ≡ true = all-In heads_itself nodes n on heads in
       let same : same_key n.head n.key ≡ true = rw h at own in
@@ -181,7 +181,7 @@ module _ (nodes : List Node) (distinct : are_distinct nodes ≡ true) (heads : l
       from (Some p) is h = (p, is)
 
   -- and shares its unit with it
-  shared : (n : Node) → In n nodes → n.gone ≡ false → is_head n ≡ false → (p : NodeKey) → n.parent ≡ Some p →
+  pub shared : (n : Node) → In n nodes → n.gone ≡ false → is_head n ≡ false → (p : NodeKey) → n.parent ≡ Some p →
       (q : Node) × In q nodes × (q.key ≡ p) × (q.head ≡ n.head)
   shared n on here h p is =
       let x = shared_among (reverse nodes) united rooted n (In-reverse-back nodes n on) here h p is in

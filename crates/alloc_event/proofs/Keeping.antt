@@ -28,14 +28,14 @@ use Rattle.alloc_event.proofs.United.{each_all}
 use Rattle.alloc_event.proofs.Writing.{IsSameNode, IsWhole-map}
 
 -- some pass where one does
-any-In : {A : Type 0} (p q : A → Bool) (f : A → A) (xs : List A) → ((x : A) → In x xs → p (f x) ≡ q x) → list_any p (map f xs) ≡ list_any q xs
+pub any-In : {A : Type 0} (p q : A → Bool) (f : A → A) (xs : List A) → ((x : A) → In x xs → p (f x) ≡ q x) → list_any p (map f xs) ≡ list_any q xs
 any-In p q f [] same = refl
 any-In p q f (x ∷ xs) same =
     let rest = any-In p q f xs (λ y on. same y (inr on)) in
     rw (same x (inl refl), rest) refl
 
 -- some pass where the count is not 0
-some_pass : (test : Node → Bool) (ns : List Node) → 0 < times test ns → list_any test ns ≡ true
+pub some_pass : (test : Node → Bool) (ns : List Node) → 0 < times test ns → list_any test ns ≡ true
 some_pass test [] few = absurd (omega arith)
 some_pass test (n ∷ ns) few = elim (either_way (test n)) [
   | inl e ↦ or_left (test n) (list_any test ns) e

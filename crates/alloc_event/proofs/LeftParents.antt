@@ -41,6 +41,16 @@ module _ (t : Table Node) (ss : List Shelf) (ok : IsKept t ss) where
       ap (node_at t) (sym x.is) ∙ in_all (λ (m : Node). node_at t m.key ≡ Some m) (nodes_with t _) (looked_there t ok.named _) x.node on in
       both_ways x.node.gone (goes x.node there) x.here
 
+  -- a node of the collection is one of its shelf's
+  pub in_shelf : (id : ℕ) (s : Shelf) → find (λ (x : Shelf). x.id == id) ss ≡ Some s → (key : NodeKey) (n : Node) → node_at t key ≡ Some n →
+      n.collection ≡ id → In n (nodes_with t s.keys)
+  in_shelf id s found key n is own =
+      let nodes : (at n.collection).nodes ≡ nodes_with t s.keys =
+      (before_is t ss ok n.collection).nodes
+      ∙ (λ i. nodes_with t (option_map_or (λ (x : Shelf). x.keys) (find (λ (x : Shelf). x.id == own i) ss) []))
+      ∙ ap (λ (o : Option Shelf). nodes_with t (option_map_or (λ (x : Shelf). x.keys) o [])) found in
+      subst (λ (ns : List Node). In n ns) nodes (in_collection key n is)
+
   -- the node that a change loses is left
   pub loss_left : (id : ℕ) (change : Change) → MayChange (forest_of t ss) id change → (s : Shelf) → find (λ (x : Shelf). x.id == id) ss ≡ Some s →
       loses_left change (nodes_with t s.keys) ≡ true
@@ -53,10 +63,6 @@ module _ (t : Table Node) (ss : List Shelf) (ok : IsKept t ss) where
       by (Some n) is fit =
           let own : n.collection ≡ id = eqb-true _ _ (and_left (n.collection == id) (not n.gone) fit) in
           let here : n.gone ≡ false = not-true n.gone (and_right (n.collection == id) (not n.gone) fit) in
-          let nodes : (at n.collection).nodes ≡ nodes_with t s.keys =
-          (before_is t ss ok n.collection).nodes
-          ∙ (λ i. nodes_with t (option_map_or (λ (x : Shelf). x.keys) (find (λ (x : Shelf). x.id == own i) ss) []))
-          ∙ ap (λ (o : Option Shelf). nodes_with t (option_map_or (λ (x : Shelf). x.keys) o [])) found in
-          let on : In n (nodes_with t s.keys) = subst (λ (ns : List Node). In n ns) nodes (in_collection origin n is) in
+          let on : In n (nodes_with t s.keys) = in_shelf id s found origin n is own in
           ap (is_left_of (nodes_with t s.keys)) (sym (ok.named origin n is)) ∙ left_in (nodes_with t s.keys) n on here
   loss_left id _ may s found = refl

@@ -49,6 +49,9 @@ pub mod Walking
 pub mod Tidying
 pub mod Dropping
 mod Done
+pub mod Crossing
+mod Fallen
+mod Untold
 mod Effecting
 pub mod Forgotten
 pub mod Quiet

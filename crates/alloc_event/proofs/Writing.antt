@@ -102,9 +102,9 @@ module _ (f : Node → Node) (same : (n : Node) → IsSameNode (f n) n) where
   whole-map gone t now each (e ∷ es) whole =
       (rw (looked-map f (node_at t) (node_at now) each e.keys) (IsWhole-map gone (collection_in t e) whole.0), whole-map gone t now each es whole.1)
 
-  -- all stays so, where no node goes
-  pub kept-map : ((n : Node) → (f n).gone ≡ n.gone) → (t now : Table Node) → now.first ≡ t.first → table_len now ≡ table_len t → ((key : NodeKey) → node_at now key ≡ option_map f (node_at t key)) → ((key : NodeKey) → parent_at now key ≡ parent_at t key) → (es : List Shelf) → IsKept t es → IsKept now es
-  kept-map gone t now first len each parents es ok = record {
+  -- all stays so, where no node comes back, and the collections stay whole
+  pub kept-with : ((n : Node) → (f n).gone ≡ false → n.gone ≡ false) → (t now : Table Node) → now.first ≡ t.first → table_len now ≡ table_len t → ((key : NodeKey) → node_at now key ≡ option_map f (node_at t key)) → ((key : NodeKey) → parent_at now key ≡ parent_at t key) → (es : List Shelf) → AllByRecursion (λ (e : Shelf). IsWhole (collection_in now e)) es → IsKept t es → IsKept now es
+  kept-with before t now first len each parents es whole ok = record {
     first = first ∙ ok.first;
     rising = ok.rising;
     apart = ok.apart;
@@ -114,10 +114,15 @@ module _ (f : Node → Node) (same : (n : Node) → IsSameNode (f n) n) where
     there = λ key n is. let was = found-map t now each key n is in ok.there key was.0 was.1;
     counted = ok.counted ∙ sym len;
     linked = λ key n is here. let was = found-map t now each key n is in
-        let left : was.0.gone ≡ false = sym (gone was.0) ∙ ap (λ (x : Node). x.gone) was.2 ∙ here in
+        let left : was.0.gone ≡ false = before was.0 (ap (λ (x : Node). x.gone) was.2 ∙ here) in
         parents key ∙ ok.linked key was.0 was.1 left ∙ sym (same was.0).parent ∙ ap (λ (x : Node). x.parent) was.2;
-    whole = whole-map gone t now each es ok.whole;
+    whole = whole;
   }
+
+  -- so where no node goes
+  pub kept-map : ((n : Node) → (f n).gone ≡ n.gone) → (t now : Table Node) → now.first ≡ t.first → table_len now ≡ table_len t → ((key : NodeKey) → node_at now key ≡ option_map f (node_at t key)) → ((key : NodeKey) → parent_at now key ≡ parent_at t key) → (es : List Shelf) → IsKept t es → IsKept now es
+  kept-map gone t now first len each parents es ok =
+      kept-with (λ n h. sym (gone n) ∙ h) t now first len each parents es (whole-map gone t now each es ok.whole) ok
 
 -- the row that is written has the node
 written_row : (node : Node) (o : Option (Row Node)) → option_map (λ (row : Row Node). row.node) (option_map (with_node node) o) ≡ option_map (λ _. node) (option_map (λ (row : Row Node). row.node) o)

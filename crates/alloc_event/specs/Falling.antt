@@ -47,6 +47,7 @@ pub record IsTop (t : Table Node) (keys : List NodeKey) (head : NodeKey) (attach
   pub first : keys ≡ key ∷ rest
   pub node : Node
   pub at : node_at t key ≡ Some node
+  pub here : node.gone ≡ false
   pub parent : NodeKey
   pub up : parent_at t key ≡ Some parent
   pub above : Node

@@ -101,7 +101,7 @@ fn counted_key(call: &Call) -> Option<NodeKey>
 }
 
 /// Whether there is a node with this key in an allocated unit.
-fn is_served(table: &NodeTable<Node>, key: NodeKey) -> bool
+pub(crate) fn is_served(table: &NodeTable<Node>, key: NodeKey) -> bool
     ensures { result ≡ option_map_or (λ n. n.allocated) (node_at table.now key) false }
 {
     match table.get(key) {

@@ -13,6 +13,7 @@ pub mod decision;
 pub mod effects;
 pub mod ending;
 mod entry;
+mod falling;
 mod finish;
 pub mod forest;
 mod forgetting;

@@ -101,7 +101,7 @@ fn fail_under(nodes: &mut [Node], top: NodeKey, fault: Fault)
 }
 
 /// The node fails, if it is taken and is not gone yet.
-fn fail(node: &mut Node, taken: bool, fault: Fault)
+pub(crate) fn fail(node: &mut Node, taken: bool, fault: Fault)
     ensures { node.new ≡ lost (λ _. taken) fault node.old }
 {
     if taken && !node.gone {

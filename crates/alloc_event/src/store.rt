@@ -40,7 +40,7 @@ pub(crate) fn store(table: &mut NodeTable<Node>, nodes: &[Node])
 }
 
 /// The nodes with these keys.
-fn load_nodes(
+pub(crate) fn load_nodes(
     alloc: Global,
     table: &NodeTable<Node>,
     keys: &[NodeKey],

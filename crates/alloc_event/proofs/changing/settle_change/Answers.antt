@@ -10,17 +10,17 @@ use Rattle.alloc_event.proofs.Birthing.{helds_in}
 use Rattle.alloc_event.proofs.Slots.{but_finished, changed_id, or_new_id}
 use Rattle.alloc_event.proofs.changing.settle_change.Goals as goal
 
-pub returns-then-settle_in_place-clause-pool : goal.returns-then-settle_in_place-clause-pool
-returns-then-settle_in_place-clause-pool c =
+pub returns-then-branch-clause-pool : goal.returns-then-branch-clause-pool
+returns-then-branch-clause-pool c =
     c.requires.pool ∙ ap (λ (hs : List HeldPages). sorted_by start_of (map (λ (h : HeldPages). h.pages) hs))
     (helds_in c.args.table.now (shelves_of c.args.entries.now.items)
-    ∙ sym (helds_in c.settle_in_place.new.table (shelves_of c.args.entries.now.items))
-    ∙ ap (λ (ss : List Shelf). all_held (forest_of c.settle_in_place.new.table ss)) (sym c.settle_in_place.ensures.shelves))
+    ∙ sym (helds_in c.settle_counted.new.table (shelves_of c.args.entries.now.items))
+    ∙ ap (λ (ss : List Shelf). all_held (forest_of c.settle_counted.new.table ss)) (sym c.settle_counted.ensures.shelves))
 
 pub recount-requires-clause-others : goal.recount-requires-clause-others
 recount-requires-clause-others c =
-    let t = c.settle_in_place.new.table in
-    let ss = shelves_of c.settle_in_place.new.entries.items in
+    let t = c.settle_counted.new.table in
+    let ss = shelves_of c.settle_counted.new.entries.items in
     rw c.deref.ensures.value (but_finished _ _ t ss c.settle_scene_change.new.table (shelves_of c.settle_scene_change.new.entries.items) _ c.args.id
     (changed_id c.args.change.now no_key (collection_or_new (forest_of t ss) c.args.id) c.requires.birth ∙ or_new_id (forest_of t ss) c.args.id)
-    c.in_ok-settle_scene_change.ensures.ok c.settle_in_place.new.units.items c.settle_in_place.ensures.units)
+    c.in_ok-settle_scene_change.ensures.ok c.settle_counted.new.units.items c.settle_counted.ensures.units)

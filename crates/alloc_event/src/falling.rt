@@ -1,0 +1,259 @@
+//! A loss in its place: what falls is found first, and then each node fails.
+ghost use Rattle.std.specs.Prelude.{◌≡◌, ◌&&◌, not, ◌≢◌, ℕ, List, Some, None, true, false, IfOk, IfSome, IsSome, OnErr, map};
+ghost use Rattle.std.specs.List.{find, list_all, list_any};
+ghost use Rattle.sm_names.specs.declared.keys.NodeKey.{NodeKey as Key};
+ghost use Rattle.node_table.specs.Table.{node_at, row_at};
+ghost use Rattle.alloc_event.specs.declared.change.Change.{Change as Changed};
+ghost use Rattle.alloc_event.specs.declared.node.Node.{Node as Kept};
+ghost use Rattle.alloc_event.specs.Calm.{AreCounted};
+ghost use Rattle.alloc_event.specs.Counts.{AreUnitsBut, HaveUnits, unit_at};
+ghost use Rattle.alloc_event.specs.Falling.{IsLost, IsTaken, IsTop, is_kept_up, lowered, untallied, without_node};
+ghost use Rattle.alloc_event.specs.InPlace.{IsOpen};
+ghost use Rattle.alloc_event.specs.Kept.{Finishes, IsKept, SameTable, Shelf, all_of, collection_in, forest_of, nodes_with, shelves_of};
+ghost use Rattle.alloc_event.specs.Nodes.{is_over, lost};
+ghost use Rattle.alloc_event.specs.Settling.{Handles, MayChange, changed, collection_or_new, no_key};
+
+use crate::entry::{Entry, place_of};
+use crate::in_place::is_served;
+use crate::kept::{count_strong, is_some_over};
+use crate::losses::fail;
+use crate::node::Node;
+use crate::questions::is_live;
+use crate::store::{load_nodes, store};
+use crate::units::{Unit, is_unready, put_unit, recount, unit_in};
+use failure_domains::fall;
+use node_table::NodeTable;
+use sm_names::{CollectionId, Fault, NoMemory, NodeKey};
+
+/// One less, if it counted and there is one.
+fn lowered(count: usize, is: bool) -> usize
+    ensures { result ≡ lowered is count }
+{
+    if is && 0 < count { count - 1 } else { count }
+}
+
+/// Counts the node no longer for its unit.
+fn uncount(units: &mut Vec<Unit>, node: &Node)
+    ensures { units.new.items ≡ without_node node.now units.old.items }
+{
+    let slot = node.head.slot as usize;
+    let unit = unit_in(units, slot);
+    let less = Unit {
+        live: lowered(unit.live, is_live(node)),
+        unready: lowered(unit.unready, is_unready(node)),
+    };
+    put_unit(units, slot, less);
+}
+
+/// Counts the nodes no longer for their units.
+fn untally(units: &mut Vec<Unit>, nodes: &[Node])
+    ensures { units.new.items ≡ untallied nodes.now units.old.items }
+{
+    let mut rest = nodes;
+    'on: while let Some((node, more)) = rest.split_first() {
+        if !node.gone {
+            uncount(units, node);
+        }
+        rest = more;
+    }
+}
+
+/// Each node fails, if it is not gone.
+fn fail_each(nodes: &mut [Node], fault: Fault)
+    ensures { nodes.new ≡ map (lost (λ n. true) fault) nodes.old }
+{
+    for node in nodes.iter_mut() {
+        fail(node, true, fault);
+    }
+}
+
+/// Whether each node is of this collection.
+fn are_of(nodes: &[Node], id: CollectionId) -> bool
+    ensures { result ≡ all_of id nodes.now }
+{
+    nodes.iter().all(|node| node.collection == id)
+}
+
+/// The head of the unit above what falls, and whether the highest node that falls heads a unit
+/// itself. `None` where that node has no parent.
+fn unit_above(table: &NodeTable<Node>, keys: &[NodeKey]) -> Option<(NodeKey, bool)>
+    ensures { IfSome result (λ above. IsTop table.now keys.now above.0 above.1) }
+{
+    let Some((key, _)) = keys.split_first() else {
+        return None;
+    };
+    let node = table.get(*key)?;
+    if node.gone {
+        return None;
+    }
+    let parent = table.parent(*key)?;
+    let above = table.get(parent)?;
+    Some((above.head, node.attached))
+}
+
+/// Whether nothing is forced in the unit with this head, where its counts went from these to those:
+/// a node of it lives, and it does not become ready by what falls, or has its buffers.
+fn is_kept_up(
+    table: &NodeTable<Node>,
+    before: &Unit,
+    after: &Unit,
+    head: NodeKey,
+    attached: bool,
+) -> bool
+    ensures { result ≡ is_kept_up table.now before.now after.now head attached }
+{
+    0 < after.live
+        && (attached || before.unready == 0 || 0 < after.unready || is_served(table, head))
+}
+
+/// Counts the nodes no longer, and answers whether nothing is forced in the unit with this head.
+fn lower(
+    table: &NodeTable<Node>,
+    units: &mut Vec<Unit>,
+    nodes: &[Node],
+    head: NodeKey,
+    attached: bool,
+) -> bool
+    ensures units { units.new.items ≡ untallied nodes.now units.old.items }
+    ensures value { result ≡ is_kept_up table.now (unit_at units.old.items head.slot) (unit_at units.new.items head.slot) head attached }
+{
+    let slot = head.slot as usize;
+    let before = unit_in(units, slot);
+    untally(units, nodes);
+    let after = unit_in(units, slot);
+    is_kept_up(table, &before, &after, head, attached)
+}
+
+/// Makes the loss of these nodes in its place, if the counts tell that nothing is forced by it: a
+/// strong node of the collection is live after it, and one of the unit above, which does not become
+/// ready by it, or has its buffers. Answers how many strong nodes are live then, and the nodes are
+/// as they are then. With `None` the table is as it was, and the units of the collection are to be
+/// counted anew. It costs the number of the nodes.
+fn fell(
+    table: &mut NodeTable<Node>,
+    units: &mut Vec<Unit>,
+    strong: usize,
+    id: CollectionId,
+    keys: &[NodeKey],
+    nodes: &mut [Node],
+    fault: Fault,
+) -> Option<usize>
+    requires named { (key : Key) (n : Kept) → node_at table.old key ≡ Some n → n.key ≡ key }
+    requires taken { IsTaken table.old fault.origin keys.now }
+    requires nodes { nodes.old ≡ nodes_with table.old keys.now }
+    ensures none { result ≡ None → table.new ≡ table.old }
+    ensures none_units { result ≡ None → (ss : List Shelf) (s : Shelf) →
+        IsOpen table.old units.old.items ss s (Changed.Loss fault.origin fault.cause) strong → s.id ≡ id →
+        AreUnitsBut units.new.items s.id (map (collection_in table.old) ss) }
+    ensures some { IfSome result (λ left. (ss : List Shelf) (s : Shelf) →
+        IsOpen table.old units.old.items ss s (Changed.Loss fault.origin fault.cause) strong → s.id ≡ id →
+        IsLost table.old table.new units.new.items ss s fault left nodes.new) }
+{
+    let lost = count_strong(nodes);
+    if strong <= lost || !are_of(nodes, id) {
+        return None;
+    }
+    let Some((head, attached)) = unit_above(table, keys) else {
+        return None;
+    };
+    if head.slot as usize >= units.len() {
+        return None;
+    }
+    if !lower(table, units, nodes, head, attached) {
+        return None;
+    }
+    fail_each(nodes, fault);
+    store(table, nodes);
+    Some(strong - lost)
+}
+
+/// Whether a collection that was tidy, or not, is so with these nodes as they are now.
+fn is_tidy_still(tidy: bool, nodes: &[Node]) -> bool
+    ensures { result ≡ (tidy && not (list_any is_over nodes.now)) }
+{
+    tidy && !is_some_over(nodes)
+}
+
+/// Makes the loss of these nodes in its place so, and answers whether it did; if not, the table and
+/// the entries are as they were. A binary search besides, and a count of the units of the
+/// collection where it did not.
+fn lose_nodes(
+    table: &mut NodeTable<Node>,
+    entries: &mut Vec<Entry>,
+    units: &mut Vec<Unit>,
+    id: CollectionId,
+    keys: &[NodeKey],
+    nodes: &mut [Node],
+    fault: Fault,
+) -> bool
+    requires kept { IsKept table.old (shelves_of entries.old.items) }
+    requires counted { AreCounted table.old entries.old.items }
+    requires units { HaveUnits units.old.items table.old entries.old.items }
+    requires change { MayChange (forest_of table.old (shelves_of entries.old.items)) id (Changed.Loss fault.origin fault.cause) }
+    requires taken { IsTaken table.old fault.origin keys.now }
+    requires nodes { nodes.old ≡ nodes_with table.old keys.now }
+    ensures no_table { result ≡ false → table.new ≡ table.old }
+    ensures no_entries { result ≡ false → entries.new.items ≡ entries.old.items }
+    ensures ok { result ≡ true → (pool : ℕ) (handles : Handles) →
+        Finishes pool handles table.old (shelves_of entries.old.items) table.new (shelves_of entries.new.items)
+        (changed (Changed.Loss fault.origin fault.cause) no_key (collection_or_new (forest_of table.old (shelves_of entries.old.items)) id)) }
+    ensures shelves { shelves_of entries.new.items ≡ shelves_of entries.old.items }
+    ensures kept { result ≡ true → IsKept table.new (shelves_of entries.old.items) }
+    ensures counted { result ≡ true → AreCounted table.new entries.new.items }
+    ensures units { HaveUnits units.new.items table.new entries.new.items }
+    ensures same { SameTable table.old table.new }
+{
+    let Some(at) = place_of(entries, id) else {
+        return false;
+    };
+    let strong = entries[at].strong;
+    let Some(left) = fell(table, units, strong, id, keys, nodes, fault) else {
+        recount(units, table, entries, id);
+        return false;
+    };
+    let tidy = is_tidy_still(entries[at].tidy, nodes);
+    let entry = &mut entries[at];
+    entry.strong = left;
+    entry.tidy = tidy;
+    true
+}
+
+/// Makes a loss in its place, if the counts tell that nothing is forced by it: a strong node of the
+/// collection is live after it, and one of the unit above what falls, which does not become ready
+/// by it, or has its buffers. Answers whether it did; if not, the table and the entries are as they
+/// were.
+///
+/// `NoMemory` where the lists of what falls are refused room; then nothing changed but room. It
+/// costs what `fall` costs, and the number of what falls; where it was not made, a count of the
+/// units of the collection besides.
+pub(crate) fn lose_in_place(
+    table: &mut NodeTable<Node>,
+    entries: &mut Vec<Entry>,
+    units: &mut Vec<Unit>,
+    id: CollectionId,
+    fault: Fault,
+) -> Result<bool, NoMemory>
+    requires kept { IsKept table.old (shelves_of entries.old.items) }
+    requires counted { AreCounted table.old entries.old.items }
+    requires units { HaveUnits units.old.items table.old entries.old.items }
+    requires change { MayChange (forest_of table.old (shelves_of entries.old.items)) id (Changed.Loss fault.origin fault.cause) }
+    ensures err_table { OnErr result (table.new ≡ table.old) }
+    ensures err_entries { OnErr result (entries.new.items ≡ entries.old.items) }
+    ensures no_table { IfOk result (λ made. made ≡ false → table.new ≡ table.old) }
+    ensures no_entries { IfOk result (λ made. made ≡ false → entries.new.items ≡ entries.old.items) }
+    ensures ok { IfOk result (λ made. made ≡ true → (pool : ℕ) (handles : Handles) →
+        Finishes pool handles table.old (shelves_of entries.old.items) table.new (shelves_of entries.new.items)
+        (changed (Changed.Loss fault.origin fault.cause) no_key (collection_or_new (forest_of table.old (shelves_of entries.old.items)) id))) }
+    ensures shelves { shelves_of entries.new.items ≡ shelves_of entries.old.items }
+    ensures kept { IfOk result (λ made. made ≡ true → IsKept table.new (shelves_of entries.old.items)) }
+    ensures counted { IfOk result (λ made. made ≡ true → AreCounted table.new entries.new.items) }
+    ensures units { HaveUnits units.new.items table.new entries.new.items }
+    ensures same { SameTable table.old table.new }
+{
+    let alloc = *entries.allocator();
+    let fallen = fall(alloc, table, fault.origin)?;
+    let Ok(mut nodes) = load_nodes(alloc, table, &fallen.keys) else {
+        return Err(NoMemory);
+    };
+    Ok(lose_nodes(table, entries, units, id, &fallen.keys, &mut nodes, fault))
+}
