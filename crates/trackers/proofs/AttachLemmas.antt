@@ -1,5 +1,5 @@
 -- What one row more leaves.
-use Rattle.std.proofs.Common.{◌≡◌, ℕ, ◌+◌, ◌<◌, ◌≤◌, Bool, true, false, ◌==◌, if◌then◌else◌, cond, List, [], ◌∷◌, ◌++◌, map, length, count_by, refl, sym, ap, ◌∙◌, arith, append-nil}
+use Rattle.std.proofs.Common.{◌≡◌, ℕ, ◌+◌, ◌<◌, ◌≤◌, Bool, true, false, ◌==◌, if◌then◌else◌, cond, List, [], ◌∷◌, ◌++◌, map, length, count_by, Some, None, option_to_list, refl, sym, ap, ◌∙◌, arith}
 use Rattle.std.specs.List.{filter_map, cons_option, AllByRecursion}
 use Rattle.std.proofs.lemmas.List.{map_push, length_push}
 use Rattle.std.proofs.lemmas.List.Sums.{sum_by-append, sum_by-cons}
@@ -7,10 +7,11 @@ use Rattle.sm_names.specs.declared.tracking.Fired.{Fired}
 use Rattle.sm_names.specs.declared.tracking.Condition.{Condition}
 use Rattle.trackers.specs.Table.{Cell, Attaches, firing_of}
 use Rattle.trackers.specs.Row.{Kept, Stage, Waits, Over, is_waiting, waiting_of_row, firing_of_row}
-use Rattle.trackers.specs.Filing.{Piles, pile_of}
-use Rattle.trackers.specs.Held.{cell_of_row, untaken_of_row, is_filed, positions, AreRising, IsKeptUp, NoneHas, table_of, attached}
-use Rattle.trackers.proofs.FilingLemmas.{positions_push}
+use Rattle.trackers.specs.Filing.{Piles, Wish, entries_of, weigh}
+use Rattle.trackers.specs.Held.{cell_of_row, untaken_of_row, asked, asked_from, AreRising, IsKeptUp, NoneHas, table_of, attached}
+use Rattle.trackers.proofs.FilingLemmas.{asked_push}
 use Rattle.trackers.proofs.FoundLemmas.{table_with}
+use Rattle.trackers.proofs.Weights.{weigh_append}
 use Rattle.trackers.proofs.Walks.{filter_map_push}
 
 -- a row that waits is shown
@@ -54,10 +55,11 @@ module _ (row : Kept) where
   none_push id [] none = tt
   none_push id (other ∷ rows) none = (none.0, none_push id rows none.1)
 
-module _ (limit capacity capacity' : ℕ) (rows rows' : List Kept) (fired fired' : List Fired) (old new : Piles) (kept : IsKeptUp limit rows fired capacity old) (same : fired' ≡ fired) where
+module _ (limit capacity capacity' spare spare' : ℕ) (rows rows' : List Kept) (fired fired' : List Fired) (old new : Piles) (kept : IsKeptUp limit rows fired capacity spare old) (same : fired' ≡ fired) where
   -- the table is right with one row more
-  pub kept_push : (id cell place : ℕ) (c : Condition) → AllByRecursion (λ (r : Kept). r.id < id) rows → count_by is_waiting rows < limit → length rows + 1 ≤ capacity' → rows' ≡ rows ++ attached id cell place c ∷ [] → ((k : ℕ) → pile_of new k ≡ (if k == place then pile_of old k ++ length rows ∷ [] else pile_of old k)) → IsKeptUp limit rows' fired' capacity' new
-  kept_push id cell place c all room_left room pushed filed =
+  pub kept_push : (id cell place : ℕ) (c : Condition) → AllByRecursion (λ (r : Kept). r.id < id) rows → count_by is_waiting rows < limit → length rows + 1 ≤ capacity' → count_by is_waiting rows + 1 ≤ spare' → rows' ≡ rows ++ attached id cell place c ∷ [] →
+      ((k : ℕ) (f : Wish → ℕ) → weigh f (entries_of new k) ≡ (if k == place then f (c, length rows) + weigh f (entries_of old k) else weigh f (entries_of old k))) → IsKeptUp limit rows' fired' capacity' spare' new
+  kept_push id cell place c all room_left room spare_left pushed filed =
       let row : Kept = attached id cell place c in
       rw (same, pushed) record {
         held = record {
@@ -69,16 +71,22 @@ module _ (limit capacity capacity' : ℕ) (rows rows' : List Kept) (fired fired'
           own = λ other none. kept.held.own other (none_push row other rows none);
         };
         filed = record {
-          at = λ k. filed k ∙ elim (k == place) as (λ b. (if b then pile_of old k ++ length rows ∷ [] else pile_of old k) ≡ positions (is_filed k) 0 rows ++ (if b then (0 + length rows) ∷ [] else [])) [
-            | true ↦ rw (kept.filed.at k) (ap (λ m. positions (is_filed k) 0 rows ++ m ∷ []) (omega arith))
-            | false ↦ kept.filed.at k ∙ sym (append-nil (positions (is_filed k) 0 rows))
-          ] ∙ sym (positions_push k 0 rows row);
+          at = λ k f.
+              let had : weigh f (entries_of old k) ≡ weigh f (asked_from k 0 rows) = kept.filed.at k f in
+              let joined : weigh f (asked_from k 0 (rows ++ row ∷ [])) ≡ weigh f (asked_from k 0 rows) + weigh f (option_to_list (asked k (0 + length rows) row)) =
+              ap (weigh f) (asked_push k 0 rows row) ∙ weigh_append f (asked_from k 0 rows) (option_to_list (asked k (0 + length rows) row)) in
+              let place_is : 0 + length rows ≡ length rows = omega arith in
+              filed k f ∙ (elim (k == place) as (λ b. (if b then f (c, length rows) + weigh f (entries_of old k) else weigh f (entries_of old k)) ≡ weigh f (asked_from k 0 rows) + weigh f (option_to_list (if b then Some (c, 0 + length rows) else None))) [
+                | true ↦ omega (arith, had, ap (λ m. f (c, m)) place_is)
+                | false ↦ omega (arith, had)
+              ] ∙ sym joined);
         };
+        spare_room = omega (arith, spare_left, sum_by-append (λ r. cond (is_waiting r) 1 0) rows (row ∷ []));
       }
 
   -- and with more room alone
-  pub kept_grown : capacity ≤ capacity' → rows' ≡ rows → ((k : ℕ) → pile_of new k ≡ pile_of old k) → IsKeptUp limit rows' fired' capacity' new
-  kept_grown more stay filed = rw (same, stay) record {
+  pub kept_grown : capacity ≤ capacity' → spare ≤ spare' → rows' ≡ rows → ((k : ℕ) (f : Wish → ℕ) → weigh f (entries_of new k) ≡ weigh f (entries_of old k)) → IsKeptUp limit rows' fired' capacity' spare' new
+  kept_grown more more_spare stay filed = rw (same, stay) record {
     held = record {
       rising = kept.held.rising;
       counted = kept.held.counted;
@@ -87,7 +95,8 @@ module _ (limit capacity capacity' : ℕ) (rows rows' : List Kept) (fired fired'
       told = kept.held.told;
       own = kept.held.own;
     };
-    filed = record { at = λ k. filed k ∙ kept.filed.at k };
+    filed = record { at = λ k f. filed k f ∙ kept.filed.at k f };
+    spare_room = omega (arith, kept.spare_room, more_spare);
   }
 
 -- the table shows a row more

@@ -1,20 +1,20 @@
 -- What is left once the last row is taken out, where that was attached just now.
-use Rattle.std.proofs.Common.{◌≡◌, ◌≢◌, ℕ, ◌+◌, ◌<◌, Bool, true, false, ◌==◌, if◌then◌else◌, List, [], ◌∷◌, ◌++◌, map, length, slice_get, count_by, cond, Option, Some, None, refl, sym, ap, subst, ◌∙◌, arith, append-nil}
-use Rattle.std.specs.List.{filter, filter_map, cons_option, AllByRecursion}
+use Rattle.std.proofs.Common.{◌≡◌, ◌≢◌, ℕ, ◌+◌, ◌<◌, ◌≤◌, Bool, true, false, ◌==◌, if◌then◌else◌, List, [], ◌∷◌, ◌++◌, map, length, slice_get, count_by, cond, Option, Some, None, refl, sym, ap, subst, ◌∙◌, arith, append-nil}
+use Rattle.std.specs.List.{filter_map, cons_option, AllByRecursion}
 use Rattle.std.specs.Option.{option_map_or, option_to_list}
 use Rattle.std.proofs.lemmas.Bool.{eqb-true, eq-eqb}
+use Rattle.std.proofs.lemmas.Bool.Decides.{nat_tests}
 use Rattle.std.proofs.lemmas.List.{map_push, length_push}
-use Rattle.std.proofs.lemmas.List.Elements.{filter-append}
 use Rattle.std.proofs.lemmas.List.Sums.{sum_by-append, sum_by-cons}
 use Rattle.sm_names.specs.declared.tracking.Fired.{Fired}
 use Rattle.sm_names.specs.declared.tracking.Condition.{Condition}
-use Rattle.sm_names.specs.Trackers.{World}
 use Rattle.trackers.specs.Table.{Cell, Table, Waiting, Attaches, firing_of}
 use Rattle.trackers.specs.Row.{Kept, Stage, Waits, Over, is_waiting, waiting_of_row, firing_of_row}
-use Rattle.trackers.specs.Filing.{Piles, pile_of, waits_at}
-use Rattle.trackers.specs.Held.{cell_of_row, untaken_of_row, is_filed, after, positions, AreRising, IsKeptUp, NoneHas, table_of}
-use Rattle.trackers.proofs.FilingLemmas.{kept_positions, positions_push}
+use Rattle.trackers.specs.Filing.{Piles, Wish, entries_of, weigh, weigh_at}
+use Rattle.trackers.specs.Held.{cell_of_row, untaken_of_row, asked, asked_from, AreRising, IsKeptUp, NoneHas, table_of}
+use Rattle.trackers.proofs.FilingLemmas.{asked_push}
 use Rattle.trackers.proofs.Walks.{filter_map_push, row_of}
+use Rattle.trackers.proofs.Weights.{weigh_append}
 
 -- ---- the last of a list
 
@@ -133,33 +133,25 @@ module _ (limit : ℕ) (rows : List Kept) (row : Kept) (fired : List Fired) (ris
 
 -- ---- the rows that are left
 
--- a world in which nothing is due
-abbrev calm : World
-calm = record { gone = λ key. false; allocated = λ key. false; left = λ collection. 0; doomed = λ buffer. false }
+-- nothing behind the rows is asked
+none_at_row : (collection m n id cell : ℕ) (stage : Stage) (has : Bool) (f : Wish → ℕ) (more : List Wish) → n < m → weigh (weigh_at m f) more ≡ 0 →
+    weigh (weigh_at m f) (cons_option (asked collection n (row_of id cell stage has)) more) ≡ 0
+none_at_row collection m n id cell (Over event) has f more less rest = rest
+none_at_row collection m n id cell (Waits p c) has f more less rest = elim (collection == p) as (λ b. weigh (weigh_at m f) (cons_option (if b then Some (c, n) else None) more) ≡ 0) [
+  | true ↦
+      let other : (n == m) ≡ false = grind (arith, nat_tests, less) in
+      let nought : weigh_at m f (c, n) ≡ 0 = rw other refl in
+      omega (arith, nought, rest)
+  | false ↦ rest
+]
 
--- no row is met there
-unmet_at : (id cell : ℕ) (stage : Stage) (has : Bool) → after calm 0 (row_of id cell stage has) ≡ row_of id cell stage has
-unmet_at id cell (Waits place (Condition.Node key)) has = refl
-unmet_at id cell (Waits place (Condition.Lifetime key collection most)) has = refl
-unmet_at id cell (Waits place (Condition.Weak buffer)) has = refl
-unmet_at id cell (Over event) has = refl
+none_at : (collection m n : ℕ) (f : Wish → ℕ) (rows : List Kept) → n + length rows ≤ m → weigh (weigh_at m f) (asked_from collection n rows) ≡ 0
+none_at collection m n f [] within = refl
+none_at collection m n f (row ∷ rows) within = none_at_row collection m n row.id row.cell row.stage row.has_reader f _ (omega (arith, within)) (none_at collection m (n + 1) f rows (omega (arith, within)))
 
-calm_rows : (rows : List Kept) → map (after calm 0) rows ≡ rows
-calm_rows [] = refl
-calm_rows (row ∷ rows) = λ i. unmet_at row.id row.cell row.stage row.has_reader i ∷ calm_rows rows i
-
--- of the places of rows that wait all stay
-stay_filed : (collection : ℕ) (rows : List Kept) → filter (waits_at rows) (positions (is_filed collection) 0 rows) ≡ positions (is_filed collection) 0 rows
-stay_filed collection rows = subst (λ (rs : List Kept). filter (waits_at rs) (positions (is_filed collection) 0 rows) ≡ positions (is_filed collection) 0 rs) (calm_rows rows) (kept_positions calm 0 collection rows)
-
--- no row stands behind the last
-none_behind : (rows : List Kept) → slice_get rows (length rows) ≡ None
-none_behind [] = refl
-none_behind (row ∷ rows) = none_behind rows
-
--- so a place there does not wait
-gone_place : (rows : List Kept) → waits_at rows (0 + length rows) ≡ false
-gone_place rows = (let place : 0 + length rows ≡ length rows = omega arith in ap (waits_at rows) place) ∙ ap (λ o. option_map_or is_waiting o false) (none_behind rows)
+-- and what is asked right there counts
+all_at : (m : ℕ) (c : Condition) (f : Wish → ℕ) → weigh_at m f (c, 0 + m) ≡ f (c, 0 + m)
+all_at m c f = let same : (0 + m == m) ≡ true = grind (arith, nat_tests) in rw same refl
 
 -- an id that no row but the last has is had by none, if it is not the last one's
 none_last : (id : ℕ) (rows : List Kept) (row : Kept) → row.id ≢ id → NoneHas id rows → NoneHas id (rows ++ row ∷ [])
@@ -172,7 +164,7 @@ waits_untold : (id cell : ℕ) (stage : Stage) (has : Bool) (tracker : Waiting) 
 waits_untold id cell (Waits place c) has tracker e = (refl, refl)
 waits_untold id cell (Over event) has tracker e = cc
 
-module _ (limit capacity : ℕ) (rows : List Kept) (row : Kept) (fired : List Fired) (old new : Piles) (kept : IsKeptUp limit (rows ++ row ∷ []) fired capacity old) (tracker : Waiting)
+module _ (limit capacity spare : ℕ) (rows : List Kept) (row : Kept) (fired : List Fired) (old new : Piles) (kept : IsKeptUp limit (rows ++ row ∷ []) fired capacity spare old) (tracker : Waiting)
     (waits : waiting_of_row row ≡ Some tracker) where
   -- the last row waits
   waits_on : (firing_of_row row ≡ None) × (is_waiting row ≡ true)
@@ -190,13 +182,21 @@ module _ (limit capacity : ℕ) (rows : List Kept) (row : Kept) (fired : List Fi
       from true e = ap (firing_of fired) (sym (eqb-true row.id id e)) ∙ (last_of Told rows row kept.held.told ∙ waits_on.0)
       from false e = kept.held.own id (none_last id rows row (λ same. let no : false ≡ true = sym e ∙ eq-eqb row.id id same in cc) none)
 
-  -- the place that is filed of it
-  filed_at : (collection : ℕ) → is_filed collection row ≡ (collection == tracker.place)
-  filed_at collection = ap (λ o. option_map_or (λ (t : Waiting). collection == t.place) o false) waits
+  -- what it asks
+  asked_last : (c n : ℕ) → asked c n row ≡ (if c == tracker.place then Some (tracker.condition, n) else None)
+  asked_last c n = ap (λ o. option_map_or (λ (t : Waiting). if c == t.place then Some (t.condition, n) else None) o None) waits
+
+  -- what was filed
+  was_filed : (c : ℕ) (g : Wish → ℕ) → weigh g (entries_of old c) ≡ weigh g (asked_from c 0 rows) + weigh g (option_to_list (if c == tracker.place then Some (tracker.condition, 0 + length rows) else None))
+  was_filed c g =
+      kept.filed.at c g
+      ∙ (ap (weigh g) (asked_push c 0 rows row)
+      ∙ (weigh_append g (asked_from c 0 rows) (option_to_list (asked c (0 + length rows) row))
+      ∙ ap (λ o. weigh g (asked_from c 0 rows) + weigh g (option_to_list o)) (asked_last c (0 + length rows))))
 
   -- the table is right without it
-  pub kept_popped : ((c : ℕ) → pile_of new c ≡ (if c == tracker.place then filter (waits_at rows) (pile_of old c) else pile_of old c)) → IsKeptUp limit rows fired capacity new
-  kept_popped unfiled = record {
+  pub kept_popped : ((c : ℕ) (f : Wish → ℕ) → (if c == tracker.place then weigh f (entries_of new c) + weigh (weigh_at (length rows) f) (entries_of old c) else weigh f (entries_of new c)) ≡ weigh f (entries_of old c)) → IsKeptUp limit rows fired capacity spare new
+  kept_popped withdrawn = record {
     held = record {
       rising = front_rises rows row kept.held.rising;
       counted = omega (arith, kept.held.counted, length_push rows row, counts);
@@ -206,6 +206,7 @@ module _ (limit capacity : ℕ) (rows : List Kept) (row : Kept) (fired : List Fi
       own = own_left;
     };
     filed = record { at = at };
+    spare_room = omega (arith, kept.spare_room, counts);
   }
     where
       one : count_by is_waiting (row ∷ []) ≡ 1
@@ -214,21 +215,22 @@ module _ (limit capacity : ℕ) (rows : List Kept) (row : Kept) (fired : List Fi
       counts : count_by is_waiting (rows ++ row ∷ []) ≡ count_by is_waiting rows + 1
       counts = sum_by-append (λ r. cond (is_waiting r) 1 0) rows (row ∷ []) ∙ ap (λ n. count_by is_waiting rows + n) one
 
-      split : (c : ℕ) → pile_of old c ≡ positions (is_filed c) 0 rows ++ (if c == tracker.place then (0 + length rows) ∷ [] else [])
-      split c = kept.filed.at c ∙ (positions_push c 0 rows row ∙ ap (λ b. positions (is_filed c) 0 rows ++ (if b then (0 + length rows) ∷ [] else [])) (filed_at c))
-
-      none : filter (waits_at rows) ((0 + length rows) ∷ []) ≡ []
-      none = rw (gone_place rows) refl
-
-      at : (c : ℕ) → pile_of new c ≡ positions (is_filed c) 0 rows
-      at c = unfiled c ∙ elim (c == tracker.place) as (λ b. pile_of old c ≡ positions (is_filed c) 0 rows ++ (if b then (0 + length rows) ∷ [] else []) → (if b then filter (waits_at rows) (pile_of old c) else pile_of old c) ≡ positions (is_filed c) 0 rows) [
-        | true ↦ λ is. ap (filter (waits_at rows)) is ∙ (filter-append (waits_at rows) (positions (is_filed c) 0 rows) ((0 + length rows) ∷ []) ∙ ((λ i. stay_filed c rows i ++ none i) ∙ append-nil (positions (is_filed c) 0 rows)))
-        | false ↦ λ is. is ∙ append-nil (positions (is_filed c) 0 rows)
-      ] (split c)
+      at : (c : ℕ) (f : Wish → ℕ) → weigh f (entries_of new c) ≡ weigh f (asked_from c 0 rows)
+      at c f =
+          let none_there : weigh (weigh_at (length rows) f) (asked_from c 0 rows) ≡ 0 = none_at c (length rows) 0 f rows (omega arith) in
+          let there = all_at (length rows) tracker.condition f in
+          (elim (c == tracker.place) as (λ b.
+          weigh f (entries_of old c) ≡ weigh f (asked_from c 0 rows) + weigh f (option_to_list (if b then Some (tracker.condition, 0 + length rows) else None)) →
+          weigh (weigh_at (length rows) f) (entries_of old c) ≡ weigh (weigh_at (length rows) f) (asked_from c 0 rows) + weigh (weigh_at (length rows) f) (option_to_list (if b then Some (tracker.condition, 0 + length rows) else None)) →
+          (if b then weigh f (entries_of new c) + weigh (weigh_at (length rows) f) (entries_of old c) else weigh f (entries_of new c)) ≡ weigh f (entries_of old c) →
+          weigh f (entries_of new c) ≡ weigh f (asked_from c 0 rows)) [
+            | true ↦ λ all some gone. omega (arith, all, some, gone, none_there, there)
+            | false ↦ λ all some gone. omega (arith, all, gone)
+          ]) (was_filed c f) (was_filed c (weigh_at (length rows) f)) (withdrawn c f)
 
 -- ---- the last row, taken out
 
-module _ (limit capacity : ℕ) (rows left : List Kept) (fired : List Fired) (old new : Piles) (kept : IsKeptUp limit rows fired capacity old) where
+module _ (limit capacity spare : ℕ) (rows left : List Kept) (fired : List Fired) (old new : Piles) (kept : IsKeptUp limit rows fired capacity spare old) where
   -- the row that was taken out
   popped : (o : Option Kept) → rows ≡ left ++ option_to_list o → (o ≡ None → rows ≡ []) → (before : Table) (tracker : Waiting) → Attaches before (table_of limit rows fired) tracker →
       (row : Kept) × (rows ≡ left ++ row ∷ [])
@@ -250,9 +252,9 @@ module _ (limit capacity : ℕ) (rows left : List Kept) (fired : List Fired) (ol
 
   -- and is right
   pub kept_detached : (o : Option Kept) → rows ≡ left ++ option_to_list o → (o ≡ None → rows ≡ []) → (before : Table) (tracker : Waiting) → Attaches before (table_of limit rows fired) tracker →
-      ((c : ℕ) → pile_of new c ≡ (if c == tracker.place then filter (waits_at left) (pile_of old c) else pile_of old c)) → IsKeptUp limit left fired capacity new
-  kept_detached o is none before tracker attaches unfiled =
+      ((c : ℕ) (f : Wish → ℕ) → (if c == tracker.place then weigh f (entries_of new c) + weigh (weigh_at (length left) f) (entries_of old c) else weigh f (entries_of new c)) ≡ weigh f (entries_of old c)) → IsKeptUp limit left fired capacity spare new
+  kept_detached o is none before tracker attaches withdrawn =
       let p = popped o is none before tracker attaches in
       let so : Attaches before (table_of limit (left ++ p.0 ∷ []) fired) tracker = subst (λ (rs : List Kept). Attaches before (table_of limit rs fired) tracker) p.1 attaches in
-      kept_popped limit capacity left p.0 fired old new (subst (λ (rs : List Kept). IsKeptUp limit rs fired capacity old) p.1 kept) tracker
-      (waits_same limit left p.0 fired (subst AreRising p.1 kept.held.rising) before tracker so).1 unfiled
+      kept_popped limit capacity spare left p.0 fired old new (subst (λ (rs : List Kept). IsKeptUp limit rs fired capacity spare old) p.1 kept) tracker
+      (waits_same limit left p.0 fired (subst AreRising p.1 kept.held.rising) before tracker so).1 withdrawn

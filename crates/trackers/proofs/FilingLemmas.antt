@@ -1,39 +1,36 @@
--- The piles: what a sweep needs of them, and what it leaves.
-use Rattle.std.proofs.Common.{◌≡◌, ◌≢◌, ℕ, suc, ◌+◌, Bool, true, false, ◌==◌, List, [], ◌∷◌, ◌++◌, map, length, slice_get, Option, Some, None, cond, if◌then◌else◌, refl, sym, ap, subst, ◌∙◌, arith, length-append, append_assoc}
+-- What is filed: what a sweep needs of it, and what it leaves.
+use Rattle.std.proofs.Common.{◌≡◌, ◌≢◌, ℕ, suc, ◌+◌, ◌<◌, ◌≤◌, Bool, true, false, not, ◌==◌, List, [], ◌∷◌, ◌++◌, map, length, get_or, set, count_by, option_to_list, Option, Some, None, cond, if◌then◌else◌, refl, sym, ap, subst, ◌∙◌, arith}
 use Rattle.std.specs.List.{filter, filter_map, cons_option, AllByRecursion}
-use Rattle.std.specs.Option.{option_map_or}
+use Rattle.std.specs.List.Sorted.{IsPermutation, IsNonDecreasing}
 use Rattle.std.proofs.lemmas.Bool.Decides.{nat_tests}
+use Rattle.std.proofs.lemmas.List.Sums.{sum_by-cons}
 use Rattle.sm_names.specs.declared.tracking.Fired.{Fired}
 use Rattle.sm_names.specs.Trackers.{World, holds}
 use Rattle.trackers.specs.Table.{Waiting, is_due}
 use Rattle.trackers.specs.Row.{Kept, Stage, Waits, Over, is_waiting, waiting_of_row}
-use Rattle.trackers.specs.Filing.{Piles, pile_of, waits_at}
-use Rattle.trackers.specs.Held.{is_met, after, fires, is_filed, positions, AreFiled, Reach, none, pass, pick}
+use Rattle.trackers.specs.Filing.{Piles, Wish, AreAlike, due_in, entries_of, is_wish_met, undue_in, weigh}
+use Rattle.trackers.specs.Held.{is_met, after, fires, asked, asked_from, AreFiled, Reach, none, pass, pick}
 use Rattle.trackers.proofs.Walks.{after_unmet, row_of}
+use Rattle.trackers.proofs.Weights.{DoRise, alike_filter, alike_map, alike_moved, do_rise, rising_same, weigh_filter, weigh_length, weigh_less, weigh_map}
 
 -- a test that fails tells two numbers apart
 apart : (m n : ℕ) → (m == n) ≡ false → n ≢ m
 apart m n failed same = grind (arith, nat_tests)
-
--- the row behind so many others
-row_behind : (before : List Kept) (row : Kept) (rows : List Kept) → slice_get (before ++ row ∷ rows) (length before) ≡ Some row
-row_behind [] row rows = refl
-row_behind (other ∷ before) row rows = row_behind before row rows
-
--- the same, at that number
-get_behind : (before : List Kept) (row : Kept) (rows : List Kept) (n : ℕ) → length before ≡ n → slice_get (before ++ row ∷ rows) n ≡ Some row
-get_behind before row rows n long = rw (← long) (row_behind before row rows)
 
 module _ (w : World) (place : ℕ) where
   -- what is not filed under the place is not due
   abbrev pub Elsewhere : Waiting → Type 0
   Elsewhere t = t.place ≢ place → is_due w t ≡ false
 
-  -- the pile of the place reaches each row that is met
-  reach_at : (n id cell : ℕ) (stage : Stage) (has : Bool) (rows : List Kept) (more : List ℕ) → AllByRecursion Elsewhere (cons_option (waiting_of_row (row_of id cell stage has)) []) → Reach w (n + 1) rows more → Reach w n (row_of id cell stage has ∷ rows) (if is_filed place (row_of id cell stage has) then n ∷ more else more)
+  -- the places that are due reach each row that is met
+  reach_at : (n id cell : ℕ) (stage : Stage) (has : Bool) (rows : List Kept) (more : List Wish) → AllByRecursion Elsewhere (cons_option (waiting_of_row (row_of id cell stage has)) []) → Reach w (n + 1) rows (due_in w more) →
+      Reach w n (row_of id cell stage has ∷ rows) (due_in w (cons_option (asked place n (row_of id cell stage has)) more))
   reach_at n id cell (Over event) has rows more elsewhere reach = pass refl reach
-  reach_at n id cell (Waits p c) has rows more elsewhere reach = elim (place == p) as (λ b. (place == p) ≡ b → Reach w n (row_of id cell (Waits p c) has ∷ rows) (if b then n ∷ more else more)) [
-    | true ↦ λ e. pick reach
+  reach_at n id cell (Waits p c) has rows more elsewhere reach = elim (place == p) as (λ b. (place == p) ≡ b → Reach w n (row_of id cell (Waits p c) has ∷ rows) (due_in w (cons_option (if b then Some (c, n) else None) more))) [
+    | true ↦ λ e. elim (holds w c) as (λ b. holds w c ≡ b → Reach w n (row_of id cell (Waits p c) has ∷ rows) (map (λ (wish : Wish). wish.1) (cond b ((c, n) ∷ filter (is_wish_met w) more) (filter (is_wish_met w) more)))) [
+      | true ↦ λ met. pick reach
+      | false ↦ λ unmet. pass unmet reach
+    ] refl
     | false ↦ λ e. pass (elsewhere.0 (apart place p e)) reach
   ] refl
 
@@ -42,92 +39,133 @@ module _ (w : World) (place : ℕ) where
   split_elsewhere None ts all = (tt, all)
   split_elsewhere (Some t) ts all = ((all.0, tt), all.1)
 
-  pub reach_pile : (n : ℕ) (rows : List Kept) → AllByRecursion Elsewhere (filter_map waiting_of_row rows) → Reach w n rows (positions (is_filed place) n rows)
-  reach_pile n [] all = none
-  reach_pile n (row ∷ rows) all =
+  pub reach_due : (n : ℕ) (rows : List Kept) → AllByRecursion Elsewhere (filter_map waiting_of_row rows) → Reach w n rows (due_in w (asked_from place n rows))
+  reach_due n [] all = none
+  reach_due n (row ∷ rows) all =
       let parts = split_elsewhere (waiting_of_row row) (filter_map waiting_of_row rows) all in
-      reach_at n row.id row.cell row.stage row.has_reader rows _ parts.0 (reach_pile (n + 1) rows parts.1)
+      reach_at n row.id row.cell row.stage row.has_reader rows _ parts.0 (reach_due (n + 1) rows parts.1)
+
+-- ---- the places that are due, sorted
+
+module _ (w : World) (place : ℕ) where
+  -- they are not below the first place
+  due_above_at : (m n id cell : ℕ) (stage : Stage) (has : Bool) (more : List Wish) → m ≤ n → AllByRecursion (λ (p : ℕ). m ≤ p) (due_in w more) →
+      AllByRecursion (λ (p : ℕ). m ≤ p) (due_in w (cons_option (asked place n (row_of id cell stage has)) more))
+  due_above_at m n id cell (Over event) has more le all = all
+  due_above_at m n id cell (Waits p c) has more le all = elim (place == p) as (λ b. AllByRecursion (λ (p : ℕ). m ≤ p) (due_in w (cons_option (if b then Some (c, n) else None) more))) [
+    | true ↦ elim (holds w c) as (λ b. AllByRecursion (λ (p : ℕ). m ≤ p) (map (λ (wish : Wish). wish.1) (cond b ((c, n) ∷ filter (is_wish_met w) more) (filter (is_wish_met w) more)))) [ true ↦ (le, all) | false ↦ all ]
+    | false ↦ all
+  ]
+
+  due_above : (m n : ℕ) (rows : List Kept) → m ≤ n → AllByRecursion (λ (p : ℕ). m ≤ p) (due_in w (asked_from place n rows))
+  due_above m n [] le = tt
+  due_above m n (row ∷ rows) le = due_above_at m n row.id row.cell row.stage row.has_reader _ le (due_above m (n + 1) rows (omega (arith, le)))
+
+  -- and rise
+  due_rise_at : (n id cell : ℕ) (stage : Stage) (has : Bool) (more : List Wish) → AllByRecursion (λ (p : ℕ). n ≤ p) (due_in w more) → DoRise (due_in w more) →
+      DoRise (due_in w (cons_option (asked place n (row_of id cell stage has)) more))
+  due_rise_at n id cell (Over event) has more above rise = rise
+  due_rise_at n id cell (Waits p c) has more above rise = elim (place == p) as (λ b. DoRise (due_in w (cons_option (if b then Some (c, n) else None) more))) [
+    | true ↦ elim (holds w c) as (λ b. DoRise (map (λ (wish : Wish). wish.1) (cond b ((c, n) ∷ filter (is_wish_met w) more) (filter (is_wish_met w) more)))) [ true ↦ (above, rise) | false ↦ rise ]
+    | false ↦ rise
+  ]
+
+  due_rise : (n : ℕ) (rows : List Kept) → DoRise (due_in w (asked_from place n rows))
+  due_rise n [] = tt
+  due_rise n (row ∷ rows) = due_rise_at n row.id row.cell row.stage row.has_reader _ (due_above n (n + 1) rows (omega arith)) (due_rise (n + 1) rows)
+
+  -- so the sorted places that are due are those of the rows, in their order
+  pub due_sorted : (rows : List Kept) (entries : List Wish) (due sorted : List ℕ) → AreAlike entries (asked_from place 0 rows) → due ≡ due_in w entries → IsPermutation due sorted → IsNonDecreasing sorted →
+      sorted ≡ due_in w (asked_from place 0 rows)
+  due_sorted rows entries due sorted alike is moved rises =
+      let found : AreAlike (due_in w entries) (due_in w (asked_from place 0 rows)) = alike_map _ _ (λ (wish : Wish). wish.1) (alike_filter _ _ (is_wish_met w) alike) in
+      let same : AreAlike sorted (due_in w (asked_from place 0 rows)) = λ f. sym (alike_moved due sorted moved f) ∙ (ap (weigh f) is ∙ found f) in
+      rising_same sorted (due_in w (asked_from place 0 rows)) (do_rise sorted rises) (due_rise 0 rows) same
+
+-- ---- how many are filed
+
+-- no more than wait
+one_asked : (place n id cell : ℕ) (stage : Stage) (has : Bool) (more : List Wish) → length (cons_option (asked place n (row_of id cell stage has)) more) ≤ cond (is_waiting (row_of id cell stage has)) 1 0 + length more
+one_asked place n id cell (Over event) has more = omega arith
+one_asked place n id cell (Waits p c) has more = elim (place == p) as (λ b. length (cons_option (if b then Some (c, n) else None) more) ≤ 1 + length more) [ true ↦ omega arith | false ↦ omega arith ]
+
+few_asked : (place n : ℕ) (rows : List Kept) → length (asked_from place n rows) ≤ count_by is_waiting rows
+few_asked place n [] = omega arith
+few_asked place n (row ∷ rows) = omega (arith, one_asked place n row.id row.cell row.stage row.has_reader (asked_from place (n + 1) rows), few_asked place (n + 1) rows, sum_by-cons (λ r. cond (is_waiting r) 1 0) row rows)
+
+-- so there is room for those that are due
+pub due_fit : (w : World) (place : ℕ) (rows : List Kept) (entries : List Wish) → AreAlike entries (asked_from place 0 rows) → length (due_in w entries) ≤ count_by is_waiting rows
+due_fit w place rows entries alike =
+    let one : Wish → ℕ = λ wish. 1 in
+    let counted : length (due_in w entries) ≡ weigh (λ (wish : Wish). if is_wish_met w wish then 1 else 0) entries =
+    weigh_length (due_in w entries) ∙ (weigh_map (λ n. 1) (λ (wish : Wish). wish.1) (filter (is_wish_met w) entries) ∙ weigh_filter one (is_wish_met w) entries) in
+    let less : weigh (λ (wish : Wish). if is_wish_met w wish then 1 else 0) entries ≤ weigh one entries =
+    weigh_less (λ (wish : Wish). if is_wish_met w wish then 1 else 0) one (λ wish. elim (is_wish_met w wish) as (λ b. (if b then 1 else 0) ≤ 1) [ true ↦ omega arith | false ↦ omega arith ]) entries in
+    omega (arith, counted, less, alike one, weigh_length (asked_from place 0 rows), few_asked place 0 rows)
+
+-- ---- what a sweep leaves
 
 module _ (w : World) (e : ℕ) where
-  -- under another collection the piles stay
-  other_at : (place collection id cell : ℕ) (stage : Stage) (has : Bool) → collection ≢ place → AllByRecursion (Elsewhere w place) (cons_option (waiting_of_row (row_of id cell stage has)) []) → is_filed collection (after w e (row_of id cell stage has)) ≡ is_filed collection (row_of id cell stage has)
-  other_at place collection id cell (Over event) has differ elsewhere = refl
-  other_at place collection id cell (Waits p c) has differ elsewhere = elim (place == p) as (λ b. (place == p) ≡ b → is_filed collection (after w e (row_of id cell (Waits p c) has)) ≡ (collection == p)) [
+  -- what is asked after an event is what was asked and does not hold
+  asked_after_at : (collection n id cell : ℕ) (stage : Stage) (has : Bool) (had has_still : List Wish) → undue_in w had ≡ has_still →
+      undue_in w (cons_option (asked collection n (row_of id cell stage has)) had) ≡ cons_option (asked collection n (after w e (row_of id cell stage has))) has_still
+  asked_after_at collection n id cell (Over event) has had has_still more = more
+  asked_after_at collection n id cell (Waits p c) has had has_still more =
+      elim (holds w c) as (λ b. holds w c ≡ b → undue_in w (cons_option (if collection == p then Some (c, n) else None) had) ≡ cons_option (asked collection n (if b then row_of id cell (Over e) has else row_of id cell (Waits p c) has)) has_still) [
+        | true ↦ λ met. elim (collection == p) as (λ b. undue_in w (cons_option (if b then Some (c, n) else None) had) ≡ has_still) [ true ↦ rw met more | false ↦ more ]
+        | false ↦ λ unmet. elim (collection == p) as (λ b. undue_in w (cons_option (if b then Some (c, n) else None) had) ≡ cons_option (if b then Some (c, n) else None) has_still) [ true ↦ rw unmet (ap (λ l. (c, n) ∷ l) more) | false ↦ more ]
+      ] refl
+
+  pub asked_after : (collection n : ℕ) (rows : List Kept) → undue_in w (asked_from collection n rows) ≡ asked_from collection n (map (after w e) rows)
+  asked_after collection n [] = refl
+  asked_after collection n (row ∷ rows) = asked_after_at collection n row.id row.cell row.stage row.has_reader _ _ (asked_after collection (n + 1) rows)
+
+  -- under another collection all stays
+  other_at : (place collection n id cell : ℕ) (stage : Stage) (has : Bool) → collection ≢ place → AllByRecursion (Elsewhere w place) (cons_option (waiting_of_row (row_of id cell stage has)) []) →
+      asked collection n (after w e (row_of id cell stage has)) ≡ asked collection n (row_of id cell stage has)
+  other_at place collection n id cell (Over event) has differ elsewhere = refl
+  other_at place collection n id cell (Waits p c) has differ elsewhere = elim (place == p) as (λ b. (place == p) ≡ b → asked collection n (after w e (row_of id cell (Waits p c) has)) ≡ (if collection == p then Some (c, n) else None)) [
     | true ↦ λ same.
         let other : (collection == p) ≡ false = grind (arith, nat_tests) in
-        elim (holds w c) as (λ b. is_filed collection (if b then row_of id cell (Over e) has else row_of id cell (Waits p c) has) ≡ (collection == p)) [ true ↦ sym other | false ↦ refl ]
+        elim (holds w c) as (λ b. asked collection n (if b then row_of id cell (Over e) has else row_of id cell (Waits p c) has) ≡ (if collection == p then Some (c, n) else None)) [ true ↦ rw other refl | false ↦ refl ]
     | false ↦ λ e. rw (elsewhere.0 (apart place p e)) refl
   ] refl
 
-  -- so do all their places
-  pub other_positions : (place collection n : ℕ) (rows : List Kept) → collection ≢ place → AllByRecursion (Elsewhere w place) (filter_map waiting_of_row rows) → positions (is_filed collection) n (map (after w e) rows) ≡ positions (is_filed collection) n rows
-  other_positions place collection n [] differ all = refl
-  other_positions place collection n (row ∷ rows) differ all =
+  pub other_asked : (place collection n : ℕ) (rows : List Kept) → collection ≢ place → AllByRecursion (Elsewhere w place) (filter_map waiting_of_row rows) → asked_from collection n (map (after w e) rows) ≡ asked_from collection n rows
+  other_asked place collection n [] differ all = refl
+  other_asked place collection n (row ∷ rows) differ all =
       let parts = split_elsewhere w place (waiting_of_row row) (filter_map waiting_of_row rows) all in
-      ap (λ l. if is_filed collection (after w e row) then n ∷ l else l) (other_positions place collection (n + 1) rows differ parts.1)
-      ∙ ap (λ b. if b then n ∷ positions (is_filed collection) (n + 1) rows else positions (is_filed collection) (n + 1) rows) (other_at place collection row.id row.cell row.stage row.has_reader differ parts.0)
+      ap (cons_option (asked collection n (after w e row))) (other_asked place collection (n + 1) rows differ parts.1)
+      ∙ ap (λ o. cons_option o (asked_from collection (n + 1) rows)) (other_at place collection n row.id row.cell row.stage row.has_reader differ parts.0)
 
-  -- a row is filed after an event if it was, and still waits
-  filed_after : (collection id cell : ℕ) (stage : Stage) (has : Bool) → is_filed collection (after w e (row_of id cell stage has)) ≡ (if is_filed collection (row_of id cell stage has) then is_waiting (after w e (row_of id cell stage has)) else false)
-  filed_after collection id cell (Over event) has = refl
-  filed_after collection id cell (Waits p c) has = elim (holds w c) as (λ b. is_filed collection (if b then row_of id cell (Over e) has else row_of id cell (Waits p c) has) ≡ (if (collection == p) then is_waiting (if b then row_of id cell (Over e) has else row_of id cell (Waits p c) has) else false)) [
-    | true ↦ elim (collection == p) as (λ b. false ≡ (if b then false else false)) [ true ↦ refl | false ↦ refl ]
-    | false ↦ elim (collection == p) as (λ b. b ≡ (if b then true else false)) [ true ↦ refl | false ↦ refl ]
-  ]
-
-  -- of a pile those stay that still wait
-  kept_from : (collection n : ℕ) (before rows : List Kept) → length before ≡ n → filter (waits_at (before ++ map (after w e) rows)) (positions (is_filed collection) n rows) ≡ positions (is_filed collection) n (map (after w e) rows)
-  kept_from collection n before [] long = refl
-  kept_from collection n before (row ∷ rows) long =
-      let all : List Kept = before ++ after w e row ∷ map (after w e) rows in
-      let had : List ℕ = positions (is_filed collection) (n + 1) rows in
-      let has : List ℕ = positions (is_filed collection) (n + 1) (map (after w e) rows) in
-      let longer : length (before ++ after w e row ∷ []) ≡ n + 1 = omega (arith, length-append before (after w e row ∷ [])) in
-      let more : filter (waits_at all) had ≡ has = subst (λ l. filter (waits_at l) had ≡ has) (append_assoc before (after w e row ∷ []) (map (after w e) rows)) (kept_from collection (n + 1) (before ++ after w e row ∷ []) rows longer) in
-      let seen : waits_at all n ≡ is_waiting (after w e row) = ap (λ o. option_map_or is_waiting o false) (get_behind before (after w e row) (map (after w e) rows) n long) in
-      rw (filed_after collection row.id row.cell row.stage row.has_reader)
-      (elim (is_filed collection row) as (λ b. filter (waits_at all) (if b then n ∷ had else had) ≡ (if (if b then is_waiting (after w e row) else false) then n ∷ has else has)) [
-        | true ↦ rw seen (elim (is_waiting (after w e row)) as (λ b. cond b (n ∷ filter (waits_at all) had) (filter (waits_at all) had) ≡ (if b then n ∷ has else has)) [ true ↦ ap (λ l. n ∷ l) more | false ↦ more ])
-        | false ↦ more
-      ])
-
-  -- the same for the whole table
-  pub kept_positions : (collection : ℕ) (rows : List Kept) → filter (waits_at (map (after w e) rows)) (positions (is_filed collection) 0 rows) ≡ positions (is_filed collection) 0 (map (after w e) rows)
-  kept_positions collection rows = kept_from collection 0 [] rows refl
-
-  -- the piles are right again once that of the place was gone through
-  pub filed_unfiled : (place : ℕ) (rows : List Kept) (old new : Piles) → AllByRecursion (Elsewhere w place) (filter_map waiting_of_row rows) → AreFiled rows old → ((c : ℕ) → pile_of new c ≡ (if c == place then filter (waits_at (map (after w e) rows)) (pile_of old c) else pile_of old c)) → AreFiled (map (after w e) rows) new
-  filed_unfiled place rows old new all filed unfiled = record {
-    at = λ c. unfiled c ∙ elim (c == place) as (λ b. (c == place) ≡ b → (if b then filter (waits_at (map (after w e) rows)) (pile_of old c) else pile_of old c) ≡ positions (is_filed c) 0 (map (after w e) rows)) [
-      | true ↦ λ same. ap (filter (waits_at (map (after w e) rows))) (filed.at c) ∙ kept_positions c rows
+  -- what is filed is right again once what holds was taken out under the place
+  pub filed_dropped : (place : ℕ) (rows : List Kept) (old new : Piles) → AllByRecursion (Elsewhere w place) (filter_map waiting_of_row rows) → AreFiled rows old → ((c : ℕ) → entries_of new c ≡ (if c == place then undue_in w (entries_of old c) else entries_of old c)) → AreFiled (map (after w e) rows) new
+  filed_dropped place rows old new all filed dropped = record {
+    at = λ c f. ap (weigh f) (dropped c) ∙ elim (c == place) as (λ b. (c == place) ≡ b → weigh f (if b then undue_in w (entries_of old c) else entries_of old c) ≡ weigh f (asked_from c 0 (map (after w e) rows))) [
+      | true ↦ λ same. alike_filter _ _ (λ wish. not (is_wish_met w wish)) (filed.at c) f ∙ ap (weigh f) (asked_after c 0 rows)
       | false ↦ λ other.
           let differ : c ≢ place = λ same. apart c place other (sym same) in
-          filed.at c ∙ sym (other_positions place c 0 rows differ all)
+          filed.at c f ∙ ap (weigh f) (sym (other_asked place c 0 rows differ all))
     ] refl;
   }
 
--- the place of one row more
-pub positions_push : (collection n : ℕ) (rows : List Kept) (row : Kept) → positions (is_filed collection) n (rows ++ row ∷ []) ≡ positions (is_filed collection) n rows ++ (if is_filed collection row then (n + length rows) ∷ [] else [])
-positions_push collection n [] row = ap (λ m. if is_filed collection row then m ∷ [] else []) (omega arith)
-positions_push collection n (other ∷ rows) row =
-    let tail : List ℕ = if is_filed collection row then (n + suc (length rows)) ∷ [] else [] in
+-- where none is due all stays
+pub none_due : (w : World) (wishes : List Wish) → due_in w wishes ≡ [] → undue_in w wishes ≡ wishes
+none_due w [] none_found = refl
+none_due w (wish ∷ wishes) none_found = elim (is_wish_met w wish) as (λ b. map (λ (x : Wish). x.1) (cond b (wish ∷ filter (is_wish_met w) wishes) (filter (is_wish_met w) wishes)) ≡ [] → cond (not b) (wish ∷ undue_in w wishes) (undue_in w wishes) ≡ wish ∷ wishes) [
+  | true ↦ λ bad. absurd (cc)
+  | false ↦ λ rest. ap (λ l. wish ∷ l) (none_due w wishes rest)
+] none_found
+
+-- what one row more asks
+pub asked_push : (collection n : ℕ) (rows : List Kept) (row : Kept) → asked_from collection n (rows ++ row ∷ []) ≡ asked_from collection n rows ++ option_to_list (asked collection (n + length rows) row)
+asked_push collection n [] row =
+    let same : n ≡ n + 0 = omega arith in
+    elim (asked collection n row) as (λ o. cons_option o [] ≡ option_to_list o) [ None ↦ refl | Some wish ↦ refl ] ∙ ap (λ m. option_to_list (asked collection m row)) same
+asked_push collection n (other ∷ rows) row =
     let same : (n + 1) + length rows ≡ n + suc (length rows) = omega arith in
-    let more : positions (is_filed collection) (n + 1) (rows ++ row ∷ []) ≡ positions (is_filed collection) (n + 1) rows ++ tail = positions_push collection (n + 1) rows row ∙ ap (λ m. positions (is_filed collection) (n + 1) rows ++ (if is_filed collection row then m ∷ [] else [])) same in
-    elim (is_filed collection other) as (λ b. (if b then n ∷ positions (is_filed collection) (n + 1) (rows ++ row ∷ []) else positions (is_filed collection) (n + 1) (rows ++ row ∷ [])) ≡ (if b then n ∷ positions (is_filed collection) (n + 1) rows else positions (is_filed collection) (n + 1) rows) ++ tail) [
-      | true ↦ ap (λ l. n ∷ l) more
-      | false ↦ more
+    let more = asked_push collection (n + 1) rows row ∙ ap (λ m. asked_from collection (n + 1) rows ++ option_to_list (asked collection m row)) same in
+    elim (asked collection n other) as (λ o. cons_option o (asked_from collection (n + 1) (rows ++ row ∷ [])) ≡ cons_option o (asked_from collection (n + 1) rows) ++ option_to_list (asked collection (n + suc (length rows)) row)) [
+      | None ↦ more
+      | Some wish ↦ ap (λ l. wish ∷ l) more
     ]
-
--- where nothing fired the rows are as they were
-nothing_at : (w : World) (e : ℕ) (row : Kept) (rest : List Fired) → cons_option (fires w e row) rest ≡ [] → (after w e row ≡ row) × (rest ≡ [])
-nothing_at w e row rest none_fired = elim (is_met w row) as (λ b. is_met w row ≡ b → (after w e row ≡ row) × (rest ≡ [])) [
-  | true ↦ λ met. absurd (let bad = rw met at none_fired in cc)
-  | false ↦ λ unmet. (after_unmet w e row unmet, rw unmet at none_fired)
-] refl
-
--- the same for all rows
-pub nothing_fired : (w : World) (e : ℕ) (rows : List Kept) → filter_map (fires w e) rows ≡ [] → map (after w e) rows ≡ rows
-nothing_fired w e [] none_fired = refl
-nothing_fired w e (row ∷ rows) none_fired =
-    let parts = nothing_at w e row (filter_map (fires w e) rows) none_fired in
-    ap (λ r. r ∷ map (after w e) rows) parts.0 ∙ ap (λ l. row ∷ l) (nothing_fired w e rows parts.1)

@@ -6,9 +6,9 @@ use Rattle.std.proofs.lemmas.List.Sums.{sum_by-cons}
 use Rattle.std.proofs.lemmas.Bool.Decides.{nat_tests}
 use Rattle.sm_names.specs.declared.tracking.Fired.{Fired}
 use Rattle.trackers.specs.Table.{Table, Reader, Waiting, Cell, firing_of, cell_of, is_untaken, without, reader_of}
-use Rattle.trackers.specs.Filing.{Piles}
+use Rattle.trackers.specs.Filing.{Piles, weigh}
 use Rattle.trackers.specs.Row.{Kept, is_waiting, waiting_of_row, firing_of_row, reader_of_row}
-use Rattle.trackers.specs.Held.{cell_of_row, untaken_of_row, is_filed, positions, AreRising, AreHeld, IsKeptUp, NoneHas, Found, here, later, table_of}
+use Rattle.trackers.specs.Held.{cell_of_row, untaken_of_row, asked, asked_from, AreRising, AreHeld, IsKeptUp, NoneHas, Found, here, later, table_of}
 
 -- the test of an id against itself
 pub same_id : (i : ℕ) → (i == i) ≡ true
@@ -104,9 +104,9 @@ module _ (id : ℕ) where
   taken_unfired (later {other = other} differ found) = ap (cons_option (waiting_of_row other)) (taken_unfired found)
 
   -- it is filed as before
-  pub taken_positions : (collection : ℕ) {rows : List Kept} {at : ℕ} {row : Kept} → Found id rows at row → (n : ℕ) → positions (is_filed collection) n (set rows at (taken row)) ≡ positions (is_filed collection) n rows
-  taken_positions collection (here same rest) n = refl
-  taken_positions collection (later {other = other} differ found) n = ap (λ l. if is_filed collection other then n ∷ l else l) (taken_positions collection found (n + 1))
+  pub taken_asked : (collection : ℕ) {rows : List Kept} {at : ℕ} {row : Kept} → Found id rows at row → (n : ℕ) → asked_from collection n (set rows at (taken row)) ≡ asked_from collection n rows
+  taken_asked collection (here same rest) n = refl
+  taken_asked collection (later {other = other} differ found) n = ap (cons_option (asked collection n other)) (taken_asked collection found (n + 1))
 
   -- its id is no longer untaken
   pub taken_untaken : {rows : List Kept} {at : ℕ} {row : Kept} → Found id rows at row → filter_map untaken_of_row (set rows at (taken row)) ≡ without (filter_map untaken_of_row rows) id
@@ -164,10 +164,11 @@ module _ (id : ℕ) where
   }
 
   -- and so does the table
-  pub kept_taken : (limit : ℕ) (fired : List Fired) (capacity : ℕ) (piles : Piles) {rows : List Kept} {at : ℕ} {row : Kept} → Found id rows at row → IsKeptUp limit rows fired capacity piles → IsKeptUp limit (set rows at (taken row)) fired capacity piles
-  kept_taken limit fired capacity piles found kept = record {
+  pub kept_taken : (limit : ℕ) (fired : List Fired) (capacity spare : ℕ) (piles : Piles) {rows : List Kept} {at : ℕ} {row : Kept} → Found id rows at row → IsKeptUp limit rows fired capacity spare piles → IsKeptUp limit (set rows at (taken row)) fired capacity spare piles
+  kept_taken limit fired capacity spare piles found kept = record {
     held = held_taken limit fired capacity found kept.held;
-    filed = record { at = λ collection. kept.filed.at collection ∙ sym (taken_positions collection found 0) };
+    filed = record { at = λ collection f. kept.filed.at collection f ∙ ap (weigh f) (sym (taken_asked collection found 0)) };
+    spare_room = rw (taken_count found) kept.spare_room;
   }
 
   -- of what the table shows only those still to be taken change

@@ -128,7 +128,7 @@ module _ (w : World) (e : ℕ) where
   none_after id (row ∷ rows) none = (rw (id_after w e row) at none.0, none_after id rows none.1)
 
   -- each firing is of a row that waited
-  count_after : (rows : List Kept) → length (filter_map (fires w e) rows) + count_by is_waiting (map (after w e) rows) ≡ count_by is_waiting rows
+  pub count_after : (rows : List Kept) → length (filter_map (fires w e) rows) + count_by is_waiting (map (after w e) rows) ≡ count_by is_waiting rows
   count_after [] = refl
   count_after (row ∷ rows) =
       let joined : length (cons_option (fires w e row) (filter_map (fires w e) rows)) ≡ length (option_to_list (fires w e row)) + length (filter_map (fires w e) rows) = length_cons_option (fires w e row) (filter_map (fires w e) rows) in

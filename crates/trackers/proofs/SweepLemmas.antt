@@ -1,16 +1,16 @@
 -- What a sweep leaves, from what its walk did.
-use Rattle.std.proofs.Common.{◌≡◌, ℕ, ◌≤◌, ◌==◌, if◌then◌else◌, List, [], ◌++◌, map, length, ap, ◌∙◌, arith, length-append, append-nil}
+use Rattle.std.proofs.Common.{◌≡◌, ℕ, ◌≤◌, true, false, ◌==◌, if◌then◌else◌, List, [], ◌++◌, map, refl, sym, ap, ◌∙◌, arith}
 use Rattle.std.specs.List.{filter, filter_map, AllByRecursion}
-use Rattle.std.proofs.lemmas.List.{nil_from_length}
+use Rattle.std.proofs.lemmas.Bool.{eqb-true}
 use Rattle.sm_names.specs.declared.tracking.Fired.{Fired}
 use Rattle.sm_names.specs.Trackers.{World}
 use Rattle.trackers.specs.Table.{still_waiting}
 use Rattle.trackers.specs.Row.{Kept, waiting_of_row}
-use Rattle.trackers.specs.Filing.{Piles, pile_of, waits_at}
+use Rattle.trackers.specs.Filing.{Piles, due_in, entries_of, undue_in}
 use Rattle.trackers.specs.Held.{cell_of_row, untaken_of_row, after, fires, IsKeptUp, table_of}
-use Rattle.trackers.proofs.FilingLemmas.{Elsewhere, filed_unfiled, nothing_fired}
+use Rattle.trackers.proofs.FilingLemmas.{Elsewhere, filed_dropped, none_due}
 use Rattle.trackers.proofs.FoundLemmas.{table_with}
-use Rattle.trackers.proofs.HeldLemmas.{held_after, cells_after, untaken_after, unfired_after}
+use Rattle.trackers.proofs.HeldLemmas.{count_after, held_after, cells_after, untaken_after, unfired_after}
 
 module _ (w : World) (e : ℕ) (rows rows' : List Kept) (over : rows' ≡ map (after w e) rows) where
   -- of what the table shows those that wait and the firings change
@@ -23,18 +23,18 @@ module _ (w : World) (e : ℕ) (rows rows' : List Kept) (over : rows' ≡ map (a
   pub swept_unfired : filter_map waiting_of_row rows' ≡ still_waiting w (filter_map waiting_of_row rows)
   swept_unfired = ap (filter_map waiting_of_row) over ∙ unfired_after w e rows
 
-  module _ (limit capacity capacity' : ℕ) (fired fired' : List Fired) (old : Piles) (kept : IsKeptUp limit rows fired capacity old) (grown : fired' ≡ fired ++ filter_map (fires w e) rows) (same : capacity' ≡ capacity) where
-    -- the table is right once the pile of the place was gone through
-    pub swept_unfiled : (new : Piles) (place : ℕ) → AllByRecursion (Elsewhere w place) (filter_map waiting_of_row rows) → ((c : ℕ) → pile_of new c ≡ (if c == place then filter (waits_at rows') (pile_of old c) else pile_of old c)) → IsKeptUp limit rows' fired' capacity' new
-    swept_unfiled new place all unfiled = rw (over, grown, same) record {
+  module _ (limit capacity capacity' spare spare' : ℕ) (fired fired' : List Fired) (old : Piles) (kept : IsKeptUp limit rows fired capacity spare old) (grown : fired' ≡ fired ++ filter_map (fires w e) rows) (same : capacity' ≡ capacity) (more : spare ≤ spare') where
+    -- the table is right once what holds was taken out under the place
+    pub swept_dropped : (new : Piles) (place : ℕ) → AllByRecursion (Elsewhere w place) (filter_map waiting_of_row rows) → ((c : ℕ) → entries_of new c ≡ (if c == place then undue_in w (entries_of old c) else entries_of old c)) → IsKeptUp limit rows' fired' capacity' spare' new
+    swept_dropped new place all dropped = rw (over, grown, same) record {
       held = held_after w e limit fired capacity rows kept.held;
-      filed = filed_unfiled w e place rows old new all kept.filed (rw over at unfiled);
+      filed = filed_dropped w e place rows old new all kept.filed dropped;
+      spare_room = omega (arith, kept.spare_room, more, count_after w e rows);
     }
 
-    -- where nothing fired it is right as it is
-    pub swept_quiet : length fired' ≤ length fired → IsKeptUp limit rows' fired' capacity' old
-    swept_quiet quiet =
-        let none_fired : filter_map (fires w e) rows ≡ [] = nil_from_length _ (omega (arith, ap length grown, length-append fired (filter_map (fires w e) rows))) in
-        let stay : rows' ≡ rows = over ∙ nothing_fired w e rows none_fired in
-        let stays : fired' ≡ fired = grown ∙ ap (λ l. fired ++ l) none_fired ∙ append-nil fired in
-        rw (stay, stays, same) kept
+    -- where none was due it is right as it is
+    pub swept_quiet : (place : ℕ) → AllByRecursion (Elsewhere w place) (filter_map waiting_of_row rows) → due_in w (entries_of old place) ≡ [] → IsKeptUp limit rows' fired' capacity' spare' old
+    swept_quiet place all none_found = swept_dropped old place all (λ c. elim (c == place) as (λ b. (c == place) ≡ b → entries_of old c ≡ (if b then undue_in w (entries_of old c) else entries_of old c)) [
+      | true ↦ λ here. let there : c ≡ place = eqb-true c place here in sym (none_due w (entries_of old c) (ap (λ k. due_in w (entries_of old k)) there ∙ none_found))
+      | false ↦ λ other. refl
+    ] refl)

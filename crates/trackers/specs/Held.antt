@@ -1,12 +1,12 @@
 -- How the rows of the table show it, and what is always true of them. No public clause cites this module.
 use Rattle.std.specs.Prelude.{◌≡◌, ◌≢◌, ℕ, suc, ◌+◌, ◌<◌, ◌≤◌, Bool, true, false, ◌==◌, ⊤, if◌then◌else◌, List, [], ◌∷◌, map, length, Option, Some, None, MatchOption}
-use Rattle.std.specs.List.{filter_map, AllByRecursion, count_by}
+use Rattle.std.specs.List.{filter_map, cons_option, AllByRecursion, count_by}
 use Rattle.std.specs.Option.{option_map_or}
 use Rattle.sm_names.specs.declared.tracking.Condition.{Condition}
 use Rattle.sm_names.specs.declared.tracking.Fired.{Fired}
 use Rattle.sm_names.specs.Trackers.{World}
 use Rattle.trackers.specs.Table.{Table, Waiting, Cell, is_due, firing_of}
-use Rattle.trackers.specs.Filing.{Piles, pile_of}
+use Rattle.trackers.specs.Filing.{Piles, Wish, AreAlike, entries_of}
 use Rattle.trackers.specs.Row.{Kept, Waits, Over, is_waiting, waiting_of_row, firing_of_row}
 
 -- the cell of a row
@@ -39,14 +39,15 @@ after world event row = if is_met world row then record row { stage = Over event
 abbrev pub fires : World → ℕ → Kept → Option Fired
 fires world event row = if is_met world row then Some (record { tracker = row.id; event = event }) else None
 
--- the row waits, filed under this place
-abbrev pub is_filed : ℕ → Kept → Bool
-is_filed place row = option_map_or (λ (t : Waiting). place == t.place) (waiting_of_row row) false
+-- what the row at this place waits for, if it does under the collection
+abbrev pub asked : ℕ → ℕ → Kept → Option Wish
+asked collection n row =
+    option_map_or (λ (t : Waiting). if collection == t.place then Some (t.condition, n) else None) (waiting_of_row row) None
 
--- the places of those that pass the test, where the list begins at this place
-abbrev pub positions : {X : Type 0} → (X → Bool) → ℕ → List X → List ℕ
-positions test n [] = []
-positions test n (x ∷ xs) = let more : List ℕ = positions test (n + 1) xs in if test x then n ∷ more else more
+-- what the rows wait for under the collection, where the list begins at this place
+abbrev pub asked_from : ℕ → ℕ → List Kept → List Wish
+asked_from collection n [] = []
+asked_from collection n (row ∷ rows) = cons_option (asked collection n row) (asked_from collection (n + 1) rows)
 
 -- the ids rise
 abbrev pub AreRising : List Kept → Type 0
@@ -75,18 +76,19 @@ pub data Reach (world : World) : ℕ → List Kept → List ℕ → Type 0 where
   pick : {n : ℕ} {row : Kept} {rows : List Kept} {due : List ℕ}
       → Reach world (n + 1) rows due → Reach world n (row ∷ rows) (n ∷ due)
 
--- under each collection the places of its rows that wait are filed
+-- under each collection is filed what its rows wait for
 pub record AreFiled (rows : List Kept) (piles : Piles) : Type 0 where
-  pub at : (collection : ℕ) → pile_of piles collection ≡ positions (is_filed collection) 0 rows
+  pub at : (collection : ℕ) → AreAlike (entries_of piles collection) (asked_from collection 0 rows)
 
 -- the row of a tracker that was attached just now
 abbrev pub attached : ℕ → ℕ → ℕ → Condition → Kept
 attached id cell place condition = record { id = id; cell = cell; stage = Waits place condition; has_reader = true }
 
--- what holds of the table: its rows and firings are sound, and those that wait are filed
-pub record IsKeptUp (limit : ℕ) (rows : List Kept) (fired : List Fired) (capacity : ℕ) (piles : Piles) : Type 0 where
+-- what holds of the table: its rows and firings are sound, those that wait are filed, and there is room for their places
+pub record IsKeptUp (limit : ℕ) (rows : List Kept) (fired : List Fired) (capacity : ℕ) (spare : ℕ) (piles : Piles) : Type 0 where
   pub held : AreHeld limit rows fired capacity
   pub filed : AreFiled rows piles
+  pub spare_room : count_by is_waiting rows ≤ spare
 
 -- at this place the only row with this id stands
 pub data Found (id : ℕ) : List Kept → ℕ → Kept → Type 0 where

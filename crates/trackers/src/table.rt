@@ -2,10 +2,10 @@
 ghost use Rattle.std.specs.Prelude.{◌≡◌, ◌≢◌, ℕ, ◌+◌, ◌^◌, ◌<◌, ◌≤◌, ◌==◌, ◌↔◌, [], ◌∷◌, ◌++◌, length, vec_len, vec_capacity, false, if◌then◌else◌, Some, None, All, OnOk, OnErr, IfSome, Err};
 ghost use Rattle.std.specs.Bool.{OnTrue};
 ghost use Rattle.trackers.specs.Table.{Table, Waiting, Cell, empty, is_due, firings, still_waiting, firing_of, cell_of, is_untaken, without, reader_of, Attaches};
-ghost use Rattle.trackers.specs.Filing.{pile_of};
+ghost use Rattle.trackers.specs.Filing.{Wish, entries_of, weigh};
 ghost use Rattle.trackers.specs.Held.{AreRising, IsPlace, attached};
 
-use crate::filing::{Piles, file, pile, unfile};
+use crate::filing::{Piles, drop_due, file, gather, pile, withdraw};
 use crate::row::Row;
 use crate::tracker::Tracker;
 use crate::walk::fire_due;
@@ -32,6 +32,8 @@ pub struct Trackers {
     rows: Vec<Row>,
     fired: Vec<Fired>,
     piles: Piles,
+    // Room for the places of all that wait: a sweep sorts there those that are due.
+    due: Vec<usize>,
 }
 
 impl Model for Trackers {
@@ -45,7 +47,8 @@ impl Model for Trackers {
     ghost view = { λ t. table_of t.limit t.rows.items t.fired.items };
 
     ghost invariant = { λ t.
-        IsKeptUp t.limit t.rows.items t.fired.items (vec_capacity t.fired) t.piles };
+        IsKeptUp t.limit t.rows.items t.fired.items (vec_capacity t.fired) (vec_capacity t.due)
+        t.piles };
 }
 
 impl Trackers {
@@ -58,14 +61,15 @@ impl Trackers {
             rows: Vec::new(alloc),
             fired: Vec::new(alloc),
             piles: HashMap::new(alloc),
+            due: Vec::new(alloc),
         }
     }
 
     /// Attaches a tracker under the number of this event, filed under the collection that its
     /// condition concerns. It is `Full` exactly where as many wait as may, whatever memory there
     /// is; a fault changes nothing. All memory that the firing and the taking will need is taken here:
-    /// a cell, the room for its value, and a place in each table. The time is constant, but for the
-    /// growth of the tables.
+    /// a cell, the room for its value, and a place in each table. It costs a pass over the conditions
+    /// that are waited for under the collection, and the growth of the tables.
     pub fn attach(
         &mut self,
         id: TrackerId,
@@ -87,6 +91,7 @@ impl Trackers {
             &mut self.rows,
             &mut self.fired,
             &mut self.piles,
+            &mut self.due,
             waiting,
             id,
             collection,
@@ -115,13 +120,14 @@ impl Trackers {
             Attaches before self.old tracker → self.new ≡ before }
     {
         self.rows.pop();
-        unfile(&mut self.piles, collection, &self.rows);
+        withdraw(&mut self.piles, collection, self.rows.len());
     }
 
     /// Fires the trackers that wait and whose condition holds, by rising id, at this event, which
     /// concerned one collection: under another none holds. It takes no memory. It looks up that
-    /// collection, and tests each tracker that waits under it once; where one fires, it goes
-    /// through them once more. Those of other collections, and those that fired, cost nothing.
+    /// collection, and makes one test for each condition that is waited for under it, however many
+    /// wait for the same. Those that fire are sorted and fired, and the conditions gone through once
+    /// more. Those that do not fire, those of other collections, and those that fired, cost nothing.
     pub fn sweep<W: World>(&mut self, event: u64, collection: CollectionId, world: &W)
         requires elsewhere { All (λ (t : Waiting). t.place ≢ collection
             → is_due (W.seen world.now) t ≡ false) self.old.unfired }
@@ -132,16 +138,12 @@ impl Trackers {
         ensures rest { self.new
             ≡ record self.old { unfired = self.new.unfired; fired = self.new.fired } }
     {
-        let before = self.fired.len();
-        fire_due(
-            &mut self.rows,
-            &mut self.fired,
-            pile(&self.piles, collection),
-            event,
-            world,
-        );
-        if self.fired.len() > before {
-            unfile(&mut self.piles, collection, &self.rows);
+        self.due.clear();
+        gather(pile(&self.piles, collection), &mut self.due, world);
+        self.due.sort_unstable();
+        fire_due(&mut self.rows, &mut self.fired, &self.due, event, world);
+        if !self.due.is_empty() {
+            drop_due(&mut self.piles, collection, world);
         }
     }
 
@@ -192,6 +194,7 @@ fn add(
     rows: &mut Vec<Row>,
     fired: &mut Vec<Fired>,
     piles: &mut Piles,
+    due: &mut Vec<usize>,
     waiting: usize,
     id: TrackerId,
     collection: CollectionId,
@@ -201,19 +204,23 @@ fn add(
     ensures row { OnOk result ((cell : ℕ) × (rows.new.items
         ≡ rows.old.items ++ attached id cell collection condition ∷ [])) }
     ensures room { OnOk result (vec_len fired.old + (waiting + 1) ≤ vec_capacity fired.new) }
-    ensures filed { OnOk result ((c : ℕ) → pile_of piles.new c
-        ≡ (if c == collection then pile_of piles.old c ++ vec_len rows.old ∷ []
-        else pile_of piles.old c)) }
+    ensures spare { OnOk result (waiting + 1 ≤ vec_capacity due.new) }
+    ensures filed { OnOk result ((c : ℕ) (f : Wish → ℕ) → weigh f (entries_of piles.new c)
+        ≡ (if c == collection then f (condition, vec_len rows.old) + weigh f (entries_of piles.old c)
+        else weigh f (entries_of piles.old c))) }
     ensures fired { fired.new.items ≡ fired.old.items }
     ensures capacity { vec_capacity fired.old ≤ vec_capacity fired.new }
+    ensures more_spare { vec_capacity due.old ≤ vec_capacity due.new }
     ensures rows_kept { OnErr result (rows.new.items ≡ rows.old.items) }
-    ensures piles_kept { OnErr result ((c : ℕ) → pile_of piles.new c ≡ pile_of piles.old c) }
+    ensures piles_kept { OnErr result ((c : ℕ) (f : Wish → ℕ) →
+        weigh f (entries_of piles.new c) ≡ weigh f (entries_of piles.old c)) }
 {
     let alloc = *rows.allocator();
     let row = Row::new(alloc, id, collection, condition)?;
     rows.reserve(1)?;
     fired.reserve(waiting + 1)?;
-    file(piles, alloc, collection, rows.len())?;
+    due.reserve(waiting + 1)?;
+    file(piles, alloc, collection, condition, rows.len())?;
     rows.push_reserved(row);
     Ok(())
 }

@@ -14,12 +14,13 @@ invariant_of-self c =
       | in-Ok w ↦
           let long : vec_len c.self.inside.rows ≡ length c.self.inside.rows.items = omega arith in
           let all = all_below c.args.id c.self.inside.rows.items (recursion_from_All _ _ (rw (← c.self.view_is) at c.requires.rising)) in
-          kept_push _ _ _ _ _ _ _ _ _ c.self.invariant c.add.ensures.fired c.args.id w.in-Ok.ensures.row.0 c.args.collection c.args.condition all
+          kept_push _ _ _ _ _ _ _ _ _ _ _ c.self.invariant c.add.ensures.fired c.args.id w.in-Ok.ensures.row.0 c.args.collection c.args.condition all
           (omega (arith, held.counted, c.len.ensures, c.len-2.ensures))
           (omega (arith, w.in-Ok.ensures.room, held.counted, c.len.ensures, c.len-2.ensures))
+          (omega (arith, w.in-Ok.ensures.spare, held.counted, c.len.ensures, c.len-2.ensures))
           w.in-Ok.ensures.row.1
           (rw (← long) w.in-Ok.ensures.filed)
-      | in-Err w ↦ kept_grown _ _ _ _ _ _ _ _ _ c.self.invariant c.add.ensures.fired c.add.ensures.capacity w.in-Err.ensures.rows_kept w.in-Err.ensures.piles_kept
+      | in-Err w ↦ kept_grown _ _ _ _ _ _ _ _ _ _ _ c.self.invariant c.add.ensures.fired c.add.ensures.capacity c.add.ensures.more_spare w.in-Err.ensures.rows_kept w.in-Err.ensures.piles_kept
     ]
 
 -- as many wait as may
