@@ -1,3 +1,4 @@
+pub mod BackLaws
 pub mod GatherLaws
 pub mod PartingLaws
 pub mod ThingLaws

@@ -273,6 +273,7 @@ pub fn vanish<E: Ledger, S: Ledger, W: Ledger, R: Wait>(
     requires { AreOf client.id (held_in held) }
     ensures gone { IfOk result (λ w. IsGone client w.client (held_in held) w.refused) }
     ensures fault { IfErr result (λ e. IsBroken client e.0 (held_in held) (held_in e.1)) }
+    ensures own { IfErr result (λ e. AreOf e.0.id (held_in e.1)) }
 {
     let mut client = client;
     let mut held = held;

@@ -2,11 +2,16 @@ use Rattle.std.proofs.Common.{◌≡◌, ◌∙◌, inr, ap, is_ok, map, subst, 
 use Rattle.std.specs.List.{All}
 use Rattle.client_parting.specs.Partings.{AreOf, IsGone, held_in, owner_of, thing_of}
 use Rattle.client_parting.specs.Stacks.{CollectsFor, top_first}
+use Rattle.client_parting.proofs.BackLaws.{broken_own}
 use Rattle.client_parting.proofs.PartingLaws.{goes, gone, owners, room_all, shut_only, stacked, top_none}
 use Rattle.client_parting.proofs.leaving.vanish.Goals as goal
 
 pub returns-in-Err-make_room-clause-fault : goal.returns-in-Err-make_room-clause-fault
 returns-in-Err-make_room-clause-fault g c = inr (shut_only c.args.client c.shut.new.self c.in-Ok.reply (held_in c.args.held) (held_in c.make_room.new.held) c.in-Ok.ensures c.make_room.ensures.same)
+
+pub returns-in-Err-make_room-clause-own : goal.returns-in-Err-make_room-clause-own
+returns-in-Err-make_room-clause-own g c =
+    broken_own c.args.client c.shut.new.self (held_in c.args.held) (held_in c.make_room.new.held) c.requires (returns-in-Err-make_room-clause-fault g c)
 
 pub part_if-parted-requires-clause-owner : goal.part_if-parted-requires-clause-owner
 part_if-parted-requires-clause-owner g c =
@@ -51,3 +56,7 @@ returns-in-Err-parted-clause-fault g c =
     let collects = subst (λ n. CollectsFor (is_ok c.collect_all-collected.result) n c.shut.new.self far ends handles) c.waiting_in.ensures c.collect_all-collected.ensures.made in
     inr (goes c.args.client c.shut.new.self far c.part_if-parted.new.client c.in-Ok.reply (is_ok c.collect_all-collected.result) ends handles (top_first c.stack_all-stack.result.items)
     (top_first c.part_if-parted.new.stack.items) (held_in c.args.held) (held_in c.part_if-parted.new.kept) (held_in c.put_all.new.held) c.in-Ok.ensures collects c.part_if-parted.ensures.parts is c.put_all.ensures)
+
+pub returns-in-Err-parted-clause-own : goal.returns-in-Err-parted-clause-own
+returns-in-Err-parted-clause-own g c =
+    broken_own c.args.client c.part_if-parted.new.client (held_in c.args.held) (held_in c.put_all.new.held) c.requires (returns-in-Err-parted-clause-fault g c)
