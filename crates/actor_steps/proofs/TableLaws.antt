@@ -1,5 +1,5 @@
 -- Tables, and what is known by them.
-use Rattle.std.proofs.Common.{ℕ, suc, ◌≡◌, ◌<◌, ◌+◌, ◌-◌, ◌∙◌, refl, ap, true, false, ◌==◌, List, [], ◌∷◌, Option, arith}
+use Rattle.std.proofs.Common.{ℕ, suc, ◌≡◌, ◌<◌, ◌+◌, ◌-◌, ◌∙◌, refl, ap, sym, Bool, true, false, if◌then◌else◌, ◌==◌, List, [], ◌∷◌, ◌++◌, append_assoc, append-nil, map, Option, Some, None, arith}
 use Rattle.std.specs.Int.{bit_at}
 use Rattle.sm_names.specs.declared.keys.BufferName.{BufferName}
 use Rattle.sm_names.specs.declared.keys.Strength.{Strength}
@@ -8,7 +8,7 @@ use Rattle.actor_steps.specs.declared.thing.Thing.{Thing}
 use Rattle.sm_names.specs.declared.messages.Reply.{Reply}
 use Rattle.actor_steps.specs.declared.step.Step.{Step}
 use Rattle.actor_steps.specs.declared.thing.Asked.{Asked}
-use Rattle.actor_steps.specs.Desks.{Known, desk_after, given, handle_of, handles_from, spends, spent, thing_at, with_node, with_queues, with_things, with_tracker, without_handle, without_thing}
+use Rattle.actor_steps.specs.Desks.{Known, desk_after, emptied, given, handle_of, handles_from, on_of, spends, spent, things_after, with_node, with_queues, with_thing, with_things, with_tracker, without_handle, without_thing}
 use Rattle.actor_steps.specs.Tables.{both_of, queues_of}
 
 -- with no handle of either strength there is none
@@ -85,7 +85,42 @@ spent_so desk without next asked reply so gone let_go = rw (let_go, gone, so) re
 
 -- what a reply changes, one after another
 pub noted : (desk node tracker next last : Known) (on : Option Thing) (step : Step) (asked : Asked) (reply : Reply) →
-    on ≡ thing_at desk.things asked.slot → node ≡ with_node desk step reply → tracker ≡ with_tracker node step reply →
+    on ≡ on_of desk.things asked.slot → node ≡ with_node desk step reply → tracker ≡ with_tracker node step reply →
     next ≡ spent tracker asked reply → last ≡ with_things next (given on asked.call reply) →
     last ≡ desk_after desk step asked reply
 noted desk node tracker next last on step asked reply is a b c d = rw (d, c, b, a, is) refl
+
+-- one more thing
+pub thing_more : (desk : Known) (thing : Thing) → (with_thing desk thing).things ≡ desk.things ++ Some thing ∷ []
+thing_more desk (Thing.Token key collection) = refl
+thing_more desk (Thing.Collection key collection) = refl
+thing_more desk (Thing.Handle buffer strength) = refl
+
+-- more things
+pub things_more : (desk : Known) (things : List Thing) → (with_things desk things).things ≡ desk.things ++ map Some things
+things_more desk [] = sym (append-nil desk.things)
+things_more desk (thing ∷ things) =
+    things_more (with_thing desk thing) things
+    ∙ (ap (λ l. l ++ map Some things) (thing_more desk thing)
+    ∙ append_assoc desk.things (Some thing ∷ []) (map Some things))
+
+-- the queues have no say in what lies where
+pub handle_less : (desk : Known) (name : Option (BufferName × Strength)) → (without_handle desk name).things ≡ desk.things
+handle_less desk None = refl
+handle_less desk (Some name) = refl
+
+-- things that are gone
+pub things_spent : (desk : Known) (slot : Option ℕ) (name : Option (BufferName × Strength)) (gone : Bool) →
+    (if gone then without_handle (without_thing desk slot) name else desk).things
+    ≡ (if gone then emptied desk.things slot else desk.things)
+things_spent desk slot name true = handle_less (without_thing desk slot) name
+things_spent desk slot name false = refl
+
+-- the things after the reply
+pub things_noted : (desk : Known) (step : Step) (asked : Asked) (reply : Reply) →
+    (desk_after desk step asked reply).things ≡ things_after desk.things asked reply
+things_noted desk step asked reply =
+    let named = with_tracker (with_node desk step reply) step reply in
+    let all = given (on_of desk.things asked.slot) asked.call reply in
+    things_more (spent named asked reply) all
+    ∙ ap (λ l. l ++ map Some all) (things_spent named asked.slot (handle_of asked.call) (spends asked.call reply))

@@ -1,5 +1,5 @@
 -- What an actor knows by the replies that it got, and the calls that its steps make.
-use Rattle.std.specs.Prelude.{ℕ, zero, suc, ◌+◌, Bool, true, false, ◌==◌, if◌then◌else◌, List, [], ◌∷◌, ◌++◌, length, drop, set, slice_get, Option, Some, None, is_some}
+use Rattle.std.specs.Prelude.{ℕ, zero, suc, ◌+◌, Bool, true, false, ◌==◌, if◌then◌else◌, List, [], ◌∷◌, ◌++◌, length, drop, set, slice_get, Option, Some, None, is_some, ⊤, ◌≡◌, map}
 use Rattle.std.specs.Int.{bit_at}
 use Rattle.std.specs.Option.{option_and_then, option_map}
 use Rattle.sm_names.specs.declared.keys.BufferName.{BufferName}
@@ -44,6 +44,11 @@ nothing_known = record {
 -- what lies in a slot
 abbrev pub thing_at : List (Option Thing) → ℕ → Option Thing
 thing_at things slot = option_and_then (λ (t : Option Thing). t) (slice_get things slot)
+
+-- what a call is made on
+abbrev pub on_of : List (Option Thing) → Option ℕ → Option Thing
+on_of things None = None
+on_of things (Some slot) = thing_at things slot
 
 -- the node, if the thing is its token
 abbrev pub token_key : Thing → Option NodeKey
@@ -131,13 +136,13 @@ handle_slot desk strength label index =
 -- the call that is made on what lies in the slot
 abbrev pub asked_at : List (Option Thing) → (Thing → Option Call) → ℕ → Option Asked
 asked_at things call slot =
-    option_and_then (λ (thing : Thing). option_map (λ (c : Call). record { call = c; slot = slot }) (call thing)) (thing_at things slot)
+    option_and_then (λ (thing : Thing). option_map (λ (c : Call). record { call = c; slot = Some slot }) (call thing)) (thing_at things slot)
 
 -- the call of the step, whatever label it binds
 abbrev pub call_at : List ℕ → Known → Step → Option Asked
-call_at clients desk Step.Shut = Some (record { call = Call.Shut; slot = 0 })
-call_at clients desk (Step.Open root) = Some (record { call = Call.OpenRoot; slot = 0 })
-call_at clients desk (Step.Collect node) = Some (record { call = Call.Collect; slot = 0 })
+call_at clients desk Step.Shut = Some (record { call = Call.Shut; slot = None })
+call_at clients desk (Step.Open root) = Some (record { call = Call.OpenRoot; slot = None })
+call_at clients desk (Step.Collect node) = Some (record { call = Call.Collect; slot = None })
 call_at clients desk (Step.Ask verb node) =
     option_and_then (asked_at desk.things (end_call clients verb)) (end_slot desk node)
 call_at clients desk (Step.AskBuffer verb node index) =
@@ -214,8 +219,13 @@ handle_of (Call.GiveHandle buffer strength to) = Some (buffer, strength)
 handle_of _ = None
 
 -- nothing lies in the slot any more
-abbrev pub without_thing : Known → ℕ → Known
-without_thing desk slot = record desk { things = set desk.things slot None }
+abbrev pub emptied : List (Option Thing) → Option ℕ → List (Option Thing)
+emptied things None = things
+emptied things (Some slot) = set things slot None
+
+-- the thing in it is gone
+abbrev pub without_thing : Known → Option ℕ → Known
+without_thing desk slot = record desk { things = emptied desk.things slot }
 
 -- the first handle of this name is gone
 abbrev pub without_handle : Known → Option (BufferName × Strength) → Known
@@ -290,4 +300,70 @@ spent desk asked reply =
 abbrev pub desk_after : Known → Step → Asked → Reply → Known
 desk_after desk step asked reply =
     with_things (spent (with_tracker (with_node desk step reply) step reply) asked reply)
-    (given (thing_at desk.things asked.slot) asked.call reply)
+    (given (on_of desk.things asked.slot) asked.call reply)
+
+-- its things alone
+abbrev pub things_after : List (Option Thing) → Asked → Reply → List (Option Thing)
+things_after things asked reply =
+    (if spends asked.call reply then emptied things asked.slot else things)
+    ++ map Some (given (on_of things asked.slot) asked.call reply)
+
+-- ---- which calls can be made on what
+
+-- an end of this node takes the call
+abbrev pub FitsEnd : NodeKey → Call → Type 0
+FitsEnd key (Call.Sync other) = other ≡ key
+FitsEnd key (Call.SetWeak other) = other ≡ key
+FitsEnd key (Call.SetWeakOk other children) = other ≡ key
+FitsEnd key (Call.TrackNode other) = other ≡ key
+FitsEnd key (Call.Give other to) = other ≡ key
+FitsEnd key (Call.Release other) = other ≡ key
+FitsEnd key (Call.Close other) = other ≡ key
+FitsEnd key _ = ⊥
+
+-- a token of it does
+abbrev pub FitsToken : NodeKey → Call → Type 0
+FitsToken key (Call.Bind other) = other ≡ key
+FitsToken key (Call.SetDispensable other) = other ≡ key
+FitsToken key (Call.Duplicate other) = other ≡ key
+FitsToken key call = FitsEnd key call
+
+-- a collection of it does
+abbrev pub FitsCollection : NodeKey → Call → Type 0
+FitsCollection key (Call.AttachToken other) = other ≡ key
+FitsCollection key (Call.SetConstraints other constraints) = other ≡ key
+FitsCollection key (Call.Check other) = other ≡ key
+FitsCollection key (Call.Take other) = other ≡ key
+FitsCollection key (Call.TrackLifetime other most) = other ≡ key
+FitsCollection key call = FitsEnd key call
+
+-- a handle of this name does
+abbrev pub FitsHandle : BufferName → Strength → Call → Type 0
+FitsHandle buffer strength (Call.DupHandle other held) = (other ≡ buffer) × (held ≡ strength)
+FitsHandle buffer strength (Call.DropHandle other held) = (other ≡ buffer) × (held ≡ strength)
+FitsHandle buffer strength (Call.GiveHandle other held to) = (other ≡ buffer) × (held ≡ strength)
+FitsHandle buffer strength (Call.TrackWeak other) = other ≡ buffer
+FitsHandle buffer strength _ = ⊥
+
+-- the thing does
+abbrev pub FitsThing : Thing → Call → Type 0
+FitsThing (Thing.Token key collection) call = FitsToken key call
+FitsThing (Thing.Collection key collection) call = FitsCollection key call
+FitsThing (Thing.Handle buffer strength) call = FitsHandle buffer strength call
+
+-- the call is made on nothing
+abbrev pub FitsNone : Call → Type 0
+FitsNone Call.Shut = ⊤
+FitsNone Call.OpenRoot = ⊤
+FitsNone Call.Collect = ⊤
+FitsNone _ = ⊥
+
+-- something lies there that takes the call
+abbrev pub FitsThere : Option Thing → Call → Type 0
+FitsThere None call = ⊥
+FitsThere (Some thing) call = FitsThing thing call
+
+-- what lies in the slot takes the call, and where no slot is told it is made on nothing
+abbrev pub Fits : List (Option Thing) → Option ℕ → Call → Type 0
+Fits things None call = FitsNone call
+Fits things (Some slot) call = FitsThere (thing_at things slot) call

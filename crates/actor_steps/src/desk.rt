@@ -1,6 +1,6 @@
 //! What an actor knows by the replies that it got.
-ghost use Rattle.std.specs.Prelude.{◌≡◌, ◌||◌, OnOk, Some, None};
-ghost use Rattle.actor_steps.specs.Desks.{desk_after, given, handle_of as let_go_by, handles_in, spent, with_node, with_thing, with_things, with_tracker, without_handle, without_thing, asked_of, call_at as asked_at_of, end_slot as slot_of_end, handle_slot as slot_of_handle, is_bound as bound_to, node_label as label_of_node, nothing_known, thing_at as lies_at, tracker_label as label_of_tracker};
+ghost use Rattle.std.specs.Prelude.{◌≡◌, ◌||◌, IfSome, OnOk};
+ghost use Rattle.actor_steps.specs.Desks.{desk_after, given, handle_of as let_go_by, handles_in, spent, with_node, with_thing, with_things, with_tracker, without_handle, without_thing, asked_of, call_at as asked_at_of, end_slot as slot_of_end, handle_slot as slot_of_handle, is_bound as bound_to, node_label as label_of_node, nothing_known, on_of as lies_in, thing_at as lies_at, things_after, Fits, tracker_label as label_of_tracker};
 ghost use Rattle.actor_steps.specs.Tables.{known};
 
 use crate::calls::{end_call, handle_call, node_label, strength_of, tracker_label};
@@ -108,25 +108,31 @@ impl Desk {
         match step {
             Step::Shut => Some(Asked {
                 call: Call::Shut,
-                slot: 0,
+                slot: None,
             }),
             Step::Open { .. } => Some(Asked {
                 call: Call::OpenRoot,
-                slot: 0,
+                slot: None,
             }),
             Step::Collect { .. } => Some(Asked {
                 call: Call::Collect,
-                slot: 0,
+                slot: None,
             }),
             Step::Ask { verb, node } => {
                 let slot = self.end_slot(node)?;
                 let call = end_call(clients, verb, self.thing_at(slot)?)?;
-                Some(Asked { call, slot })
+                Some(Asked {
+                    call,
+                    slot: Some(slot),
+                })
             }
             Step::AskBuffer { verb, node, index } => {
                 let slot = self.handle_slot(strength_of(verb), node, index)?;
                 let call = handle_call(clients, verb, self.thing_at(slot)?)?;
-                Some(Asked { call, slot })
+                Some(Asked {
+                    call,
+                    slot: Some(slot),
+                })
             }
             Step::Poll { .. } => None,
         }
@@ -139,7 +145,8 @@ impl Desk {
     ///
     /// Costs a constant number of look-ups.
     pub fn call(&self, clients: &[ClientId], step: Step) -> Option<Asked>
-        ensures { result ≡ asked_of clients.now (known self.now) step }
+        ensures asked { result ≡ asked_of clients.now (known self.now) step }
+        ensures fits { IfSome result (λ a. Fits (known self.now).things a.slot a.call) }
     {
         let asked = step;
         if self.is_bound(step) {
@@ -180,12 +187,24 @@ impl Desk {
         }
     }
 
+    // What the call is made on.
+    fn on(&self, slot: Option<usize>) -> Option<Thing>
+        ensures { result ≡ lies_in (known self.now).things slot }
+    {
+        match slot {
+            Some(slot) => self.thing_at(slot),
+            None => None,
+        }
+    }
+
     // The thing in the slot is gone.
-    fn cross_out(&mut self, slot: usize)
+    fn cross_out(&mut self, slot: Option<usize>)
         ensures { known self.new ≡ without_thing (known self.old) slot }
     {
-        if slot < self.things.len() {
-            self.things[slot] = None;
+        if let Some(slot) = slot {
+            if slot < self.things.len() {
+                self.things[slot] = None;
+            }
         }
     }
 
@@ -303,10 +322,12 @@ impl Desk {
     ///
     /// Costs a constant number of look-ups for each thing that came or went.
     pub fn note(&mut self, step: Step, asked: &Asked, reply: &Reply) -> Result<(), AllocError>
-        ensures { OnOk result
+        ensures known { OnOk result
             (known self.new ≡ desk_after (known self.old) step asked.now reply.now) }
+        ensures things { OnOk result ((known self.new).things
+            ≡ things_after (known self.old).things asked.now reply.now) }
     {
-        let on = self.thing_at(asked.slot);
+        let on = self.on(asked.slot);
         let same = step;
         self.label_node(step, reply)?;
         self.label_tracker(same, reply)?;

@@ -1,5 +1,5 @@
 //! What an actor holds, and what its steps ask for.
-use sm_names::{BufferName, Call, CollectionId, NodeKey, Reply, Strength};
+use sm_names::{BufferName, Call, CollectionId, NodeKey, Strength};
 
 /// One thing that an actor holds.
 #[derive(Clone, Copy, Debug, PartialEq, Eq)]
@@ -18,10 +18,10 @@ pub enum Thing {
     },
 }
 
-/// The call that a step makes, and the slot of the thing that it is made on. Where it is made on
-/// none, as Shut is, the slot is 0.
+/// The call that a step makes, and the slot of the thing that it is made on: none for Shut, OpenRoot
+/// and Collect.
 #[derive(Clone, Copy, Debug, PartialEq, Eq)]
 pub struct Asked {
     pub call: Call,
-    pub slot: usize,
+    pub slot: Option<usize>,
 }
