@@ -5,12 +5,12 @@ use Rattle.std.specs.Prelude.{Ok, Err, Result, MatchResult, OnOk, IfErr}
 use Rattle.std.specs.Io.KnownBytes.{Appends, Consumes, IsAtEnd, Keeps}
 use Rattle.sm_script.specs.declared.fault.ScriptFault.{ScriptFault}
 use Rattle.sm_script.specs.declared.player.Player.{Player}
-use Rattle.sm_script.specs.declared.TheConstants.{MOST_BYTES}
-use Rattle.sm_script.specs.Pieces.{lines_from, rest_from, whole_lines, last_part}
+use Rattle.script_lines.specs.declared.TheConstants.{MOST_BYTES}
+use Rattle.script_lines.specs.Pieces.{lines_from, rest_from, whole_lines, last_part}
 use Rattle.sm_script.specs.Players.{SoFar, Answered, Breaks, EndsBy}
 use Rattle.sm_script.specs.Runs.{IsTold, IsCutOff, RunStops, Runs}
 use Rattle.sm_script.specs.Scenes.{Setting, Rests, first_scene}
-use Rattle.sm_script.proofs.Piecing.{rest-append, lines-append}
+use Rattle.script_lines.proofs.Piecing.{rest-append, lines-append}
 use Rattle.sm_script.proofs.Playing.{so_far-told}
 
 -- a break ends the run

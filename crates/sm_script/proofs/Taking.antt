@@ -5,10 +5,10 @@ use Rattle.std.proofs.lemmas.List.{take_rest}
 use Rattle.std.specs.List.{position}
 use Rattle.sm_script.specs.declared.fault.ScriptFault.{ScriptFault}
 use Rattle.sm_script.specs.declared.player.Player.{Player}
-use Rattle.sm_script.specs.Pieces.{lines_from, rest_from}
+use Rattle.script_lines.specs.Pieces.{lines_from, rest_from}
 use Rattle.sm_script.specs.Players.{SoFar, Answered, Breaks, Broken, Failed}
 use Rattle.sm_script.specs.Runs.{Stopped}
-use Rattle.sm_script.proofs.Piecing.{is_end, ends_found, unended_none}
+use Rattle.script_lines.proofs.Piecing.{is_end, ends_found, unended_none}
 use Rattle.sm_script.proofs.Playing.{stopped-breaks, stopped-more}
 
 -- bytes behind the front are something

@@ -1,15 +1,9 @@
-pub mod BufferLabels
 pub mod Endings
 pub mod Faults
-pub mod Labels
-pub mod Lines
 pub mod Names
-pub mod Numbers
-pub mod Pieces
 pub mod Players
 pub mod Runs
 pub mod Scenes
 pub mod Sessions
 pub mod Tables
 pub mod Texts
-pub mod Words

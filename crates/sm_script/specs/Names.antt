@@ -1,8 +1,7 @@
 -- What labels stand for, and what a line asks for by them.
-use Rattle.std.specs.Prelude.{ℕ, Bool, ◌&&◌, ◌==◌, if◌then◌else◌, List, [], ◌∷◌, map, Option, Some, None, is_some}
+use Rattle.std.specs.Prelude.{ℕ, Bool, ◌==◌, if◌then◌else◌, List, [], ◌∷◌, map, Option, Some, None, is_some}
 use Rattle.std.specs.Map.{lookup}
 use Rattle.std.specs.Option.{option_map, option_map_or, option_and_then}
-use Rattle.std.specs.Str.{bytes_eq}
 use Rattle.sm_names.specs.declared.keys.BufferName.{BufferName}
 use Rattle.sm_names.specs.declared.keys.NodeKey.{NodeKey}
 use Rattle.sm_names.specs.declared.messages.Call.{Call}
@@ -10,16 +9,13 @@ use Rattle.sm_names.specs.declared.messages.Reply.{Reply}
 use Rattle.sm_names.specs.Sameness.{same_key}
 use Rattle.sm_script.specs.declared.act.Act.{Act}
 use Rattle.sm_script.specs.declared.act.Binds.{Binds}
-use Rattle.sm_script.specs.declared.buffer_label.BufferLabel.{BufferLabel}
-use Rattle.sm_script.specs.declared.label.Label.{Label}
-use Rattle.sm_script.specs.declared.line.BufferVerb.{BufferVerb}
-use Rattle.sm_script.specs.declared.line.Line.{Line}
-use Rattle.sm_script.specs.declared.line.Verb.{Verb}
-use Rattle.sm_script.specs.Lines.{line_of}
-
--- the labels are one
-abbrev pub same_label : Label → Label → Bool
-same_label a b = bytes_eq a.bytes b.bytes && a.length == b.length
+use Rattle.script_lines.specs.declared.buffer_label.BufferLabel.{BufferLabel}
+use Rattle.script_lines.specs.declared.label.Label.{Label}
+use Rattle.script_lines.specs.declared.line.BufferVerb.{BufferVerb}
+use Rattle.script_lines.specs.declared.line.Line.{Line}
+use Rattle.script_lines.specs.declared.line.Verb.{Verb}
+use Rattle.script_lines.specs.Labels.{same_label}
+use Rattle.script_lines.specs.Lines.{line_of}
 
 -- a node and its collection
 abbrev pub Place : Type 0

@@ -7,9 +7,9 @@ use Rattle.sm_names.specs.Timelines.{timeline}
 use Rattle.sm_script.specs.declared.act.Act.{Act}
 use Rattle.sm_script.specs.declared.act.Binds.{Binds}
 use Rattle.sm_script.specs.declared.fault.ScriptFault.{ScriptFault}
-use Rattle.sm_script.specs.declared.TheConstants.{MOST_BYTES}
+use Rattle.script_lines.specs.declared.TheConstants.{MOST_BYTES}
 use Rattle.sm_script.specs.Names.{act_in}
-use Rattle.sm_script.specs.Pieces.{whole_lines, last_part}
+use Rattle.script_lines.specs.Pieces.{whole_lines, last_part}
 use Rattle.sm_script.specs.Scenes.{Scene, Setting, LeadsTo}
 
 -- a first part of the text was written

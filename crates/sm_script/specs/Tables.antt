@@ -3,9 +3,10 @@ use Rattle.std.specs.Prelude.{ℕ, ◌≡◌, ◌==◌}
 use Rattle.std.specs.Map.{lookup}
 use Rattle.sm_names.specs.declared.keys.NodeKey.{NodeKey}
 use Rattle.sm_names.specs.Sameness.{same_key}
-use Rattle.sm_script.specs.declared.label.Label.{Label}
+use Rattle.script_lines.specs.declared.label.Label.{Label}
+use Rattle.script_lines.specs.Labels.{same_label}
 use Rattle.sm_script.specs.declared.tables.Tables.{Tables as Kept}
-use Rattle.sm_script.specs.Names.{Names, same_label, client_of, place_of, tracker_of, label_of_node, label_of_root, label_of_tracker}
+use Rattle.sm_script.specs.Names.{Names, client_of, place_of, tracker_of, label_of_node, label_of_root, label_of_tracker}
 
 -- the tables find what the labels stand for, and the labels of nodes, roots and trackers
 pub record Keeps (tables : Kept) (names : Names) : Type 0 where

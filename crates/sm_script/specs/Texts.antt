@@ -19,15 +19,10 @@ use Rattle.sm_names.specs.Numbers.{refusal_number, refusal_name, misuse_number, 
 use Rattle.sm_names.specs.Trackers.{fired}
 use Rattle.sm_names.specs.Views.{live_nodes, held_by_page, free_pages}
 use Rattle.sm_script.specs.declared.act.Binds.{Binds}
-use Rattle.sm_script.specs.declared.label.Label.{Label}
-use Rattle.sm_script.specs.declared.line.View.{View}
-use Rattle.sm_script.specs.Labels.{text_of_label}
+use Rattle.script_lines.specs.declared.label.Label.{Label}
+use Rattle.script_lines.specs.declared.line.View.{View}
+use Rattle.script_lines.specs.Labels.{label_text, text_of_label}
 use Rattle.sm_script.specs.Names.{Names, label_of_node, label_of_root, label_of_tracker}
-
--- the label, if there is one
-abbrev pub label_text : Option Label → List ℕ
-label_text None = []
-label_text (Some label) = text_of_label label
 
 -- the label that the line binds, if it binds any
 abbrev pub bound_text : Binds → List ℕ

@@ -1,6 +1,5 @@
 //! What a line asks for, once its labels are looked up.
-use crate::label::Label;
-use crate::line::View;
+use script_lines::{Label, View};
 use sm_names::{Call, ClientId, TrackerId};
 
 /// What a label is to stand for, if the call makes it.

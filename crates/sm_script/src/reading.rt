@@ -1,11 +1,11 @@
 //! Bytes come in, in pieces that end anywhere.
 ghost use Rattle.std.specs.Prelude.{◌≡◌, ◌+◌, ◌^◌, ◌<◌, ◌≤◌, [], ◌∷◌, ◌++◌, length, IfErr, OnOk};
-ghost use Rattle.sm_script.specs.Pieces.{lines_from, rest_from};
+ghost use Rattle.script_lines.specs.Pieces.{lines_from, rest_from};
 ghost use Rattle.sm_script.specs.Players.{Answered, Broken, Failed};
 
 use crate::fault::ScriptFault;
 use crate::player::Player;
-use crate::words::place_of;
+use script_lines::place_of;
 use std::io::Write;
 
 // Answers the line whose front came before, and whose end came now.

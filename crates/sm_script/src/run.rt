@@ -1,15 +1,15 @@
 //! A script from its first byte to its last.
 ghost use Rattle.std.specs.Prelude.{◌≡◌, ◌+◌, ◌^◌, ◌<◌, ◌≤◌, [], ◌++◌, List, ℕ, Option, length, IfErr, OnOk};
 ghost use Rattle.std.specs.Io.KnownBytes.{Keeps};
-ghost use Rattle.sm_script.specs.Pieces.{lines_from, rest_from};
+ghost use Rattle.script_lines.specs.Pieces.{lines_from, rest_from};
 ghost use Rattle.sm_script.specs.Players.{Answered, Breaks, Broken, EndsBy, SoFar};
 ghost use Rattle.sm_script.specs.Runs.{Runs};
 ghost use Rattle.sm_script.specs.Scenes.{Setting};
 
-use crate::MOST_BYTES;
 use crate::fault::ScriptFault;
 use crate::player::Player;
 use crate::reading::take_piece;
+use script_lines::MOST_BYTES;
 use sm_names::Limits;
 use std::alloc::Global;
 use std::io::{Read, Write};

@@ -12,13 +12,12 @@ ghost use Rattle.sm_script.specs.Sessions.{IsAt, Advances, Gains, IsStopped};
 ghost use Rattle.sm_script.specs.Texts.{view_text};
 
 use crate::act::{Act, Binds};
-use crate::line::View;
-use crate::parser;
 use crate::stop::Stop;
 use crate::tables::Tables;
-use crate::texts::{push, push_poll, push_reply};
+use crate::texts::{push_poll, push_reply};
 use crate::views::push_view;
 use lifetime_core::Core;
+use script_lines::{View, push, read_line};
 use sm_names::{Call, ClientId, Fired, Limits, NoMemory, Reply, StepFault, TrackerId};
 use std::alloc::{AllocError, Global};
 use std::collections::HashMap;
@@ -76,7 +75,7 @@ impl Session {
         ensures { (scene : Scene) → IsAt self.now scene →
             result ≡ act_in scene.names line.now }
     {
-        match parser::line(line) {
+        match read_line(line) {
             Some(line) => self.tables.act(line),
             None => None,
         }

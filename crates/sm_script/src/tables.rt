@@ -6,9 +6,7 @@ ghost use Rattle.sm_script.specs.Names.{Names, act_of, buffer_of, client_of, lab
 ghost use Rattle.sm_script.specs.Tables.{Keeps};
 
 use crate::act::{Act, Binds};
-use crate::buffer_label::BufferLabel;
-use crate::label::Label;
-use crate::line::{BufferVerb, Line, Verb};
+use script_lines::{BufferLabel, BufferVerb, Label, Line, Verb};
 use sm_names::{BufferName, Call, ClientId, CollectionId, NodeKey, Reply, TrackerId};
 use std::alloc::{AllocError, Global};
 use std::collections::HashMap;

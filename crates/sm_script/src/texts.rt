@@ -2,42 +2,17 @@
 ghost use Rattle.std.specs.Prelude.{◌≡◌, ◌<◌, ◌∷◌, ◌++◌, OnOk, codes, decimal};
 ghost use Rattle.std.specs.List.{flat_map};
 ghost use Rattle.sm_names.specs.Handles.{names as names_of};
+ghost use Rattle.script_lines.specs.Labels.{label_text};
 ghost use Rattle.sm_script.specs.Names.{Names, label_of_node};
 ghost use Rattle.sm_script.specs.Tables.{Keeps};
-ghost use Rattle.sm_script.specs.Texts.{bound_text, buffer_text, cause_text, failure_name as name_of_failure, fired_text, held_text, kind_name as name_of_kind, label_text, member_text, node_text, numbered, poll_text, reply_text, strength_name as name_of_strength};
+ghost use Rattle.sm_script.specs.Texts.{bound_text, buffer_text, cause_text, failure_name as name_of_failure, fired_text, held_text, kind_name as name_of_kind, member_text, node_text, numbered, poll_text, reply_text, strength_name as name_of_strength};
 
 use crate::act::Binds;
-use crate::label::Label;
 use crate::tables::Tables;
-use itoa::Buffer;
 use lifetime_core::HeldBuffer;
+use script_lines::{Label, push, push_label, push_number};
 use sm_names::{BufferName, Cause, CollectionId, Failure, Fired, Kind, NodeKey, Reply, Strength};
 use std::alloc::AllocError;
-
-// Puts the text behind what is there.
-pub(crate) fn push(text: &mut Vec<u8>, more: &str) -> Result<(), AllocError>
-    ensures { OnOk result (text.new.items ≡ text.old.items ++ more.now) }
-{
-    text.extend_from_slice(more.as_bytes())
-}
-
-// Puts the number behind it.
-pub(crate) fn push_number(text: &mut Vec<u8>, number: u64) -> Result<(), AllocError>
-    ensures { OnOk result (text.new.items ≡ text.old.items ++ decimal number) }
-{
-    let mut buffer = Buffer::new();
-    text.extend_from_slice(buffer.format(number).as_bytes())
-}
-
-// Puts the label behind it, if there is one.
-pub(crate) fn push_label(text: &mut Vec<u8>, label: Option<Label>) -> Result<(), AllocError>
-    ensures { OnOk result (text.new.items ≡ text.old.items ++ label_text label) }
-{
-    match label {
-        Some(label) => text.extend_from_slice(label.text()),
-        None => Ok(()),
-    }
-}
 
 // Puts a number, a space and a name behind it.
 fn push_numbered(text: &mut Vec<u8>, number: u64, name: &str) -> Result<(), AllocError>

@@ -9,11 +9,11 @@ ghost use Rattle.sm_script.specs.Names.{Names};
 ghost use Rattle.sm_script.specs.Tables.{Keeps};
 ghost use Rattle.sm_script.specs.Texts.{fired_text, held_text, node_text, view_text};
 
-use crate::line::View;
 use crate::stop::Stop;
 use crate::tables::Tables;
-use crate::texts::{push, push_firing, push_held, push_node, push_number};
+use crate::texts::{push_firing, push_held, push_node};
 use lifetime_core::{Core, HeldBuffer};
+use script_lines::{View, push, push_number};
 use sm_names::{Fired, NodeKey};
 use std::alloc::AllocError;
 

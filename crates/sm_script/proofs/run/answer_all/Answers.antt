@@ -1,6 +1,6 @@
 use Rattle.std.proofs.Common.{◌++◌}
 use Rattle.std.proofs.lemmas.Result.{IfErr-weaker}
-use Rattle.sm_script.specs.Pieces.{lines_from, rest_from}
+use Rattle.script_lines.specs.Pieces.{lines_from, rest_from}
 use Rattle.sm_script.specs.Players.{Broken}
 use Rattle.sm_script.proofs.Playing.{stopped-breaks}
 use Rattle.sm_script.proofs.run.answer_all.Goals as goal

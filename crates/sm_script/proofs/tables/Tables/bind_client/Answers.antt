@@ -1,5 +1,5 @@
 use Rattle.std.proofs.Common.{◌∙◌, ap, cond, Some}
-use Rattle.sm_script.specs.Names.{same_label}
+use Rattle.script_lines.specs.Labels.{same_label}
 use Rattle.sm_script.proofs.tables.Tables.bind_client.Goals as goal
 
 pub returns : goal.returns

@@ -1,7 +1,7 @@
 use Rattle.std.proofs.Common.{◌∙◌, ap, cond, Some, None, if◌then◌else◌, ◌==◌}
 use Rattle.std.specs.Option.{option_map_or}
 use Rattle.sm_names.specs.Sameness.{same_key}
-use Rattle.sm_script.specs.Names.{same_label}
+use Rattle.script_lines.specs.Labels.{same_label}
 use Rattle.sm_script.proofs.tables.Tables.bind_node.Goals as goal
 
 pub returns : goal.returns

@@ -1,6 +1,6 @@
 use Rattle.std.proofs.Common.{◌∙◌, ap, cond, Some, None, if◌then◌else◌, ◌==◌}
 use Rattle.std.specs.Option.{option_map_or}
-use Rattle.sm_script.specs.Names.{same_label}
+use Rattle.script_lines.specs.Labels.{same_label}
 use Rattle.sm_script.proofs.tables.Tables.bind_tracker.Goals as goal
 
 pub returns : goal.returns

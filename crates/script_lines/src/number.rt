@@ -1,8 +1,8 @@
 //! Numbers in a line.
 ghost use Rattle.std.specs.Prelude.{◌≡◌};
 ghost use Rattle.std.specs.List.{list_all};
-ghost use Rattle.sm_script.specs.Labels.{is_digit as is_digit_byte};
-ghost use Rattle.sm_script.specs.Numbers.{is_numeral as is_numeral_word, number_of};
+ghost use Rattle.script_lines.specs.Labels.{is_digit as is_digit_byte};
+ghost use Rattle.script_lines.specs.Numbers.{is_numeral as is_numeral_word, number_of};
 
 use crate::label::is_digit;
 

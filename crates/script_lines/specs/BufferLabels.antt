@@ -2,10 +2,10 @@
 use Rattle.std.specs.Prelude.{ℕ, ◌+◌, ◌==◌, nat_lt, if◌then◌else◌, List, take, drop, Option, Some, None}
 use Rattle.std.specs.List.{position}
 use Rattle.std.specs.Option.{option_map, option_and_then}
-use Rattle.sm_script.specs.declared.buffer_label.BufferLabel.{BufferLabel}
-use Rattle.sm_script.specs.declared.label.Label.{Label}
-use Rattle.sm_script.specs.Labels.{label_of}
-use Rattle.sm_script.specs.Numbers.{number_of}
+use Rattle.script_lines.specs.declared.buffer_label.BufferLabel.{BufferLabel}
+use Rattle.script_lines.specs.declared.label.Label.{Label}
+use Rattle.script_lines.specs.Labels.{label_of}
+use Rattle.script_lines.specs.Numbers.{number_of}
 
 -- the index, if a collection may have such a buffer
 abbrev pub index_in_range : ℕ → Option ℕ

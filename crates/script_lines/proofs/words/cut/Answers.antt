@@ -1,6 +1,6 @@
 use Rattle.std.proofs.Common.{◌∙◌, sym}
-use Rattle.sm_script.proofs.Splits.{split_at_first, split_none}
-use Rattle.sm_script.proofs.words.cut.Goals as goal
+use Rattle.script_lines.proofs.Splits.{split_at_first, split_none}
+use Rattle.script_lines.proofs.words.cut.Goals as goal
 
 pub returns-in-Some : goal.returns-in-Some
 returns-in-Some c = split_at_first _ _ _ (sym c.place_of.ensures.value ∙ c.in-Some.is)

@@ -1,7 +1,8 @@
 -- What a script calls its clients, nodes and trackers.
-use Rattle.std.specs.Prelude.{ℕ, ◌-◌, Bool, false, ◌&&◌, ◌||◌, nat_le, if◌then◌else◌, List, [], ◌∷◌, ◌++◌, length, take, replicate, Option, Some, None}
+use Rattle.std.specs.Prelude.{ℕ, ◌-◌, ◌==◌, Bool, false, ◌&&◌, ◌||◌, nat_le, if◌then◌else◌, List, [], ◌∷◌, ◌++◌, length, take, replicate, Option, Some, None}
 use Rattle.std.specs.List.{list_all}
-use Rattle.sm_script.specs.declared.label.Label.{Label}
+use Rattle.std.specs.Str.{bytes_eq}
+use Rattle.script_lines.specs.declared.label.Label.{Label}
 
 -- the byte is a letter from a to z
 abbrev pub is_letter : ℕ → Bool
@@ -27,3 +28,12 @@ label_of word =
 -- how the label is spelled
 abbrev pub text_of_label : Label → List ℕ
 text_of_label label = take label.length label.bytes
+
+-- the label, if there is one
+abbrev pub label_text : Option Label → List ℕ
+label_text None = []
+label_text (Some label) = text_of_label label
+
+-- the labels are one
+abbrev pub same_label : Label → Label → Bool
+same_label a b = bytes_eq a.bytes b.bytes && a.length == b.length

@@ -1,7 +1,7 @@
 -- Numbers in a line.
 use Rattle.std.specs.Prelude.{ℕ, ◌+◌, ◌*◌, ◌-◌, ◌^◌, Bool, false, not, ◌&&◌, ◌||◌, ◌==◌, nat_lt, if◌then◌else◌, List, [], ◌∷◌, length, Option, Some, None}
 use Rattle.std.specs.List.{list_all, fold}
-use Rattle.sm_script.specs.Labels.{is_digit}
+use Rattle.script_lines.specs.Labels.{is_digit}
 
 -- the word is 0, or digits of which the first is not 0
 abbrev pub is_numeral : List ℕ → Bool

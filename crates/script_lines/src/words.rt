@@ -2,7 +2,7 @@
 ghost use Rattle.std.specs.Prelude.{◌≡◌, ◌∷◌, [], ◌==◌, ◌<◌, length, MatchOption, IfSome};
 ghost use Rattle.std.specs.List.{position};
 ghost use Rattle.std.specs.Str.{bytes_eq};
-ghost use Rattle.sm_script.specs.Words.{words, words_left};
+ghost use Rattle.script_lines.specs.Words.{words, words_left};
 
 // Whether the word is this one.
 pub(crate) fn is(word: &[u8], name: &str) -> bool
@@ -32,8 +32,8 @@ pub(crate) fn next_word(rest: Option<&[u8]>) -> Option<(&[u8], Option<&[u8]>)>
     }
 }
 
-// Where the byte stands first, if it does.
-pub(crate) fn place_of(byte: u8, bytes: &[u8]) -> Option<usize>
+/// Where the byte stands first, if it does. Takes a time in proportion to the length.
+pub fn place_of(byte: u8, bytes: &[u8]) -> Option<usize>
     ensures value { result ≡ position (λ b. b == byte) bytes.now }
     ensures within { IfSome result (λ at. at < length bytes.now) }
 {

@@ -1,6 +1,6 @@
 //! What a script calls its buffers.
 ghost use Rattle.std.specs.Prelude.{◌≡◌};
-ghost use Rattle.sm_script.specs.BufferLabels.{buffer_label_of, index_in_range, labelled_by};
+ghost use Rattle.script_lines.specs.BufferLabels.{buffer_label_of, index_in_range, labelled_by};
 
 use crate::label::Label;
 use crate::number::number;

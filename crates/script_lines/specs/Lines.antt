@@ -4,15 +4,15 @@ use Rattle.std.specs.Option.{option_map, option_map_or, option_and_then}
 use Rattle.std.specs.Str.{bytes_eq}
 use Rattle.sm_names.specs.declared.keys.Strength.{Strength}
 use Rattle.sm_names.specs.Demands.{Demand}
-use Rattle.sm_script.specs.declared.label.Label.{Label}
-use Rattle.sm_script.specs.declared.line.BufferVerb.{BufferVerb}
-use Rattle.sm_script.specs.declared.line.Line.{Line}
-use Rattle.sm_script.specs.declared.line.Verb.{Verb}
-use Rattle.sm_script.specs.declared.line.View.{View}
-use Rattle.sm_script.specs.BufferLabels.{buffer_label_of}
-use Rattle.sm_script.specs.Labels.{label_of}
-use Rattle.sm_script.specs.Numbers.{number_of}
-use Rattle.sm_script.specs.Words.{words}
+use Rattle.script_lines.specs.declared.label.Label.{Label}
+use Rattle.script_lines.specs.declared.line.BufferVerb.{BufferVerb}
+use Rattle.script_lines.specs.declared.line.Line.{Line}
+use Rattle.script_lines.specs.declared.line.Verb.{Verb}
+use Rattle.script_lines.specs.declared.line.View.{View}
+use Rattle.script_lines.specs.BufferLabels.{buffer_label_of}
+use Rattle.script_lines.specs.Labels.{label_of}
+use Rattle.script_lines.specs.Numbers.{number_of}
+use Rattle.script_lines.specs.Words.{words}
 
 -- the value, where no word follows
 abbrev pub at_end : {A : Type 0} → List (List ℕ) → Option A → Option A

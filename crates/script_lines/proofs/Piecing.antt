@@ -2,8 +2,8 @@
 use Rattle.std.proofs.Common.{◌≡◌, ℕ, suc, ◌+◌, ◌==◌, Bool, true, false, cond, not, nat_lt, if◌then◌else◌, List, [], ◌∷◌, ◌++◌, length, take, drop, append_assoc, append-nil, refl, sym, ap, ◌∙◌, subst, Some, None, arith}
 use Rattle.std.specs.List.{position, position_or_len}
 use Rattle.std.proofs.lemmas.Bool.Decides.{nat_tests}
-use Rattle.sm_script.specs.Pieces.{lines_from, rest_from}
-use Rattle.sm_script.proofs.Splits.{found_is, none_is}
+use Rattle.script_lines.specs.Pieces.{lines_from, rest_from}
+use Rattle.script_lines.proofs.Splits.{found_is, none_is}
 
 -- the byte ends a line
 abbrev pub is_end : ℕ → Bool

@@ -1,7 +1,7 @@
 //! What a line of bytes says.
 ghost use Rattle.std.specs.Prelude.{◌≡◌, ◌∷◌};
-ghost use Rattle.sm_script.specs.Lines.{line_of, said_of, show_of, call_of, bare_of, about_of, plain_verb_of, paired_verb_of, last_label_of, lifetime_of, weak_ok_of, constrain_of, demand_of, demand_in_range, buffer_verb_of, handle_verb_of, strength_of as strength_named, verb_of, view_of};
-ghost use Rattle.sm_script.specs.Words.{words_left};
+ghost use Rattle.script_lines.specs.Lines.{line_of, said_of, show_of, call_of, bare_of, about_of, plain_verb_of, paired_verb_of, last_label_of, lifetime_of, weak_ok_of, constrain_of, demand_of, demand_in_range, buffer_verb_of, handle_verb_of, strength_of as strength_named, verb_of, view_of};
+ghost use Rattle.script_lines.specs.Words.{words_left};
 
 use crate::buffer_label::BufferLabel;
 use crate::label::Label;

@@ -1,7 +1,7 @@
 //! What a script calls its clients, nodes and trackers.
 ghost use Rattle.std.specs.Prelude.{◌≡◌, ◌||◌, IfSome};
 ghost use Rattle.std.specs.List.{list_all};
-ghost use Rattle.sm_script.specs.Labels.{is_label as is_label_word, is_letter as is_letter_byte, is_digit as is_digit_byte, label_of, text_of_label};
+ghost use Rattle.script_lines.specs.Labels.{is_label as is_label_word, is_letter as is_letter_byte, is_digit as is_digit_byte, label_of, text_of_label};
 
 use std::hash::{Hash, Hasher};
 

@@ -2,8 +2,8 @@ use Rattle.std.proofs.Common.{◌≡◌, ◌∙◌, ℕ, ◌+◌, ◌*◌, ◌-�
 use Rattle.std.specs.List.{fold}
 use Rattle.std.proofs.lemmas.Bool.Decides.{nat_tests}
 use Rattle.std.proofs.lemmas.List.Sums.{fold-append, fold_more}
-use Rattle.sm_script.specs.Numbers.{is_numeral, number_of, value, with_digit}
-use Rattle.sm_script.proofs.number.number.Goals as goal
+use Rattle.script_lines.specs.Numbers.{is_numeral, number_of, value, with_digit}
+use Rattle.script_lines.proofs.number.number.Goals as goal
 
 -- digits don't make a number less
 grows : (number : ℕ) (digits : List ℕ) → number ≤ fold with_digit number digits

@@ -1,0 +1,20 @@
+//! What the lines of a script say: labels, numbers, buffers, and what is asked of them.
+#![tactic(auto)]
+
+mod buffer_label;
+mod label;
+mod line;
+mod number;
+mod parser;
+mod spelling;
+mod words;
+
+pub use buffer_label::BufferLabel;
+pub use label::Label;
+pub use line::{BufferVerb, Line, Verb, View};
+pub use parser::line as read_line;
+pub use spelling::{push, push_label, push_number};
+pub use words::place_of;
+
+/// The greatest size of a script, in bytes.
+pub const MOST_BYTES: usize = 16_777_216;

@@ -1,0 +1,32 @@
+//! Texts, put together piece by piece.
+ghost use Rattle.std.specs.Prelude.{◌≡◌, ◌++◌, OnOk, decimal};
+ghost use Rattle.script_lines.specs.Labels.{label_text};
+
+use crate::label::Label;
+use itoa::Buffer;
+use std::alloc::AllocError;
+
+/// Puts the text behind what is there. Takes a time in proportion to its length.
+pub fn push(text: &mut Vec<u8>, more: &str) -> Result<(), AllocError>
+    ensures { OnOk result (text.new.items ≡ text.old.items ++ more.now) }
+{
+    text.extend_from_slice(more.as_bytes())
+}
+
+/// Puts the number behind it, in decimal. Takes a constant time.
+pub fn push_number(text: &mut Vec<u8>, number: u64) -> Result<(), AllocError>
+    ensures { OnOk result (text.new.items ≡ text.old.items ++ decimal number) }
+{
+    let mut buffer = Buffer::new();
+    text.extend_from_slice(buffer.format(number).as_bytes())
+}
+
+/// Puts the label behind it, if there is one. Takes a constant time.
+pub fn push_label(text: &mut Vec<u8>, label: Option<Label>) -> Result<(), AllocError>
+    ensures { OnOk result (text.new.items ≡ text.old.items ++ label_text label) }
+{
+    match label {
+        Some(label) => text.extend_from_slice(label.text()),
+        None => Ok(()),
+    }
+}
