@@ -1,16 +1,15 @@
 -- What is filed: what a sweep needs of it, and what it leaves.
-use Rattle.std.proofs.Common.{◌≡◌, ◌≢◌, ℕ, suc, ◌+◌, ◌<◌, ◌≤◌, Bool, true, false, not, ◌==◌, List, [], ◌∷◌, ◌++◌, map, length, get_or, set, count_by, option_to_list, Option, Some, None, cond, if◌then◌else◌, refl, sym, ap, subst, ◌∙◌, arith}
+use Rattle.std.proofs.Common.{◌≡◌, ◌≢◌, ℕ, suc, ◌+◌, ◌≤◌, Bool, true, false, not, ◌==◌, List, [], ◌∷◌, ◌++◌, map, length, count_by, option_to_list, Option, Some, None, cond, if◌then◌else◌, refl, sym, ap, ◌∙◌, arith}
 use Rattle.std.specs.List.{filter, filter_map, cons_option, AllByRecursion}
 use Rattle.std.specs.List.Sorted.{IsPermutation, IsNonDecreasing}
 use Rattle.std.proofs.lemmas.Bool.Decides.{nat_tests}
 use Rattle.std.proofs.lemmas.List.Sums.{sum_by-cons}
-use Rattle.sm_names.specs.declared.tracking.Fired.{Fired}
 use Rattle.sm_names.specs.Trackers.{World, holds}
 use Rattle.trackers.specs.Table.{Waiting, is_due}
 use Rattle.trackers.specs.Row.{Kept, Stage, Waits, Over, is_waiting, waiting_of_row}
 use Rattle.trackers.specs.Filing.{Piles, Wish, AreAlike, due_in, entries_of, is_wish_met, undue_in, weigh}
-use Rattle.trackers.specs.Held.{is_met, after, fires, asked, asked_from, AreFiled, Reach, none, pass, pick}
-use Rattle.trackers.proofs.Walks.{after_unmet, row_of}
+use Rattle.trackers.specs.Held.{after, asked, asked_from, AreFiled, Reach, none, pass, pick}
+use Rattle.trackers.proofs.Walks.{row_of}
 use Rattle.trackers.proofs.Weights.{DoRise, alike_filter, alike_map, alike_moved, do_rise, rising_same, weigh_filter, weigh_length, weigh_less, weigh_map}
 
 -- a test that fails tells two numbers apart

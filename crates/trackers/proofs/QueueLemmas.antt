@@ -1,5 +1,5 @@
 -- What the queues of a collection hold once one of them changes.
-use Rattle.std.proofs.Common.{◌≡◌, ℕ, zero, suc, ◌+◌, ◌<◌, ◌≤◌, Bool, true, false, not, ◌==◌, List, [], ◌∷◌, ◌++◌, map, length, get_or, set, take, drop, cond, if◌then◌else◌, refl, sym, ap, subst, ◌∙◌, arith, append_assoc, append-nil, length-append}
+use Rattle.std.proofs.Common.{◌≡◌, ℕ, zero, suc, ◌+◌, ◌<◌, ◌≤◌, Bool, true, false, not, ◌==◌, List, [], ◌∷◌, ◌++◌, map, length, get_or, set, take, drop, cond, if◌then◌else◌, refl, sym, ap, ◌∙◌, arith, append_assoc, append-nil, length-append}
 use Rattle.std.specs.List.{filter}
 use Rattle.std.proofs.lemmas.Bool.Decides.{nat_tests}
 use Rattle.std.proofs.lemmas.List.{map-append, drop_more, nil_from_length, take_more, take-append-drop}
@@ -8,7 +8,7 @@ use Rattle.sm_names.specs.declared.tracking.Condition.{Condition}
 use Rattle.sm_names.specs.Trackers.{World, holds}
 use Rattle.trackers.specs.declared.filing.Queue.{Queue}
 use Rattle.trackers.specs.Filing.{Wish, asking, due_in, entries_in, is_filled, is_wish_met, undue_in, weigh, weigh_at}
-use Rattle.trackers.proofs.Weights.{weigh_append, weigh_filter}
+use Rattle.trackers.proofs.Weights.{weigh_append}
 
 -- a test of places is one of what is asked
 pub asking_filter : (condition : Condition) (test : ℕ → Bool) (places : List ℕ) → map (λ (p : ℕ). (condition, p)) (filter test places) ≡ filter (λ (e : Wish). test e.1) (map (λ (p : ℕ). (condition, p)) places)

@@ -1,4 +1,4 @@
-use Rattle.std.proofs.Common.{◌≡◌, ◌+◌, ◌<◌, ◌≤◌, ◌++◌, true, false, length, take, vec_capacity, ap, sym, ◌∙◌, append_assoc, arith, length-append}
+use Rattle.std.proofs.Common.{◌≡◌, ◌+◌, ◌++◌, true, false, length, take, ap, sym, ◌∙◌, append_assoc, arith, length-append}
 use Rattle.sm_names.specs.Trackers.{World, holds}
 use Rattle.trackers.specs.Filing.{due_in, entries_in}
 use Rattle.trackers.proofs.QueueLemmas.{gather_fits, gather_met, gather_unmet}

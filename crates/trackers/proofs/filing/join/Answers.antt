@@ -1,4 +1,4 @@
-use Rattle.std.proofs.Common.{◌≡◌, ◌+◌, ◌<◌, ℕ, length, get_or, slice_set, Result, Ok, Err, OnOk, OnErr, ap, ◌∙◌, arith}
+use Rattle.std.proofs.Common.{◌≡◌, ◌+◌, ◌<◌, ℕ, length, get_or, slice_set, Ok, Err, OnOk, OnErr}
 use Rattle.trackers.specs.Filing.{Wish, asking, entries_in, weigh}
 use Rattle.trackers.specs.declared.filing.Queue.{Queue}
 use Rattle.trackers.proofs.QueueLemmas.{join_step, put_step, put_same}

@@ -1,4 +1,4 @@
-use Rattle.std.proofs.Common.{◌≡◌, ap, ◌∙◌, rules}
+use Rattle.std.proofs.Common.{ap, ◌∙◌, rules}
 use Rattle.std.proofs.lemmas.Fn.{filter_same}
 use Rattle.trackers.specs.Filing.{entries_in, is_filled}
 use Rattle.trackers.proofs.QueueLemmas.{entries_filled}

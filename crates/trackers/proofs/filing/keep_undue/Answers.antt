@@ -1,4 +1,4 @@
-use Rattle.std.proofs.Common.{◌≡◌, ap, ◌∙◌, not, rules}
+use Rattle.std.proofs.Common.{ap, ◌∙◌, not, rules}
 use Rattle.std.proofs.lemmas.Fn.{filter_same}
 use Rattle.sm_names.specs.Trackers.{holds}
 use Rattle.trackers.specs.Filing.{entries_in}

@@ -1,6 +1,5 @@
-use Rattle.std.proofs.Common.{◌≡◌, ℕ, ap, map, ◌∙◌, not, ◌==◌, rules}
+use Rattle.std.proofs.Common.{ℕ, ap, map, ◌∙◌, not, ◌==◌, rules}
 use Rattle.std.proofs.lemmas.Fn.{filter_same}
-use Rattle.trackers.specs.Filing.{Wish}
 use Rattle.trackers.proofs.QueueLemmas.{asking_filter}
 use Rattle.trackers.proofs.filing.leave.Goals as goal
 

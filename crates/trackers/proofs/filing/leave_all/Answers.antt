@@ -1,5 +1,5 @@
 use Rattle.std.proofs.Common.{◌<◌, ◌+◌, length, ◌∙◌, arith}
-use Rattle.std.proofs.lemmas.List.{drop-set-lt, length-set, take_all}
+use Rattle.std.proofs.lemmas.List.{drop-set-lt, length-set}
 use Rattle.trackers.proofs.QueueLemmas.{drop_next, leave_step}
 use Rattle.trackers.proofs.filing.leave_all.Goals as goal
 

@@ -1,4 +1,4 @@
-use Rattle.std.proofs.Common.{◌≡◌, ◌≤◌, ℕ, ◌+◌, take, drop, length}
+use Rattle.std.proofs.Common.{◌≡◌, ℕ, ◌+◌, take, drop, length}
 use Rattle.trackers.specs.Filing.{Wish, entries_in, weigh, weigh_at}
 use Rattle.trackers.proofs.filing.leave_all.Given as goal
 
