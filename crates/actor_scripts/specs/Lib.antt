@@ -1,0 +1,3 @@
+pub mod Casts
+pub mod Reads
+pub mod Steps

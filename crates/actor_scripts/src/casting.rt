@@ -1,0 +1,135 @@
+//! A script of actors, line by line.
+ghost use Rattle.std.specs.Prelude.{◌≡◌, ◌+◌, ◌^◌, ◌<◌, MatchResult, OnOk, Some};
+ghost use Rattle.actor_scripts.specs.Casts.{after, is_ended, joined, led_by, seen, start, stepped, Halts, IsSound};
+
+use crate::halt::Halt;
+use crate::numbering::{add_step, place};
+use actor_steps::ActorScript;
+use indexmap::IndexSet;
+use script_lines::{Label, Line, read_line};
+use std::alloc::Global;
+
+// The clients in the order of their joins, the labels that their lines named, the steps of each,
+// whether any came, and how many lines were read.
+#[derive(Drop)]
+pub(crate) struct Casting {
+    alloc: Global,
+    pub(crate) clients: IndexSet<Label>,
+    named: IndexSet<(u32, Label)>,
+    pub(crate) scripts: Vec<ActorScript>,
+    begun: bool,
+    pub(crate) lines: u64,
+}
+
+impl Casting {
+    // No line was read.
+    pub(crate) fn new(alloc: Global) -> Casting
+        ensures start { seen result ≡ start }
+        ensures sound { IsSound result 0 }
+    {
+        Casting {
+            alloc,
+            clients: IndexSet::new(alloc),
+            named: IndexSet::new(alloc),
+            scripts: Vec::new(alloc),
+            begun: false,
+            lines: 0,
+        }
+    }
+
+    // Reads one more line, without its end.
+    pub(crate) fn take_line(&mut self, bytes: &[u8]) -> Result<(), Halt>
+        requires sound { IsSound self.old self.old.lines }
+        requires few { self.old.lines < 2 ^ 30 }
+        ensures says { MatchResult result (λ _. after (seen self.old) bytes.now ≡ Some (seen self.new))
+            (Halts (after (seen self.old) bytes.now)) }
+        ensures sound { OnOk result (IsSound self.new self.new.lines) }
+        ensures counted { OnOk result (self.new.lines ≡ self.old.lines + 1) }
+    {
+        let Some(line) = read_line(bytes) else {
+            return Err(Halt::BadLine);
+        };
+        self.lead(line)?;
+        self.lines += 1;
+        Ok(())
+    }
+
+    // Does what the line says.
+    fn lead(&mut self, line: Line) -> Result<(), Halt>
+        requires sound { IsSound self.old self.old.lines }
+        requires few { self.old.lines < 2 ^ 30 }
+        ensures says { MatchResult result
+            (λ _. led_by (seen self.old) line ≡ Some (seen self.new))
+            (Halts (led_by (seen self.old) line)) }
+        ensures sound { OnOk result (IsSound self.new (self.old.lines + 1)) }
+        ensures same { self.new.lines ≡ self.old.lines }
+    {
+        match line {
+            Line::Nothing => Ok(()),
+            Line::Join { client } => self.join(client),
+            Line::Shut { client } => self.play(client, line),
+            Line::Open { client, .. } => self.play(client, line),
+            Line::Collect { client, .. } => self.play(client, line),
+            Line::Ask { client, .. } => self.play(client, line),
+            Line::AskBuffer { client, .. } => self.play(client, line),
+            Line::Poll { client, .. } => self.play(client, line),
+            Line::Show { .. } => Err(Halt::BadLine),
+        }
+    }
+
+    // Whether the script may end here, where this is left behind the last line.
+    pub(crate) fn is_ended(&self, rest: &[u8]) -> bool
+        ensures { result ≡ is_ended rest.now self.now.clients.keys }
+    {
+        rest.is_empty() && self.clients.len() != 0
+    }
+
+    // A client joins.
+    fn join(&mut self, client: Label) -> Result<(), Halt>
+        requires sound { IsSound self.old self.old.lines }
+        ensures says { MatchResult result
+            (λ _. joined (seen self.old) client ≡ Some (seen self.new))
+            (Halts (joined (seen self.old) client)) }
+        ensures sound { OnOk result (IsSound self.new (self.old.lines + 1)) }
+        ensures same { self.new.lines ≡ self.old.lines }
+    {
+        if self.begun {
+            return Err(Halt::BadLine);
+        }
+        match self.clients.insert_full(client) {
+            Ok((_, true)) => {}
+            Ok((_, false)) => return Err(Halt::BadLine),
+            Err(_) => return Err(Halt::NoMemory),
+        }
+        match self.scripts.push(ActorScript {
+            steps: Vec::new(self.alloc),
+        }) {
+            Ok(()) => Ok(()),
+            Err(_) => Err(Halt::NoMemory),
+        }
+    }
+
+    // A client has one more step.
+    fn play(&mut self, client: Label, line: Line) -> Result<(), Halt>
+        requires sound { IsSound self.old self.old.lines }
+        requires few { self.old.lines < 2 ^ 30 }
+        ensures says { MatchResult result
+            (λ _. stepped (seen self.old) client line ≡ Some (seen self.new))
+            (Halts (stepped (seen self.old) client line)) }
+        ensures sound { OnOk result (IsSound self.new (self.old.lines + 1)) }
+        ensures same { self.new.lines ≡ self.old.lines }
+    {
+        let actor = match place(&self.clients, client) {
+            Ok(actor) => actor,
+            Err(halt) => return Err(halt),
+        };
+        let script = &mut self.scripts[actor as usize];
+        match add_step(&self.clients, &mut self.named, script, actor, line) {
+            Ok(()) => {
+                self.begun = true;
+                Ok(())
+            }
+            Err(halt) => Err(halt),
+        }
+    }
+}
