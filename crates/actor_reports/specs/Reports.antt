@@ -1,0 +1,21 @@
+-- The text of a report.
+use Rattle.std.specs.Prelude.{ℕ, List, [], ◌∷◌, ◌++◌, codes}
+use Rattle.std.specs.Fmt.{decimal}
+use Rattle.std.specs.List.{flat_map, zip}
+use Rattle.record_parts.specs.declared.line.ClientLine.{ClientLine}
+use Rattle.script_lines.specs.declared.label.Label.{Label}
+use Rattle.script_lines.specs.Labels.{text_of_label}
+
+-- a client: its label, how many events it made after its join, and its open handles of each strength
+abbrev pub line_text : Label → ClientLine → List ℕ
+line_text label line = text_of_label label ++ codes " events " ++ decimal line.events ++ codes " strong "
+    ++ decimal line.strong ++ codes " weak " ++ decimal line.weak ++ 10 ∷ []
+
+-- the first line is of the first label, and so on
+abbrev pub lines_text : List Label → List ClientLine → List ℕ
+lines_text labels lines = flat_map (λ (told : Label × ClientLine). line_text told.0 told.1) (zip labels lines)
+
+-- all events, then each client, and that all was gathered
+abbrev pub report_text : List Label → ℕ → List ClientLine → List ℕ
+report_text labels events lines =
+    (codes "events " ++ decimal events ++ 10 ∷ []) ++ lines_text labels lines ++ codes "gather ok" ++ 10 ∷ []

@@ -1,0 +1,62 @@
+//! The text of a report.
+ghost use Rattle.std.specs.Prelude.{◌≡◌, ◌++◌, OnOk};
+ghost use Rattle.actor_reports.specs.Reports.{line_text, lines_text, report_text};
+
+use record_parts::ClientLine;
+use script_lines::{Label, push, push_label, push_number};
+use std::alloc::AllocError;
+
+/// Puts behind the text how many events there were, then for each client, in this order, how many
+/// it made after its join, and how many handles of each strength it has open, and at last that all
+/// was gathered. Each of these is a line with its end. Where there are more labels than clients, or
+/// more clients than labels, those behind are left out.
+///
+/// Where memory is refused a part may stand behind the text. Takes a time in proportion to what is
+/// put there.
+pub fn push_report(
+    text: &mut Vec<u8>,
+    labels: &[Label],
+    events: u64,
+    lines: &[ClientLine],
+) -> Result<(), AllocError>
+    ensures { OnOk result (text.new.items
+        ≡ text.old.items ++ report_text labels.now events lines.now) }
+{
+    push(text, "events ")?;
+    push_number(text, events)?;
+    push(text, "\n")?;
+    push_lines(text, labels, lines)?;
+    push(text, "gather ok\n")
+}
+
+// Puts a line for each client behind the text.
+fn push_lines(text: &mut Vec<u8>, labels: &[Label], lines: &[ClientLine]) -> Result<(), AllocError>
+    ensures { OnOk result (text.new.items
+        ≡ text.old.items ++ lines_text labels.now lines.now) }
+{
+    let mut labels = labels;
+    let mut lines = lines;
+    while let (Some((label, more)), Some((line, others))) = (
+        labels.split_first(),
+        lines.split_first(),
+    ) {
+        push_line(text, *label, *line)?;
+        labels = more;
+        lines = others;
+    }
+    Ok(())
+}
+
+// Puts the line of a client behind the text.
+fn push_line(text: &mut Vec<u8>, label: Label, line: ClientLine) -> Result<(), AllocError>
+    ensures { OnOk result (text.new.items ≡ text.old.items ++ line_text label line) }
+{
+    push_label(text, Some(label))?;
+    push(text, " events ")?;
+    push_number(text, line.events)?;
+    push(text, " strong ")?;
+    push_number(text, line.strong)?;
+    push(text, " weak ")?;
+    push_number(text, line.weak)?;
+    push(text, "\n")
+}
