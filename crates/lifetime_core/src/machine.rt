@@ -304,7 +304,7 @@ impl Core {
     /// handles, and the work on one collection: that of the node or the buffer that the call names,
     /// or the new one. A call that changes nothing there costs only the look-ups. A Take costs at
     /// most five look-ups more for each buffer, and an event that changes something in a collection
-    /// a test of each tracker that waits for something there.
+    /// one test for each condition that trackers wait for there, however many wait for the same.
     pub fn step(&mut self, client: ClientId, call: Call) -> Result<Reply, StepFault>
         ensures answer { IfOk result (λ reply.
             IsAnswer self.old.limits (readings_of self.old) client call reply) }

@@ -102,8 +102,8 @@ pub(crate) fn detach(trackers: &mut Trackers, tracking: Option<Tracking>)
 }
 
 /// Fires the trackers that are due at this event, which concerned this collection, if any: under
-/// another none is due. It takes no memory. It costs a test of each tracker that waits under the
-/// collection.
+/// another none is due. It takes no memory. It costs one test for each condition that is waited for
+/// under the collection, and a sort of the trackers that fire.
 pub(crate) fn sweep(
     trackers: &mut Trackers,
     event: u64,
