@@ -2,5 +2,6 @@ pub mod DifferLaws
 pub mod LineLaws
 pub mod LinkLaws
 pub mod MemberLaws
+pub mod OpenLaws
 pub mod SameLaws
 pub mod SetLaws
