@@ -46,10 +46,10 @@ impl Casting {
         ensures sound { OnOk result (IsSound self.new self.new.lines) }
         ensures counted { OnOk result (self.new.lines ≡ self.old.lines + 1) }
     {
-        let Some(line) = read_line(bytes) else {
-            return Err(Halt::BadLine);
-        };
-        self.lead(line)?;
+        match read_line(bytes) {
+            Some(line) => self.lead(line)?,
+            None => return Err(Halt::BadLine),
+        }
         self.lines += 1;
         Ok(())
     }

@@ -1,0 +1,47 @@
+-- The texts of faults of a run of actors.
+use Rattle.std.specs.Prelude.{ℕ, List, ◌∷◌, ◌++◌, codes}
+use Rattle.std.specs.Fmt.{decimal}
+use Rattle.actor_scripts.specs.declared.fault.CastFault.{CastFault}
+use Rattle.client_parting.specs.declared.gathering.GatherFault.{GatherFault}
+use Rattle.thread_runs.specs.declared.fault.ThreadsFault.{ThreadsFault}
+
+-- what a fault is told as
+abbrev pub fault_text : ThreadsFault → List ℕ
+fault_text ThreadsFault.ReadFault = codes "read fault"
+fault_text ThreadsFault.WriteFault = codes "write fault"
+fault_text (ThreadsFault.BadLine number) = codes "bad line " ++ decimal number
+fault_text ThreadsFault.HistoryFull = codes "history full"
+fault_text ThreadsFault.NoMemory = codes "no memory"
+fault_text ThreadsFault.NoThread = codes "no thread"
+fault_text (ThreadsFault.Gather GatherFault.NoMemory) = codes "no memory"
+fault_text (ThreadsFault.Gather (GatherFault.MissingClient client)) = codes "gather: missing client " ++ decimal client
+fault_text (ThreadsFault.Gather (GatherFault.OpenValues strong weak)) =
+    codes "gather: open values " ++ decimal strong ++ 32 ∷ decimal weak
+fault_text (ThreadsFault.Gather (GatherFault.RecordMismatch event)) = codes "gather: record differs at " ++ decimal event
+
+-- the status that a program ends with: 1 for the streams, 3 for the script, 4 for want of memory, of a thread or of room in
+-- the history, 5 for what does not fit at the end
+abbrev pub fault_status : ThreadsFault → ℕ
+fault_status ThreadsFault.ReadFault = 1
+fault_status ThreadsFault.WriteFault = 1
+fault_status (ThreadsFault.BadLine line) = 3
+fault_status ThreadsFault.HistoryFull = 4
+fault_status ThreadsFault.NoMemory = 4
+fault_status ThreadsFault.NoThread = 4
+fault_status (ThreadsFault.Gather GatherFault.NoMemory) = 4
+fault_status (ThreadsFault.Gather (GatherFault.MissingClient client)) = 5
+fault_status (ThreadsFault.Gather (GatherFault.OpenValues strong weak)) = 5
+fault_status (ThreadsFault.Gather (GatherFault.RecordMismatch event)) = 5
+
+-- why no run began, as a fault of it
+abbrev pub cast_fault : CastFault → ThreadsFault
+cast_fault CastFault.ReadFault = ThreadsFault.ReadFault
+cast_fault (CastFault.BadLine number) = ThreadsFault.BadLine number
+cast_fault CastFault.NoMemory = ThreadsFault.NoMemory
+
+-- what was found at the end, as a fault of the run: refused memory is told as such
+abbrev pub gather_fault : GatherFault → ThreadsFault
+gather_fault GatherFault.NoMemory = ThreadsFault.NoMemory
+gather_fault (GatherFault.MissingClient client) = ThreadsFault.Gather (GatherFault.MissingClient client)
+gather_fault (GatherFault.OpenValues strong weak) = ThreadsFault.Gather (GatherFault.OpenValues strong weak)
+gather_fault (GatherFault.RecordMismatch event) = ThreadsFault.Gather (GatherFault.RecordMismatch event)

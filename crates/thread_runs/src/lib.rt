@@ -1,0 +1,6 @@
+//! Scripts of actors, run in threads.
+#![tactic(auto)]
+
+mod fault;
+
+pub use fault::ThreadsFault;
