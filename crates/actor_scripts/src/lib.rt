@@ -12,3 +12,6 @@ mod reading;
 pub use cast::Cast;
 pub use fault::CastFault;
 pub use judging::read_actors;
+
+#[cfg(test)]
+mod tests;
