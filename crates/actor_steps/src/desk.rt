@@ -54,6 +54,13 @@ impl Desk {
         }
     }
 
+    /// The tracker of this label, if it stands for one. Costs one look-up.
+    pub fn tracker(&self, label: u32) -> Option<TrackerId>
+        ensures { result ≡ (known self.now).trackers label }
+    {
+        self.trackers.get(&label).copied()
+    }
+
     // The slot of the newest thing of the node of this label.
     fn end_slot(&self, label: u32) -> Option<usize>
         ensures { result ≡ slot_of_end (known self.now) label }
