@@ -201,3 +201,56 @@ fn a_tracker_taken_out_again_never_was(rt: HostRuntime) -> Result<(), Fail> {
     assert!(rt; trackers.fired().is_empty());
     Ok(())
 }
+
+#[test]
+fn of_4096_trackers_one_fires_at_a_time(rt: HostRuntime) -> Result<(), Fail> {
+    let mut line = Line::new(rt.alloc(), 4096);
+    for most in 0..4096 {
+        line.track(Condition::Lifetime(NODE, HERE, most))
+            .map_err(|_| "not attached")?;
+    }
+    let held = |left: usize| Here {
+        gone: None,
+        allocated: true,
+        left,
+        doomed: None,
+    };
+    line.sweep(&held(4096));
+    assert!(rt; line.fired().is_empty());
+    for most in 0..4096 {
+        line.pass();
+        line.sweep(&held(4095 - most));
+        let newest = Fired {
+            tracker: 4096 - most as u64,
+            event: 4097 + most as u64,
+        };
+        assert_eq!(rt; line.fired().len(), most + 1);
+        assert!(rt; line.fired().last() == Some(&newest), "{most}");
+    }
+    Ok(())
+}
+
+#[test]
+fn firings_of_several_conditions_stand_by_id(rt: HostRuntime) -> Result<(), Fail> {
+    let mut line = Line::new(rt.alloc(), 8);
+    for most in [5, 7, 5, 3, 7, 5] {
+        line.track(Condition::Lifetime(NODE, HERE, most))
+            .map_err(|_| "not attached")?;
+    }
+    let held = |left: usize| Here {
+        gone: None,
+        allocated: true,
+        left,
+        doomed: None,
+    };
+    line.sweep(&held(8));
+    assert!(rt; line.fired().is_empty());
+    line.sweep(&held(5));
+    line.sweep(&held(3));
+    let seen = [1, 2, 3, 5, 6, 4];
+    assert_eq!(rt; line.fired().len(), 6);
+    for (fired, tracker) in line.fired().iter().zip(seen) {
+        assert!(rt; *fired == Fired { tracker, event: 6 }, "{tracker}");
+    }
+    Ok(())
+}
