@@ -82,7 +82,8 @@ for script in examples/*.script; do
   fi
 done
 
-# Help.
+# Version and help.
+try 0 'sysmem 0.1.0\n' '' '' --version
 "$program" run --help >"$room/out" 2>"$room/told"
 if [ $? = 0 ] && grep -q 'show fired' "$room/out" && hears ''; then
   passed=$((passed + 1))

@@ -4,3 +4,6 @@
 mod report;
 
 pub use report::push_report;
+
+#[cfg(test)]
+mod tests;

@@ -132,6 +132,7 @@ impl<E: Ledger, S: Ledger, W: Ledger> Account<E, S, W> {
         ensures share { IfOk result (λ r.
             self.new.units.events ≡ self.old.units.events + 1) }
         ensures told { IfOk result (λ r. IsTold self.old.own self.new.own call r) }
+        ensures state { IfOk result (λ r. state.new ≡ after state.old client call r) }
         ensures unit { IfOk result (λ r. is_done r ≡ false → unit.new ≡ unit.old) }
         ensures fault { OnErr result ((self.new ≡ self.old) × (unit.new ≡ unit.old)) }
         ensures full { (result ≡ Err Fault.HistoryFull)
@@ -161,6 +162,7 @@ impl<E: Ledger, S: Ledger, W: Ledger> Account<E, S, W> {
         ensures share { IfOk result (λ r.
             self.new.units.events ≡ self.old.units.events + 1) }
         ensures told { IfOk result (λ r. IsTold self.old.own self.new.own call r) }
+        ensures state { IfOk result (λ r. state.new ≡ after state.old client call r) }
         ensures unit { IfOk result (λ r. unit.new ≡ with_gain (gained call r) nothing) }
         ensures fault { OnErr result ((self.new ≡ self.old) × (unit.new ≡ unit.old)) }
         ensures full { (result ≡ Err Fault.HistoryFull)

@@ -10,6 +10,8 @@ const ABOUT: &str = "\
 Answers scripts of clients that share buffers: who has failed, whom a failure
 takes along, and when a buffer's pages are free again.";
 
+const VERSION: &str = "0.1.0";
+
 const RUN_ABOUT: &str = "Answers the script on standard input, on standard output";
 
 const RUN_HELP: &str = "\
@@ -68,6 +70,7 @@ pub fn command<'a>(alloc: Global) -> Result<Command<'a>, AllocError> {
         .arg(pages_word(alloc))?;
     Command::new(alloc, "sysmem")
         .bin_name("sysmem")?
+        .version(VERSION)
         .about(ABOUT)
         .after_help("'sysmem run --help' tells what a script is.")
         .subcommand_required(true)
