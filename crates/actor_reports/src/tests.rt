@@ -20,12 +20,12 @@ fn each_client_has_its_line(rt: HostRuntime) -> Result<(), Fail> {
             weak: 0,
         },
     ];
-    if let (Some(camera), Some(b)) = (Label::new(b"camera"), Label::new(b"b2")) {
-        let mut text = Vec::new(rt.alloc());
-        push_report(&mut text, &[camera, b], 5, &lines)?;
-        let expected = "events 5\ncamera events 3 strong 0 weak 12\n\
+    let camera = Label::new(b"camera").ok_or("no label")?;
+    let b = Label::new(b"b2").ok_or("no label")?;
+    let mut text = Vec::new(rt.alloc());
+    push_report(&mut text, &[camera, b], 5, &lines)?;
+    let expected = "events 5\ncamera events 3 strong 0 weak 12\n\
 b2 events 0 strong 4 weak 0\ngather ok\n";
-        assert_eq!(rt; text.as_slice(), expected.as_bytes());
-    }
+    assert_eq!(rt; text.as_slice(), expected.as_bytes());
     Ok(())
 }
