@@ -1,0 +1,263 @@
+//! A client that vanishes, and what is gathered, where memory is refused.
+ghost use Rattle.std.specs.Prelude.{◌≡◌};
+ghost use Rattle.client_parting.specs.Partings.{AreOf, held_in};
+
+use super::asking::{constraints, gone, made, nothing, put, report};
+use client_ends::{Client, CollectionEnd, EndOf, Handle, Held, Kept, Own, TokenEnd, Why, join};
+use client_parting::{GatherFault, Holding, Report, Wreck, end_service, gather, vanish};
+use service_lock::Service;
+use sm_names::{Call, ClientId, Reply, StepFault};
+use std::alloc::Global;
+use std::process::Abort;
+use std::sync::Wait;
+use std::sync::ledger::Ledger;
+
+// A client more.
+fn join_again<E: Ledger, S: Ledger, W: Ledger, R: Wait + Abort>(
+    rt: &R,
+    alloc: Global,
+    service: &Service<E, S, W>,
+) -> Client<E, S, W> {
+    match join(rt, alloc, service) {
+        Ok(client) => client,
+        Err(_) => made(rt, join(rt, alloc, service)),
+    }
+}
+
+// A root.
+fn open_again<E: Ledger, S: Ledger, W: Ledger, R: Wait + Abort>(
+    rt: &R,
+    service: &Service<E, S, W>,
+    client: &mut Client<E, S, W>,
+) -> TokenEnd
+    ensures id { client.new.id ≡ client.old.id }
+    ensures token { result.client ≡ client.new.id }
+{
+    match client.open_root(rt, service) {
+        Ok(root) => root,
+        Err(Why::Fault(_)) => made(rt, client.open_root(rt, service)),
+        Err(_) => panic!(rt; "no root"),
+    }
+}
+
+// The token is bound.
+fn bind_again<E: Ledger, S: Ledger, W: Ledger, R: Wait + Abort>(
+    rt: &R,
+    service: &Service<E, S, W>,
+    client: &mut Client<E, S, W>,
+    token: TokenEnd,
+) -> CollectionEnd
+    requires { token.client ≡ client.old.id }
+    ensures id { client.new.id ≡ client.old.id }
+    ensures collection { result.client ≡ client.new.id }
+{
+    match token.bind(rt, service, client) {
+        Ok(collection) => collection,
+        Err(
+            Kept {
+                value,
+                why: Why::Fault(_),
+            },
+        ) => made(rt, value.bind(rt, service, client)),
+        Err(_) => panic!(rt; "not bound"),
+    }
+}
+
+// It asks for two buffers, and takes a handle on each.
+fn take_again<E: Ledger, S: Ledger, W: Ledger, R: Wait + Abort>(
+    rt: &R,
+    alloc: Global,
+    service: &Service<E, S, W>,
+    client: &mut Client<E, S, W>,
+    root: &CollectionEnd,
+) -> Vec<Handle<E, S, W>>
+    requires { root.now.client ≡ client.old.id }
+    ensures { client.new.id ≡ client.old.id }
+{
+    let asked = constraints(rt, 2, 0, 4096);
+    let reply = match root.set_constraints(rt, service, client, asked) {
+        Ok(reply) => reply,
+        Err(_) => made(rt, root.set_constraints(rt, service, client, asked)),
+    };
+    assert!(rt; reply == Reply::Done);
+    match root.take(rt, alloc, service, client) {
+        Ok(handles) => handles,
+        Err(Why::Fault(_)) => made(rt, root.take(rt, alloc, service, client)),
+        Err(_) => panic!(rt; "not taken"),
+    }
+}
+
+// The end goes to the other client.
+fn give_again<K, E: Ledger, S: Ledger, W: Ledger, R: Wait + Abort>(
+    rt: &R,
+    service: &Service<E, S, W>,
+    client: &mut Client<E, S, W>,
+    end: EndOf<K>,
+    to: ClientId,
+)
+    requires { end.client ≡ client.old.id }
+{
+    match end.give(rt, service, client, to) {
+        Ok(()) => {}
+        Err(
+            Kept {
+                value,
+                why: Why::Fault(_),
+            },
+        ) => made(rt, value.give(rt, service, client, to)),
+        Err(_) => panic!(rt; "not given"),
+    }
+}
+
+// The handle goes to the other client.
+fn send_again<E: Ledger, S: Ledger, W: Ledger, R: Wait + Abort>(
+    rt: &R,
+    service: &Service<E, S, W>,
+    client: &mut Client<E, S, W>,
+    handle: Handle<E, S, W>,
+    to: ClientId,
+) {
+    assert!(rt; handle.client() == client.id());
+    match handle.give(rt, service, client, to) {
+        Ok(()) => {}
+        Err(
+            Kept {
+                value,
+                why: Why::Fault(_),
+            },
+        ) => made(rt, value.give(rt, service, client, to)),
+        Err(_) => panic!(rt; "not sent"),
+    }
+}
+
+// The client gives a collection and one of its two handles to the other, and keeps these handles.
+fn share<E: Ledger, S: Ledger, W: Ledger, R: Wait + Abort>(
+    rt: &R,
+    alloc: Global,
+    service: &Service<E, S, W>,
+    client: &mut Client<E, S, W>,
+    to: ClientId,
+) -> Vec<Handle<E, S, W>> {
+    let root = open_again(rt, service, client);
+    let root = bind_again(rt, service, client, root);
+    let mut handles = take_again(rt, alloc, service, client, &root);
+    give_again(rt, service, client, root, to);
+    match handles.pop() {
+        Some(handle) => send_again(rt, service, client, handle, to),
+        None => panic!(rt; "no handle"),
+    }
+    handles
+}
+
+// This token alone.
+fn token_alone<E: Ledger, S: Ledger, W: Ledger, R: Abort>(
+    rt: &R,
+    alloc: Global,
+    token: TokenEnd,
+) -> Held<E, S, W>
+    ensures { AreOf token.client (held_in result) }
+{
+    let mut held = nothing(alloc);
+    put(rt, &mut held.tokens, token);
+    held
+}
+
+// How many parcels were collected by these calls, and how many values were parted with.
+fn collected_and_parted(own: &[Own]) -> (usize, usize) {
+    let collected = own.iter().filter(|o| o.call == Call::Collect).count();
+    let parted = own
+        .iter()
+        .filter(|o| {
+            matches!(o.call, Call::Close(_)) || matches!(o.call, Call::DropHandle(_, _))
+        })
+        .count();
+    (collected, parted)
+}
+
+// What came back is a token and what was collected, less what was parted with.
+fn is_back<E: Ledger, S: Ledger, W: Ledger>(
+    client: &Client<E, S, W>,
+    held: &Held<E, S, W>,
+) -> bool {
+    let (collected, parted) = collected_and_parted(client.own());
+    let ends = held.tokens.len() as u128 + held.collections.len() as u128;
+    ends + held.handles.len() as u128 + parted as u128 == 1 + collected as u128
+}
+
+// The client goes. Where memory is refused it comes back with what it still has, and goes once more,
+// beginning with a Shut.
+fn gone_again<E: Ledger, S: Ledger, W: Ledger, R: Wait + Abort>(
+    rt: &R,
+    alloc: Global,
+    service: &Service<E, S, W>,
+    client: Client<E, S, W>,
+    held: Held<E, S, W>,
+) -> Wreck<E, S, W>
+    requires { AreOf client.id (held_in held) }
+{
+    match vanish(rt, alloc, service, client, held) {
+        Ok(wreck) => wreck,
+        Err((client, held, StepFault::NoMemory)) => {
+            assert!(rt; is_back(&client, &held));
+            let before = client.own().len();
+            let wreck = gone(rt, alloc, service, client, held);
+            match wreck.own().get(before) {
+                Some(own) => assert!(rt; own.call == Call::Shut),
+                None => panic!(rt; "no call"),
+            }
+            wreck
+        }
+        Err(_) => panic!(rt; "a full record"),
+    }
+}
+
+// Both clients are there, and the one handle that is open.
+fn is_all(report: &Report) -> bool {
+    (report.strong, report.weak) == (1, 0) && report.lines.len() == 2
+}
+
+// All is gathered. Where memory is refused all parts come back, and all is gathered from them.
+fn gather_again<E: Ledger, S: Ledger, W: Ledger, R: Wait + Abort>(
+    rt: &R,
+    alloc: Global,
+    service: &Service<E, S, W>,
+    parts: Vec<Holding<E, S, W>>,
+) -> Vec<Holding<E, S, W>> {
+    match gather(rt, alloc, service, parts) {
+        (parts, Ok(told)) => {
+            assert!(rt; is_all(&told));
+            parts
+        }
+        (parts, Err(fault)) => {
+            assert!(rt; fault == GatherFault::NoMemory && parts.len() == 2);
+            let (parts, answer) = gather(rt, alloc, service, parts);
+            assert!(rt; is_all(&report(rt, answer)));
+            parts
+        }
+    }
+}
+
+/// A client that vanishes with a token, while a collection and a handle wait for it, and all that is
+/// gathered then.
+pub fn memory<E: Ledger, S: Ledger, W: Ledger, R: Wait + Abort>(
+    rt: &R,
+    alloc: Global,
+    service: Service<E, S, W>,
+) {
+    let mut first = join_again(rt, alloc, &service);
+    let mut second = join_again(rt, alloc, &service);
+    let handles = share(rt, alloc, &service, &mut first, second.id());
+    let held = Held {
+        tokens: Vec::new(alloc),
+        collections: Vec::new(alloc),
+        handles,
+    };
+    let token = open_again(rt, &service, &mut second);
+    let wreck = gone_again(rt, alloc, &service, second, token_alone(rt, alloc, token));
+    assert!(rt; collected_and_parted(wreck.own()) == (2, 3));
+    let mut parts = Vec::new(alloc);
+    put(rt, &mut parts, Holding::Present(first, held));
+    put(rt, &mut parts, Holding::Wrecked(wreck));
+    let parts = gather_again(rt, alloc, &service, parts);
+    end_service(service, parts);
+}
