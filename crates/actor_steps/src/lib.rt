@@ -11,3 +11,6 @@ mod thing;
 pub use desk::Desk;
 pub use step::{ActorScript, BufferVerb, Step, Verb};
 pub use thing::{Asked, Thing};
+
+#[cfg(test)]
+mod tests;
