@@ -109,3 +109,117 @@ fn many_waiting_units_are_allocated_by_one_call(rt: HostRuntime) -> Result<(), F
     assert!(rt; wait_for_first(&mut ground, &keys, false)?);
     Ok(())
 }
+
+// Whether the node failed.
+fn failed(ground: &Ground, key: NodeKey) -> bool {
+    match ground.forest().node(key) {
+        Some(node) => node.gone && node.fault.is_some(),
+        None => false,
+    }
+}
+
+// Whether each node of its own unit fails alone, from the last born to the first, and the root stays.
+fn fall_in_turn(ground: &mut Ground, keys: &[NodeKey]) -> Result<bool, Fail> {
+    let Some((root, mut rest)) = keys.split_first() else {
+        return Ok(false);
+    };
+    while let Some((key, older)) = rest.split_last() {
+        ground.lose(*key)?;
+        if !failed(ground, *key) || failed(ground, *root) {
+            return Ok(false);
+        }
+        if let Some(before) = older.last() {
+            if failed(ground, *before) {
+                return Ok(false);
+            }
+        }
+        rest = older;
+    }
+    Ok(ground.forest().strong_live(HERE))
+}
+
+#[test]
+fn many_units_fail_in_turn(rt: HostRuntime) -> Result<(), Fail> {
+    let (mut ground, keys) = family(rt.alloc(), 999, true)?;
+    assert!(rt; fall_in_turn(&mut ground, &keys)?);
+    Ok(())
+}
+
+// Whether the node left without a fault.
+fn left(ground: &Ground, key: NodeKey) -> bool {
+    match ground.forest().node(key) {
+        Some(node) => node.gone && node.fault.is_none(),
+        None => false,
+    }
+}
+
+// Whether each of them left, or none.
+fn have_left(ground: &Ground, keys: &[NodeKey], yes: bool) -> bool {
+    for key in keys {
+        if left(ground, *key) != yes {
+            return false;
+        }
+    }
+    true
+}
+
+// Whether the nodes of one unit stay while they are released from the last to the second, and leave
+// with the first.
+fn release_back(ground: &mut Ground, keys: &[NodeKey]) -> Result<bool, Fail> {
+    let Some((root, mut rest)) = keys.split_first() else {
+        return Ok(false);
+    };
+    while let Some((key, older)) = rest.split_last() {
+        ground.release(*key)?;
+        rest = older;
+    }
+    let stayed = have_left(ground, keys, false);
+    ground.release(*root)?;
+    Ok(stayed && have_left(ground, keys, true))
+}
+
+#[test]
+fn the_last_release_of_many_ends_the_collection(rt: HostRuntime) -> Result<(), Fail> {
+    let (mut ground, keys) = family(rt.alloc(), 999, false)?;
+    assert!(rt; release_back(&mut ground, &keys)?);
+    assert!(rt; !ground.forest().strong_live(HERE));
+    Ok(())
+}
+
+// So many units, each below the one before.
+fn chain(alloc: Global, units: usize) -> Result<(Ground, Vec<NodeKey>), Fail> {
+    let mut ground = Ground::new(alloc)?;
+    let mut keys = Vec::new(alloc);
+    let mut above = None;
+    for _ in 0..units {
+        let key = ground.bear(above, above.is_some())?;
+        keys.push(key)?;
+        above = Some(key);
+    }
+    Ok((ground, keys))
+}
+
+// Whether each unit ends as it is released, from below.
+fn end_from_below(ground: &mut Ground, keys: &[NodeKey]) -> Result<bool, Fail> {
+    let mut rest = keys;
+    while let Some((key, older)) = rest.split_last() {
+        ground.release(*key)?;
+        if !left(ground, *key) {
+            return Ok(false);
+        }
+        if let Some(above) = older.last() {
+            if left(ground, *above) {
+                return Ok(false);
+            }
+        }
+        rest = older;
+    }
+    Ok(true)
+}
+
+#[test]
+fn a_chain_of_units_ends_from_below(rt: HostRuntime) -> Result<(), Fail> {
+    let (mut ground, keys) = chain(rt.alloc(), 100)?;
+    assert!(rt; end_from_below(&mut ground, &keys)?);
+    Ok(())
+}
