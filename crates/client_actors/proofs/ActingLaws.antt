@@ -1,0 +1,246 @@
+-- What an actor's slots hold after its calls, and what it leaves.
+use Rattle.std.proofs.Common.{ℕ, zero, suc, ◌≡◌, ◌+◌, ◌-◌, ◌≤◌, ◌<◌, ◌∙◌, refl, sym, ap, subst, Bool, true, false, if◌then◌else◌, ◌==◌, List, [], ◌∷◌, ◌++◌, append-nil, arith, length, length-append, map, Option, Some, None}
+use Rattle.std.specs.Int.{bit_at}
+use Rattle.std.specs.List.{All}
+use Rattle.std.specs.Prelude.{flat_map, reverse, set, slice_get, slice_index_or, option_map, Result, Ok, Err, MatchResult}
+use Rattle.std.proofs.lemmas.List.{length-map, map-append, map-set, reverse-append}
+use Rattle.std.proofs.lemmas.List.Elements.{All-append, All-cons, All-head, All-nil, All-tail}
+use Rattle.sm_names.specs.declared.keys.Strength.{Strength}
+use Rattle.sm_names.specs.declared.messages.Call.{Call}
+use Rattle.sm_names.specs.declared.messages.Reply.{Reply}
+use Rattle.sm_names.specs.declared.outcomes.StepFault.{StepFault}
+use Rattle.record_parts.specs.declared.own.Own.{Own}
+use Rattle.client_ends.specs.declared.held.End.{End}
+use Rattle.client_ends.specs.Clients.{Grip, Made, Seen, Tag, last_reply}
+use Rattle.client_parting.specs.Partings.{AreOf as AreTheirs, Holds, Thing as Part, Token, Collection, Handle, collection_in, handle_in, owner_of, sorted, token_in}
+use Rattle.client_parting.specs.Stacks.{both, kept_things, sorted_one}
+use Rattle.client_parting.proofs.ThingLaws.{both_assoc, flat-append}
+use Rattle.actor_steps.specs.declared.thing.Asked.{Asked}
+use Rattle.actor_steps.specs.declared.thing.Thing.{Thing}
+use Rattle.actor_steps.specs.Desks.{FitsThere, bound, emptied, given, handles_from, on_of, spends, thing_at}
+use Rattle.client_actors.specs.declared.brought.Brought.{Brought}
+use Rattle.client_actors.specs.Asking.{AreOf, Did, IsOf, Lent, full, handle_seen, lies, slots_for, there, things_in}
+use Rattle.client_actors.specs.Acting.{Answers, Asks, left_in, pairs_of, part_of}
+
+-- ---- one slot
+
+-- where something takes the call, there is a slot
+pub within : {E S W : Type 0} (items : List (Option (End E S W))) (slot : ℕ) (call : Call) → FitsThere (thing_at (lies items) slot) call → slot < length items
+within [] slot call fits = absurd fits
+within (x ∷ xs) zero call fits = omega arith
+within (x ∷ xs) (suc slot) call fits = let more = within xs slot call fits in omega (arith, more)
+
+-- what lies there
+pub at_slot : {E S W : Type 0} (items : List (Option (End E S W))) (slot : ℕ) (on : Option (End E S W)) → slot < length items → on ≡ slice_index_or items slot on →
+    thing_at (lies items) slot ≡ there on
+at_slot [] slot on lt is = absurd (omega (arith, lt))
+at_slot (x ∷ xs) zero on lt is = sym (ap there is)
+at_slot (x ∷ xs) (suc slot) on lt is = at_slot xs slot on (omega (arith, lt)) is
+
+-- the same thing put back changes nothing
+set_same : {E S W : Type 0} (items : List (Option (End E S W))) (slot : ℕ) (on : Option (End E S W)) → slot < length items → on ≡ slice_index_or items slot on →
+    set (lies items) slot (there on) ≡ lies items
+set_same [] slot on lt is = refl
+set_same (x ∷ xs) zero on lt is = ap (λ o. there o ∷ lies xs) is
+set_same (x ∷ xs) (suc slot) on lt is = ap (λ l. there x ∷ l) (set_same xs slot on (omega (arith, lt)) is)
+
+-- a thing is gone, or still there
+set_if : {E S W : Type 0} (items : List (Option (End E S W))) (slot : ℕ) (on : Option (End E S W)) → slot < length items → on ≡ slice_index_or items slot on → (gone : Bool) →
+    set (lies items) slot (if gone then None else there on) ≡ (if gone then emptied (lies items) (Some slot) else lies items)
+set_if items slot on lt is true = refl
+set_if items slot on lt is false = set_same items slot on lt is
+
+-- a call on what lies in a slot
+pub asks_at : {E S W : Type 0} (old new : Seen) (call : Call) (items items' : List (Option (End E S W))) (slot : ℕ) (on on' : Option (End E S W)) (brought : Brought E S W) →
+    slot < length items → on ≡ slice_index_or items slot on → items' ≡ set items slot on' → Did old new call (there on) (there on') brought →
+    Asks old new call (Some slot) (lies items) (lies items') brought
+asks_at old new call items items' slot on on' brought lt is put did = record {
+  reply = did.reply;
+  made = did.made;
+  left = ap lies put ∙ (map-set there items slot on' ∙ (ap (set (lies items) slot) did.left ∙ set_if items slot on lt is (spends call did.reply)));
+  things = did.things ∙ ap (λ o. given o call did.reply) (sym (at_slot items slot on lt is));
+  owned = did.owned;
+}
+
+-- whatever comes of it
+pub asks_there : {E S W : Type 0} (old new : Seen) (call : Call) (told : Option ℕ) (items : List (Option (End E S W))) (slot : ℕ) (on on' : Option (End E S W)) (result : Result (Brought E S W) StepFault) →
+    told ≡ Some slot → slot < length items → on ≡ slice_index_or items slot on → MatchResult result (λ b. Did old new call (there on) (there on') b) (λ _. (new ≡ old) × (on' ≡ on)) →
+    MatchResult result (λ b. Asks old new call told (lies items) (lies (set items slot on')) b) (λ _. new ≡ old)
+asks_there old new call told items slot on on' (Ok b) so lt is did =
+    subst (λ s. Asks old new call s (lies items) (lies (set items slot on')) b) (sym so) (asks_at old new call items (set items slot on') slot on on' b lt is refl did)
+asks_there old new call told items slot on on' (Err fault) so lt is did = did.0
+
+-- a call on nothing
+pub asks_none : {E S W : Type 0} (old new : Seen) (call : Call) (before : List (Option Thing)) (brought : Brought E S W) → Lent old new call brought → Asks old new call None before before brought
+asks_none old new call before brought lent = record {
+  reply = lent.reply;
+  made = lent.made;
+  left = rw lent.stays refl;
+  things = lent.things None;
+  owned = lent.owned;
+}
+
+-- the slots of what was brought
+handles_seen : (E S W : Type 0) (hs : List Grip) → lies {E = E} {S = S} {W = W} (map full hs) ≡ map Some (map handle_seen hs)
+handles_seen E S W [] = refl
+handles_seen E S W (h ∷ hs) = ap (λ l. Some (handle_seen h) ∷ l) (handles_seen E S W hs)
+
+brought_seen : {E S W : Type 0} (brought : Brought E S W) → lies (slots_for brought) ≡ map Some (things_in brought)
+brought_seen Brought.Nothing = refl
+brought_seen (Brought.One end) = refl
+brought_seen (Brought.Handles handles) = handles_seen _ _ _ handles.items
+brought_seen (Brought.Tracker tracker) = refl
+
+-- as many as there are things
+as_many : {E S W : Type 0} (brought : Brought E S W) → length (slots_for brought) ≡ length (things_in brought)
+as_many Brought.Nothing = refl
+as_many (Brought.One end) = refl
+as_many (Brought.Handles handles) = length-map handles.items full ∙ sym (length-map handles.items handle_seen)
+as_many (Brought.Tracker tracker) = refl
+
+-- they are the client's
+full_owned : {E S W : Type 0} (client : ℕ) (hs : List Grip) → All (λ (h : Grip). h.client ≡ client) hs → All (IsOf {E = E} {S = S} {W = W} client) (map full hs)
+full_owned client [] all = All-nil (IsOf client)
+full_owned client (h ∷ hs) all = All-cons (IsOf client) (full h) (map full hs) (All-head (λ (x : Grip). x.client ≡ client) h hs all)
+    (full_owned client hs (All-tail (λ (x : Grip). x.client ≡ client) h hs all))
+
+pub stored_owned : {E S W : Type 0} (client : ℕ) (slots : List (Option (End E S W))) (brought : Brought E S W) → All (IsOf client) slots → AreOf client brought → All (IsOf client) (slots ++ slots_for brought)
+stored_owned client slots Brought.Nothing all of = All-append (IsOf client) slots [] all (All-nil (IsOf client))
+stored_owned client slots (Brought.One end) all of = All-append (IsOf client) slots (Some end ∷ []) all (All-cons (IsOf client) (Some end) [] of (All-nil (IsOf client)))
+stored_owned client slots (Brought.Handles handles) all of = All-append (IsOf client) slots (map full handles.items) all (full_owned client handles.items of)
+stored_owned client slots (Brought.Tracker tracker) all of = All-append (IsOf client) slots [] all (All-nil (IsOf client))
+
+-- with what it brought
+pub answers : {E S W : Type 0} (old new : Seen) (asked : Asked) (before : List (Option Thing)) (mid after : List (Option (End E S W))) (brought : Brought E S W) →
+    Asks old new asked.call asked.slot before (lies mid) brought → after ≡ mid ++ slots_for brought → Answers old new asked before (lies after)
+answers old new asked before mid after brought asks stored = record {
+  reply = asks.reply;
+  made = asks.made;
+  things = ap lies stored ∙ (map-append there mid (slots_for brought) ∙ (ap (λ l. lies mid ++ l) (brought_seen brought)
+      ∙ (ap (λ l. l ++ map Some (things_in brought)) asks.left
+      ∙ ap (λ l. (if spends asked.call asks.reply then emptied before asked.slot else before) ++ map Some l) asks.things)));
+}
+
+-- ---- how many things a call gives
+
+handles_few : (collection : ℕ) (strength : Strength) (held index count : ℕ) → length (handles_from collection strength held index count) ≤ count
+unfolding handles_from
+handles_few collection strength held index zero = omega arith
+handles_few collection strength held index (suc count) = either (handles_few collection strength held (index + 1) count) (bit_at held index == 1) refl
+  where
+    either : length (handles_from collection strength held (index + 1) count) ≤ count → (b : Bool) → (bit_at held index == 1) ≡ b → length (handles_from collection strength held index (suc count)) ≤ suc count
+    either more true is = rw is (omega (arith, more))
+    either more false is = rw is (omega (arith, more))
+
+bound_few : (on : Option Thing) → length (bound on) ≤ 64
+bound_few (Some (Thing.Token key collection)) = omega arith
+bound_few (Some (Thing.Collection key collection)) = omega arith
+bound_few (Some (Thing.Handle buffer strength)) = omega arith
+bound_few None = omega arith
+
+few : (on : Option Thing) (call : Call) (reply : Reply) → length (given on call reply) ≤ 64
+few on (Call.Take key) (Reply.Taken collection strength held) = handles_few collection strength held 0 64
+few on (Call.Take key) _ = omega arith
+few on (Call.Bind key) Reply.Done = bound_few on
+few on (Call.Bind key) _ = omega arith
+few on Call.OpenRoot (Reply.Token key collection) = omega arith
+few on Call.OpenRoot _ = omega arith
+few on (Call.Duplicate parent) (Reply.Token key collection) = omega arith
+few on (Call.Duplicate parent) _ = omega arith
+few on (Call.AttachToken parent) (Reply.Token key collection) = omega arith
+few on (Call.AttachToken parent) _ = omega arith
+few on Call.Collect (Reply.Collected key kind collection) = omega arith
+few on Call.Collect (Reply.CollectedHandle buffer strength) = omega arith
+few on Call.Collect _ = omega arith
+few on (Call.DupHandle buffer strength) Reply.Done = omega arith
+few on (Call.DupHandle buffer strength) _ = omega arith
+few on _ reply = omega arith
+
+-- so there is room for it
+pub room_for : {E S W : Type 0} (old new : Seen) (call : Call) (slot : Option ℕ) (before after : List (Option Thing)) (brought : Brought E S W) → Asks old new call slot before after brought → length (slots_for brought) ≤ 64
+room_for old new call slot before after brought asks = subst (λ n. n ≤ 64) (sym (as_many brought ∙ ap length asks.things)) (few (on_of before slot) call asks.reply)
+
+-- ---- lists of events
+
+-- the last entry
+at_end : (own : List Own) (o : Own) → slice_get (own ++ o ∷ []) (length own) ≡ Some o
+at_end [] o = refl
+at_end (x ∷ xs) o = at_end xs o
+
+pub last_is : (old new : Seen) (call : Call) (reply : Reply) → Made old new call reply → last_reply new.own ≡ Some reply
+last_is old new call reply made =
+    let o : Own = record { event = made.told.event; call = call; reply = reply } in
+    let place : length (old.own ++ o ∷ []) - 1 ≡ length old.own = omega (arith, length-append old.own (o ∷ [])) in
+    ap last_reply made.told.next
+    ∙ (ap (λ n. option_map (λ (e : Own). e.reply) (slice_get (old.own ++ o ∷ []) n)) place ∙ ap (option_map (λ (e : Own). e.reply)) (at_end old.own o))
+
+pub pairs_more : (old new : Seen) (call : Call) (reply : Reply) → Made old new call reply → pairs_of new.own ≡ pairs_of old.own ++ (call, reply) ∷ []
+pairs_more old new call reply made = ap pairs_of made.told.next ∙ map-append (λ (o : Own). (o.call, o.reply)) old.own (record { event = made.told.event; call = call; reply = reply } ∷ [])
+
+-- ---- what an actor leaves
+
+-- the last of a list comes first
+flat_reverse : {A B : Type 0} (f : A → List B) (x : A) (xs : List A) → flat_map f (reverse (x ∷ xs)) ≡ flat_map f (reverse xs) ++ f x
+flat_reverse f x xs =
+    ap (flat_map f) (reverse-append (x ∷ []) xs) ∙ (flat-append f (reverse xs) (x ∷ []) ∙ ap (λ l. flat_map f (reverse xs) ++ l) (append-nil (f x)))
+
+-- so does the last of the slots
+pub left_pop : {E S W : Type 0} (items rest : List (Option (End E S W))) (x : Option (End E S W)) → items ≡ rest ++ x ∷ [] → left_in items ≡ kept_things x ++ left_in rest
+left_pop items rest x is = ap left_in is ∙ ap (flat_map kept_things) (reverse-append rest (x ∷ []))
+
+-- one thing more was put into its list
+pub unload_one : (held held' : Holds) (part : Part) (rest all : List Part) → held' ≡ both held (sorted_one part) → all ≡ part ∷ rest → both held' (sorted rest) ≡ both held (sorted all)
+unload_one held held' part rest all put is = ap (λ h. both h (sorted rest)) put ∙ (both_assoc held (sorted_one part) (sorted rest) ∙ ap (λ l. both held (sorted l)) (sym is))
+
+module _ (client : ℕ) where
+  -- a thing in a slot, by what is known of it
+  one_part : {E S W : Type 0} (slot : Option (End E S W)) → IsOf client slot → part_of client (there slot) ≡ kept_things slot
+  one_part None of = refl
+  one_part (Some (End.Token t)) of = ap (λ c. Token (record { client = c; key = t.key; collection = t.collection }) ∷ []) (sym of)
+  one_part (Some (End.Collection t)) of = ap (λ c. Collection (record { client = c; key = t.key; collection = t.collection }) ∷ []) (sym of)
+  one_part (Some (End.Handle h)) of = ap (λ c. Handle (record { client = c; buffer = h.buffer; strength = h.strength }) ∷ []) (sym of)
+
+  -- all of them
+  pub parts_left : {E S W : Type 0} (slots : List (Option (End E S W))) → All (IsOf client) slots → flat_map (part_of client) (reverse (lies slots)) ≡ left_in slots
+  parts_left [] of = refl
+  parts_left (x ∷ xs) of =
+      flat_reverse (part_of client) (there x) (lies xs)
+      ∙ (ap (λ l. l ++ part_of client (there x)) (parts_left xs (All-tail (IsOf client) x xs of))
+      ∙ (ap (λ l. left_in xs ++ l) (one_part x (All-head (IsOf client) x xs of)) ∙ sym (flat_reverse kept_things x xs)))
+
+  -- who holds them
+  one_owner : {E S W : Type 0} (slot : Option (End E S W)) → IsOf client slot → All (λ p. owner_of p ≡ client) (kept_things slot)
+  one_owner None of = All-nil (λ p. owner_of p ≡ client)
+  one_owner (Some (End.Token t)) of = All-cons (λ p. owner_of p ≡ client) (Token t) [] of (All-nil (λ p. owner_of p ≡ client))
+  one_owner (Some (End.Collection t)) of = All-cons (λ p. owner_of p ≡ client) (Collection t) [] of (All-nil (λ p. owner_of p ≡ client))
+  one_owner (Some (End.Handle h)) of = All-cons (λ p. owner_of p ≡ client) (Handle h) [] of (All-nil (λ p. owner_of p ≡ client))
+
+  all_owner : {E S W : Type 0} (slots : List (Option (End E S W))) → All (IsOf client) slots → All (λ p. owner_of p ≡ client) (left_in slots)
+  all_owner [] of = All-nil (λ p. owner_of p ≡ client)
+  all_owner (x ∷ xs) of = subst (All (λ p. owner_of p ≡ client)) (sym (flat_reverse kept_things x xs))
+      (All-append (λ p. owner_of p ≡ client) (left_in xs) (kept_things x) (all_owner xs (All-tail (IsOf client) x xs of)) (one_owner x (All-head (IsOf client) x xs of)))
+
+  -- kind by kind
+  by_kind : {A : Type 0} (Q : A → Type 0) (f : Part → List A) → ((p : Part) → owner_of p ≡ client → All Q (f p)) → (parts : List Part) → All (λ p. owner_of p ≡ client) parts → All Q (flat_map f parts)
+  by_kind Q f one [] all = All-nil Q
+  by_kind Q f one (p ∷ ps) all =
+      All-append Q (f p) (flat_map f ps) (one p (All-head (λ x. owner_of x ≡ client) p ps all)) (by_kind Q f one ps (All-tail (λ x. owner_of x ≡ client) p ps all))
+
+  of_token : (p : Part) → owner_of p ≡ client → All (λ (t : Tag). t.client ≡ client) (token_in p)
+  of_token (Token t) is = All-cons (λ (t : Tag). t.client ≡ client) t [] is (All-nil (λ (t : Tag). t.client ≡ client))
+  of_token _ is = All-nil (λ (t : Tag). t.client ≡ client)
+
+  of_collection : (p : Part) → owner_of p ≡ client → All (λ (t : Tag). t.client ≡ client) (collection_in p)
+  of_collection (Collection t) is = All-cons (λ (t : Tag). t.client ≡ client) t [] is (All-nil (λ (t : Tag). t.client ≡ client))
+  of_collection _ is = All-nil (λ (t : Tag). t.client ≡ client)
+
+  of_handle : (p : Part) → owner_of p ≡ client → All (λ (h : Grip). h.client ≡ client) (handle_in p)
+  of_handle (Handle h) is = All-cons (λ (h : Grip). h.client ≡ client) h [] is (All-nil (λ (h : Grip). h.client ≡ client))
+  of_handle _ is = All-nil (λ (h : Grip). h.client ≡ client)
+
+  pub left_owned : {E S W : Type 0} (slots : List (Option (End E S W))) → All (IsOf client) slots → AreTheirs client (sorted (left_in slots))
+  left_owned slots of = record {
+    tokens = by_kind (λ (t : Tag). t.client ≡ client) token_in of_token (left_in slots) (all_owner slots of);
+    collections = by_kind (λ (t : Tag). t.client ≡ client) collection_in of_collection (left_in slots) (all_owner slots of);
+    handles = by_kind (λ (h : Grip). h.client ≡ client) handle_in of_handle (left_in slots) (all_owner slots of);
+  }

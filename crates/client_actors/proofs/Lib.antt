@@ -1,0 +1,3 @@
+pub mod ActingLaws
+pub mod AskingLaws
+pub mod PlayLaws

@@ -1,0 +1,76 @@
+-- How an actor plays its steps, and what it leaves.
+use Rattle.std.proofs.Common.{ℕ, ◌≡◌, ◌∙◌, sym, ap, subst, false, List, [], ◌∷◌, ◌++◌, append_assoc, Option, Some, None}
+use Rattle.std.specs.Prelude.{flat_map, reverse, Result, Ok, Err, OnOk, is_err}
+use Rattle.sm_names.specs.declared.messages.Reply.{Reply}
+use Rattle.client_ends.specs.declared.held.End.{End}
+use Rattle.client_ends.specs.Clients.{Made, Seen, last_reply}
+use Rattle.client_parting.specs.Partings.{Holds, IsGone, Remains, sorted}
+use Rattle.actor_steps.specs.declared.step.Step.{Step}
+use Rattle.actor_steps.specs.declared.thing.Asked.{Asked}
+use Rattle.actor_steps.specs.Desks.{asked_of, desk_after, nothing_known, things_after}
+use Rattle.actor_steps.specs.Plays.{Plays}
+use Rattle.actor_steps.specs.Tables.{known}
+use Rattle.client_actors.specs.declared.acting.Actor.{Actor}
+use Rattle.client_actors.specs.Acting.{Answers, HasMade, HasPlayed, HasPlayedTo, HasStepped, IsAware, IsSound, left_in, pairs_of, part_of}
+use Rattle.client_actors.specs.Asking.{lies}
+use Rattle.client_actors.proofs.ActingLaws.{last_is, pairs_more, parts_left}
+
+-- what is ensured of a success
+pub on_ok : {A B : Type 0} (r : Result A B) (P : Type 0) → is_err r ≡ false → OnOk r P → P
+on_ok (Ok a) P fine so = so
+on_ok (Err b) P fine so = cc
+
+-- the call of a step, and what the actor then knows
+pub has_made : {E S W : Type 0} (step : Step) (asked : Asked) (reply : Reply) (old new : Actor E S W) (mid : List (Option (End E S W))) → Answers old.client new.client asked (lies mid) (lies new.slots.items) →
+    mid ≡ old.slots.items → Some reply ≡ last_reply new.client.own → known new.desk ≡ desk_after (known old.desk) step asked reply →
+    (known new.desk).things ≡ things_after (known old.desk).things asked reply → HasMade step asked reply old new
+has_made step asked reply old new mid a same last knows things =
+    let some : Some a.reply ≡ Some reply = sym (last_is old.client new.client asked.call a.reply a.made) ∙ sym last in
+    let told : a.reply ≡ reply = cc in
+    record {
+      made = subst (Made old.client new.client asked.call) told a.made;
+      knows = knows;
+      things = things;
+      slots = a.things ∙ (ap (λ r. things_after (lies mid) asked r) told ∙ ap (λ m. things_after (lies m) asked reply) same);
+    }
+
+-- no step yet
+pub plays_none : {E S W : Type 0} (clients : List ℕ) (actor : Actor E S W) → actor.client.own ≡ [] → known actor.desk ≡ nothing_known → Plays clients [] (pairs_of actor.client.own) (known actor.desk)
+plays_none clients actor own desk = subst (λ o. Plays clients [] (pairs_of o) (known actor.desk)) (sym own) (subst (Plays clients [] []) (sym desk) Plays.Starts)
+
+module _ {E S W : Type 0} (clients : List ℕ) where
+  -- a step that makes a call
+  pub stepped : (step : Step) (asked : Asked) (reply : Reply) (old new : Actor E S W) → asked_of clients (known old.desk) step ≡ Some asked → HasMade step asked reply old new → IsAware old → HasStepped clients step old new
+  stepped step asked reply old new is made aware = record {
+    plays = λ steps so. subst (Plays clients (steps ++ step ∷ []) (pairs_of new.client.own)) (sym made.knows)
+        (subst (λ l. Plays clients (steps ++ step ∷ []) l (desk_after (known old.desk) step asked reply)) (sym (pairs_more old.client new.client asked.call reply made.made))
+        (Plays.Makes steps (pairs_of old.client.own) (known old.desk) step asked reply so is));
+    aware = made.slots ∙ (ap (λ l. things_after l asked reply) aware ∙ sym made.things);
+  }
+
+  -- a step that is skipped
+  pub skipped : (step : Step) (actor : Actor E S W) → asked_of clients (known actor.desk) step ≡ None → IsAware actor → HasStepped clients step actor actor
+  skipped step actor none aware = record {
+    plays = λ steps so. Plays.Skips steps (pairs_of actor.client.own) (known actor.desk) step so none;
+    aware = aware;
+  }
+
+  -- one more
+  pub played_more : (steps rest more : List Step) (step : Step) (old new : Actor E S W) → HasPlayedTo clients steps rest old → rest ≡ step ∷ more → HasStepped clients step old new → HasPlayedTo clients steps more new
+  played_more steps rest more step old new so is one = record {
+    done = so.done ++ step ∷ [];
+    split = so.split ∙ (ap (λ l. so.done ++ l) is ∙ sym (append_assoc so.done (step ∷ []) more));
+    plays = one.plays so.done so.plays;
+  }
+
+  -- an actor that played all and is gone
+  pub has_played : (steps : List Step) (actor : Actor E S W) (client : Seen) (left : Remains) (held : Holds) → client ≡ actor.client → Plays clients steps (pairs_of actor.client.own) (known actor.desk) → IsAware actor → IsSound actor →
+      held ≡ sorted (left_in actor.slots.items) → IsGone client left.client held left.refused → HasPlayed clients steps left
+  has_played steps actor client left held same plays aware sound is gone = record {
+    before = actor.client;
+    desk = known actor.desk;
+    plays = plays;
+    gone =
+        let parts = sym (parts_left actor.client.id actor.slots.items sound.owned) ∙ ap (λ t. flat_map (part_of actor.client.id) (reverse t)) aware in
+        subst (λ h. IsGone actor.client left.client h left.refused) (is ∙ ap sorted parts) (subst (λ c. IsGone c left.client held left.refused) same gone);
+  }

@@ -1,0 +1,151 @@
+//! An actor: what it has and knows, and how it makes a step.
+ghost use Rattle.std.specs.Prelude.{◌≡◌, ◌+◌, ◌≤◌, [], MatchResult, IfOk, OnOk, vec_len, vec_capacity};
+ghost use Rattle.std.specs.List.{All};
+ghost use Rattle.actor_steps.specs.Desks.{Fits, nothing_known};
+ghost use Rattle.actor_steps.specs.Tables.{known};
+ghost use Rattle.client_actors.specs.Acting.{Answers, Asks, HasMade, HasStepped, IsAware, IsSound};
+ghost use Rattle.client_actors.specs.Asking.{IsOf, lies};
+
+use crate::asking::on_none;
+use crate::brought::Brought;
+use crate::slots::ask_there;
+use crate::storing::{make_room, store};
+use actor_steps::{Asked, Desk, Step};
+use client_ends::{Client, End, Held};
+use service_lock::Service;
+use sm_names::{ClientId, Reply, StepFault};
+use std::alloc::Global;
+use std::sync::Wait;
+use std::sync::ledger::Ledger;
+
+// An actor while it plays: its client, its things in their slots, and what it knows.
+pub(crate) struct Actor<E: Ledger, S: Ledger, W: Ledger> {
+    pub client: Client<E, S, W>,
+    pub slots: Vec<Option<End<E, S, W>>>,
+    // Empty lists, with room for all that lies in the slots.
+    pub held: Held<E, S, W>,
+    pub desk: Desk,
+}
+
+// Makes the call on what lies in the slot, if one is told.
+fn ask_on<E: Ledger, S: Ledger, W: Ledger, R: Wait>(
+    rt: &R,
+    alloc: Global,
+    service: &Service<E, S, W>,
+    client: &mut Client<E, S, W>,
+    slots: &mut Vec<Option<End<E, S, W>>>,
+    asked: &Asked,
+) -> Result<Brought<E, S, W>, StepFault>
+    requires owned { All (IsOf client.old.id) slots.old.items }
+    requires fits { Fits (lies slots.old.items) asked.now.slot asked.now.call }
+    ensures asked { MatchResult result
+        (λ b. Asks client.old client.new asked.now.call asked.now.slot
+        (lies slots.old.items) (lies slots.new.items) b) (λ _. client.new ≡ client.old) }
+    ensures owned { All (IsOf client.old.id) slots.new.items }
+    ensures len { vec_len slots.new ≡ vec_len slots.old }
+    ensures room { vec_capacity slots.new ≡ vec_capacity slots.old }
+{
+    match asked.slot {
+        Some(slot) => ask_there(rt, alloc, service, client, &mut slots[slot], asked.call),
+        None => on_none(rt, service, client, asked.call),
+    }
+}
+
+// Makes the call: what it is made on leaves its slot if it is spent, and what it brings is stored.
+fn ask<E: Ledger, S: Ledger, W: Ledger, R: Wait>(
+    rt: &R,
+    alloc: Global,
+    service: &Service<E, S, W>,
+    client: &mut Client<E, S, W>,
+    slots: &mut Vec<Option<End<E, S, W>>>,
+    asked: &Asked,
+) -> Result<(), StepFault>
+    requires owned { All (IsOf client.old.id) slots.old.items }
+    requires fits { Fits (lies slots.old.items) asked.now.slot asked.now.call }
+    requires room { vec_len slots.old + 64 ≤ vec_capacity slots.old }
+    ensures asked { MatchResult result
+        (λ _. Answers client.old client.new asked.now (lies slots.old.items)
+        (lies slots.new.items)) (λ _. client.new ≡ client.old) }
+    ensures owned { All (IsOf client.old.id) slots.new.items }
+    ensures len { vec_len slots.new ≤ vec_len slots.old + 64 }
+{
+    match ask_on(rt, alloc, service, client, slots, asked) {
+        Ok(brought) => {
+            store(slots, brought);
+            Ok(())
+        }
+        Err(fault) => Err(fault),
+    }
+}
+
+impl<E: Ledger, S: Ledger, W: Ledger> Actor<E, S, W> {
+    // An actor that has made no step.
+    pub(crate) fn new(alloc: Global, client: Client<E, S, W>) -> Actor<E, S, W>
+        ensures client { result.client ≡ client }
+        ensures slots { result.slots.items ≡ [] }
+        ensures desk { known result.desk ≡ nothing_known }
+        ensures sound { IsSound result }
+    {
+        Actor {
+            client,
+            slots: Vec::new(alloc),
+            held: Held {
+                tokens: Vec::new(alloc),
+                collections: Vec::new(alloc),
+                handles: Vec::new(alloc),
+            },
+            desk: Desk::new(alloc),
+        }
+    }
+
+    // Makes the call of a step.
+    fn make<R: Wait>(
+        &mut self,
+        rt: &R,
+        alloc: Global,
+        service: &Service<E, S, W>,
+        step: Step,
+        asked: &Asked,
+    ) -> Result<Reply, StepFault>
+        requires sound { IsSound self.old }
+        requires fits { Fits (lies self.old.slots.items) asked.now.slot asked.now.call }
+        ensures made { IfOk result (λ reply. HasMade step asked.now reply self.old self.new) }
+        ensures sound { IsSound self.new }
+        ensures id { self.new.client.id ≡ self.old.client.id }
+    {
+        make_room(&mut self.slots, &mut self.held)?;
+        ask(rt, alloc, service, &mut self.client, &mut self.slots, asked)?;
+        let Some(reply) = self.client.last() else {
+            unreachable!();
+        };
+        if self.desk.note(step, asked, &reply).is_err() {
+            return Err(StepFault::NoMemory);
+        }
+        Ok(reply)
+    }
+
+    // Makes a step: the reply to its call, or `None` where it made none.
+    pub(crate) fn step<R: Wait>(
+        &mut self,
+        rt: &R,
+        alloc: Global,
+        service: &Service<E, S, W>,
+        clients: &[ClientId],
+        step: Step,
+    ) -> Result<Option<Reply>, StepFault>
+        requires sound { IsSound self.old }
+        requires aware { IsAware self.old }
+        ensures stepped { OnOk result (HasStepped clients.now step self.old self.new) }
+        ensures sound { IsSound self.new }
+        ensures id { self.new.client.id ≡ self.old.client.id }
+    {
+        let again = step;
+        match self.desk.call(clients, step) {
+            Some(asked) => {
+                let reply = self.make(rt, alloc, service, again, &asked)?;
+                Ok(Some(reply))
+            }
+            None => Ok(None),
+        }
+    }
+}

@@ -1,0 +1,183 @@
+//! The calls that leave with the actor what they are made on.
+ghost use Rattle.std.specs.Prelude.{◌≡◌, false, MatchResult};
+ghost use Rattle.actor_steps.specs.Desks.{FitsCollection, FitsEnd, FitsHandle, FitsNone, FitsToken};
+ghost use Rattle.client_actors.specs.Asking.{Lent, may_spend};
+
+use crate::brought::Brought;
+use client_ends::{Client, CollectionEnd, End, EndOf, Handle, TokenEnd, Why};
+use service_lock::Service;
+use sm_names::{Call, StepFault};
+use std::alloc::Global;
+use std::sync::Wait;
+use std::sync::ledger::Ledger;
+
+// Calls on nothing.
+pub(crate) fn on_none<E: Ledger, S: Ledger, W: Ledger, R: Wait>(
+    rt: &R,
+    service: &Service<E, S, W>,
+    client: &mut Client<E, S, W>,
+    call: Call,
+) -> Result<Brought<E, S, W>, StepFault>
+    requires fits { FitsNone call }
+    ensures { MatchResult result
+        (λ b. Lent client.old client.new call b) (λ _. client.new ≡ client.old) }
+{
+    match call {
+        Call::Shut => {
+            client.shut(rt, service)?;
+            Ok(Brought::Nothing)
+        }
+        Call::OpenRoot => match client.open_root(rt, service) {
+            Ok(token) => Ok(Brought::One(End::Token(token))),
+            Err(Why::Reply(_)) => Ok(Brought::Nothing),
+            Err(Why::Fault(fault)) => Err(fault),
+        },
+        Call::Collect => match client.collect(rt, service) {
+            Ok(Some(end)) => Ok(Brought::One(end)),
+            Ok(None) => Ok(Brought::Nothing),
+            Err(Why::Reply(_)) => Ok(Brought::Nothing),
+            Err(Why::Fault(fault)) => Err(fault),
+        },
+        _ => unreachable!(),
+    }
+}
+
+// Calls on an end of either kind.
+fn on_end<K, E: Ledger, S: Ledger, W: Ledger, R: Wait>(
+    rt: &R,
+    service: &Service<E, S, W>,
+    client: &mut Client<E, S, W>,
+    end: &EndOf<K>,
+    call: Call,
+) -> Result<Brought<E, S, W>, StepFault>
+    requires holder { end.now.client ≡ client.old.id }
+    requires fits { FitsEnd end.now.key call }
+    requires lends { may_spend call ≡ false }
+    ensures { MatchResult result
+        (λ b. Lent client.old client.new call b) (λ _. client.new ≡ client.old) }
+{
+    match call {
+        Call::Sync(_) => {
+            end.sync(rt, service, client)?;
+            Ok(Brought::Nothing)
+        }
+        Call::SetWeak(_) => {
+            end.set_weak(rt, service, client)?;
+            Ok(Brought::Nothing)
+        }
+        Call::SetWeakOk(_, children) => {
+            end.set_weak_ok(rt, service, client, children)?;
+            Ok(Brought::Nothing)
+        }
+        Call::TrackNode(_) => match end.track_node(rt, service, client) {
+            Ok(tracker) => Ok(Brought::Tracker(tracker)),
+            Err(Why::Reply(_)) => Ok(Brought::Nothing),
+            Err(Why::Fault(fault)) => Err(fault),
+        },
+        _ => unreachable!(),
+    }
+}
+
+// Calls on a token.
+pub(crate) fn on_token<E: Ledger, S: Ledger, W: Ledger, R: Wait>(
+    rt: &R,
+    service: &Service<E, S, W>,
+    client: &mut Client<E, S, W>,
+    token: &TokenEnd,
+    call: Call,
+) -> Result<Brought<E, S, W>, StepFault>
+    requires holder { token.now.client ≡ client.old.id }
+    requires fits { FitsToken token.now.key call }
+    requires lends { may_spend call ≡ false }
+    ensures { MatchResult result
+        (λ b. Lent client.old client.new call b) (λ _. client.new ≡ client.old) }
+{
+    let asked = call;
+    match call {
+        Call::SetDispensable(_) => {
+            token.set_dispensable(rt, service, client)?;
+            Ok(Brought::Nothing)
+        }
+        Call::Duplicate(_) => match token.duplicate(rt, service, client) {
+            Ok(child) => Ok(Brought::One(End::Token(child))),
+            Err(Why::Reply(_)) => Ok(Brought::Nothing),
+            Err(Why::Fault(fault)) => Err(fault),
+        },
+        _ => on_end(rt, service, client, token, asked),
+    }
+}
+
+// Calls on a collection.
+pub(crate) fn on_collection<E: Ledger, S: Ledger, W: Ledger, R: Wait>(
+    rt: &R,
+    alloc: Global,
+    service: &Service<E, S, W>,
+    client: &mut Client<E, S, W>,
+    collection: &CollectionEnd,
+    call: Call,
+) -> Result<Brought<E, S, W>, StepFault>
+    requires holder { collection.now.client ≡ client.old.id }
+    requires fits { FitsCollection collection.now.key call }
+    requires lends { may_spend call ≡ false }
+    ensures { MatchResult result
+        (λ b. Lent client.old client.new call b) (λ _. client.new ≡ client.old) }
+{
+    let asked = call;
+    match call {
+        Call::AttachToken(_) => match collection.attach_token(rt, service, client) {
+            Ok(child) => Ok(Brought::One(End::Token(child))),
+            Err(Why::Reply(_)) => Ok(Brought::Nothing),
+            Err(Why::Fault(fault)) => Err(fault),
+        },
+        Call::SetConstraints(_, constraints) => {
+            collection.set_constraints(rt, service, client, constraints)?;
+            Ok(Brought::Nothing)
+        }
+        Call::Check(_) => {
+            collection.check(rt, service, client)?;
+            Ok(Brought::Nothing)
+        }
+        Call::Take(_) => match collection.take(rt, alloc, service, client) {
+            Ok(handles) => Ok(Brought::Handles(handles)),
+            Err(Why::Reply(_)) => Ok(Brought::Nothing),
+            Err(Why::Fault(fault)) => Err(fault),
+        },
+        Call::TrackLifetime(_, most) => {
+            match collection.track_lifetime(rt, service, client, most) {
+                Ok(tracker) => Ok(Brought::Tracker(tracker)),
+                Err(Why::Reply(_)) => Ok(Brought::Nothing),
+                Err(Why::Fault(fault)) => Err(fault),
+            }
+        }
+        _ => on_end(rt, service, client, collection, asked),
+    }
+}
+
+// Calls on a handle.
+pub(crate) fn on_handle<E: Ledger, S: Ledger, W: Ledger, R: Wait>(
+    rt: &R,
+    service: &Service<E, S, W>,
+    client: &mut Client<E, S, W>,
+    handle: &Handle<E, S, W>,
+    call: Call,
+) -> Result<Brought<E, S, W>, StepFault>
+    requires holder { handle.now.client ≡ client.old.id }
+    requires fits { FitsHandle handle.now.buffer handle.now.strength call }
+    requires lends { may_spend call ≡ false }
+    ensures { MatchResult result
+        (λ b. Lent client.old client.new call b) (λ _. client.new ≡ client.old) }
+{
+    match call {
+        Call::DupHandle(_, _) => match handle.duplicate(rt, service, client) {
+            Ok(double) => Ok(Brought::One(End::Handle(double))),
+            Err(Why::Reply(_)) => Ok(Brought::Nothing),
+            Err(Why::Fault(fault)) => Err(fault),
+        },
+        Call::TrackWeak(_) => match handle.track_weak(rt, service, client) {
+            Ok(tracker) => Ok(Brought::Tracker(tracker)),
+            Err(Why::Reply(_)) => Ok(Brought::Nothing),
+            Err(Why::Fault(fault)) => Err(fault),
+        },
+        _ => unreachable!(),
+    }
+}

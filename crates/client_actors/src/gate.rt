@@ -1,0 +1,23 @@
+//! What is told of actors while they run, and at their end.
+use client_ends::{Client, Held};
+use client_parting::Wreck;
+use sm_names::{ClientId, Reply, StepFault};
+use std::sync::ledger::Ledger;
+
+/// Is told of each step of each actor, outside the lock. Steps are numbered from 1, those that are
+/// skipped and looks at trackers too.
+pub trait Gate {
+    /// The actor is about to make the step.
+    fn before(&self, client: ClientId, step: u64);
+
+    /// The actor has made the step: the reply to its call, or `None` where it made none.
+    fn after(&self, client: ClientId, step: u64, reply: &Option<Reply>);
+}
+
+/// How an actor ended. It must be spent.
+pub enum ActorEnd<E: Ledger, S: Ledger, W: Ledger> {
+    /// It made all its steps, and vanished.
+    Wrecked(Wreck<E, S, W>),
+    /// It was stopped by a fault, and what it has comes back.
+    Stopped(Client<E, S, W>, Held<E, S, W>, StepFault),
+}

@@ -1,0 +1,103 @@
+//! An actor plays its script, and vanishes.
+ghost use Rattle.std.specs.Prelude.{◌≡◌, [], OnOk};
+ghost use Rattle.actor_steps.specs.Desks.{nothing_known};
+ghost use Rattle.actor_steps.specs.Plays.{Plays};
+ghost use Rattle.actor_steps.specs.Tables.{known};
+ghost use Rattle.client_parting.specs.Partings.{AreOf, held_in, sorted};
+ghost use Rattle.client_actors.specs.Acting.{EndsSo, IsAware, IsSound, left_in, pairs_of};
+
+use crate::acting::Actor;
+use crate::gate::{ActorEnd, Gate};
+use crate::storing::unload;
+use actor_steps::{ActorScript, Step};
+use client_ends::{Client, Held};
+use client_parting::vanish;
+use service_lock::Service;
+use sm_names::{ClientId, StepFault};
+use std::alloc::Global;
+use std::sync::Wait;
+use std::sync::ledger::Ledger;
+
+// Makes the steps in order, until a fault.
+fn play_steps<E: Ledger, S: Ledger, W: Ledger, G: Gate, R: Wait>(
+    rt: &R,
+    alloc: Global,
+    service: &Service<E, S, W>,
+    gate: &G,
+    clients: &[ClientId],
+    actor: &mut Actor<E, S, W>,
+    steps: &[Step],
+) -> Result<(), StepFault>
+    requires sound { IsSound actor.old }
+    requires aware { IsAware actor.old }
+    requires none { Plays clients.now [] (pairs_of actor.old.client.own) (known actor.old.desk) }
+    ensures plays { OnOk result (Plays clients.now steps.now (pairs_of actor.new.client.own)
+        (known actor.new.desk)) }
+    ensures aware { OnOk result (IsAware actor.new) }
+    ensures sound { IsSound actor.new }
+    ensures id { actor.new.client.id ≡ actor.old.client.id }
+{
+    let mut number: u64 = 0;
+    let mut rest = steps;
+    'playing: while let Some((step, more)) = rest.split_first() {
+        number = number.wrapping_add(1);
+        gate.before(actor.client.id(), number);
+        let reply = actor.step(rt, alloc, service, clients, *step)?;
+        gate.after(actor.client.id(), number, &reply);
+        rest = more;
+    }
+    Ok(())
+}
+
+// Takes the actor apart: what it holds, in the list of each kind the newest thing first.
+fn leave<E: Ledger, S: Ledger, W: Ledger>(actor: Actor<E, S, W>) -> (Client<E, S, W>, Held<E, S, W>)
+    requires { IsSound actor }
+    ensures client { result.0 ≡ actor.client }
+    ensures held { held_in result.1 ≡ sorted (left_in actor.slots.items) }
+    ensures owned { AreOf result.0.id (held_in result.1) }
+{
+    let Actor {
+        client,
+        slots,
+        mut held,
+        desk: _,
+    } = actor;
+    unload(slots, &mut held);
+    (client, held)
+}
+
+/// Plays the script: makes its steps in order, with the calls that what it knows by then makes of
+/// them, and then vanishes, as by `vanish`, with all that it holds, in the list of each kind the
+/// newest thing first. The client is one that joined and has made no event since; `clients` are the
+/// ids of all actors, in the order of their scripts. The gate is told of each step.
+///
+/// Ended `Wrecked`, the client's own list is a play of the script, each step's call once, and then
+/// the events of its parting. On a fault it is `Stopped` at once, with all that it then holds.
+///
+/// Costs the events of its calls, a constant number of look-ups for each step and each thing that
+/// came or went, and memory for each thing that was ever given. A tracker is let go at once, and a
+/// look at one makes no call.
+pub fn play<E: Ledger, S: Ledger, W: Ledger, G: Gate, R: Wait>(
+    rt: &R,
+    alloc: Global,
+    service: &Service<E, S, W>,
+    gate: &G,
+    clients: &[ClientId],
+    client: Client<E, S, W>,
+    script: &ActorScript,
+) -> ActorEnd<E, S, W>
+    requires { client.own ≡ [] }
+    ensures { EndsSo clients.now script.now.steps.items client.id result }
+{
+    let mut actor = Actor::new(alloc, client);
+    let steps = script.steps.as_slice();
+    let played = play_steps(rt, alloc, service, gate, clients, &mut actor, steps);
+    let (client, held) = leave(actor);
+    match played {
+        Ok(()) => match vanish(rt, alloc, service, client, held) {
+            Ok(wreck) => ActorEnd::Wrecked(wreck),
+            Err((client, held, fault)) => ActorEnd::Stopped(client, held, fault),
+        },
+        Err(fault) => ActorEnd::Stopped(client, held, fault),
+    }
+}

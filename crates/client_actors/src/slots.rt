@@ -1,0 +1,160 @@
+//! The slots in which an actor's things lie.
+ghost use Rattle.std.specs.Prelude.{◌≡◌, ◌+◌, ◌≤◌, ◌++◌, Some, None, false, true, map, MatchResult, vec_len, vec_capacity};
+ghost use Rattle.actor_steps.specs.Desks.{FitsThere, FitsThing};
+ghost use Rattle.client_actors.specs.Asking.{Did, IsOf, Lent, full, holder, may_spend, there, thing_seen};
+
+use crate::asking::{on_collection, on_handle, on_token};
+use crate::brought::Brought;
+use crate::spending::spend;
+use client_ends::{Client, End, Handle, Kept, Why};
+use service_lock::Service;
+use sm_names::{Call, StepFault};
+use std::alloc::Global;
+use std::mem;
+use std::sync::Wait;
+use std::sync::ledger::Ledger;
+
+// Whether the call may spend what it is made on.
+fn is_spending(call: &Call) -> bool
+    ensures { result ≡ may_spend call.now }
+{
+    match *call {
+        Call::Bind(_) => true,
+        Call::Give(_, _) => true,
+        Call::Close(_) => true,
+        Call::Release(_) => true,
+        Call::DropHandle(_, _) => true,
+        Call::GiveHandle(_, _, _) => true,
+        _ => false,
+    }
+}
+
+// A call that leaves the thing.
+fn lend<E: Ledger, S: Ledger, W: Ledger, R: Wait>(
+    rt: &R,
+    alloc: Global,
+    service: &Service<E, S, W>,
+    client: &mut Client<E, S, W>,
+    end: &End<E, S, W>,
+    call: Call,
+) -> Result<Brought<E, S, W>, StepFault>
+    requires holder { holder end.now ≡ client.old.id }
+    requires fits { FitsThing (thing_seen end.now) call }
+    requires lends { may_spend call ≡ false }
+    ensures { MatchResult result
+        (λ b. Lent client.old client.new call b) (λ _. client.new ≡ client.old) }
+{
+    match end {
+        End::Token(token) => on_token(rt, service, client, token, call),
+        End::Collection(collection) => {
+            on_collection(rt, alloc, service, client, collection, call)
+        }
+        End::Handle(handle) => on_handle(rt, service, client, handle, call),
+    }
+}
+
+// Puts a thing into a slot that is empty.
+fn put_back<E: Ledger, S: Ledger, W: Ledger>(on: &mut Option<End<E, S, W>>, end: End<E, S, W>)
+    requires { on.old ≡ None }
+    ensures { on.new ≡ Some end }
+{
+    match mem::replace(on, Some(end)) {
+        None => {}
+        Some(_) => unreachable!(),
+    }
+}
+
+// A call that leaves what lies in the slot.
+fn lend_there<E: Ledger, S: Ledger, W: Ledger, R: Wait>(
+    rt: &R,
+    alloc: Global,
+    service: &Service<E, S, W>,
+    client: &mut Client<E, S, W>,
+    on: &Option<End<E, S, W>>,
+    call: Call,
+) -> Result<Brought<E, S, W>, StepFault>
+    requires owned { IsOf client.old.id on.now }
+    requires fits { FitsThere (there on.now) call }
+    requires lends { may_spend call ≡ false }
+    ensures { MatchResult result
+        (λ b. Did client.old client.new call (there on.now) (there on.now) b)
+        (λ _. client.new ≡ client.old) }
+{
+    match on {
+        Some(end) => lend(rt, alloc, service, client, end, call),
+        None => unreachable!(),
+    }
+}
+
+// A call that may spend it.
+fn spend_there<E: Ledger, S: Ledger, W: Ledger, R: Wait>(
+    rt: &R,
+    service: &Service<E, S, W>,
+    client: &mut Client<E, S, W>,
+    on: &mut Option<End<E, S, W>>,
+    call: Call,
+) -> Result<Brought<E, S, W>, StepFault>
+    requires owned { IsOf client.old.id on.old }
+    requires fits { FitsThere (there on.old) call }
+    requires spends { may_spend call ≡ true }
+    ensures did { MatchResult result
+        (λ b. Did client.old client.new call (there on.old) (there on.new) b)
+        (λ _. (client.new ≡ client.old) × (on.new ≡ on.old)) }
+    ensures owned { IsOf client.old.id on.new }
+{
+    match mem::replace(on, None) {
+        Some(end) => match spend(rt, service, client, end, call) {
+            Ok(brought) => Ok(brought),
+            Err(Kept { value, why }) => {
+                put_back(on, value);
+                match why {
+                    Why::Reply(_) => Ok(Brought::Nothing),
+                    Why::Fault(fault) => Err(fault),
+                }
+            }
+        },
+        None => unreachable!(),
+    }
+}
+
+// A call on what lies in the slot.
+pub(crate) fn ask_there<E: Ledger, S: Ledger, W: Ledger, R: Wait>(
+    rt: &R,
+    alloc: Global,
+    service: &Service<E, S, W>,
+    client: &mut Client<E, S, W>,
+    on: &mut Option<End<E, S, W>>,
+    call: Call,
+) -> Result<Brought<E, S, W>, StepFault>
+    requires owned { IsOf client.old.id on.old }
+    requires fits { FitsThere (there on.old) call }
+    ensures did { MatchResult result
+        (λ b. Did client.old client.new call (there on.old) (there on.new) b)
+        (λ _. (client.new ≡ client.old) × (on.new ≡ on.old)) }
+    ensures owned { IsOf client.old.id on.new }
+{
+    let asked = call;
+    if is_spending(&call) {
+        spend_there(rt, service, client, on, asked)
+    } else {
+        lend_there(rt, alloc, service, client, on, asked)
+    }
+}
+
+// Puts handles into the next slots, in order.
+pub(crate) fn store_handles<E: Ledger, S: Ledger, W: Ledger>(
+    slots: &mut Vec<Option<End<E, S, W>>>,
+    handles: Vec<Handle<E, S, W>>,
+)
+    requires { vec_len slots.old + vec_len handles ≤ vec_capacity slots.old }
+    ensures things { slots.new.items ≡ slots.old.items ++ map full handles.items }
+    ensures room { vec_capacity slots.new ≡ vec_capacity slots.old }
+    ensures len { vec_len slots.new ≡ vec_len slots.old + vec_len handles }
+{
+    let mut handles = handles;
+    'storing: while !handles.is_empty() {
+        let handle = handles.remove(0);
+        slots.push_reserved(Some(End::Handle(handle)));
+    }
+    handles.destroy_empty();
+}
