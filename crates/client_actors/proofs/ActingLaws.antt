@@ -3,7 +3,7 @@ use Rattle.std.proofs.Common.{ℕ, zero, suc, ◌≡◌, ◌+◌, ◌-◌, ◌�
 use Rattle.std.specs.Int.{bit_at}
 use Rattle.std.specs.List.{All}
 use Rattle.std.specs.Prelude.{flat_map, reverse, set, slice_get, slice_index_or, option_map, Result, Ok, Err, MatchResult}
-use Rattle.std.proofs.lemmas.List.{length-map, map-append, map-set, reverse-append}
+use Rattle.std.proofs.lemmas.List.{length-map, map-append, map-set, reverse-append, reverse-reverse}
 use Rattle.std.proofs.lemmas.List.Elements.{All-append, All-cons, All-head, All-nil, All-tail}
 use Rattle.sm_names.specs.declared.keys.Strength.{Strength}
 use Rattle.sm_names.specs.declared.messages.Call.{Call}
@@ -14,13 +14,13 @@ use Rattle.client_ends.specs.declared.held.End.{End}
 use Rattle.client_ends.specs.Clients.{Grip, Made, Seen, Tag, last_reply}
 use Rattle.client_parting.specs.Partings.{AreOf as AreTheirs, Holds, Thing as Part, Token, Collection, Handle, collection_in, handle_in, owner_of, sorted, token_in}
 use Rattle.client_parting.specs.Stacks.{both, kept_things, sorted_one}
-use Rattle.client_parting.proofs.ThingLaws.{both_assoc, flat-append}
+use Rattle.client_parting.proofs.ThingLaws.{both_assoc}
 use Rattle.actor_steps.specs.declared.thing.Asked.{Asked}
 use Rattle.actor_steps.specs.declared.thing.Thing.{Thing}
 use Rattle.actor_steps.specs.Desks.{FitsThere, bound, emptied, given, handles_from, on_of, spends, thing_at}
 use Rattle.client_actors.specs.declared.brought.Brought.{Brought}
 use Rattle.client_actors.specs.Asking.{AreOf, Did, IsOf, Lent, full, handle_seen, lies, slots_for, there, things_in}
-use Rattle.client_actors.specs.Acting.{Answers, Asks, left_in, pairs_of, part_of}
+use Rattle.client_actors.specs.Acting.{Answers, Asks, left_in, left_of, pairs_of, part_of}
 
 -- ---- one slot
 
@@ -179,12 +179,11 @@ pairs_more old new call reply made = ap pairs_of made.told.next ∙ map-append (
 
 -- ---- what an actor leaves
 
--- the last of a list comes first
-flat_reverse : {A B : Type 0} (f : A → List B) (x : A) (xs : List A) → flat_map f (reverse (x ∷ xs)) ≡ flat_map f (reverse xs) ++ f x
-flat_reverse f x xs =
-    ap (flat_map f) (reverse-append (x ∷ []) xs) ∙ (flat-append f (reverse xs) (x ∷ []) ∙ ap (λ l. flat_map f (reverse xs) ++ l) (append-nil (f x)))
+-- turned twice, the things are in their order
+pub left_turned : {E S W : Type 0} (slots : List (Option (End E S W))) → left_in (reverse slots) ≡ left_of slots
+left_turned slots = ap (flat_map kept_things) (reverse-reverse slots)
 
--- so does the last of the slots
+-- the last of the slots comes first
 pub left_pop : {E S W : Type 0} (items rest : List (Option (End E S W))) (x : Option (End E S W)) → items ≡ rest ++ x ∷ [] → left_in items ≡ kept_things x ++ left_in rest
 left_pop items rest x is = ap left_in is ∙ ap (flat_map kept_things) (reverse-append rest (x ∷ []))
 
@@ -201,12 +200,11 @@ module _ (client : ℕ) where
   one_part (Some (End.Handle h)) of = ap (λ c. Handle (record { client = c; buffer = h.buffer; strength = h.strength }) ∷ []) (sym of)
 
   -- all of them
-  pub parts_left : {E S W : Type 0} (slots : List (Option (End E S W))) → All (IsOf client) slots → flat_map (part_of client) (reverse (lies slots)) ≡ left_in slots
+  pub parts_left : {E S W : Type 0} (slots : List (Option (End E S W))) → All (IsOf client) slots → flat_map (part_of client) (lies slots) ≡ left_of slots
   parts_left [] of = refl
   parts_left (x ∷ xs) of =
-      flat_reverse (part_of client) (there x) (lies xs)
-      ∙ (ap (λ l. l ++ part_of client (there x)) (parts_left xs (All-tail (IsOf client) x xs of))
-      ∙ (ap (λ l. left_in xs ++ l) (one_part x (All-head (IsOf client) x xs of)) ∙ sym (flat_reverse kept_things x xs)))
+      ap (λ l. l ++ flat_map (part_of client) (lies xs)) (one_part x (All-head (IsOf client) x xs of))
+      ∙ ap (λ l. kept_things x ++ l) (parts_left xs (All-tail (IsOf client) x xs of))
 
   -- who holds them
   one_owner : {E S W : Type 0} (slot : Option (End E S W)) → IsOf client slot → All (λ p. owner_of p ≡ client) (kept_things slot)
@@ -215,10 +213,10 @@ module _ (client : ℕ) where
   one_owner (Some (End.Collection t)) of = All-cons (λ p. owner_of p ≡ client) (Collection t) [] of (All-nil (λ p. owner_of p ≡ client))
   one_owner (Some (End.Handle h)) of = All-cons (λ p. owner_of p ≡ client) (Handle h) [] of (All-nil (λ p. owner_of p ≡ client))
 
-  all_owner : {E S W : Type 0} (slots : List (Option (End E S W))) → All (IsOf client) slots → All (λ p. owner_of p ≡ client) (left_in slots)
+  all_owner : {E S W : Type 0} (slots : List (Option (End E S W))) → All (IsOf client) slots → All (λ p. owner_of p ≡ client) (left_of slots)
   all_owner [] of = All-nil (λ p. owner_of p ≡ client)
-  all_owner (x ∷ xs) of = subst (All (λ p. owner_of p ≡ client)) (sym (flat_reverse kept_things x xs))
-      (All-append (λ p. owner_of p ≡ client) (left_in xs) (kept_things x) (all_owner xs (All-tail (IsOf client) x xs of)) (one_owner x (All-head (IsOf client) x xs of)))
+  all_owner (x ∷ xs) of = All-append (λ p. owner_of p ≡ client) (kept_things x) (left_of xs)
+      (one_owner x (All-head (IsOf client) x xs of)) (all_owner xs (All-tail (IsOf client) x xs of))
 
   -- kind by kind
   by_kind : {A : Type 0} (Q : A → Type 0) (f : Part → List A) → ((p : Part) → owner_of p ≡ client → All Q (f p)) → (parts : List Part) → All (λ p. owner_of p ≡ client) parts → All Q (flat_map f parts)
@@ -238,9 +236,9 @@ module _ (client : ℕ) where
   of_handle (Handle h) is = All-cons (λ (h : Grip). h.client ≡ client) h [] is (All-nil (λ (h : Grip). h.client ≡ client))
   of_handle _ is = All-nil (λ (h : Grip). h.client ≡ client)
 
-  pub left_owned : {E S W : Type 0} (slots : List (Option (End E S W))) → All (IsOf client) slots → AreTheirs client (sorted (left_in slots))
+  pub left_owned : {E S W : Type 0} (slots : List (Option (End E S W))) → All (IsOf client) slots → AreTheirs client (sorted (left_of slots))
   left_owned slots of = record {
-    tokens = by_kind (λ (t : Tag). t.client ≡ client) token_in of_token (left_in slots) (all_owner slots of);
-    collections = by_kind (λ (t : Tag). t.client ≡ client) collection_in of_collection (left_in slots) (all_owner slots of);
-    handles = by_kind (λ (h : Grip). h.client ≡ client) handle_in of_handle (left_in slots) (all_owner slots of);
+    tokens = by_kind (λ (t : Tag). t.client ≡ client) token_in of_token (left_of slots) (all_owner slots of);
+    collections = by_kind (λ (t : Tag). t.client ≡ client) collection_in of_collection (left_of slots) (all_owner slots of);
+    handles = by_kind (λ (h : Grip). h.client ≡ client) handle_in of_handle (left_of slots) (all_owner slots of);
   }

@@ -1,6 +1,6 @@
 -- How an actor plays its steps, and what it leaves.
 use Rattle.std.proofs.Common.{ℕ, ◌≡◌, ◌∙◌, sym, ap, subst, false, List, [], ◌∷◌, ◌++◌, append_assoc, Option, Some, None}
-use Rattle.std.specs.Prelude.{flat_map, reverse, Result, Ok, Err, OnOk, is_err}
+use Rattle.std.specs.Prelude.{flat_map, Result, Ok, Err, OnOk, is_err}
 use Rattle.sm_names.specs.declared.messages.Reply.{Reply}
 use Rattle.client_ends.specs.declared.held.End.{End}
 use Rattle.client_ends.specs.Clients.{Made, Seen, last_reply}
@@ -11,7 +11,7 @@ use Rattle.actor_steps.specs.Desks.{asked_of, desk_after, nothing_known, things_
 use Rattle.actor_steps.specs.Plays.{Plays}
 use Rattle.actor_steps.specs.Tables.{known}
 use Rattle.client_actors.specs.declared.acting.Actor.{Actor}
-use Rattle.client_actors.specs.Acting.{Answers, HasMade, HasPlayed, HasPlayedTo, HasStepped, IsAware, IsSound, left_in, pairs_of, part_of}
+use Rattle.client_actors.specs.Acting.{Answers, HasMade, HasPlayed, HasPlayedTo, HasStepped, IsAware, IsSound, left_of, pairs_of, part_of}
 use Rattle.client_actors.specs.Asking.{lies}
 use Rattle.client_actors.proofs.ActingLaws.{last_is, pairs_more, parts_left}
 
@@ -65,12 +65,12 @@ module _ {E S W : Type 0} (clients : List ℕ) where
 
   -- an actor that played all and is gone
   pub has_played : (steps : List Step) (actor : Actor E S W) (client : Seen) (left : Remains) (held : Holds) → client ≡ actor.client → Plays clients steps (pairs_of actor.client.own) (known actor.desk) → IsAware actor → IsSound actor →
-      held ≡ sorted (left_in actor.slots.items) → IsGone client left.client held left.refused → HasPlayed clients steps left
+      held ≡ sorted (left_of actor.slots.items) → IsGone client left.client held left.refused → HasPlayed clients steps left
   has_played steps actor client left held same plays aware sound is gone = record {
     before = actor.client;
     desk = known actor.desk;
     plays = plays;
     gone =
-        let parts = sym (parts_left actor.client.id actor.slots.items sound.owned) ∙ ap (λ t. flat_map (part_of actor.client.id) (reverse t)) aware in
+        let parts = sym (parts_left actor.client.id actor.slots.items sound.owned) ∙ ap (λ t. flat_map (part_of actor.client.id) t) aware in
         subst (λ h. IsGone actor.client left.client h left.refused) (is ∙ ap sorted parts) (subst (λ c. IsGone c left.client held left.refused) same gone);
   }

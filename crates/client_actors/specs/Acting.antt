@@ -34,9 +34,9 @@ part_of client (Some (Thing.Collection key collection)) =
 part_of client (Some (Thing.Handle buffer strength)) =
     Handle (record { client = client; buffer = buffer; strength = strength }) ∷ []
 
--- all that an actor holds by what it knows: in the list of each kind the newest thing comes first
+-- all that an actor holds by what it knows: in the list of each kind in the order in which it came
 abbrev pub held_by : ℕ → Known → Holds
-held_by client desk = sorted (flat_map (part_of client) (reverse desk.things))
+held_by client desk = sorted (flat_map (part_of client) desk.things)
 
 -- what is left of an actor that made all its steps and vanished: its own list is a play of its script, followed by the
 -- events of its parting with all that it then held
@@ -85,6 +85,10 @@ pub record HasStepped {E S W : Type 0} (clients : List ℕ) (step : Step) (old n
 -- the things in slots, the newest first
 abbrev pub left_in : {E S W : Type 0} → List (Option (End E S W)) → List Part
 left_in slots = flat_map kept_things (reverse slots)
+
+-- the things in slots, in their order
+abbrev pub left_of : {E S W : Type 0} → List (Option (End E S W)) → List Part
+left_of slots = flat_map kept_things slots
 
 -- the actor made this call, and knows its reply
 pub record HasMade {E S W : Type 0} (step : Step) (asked : Asked) (reply : Reply) (old new : Actor E S W) : Type 0 where

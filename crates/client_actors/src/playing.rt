@@ -4,7 +4,7 @@ ghost use Rattle.actor_steps.specs.Desks.{nothing_known};
 ghost use Rattle.actor_steps.specs.Plays.{Plays};
 ghost use Rattle.actor_steps.specs.Tables.{known};
 ghost use Rattle.client_parting.specs.Partings.{AreOf, held_in, sorted};
-ghost use Rattle.client_actors.specs.Acting.{EndsSo, IsAware, IsSound, left_in, pairs_of};
+ghost use Rattle.client_actors.specs.Acting.{EndsSo, IsAware, IsSound, left_of, pairs_of};
 
 use crate::acting::Actor;
 use crate::gate::{ActorEnd, Gate};
@@ -49,26 +49,28 @@ fn play_steps<E: Ledger, S: Ledger, W: Ledger, G: Gate, R: Wait>(
     Ok(())
 }
 
-// Takes the actor apart: what it holds, in the list of each kind the newest thing first.
+// Takes the actor apart: what it holds, in the list of each kind in the order in which it came.
 fn leave<E: Ledger, S: Ledger, W: Ledger>(actor: Actor<E, S, W>) -> (Client<E, S, W>, Held<E, S, W>)
     requires { IsSound actor }
     ensures client { result.0 ≡ actor.client }
-    ensures held { held_in result.1 ≡ sorted (left_in actor.slots.items) }
+    ensures held { held_in result.1 ≡ sorted (left_of actor.slots.items) }
     ensures owned { AreOf result.0.id (held_in result.1) }
 {
     let Actor {
         client,
-        slots,
+        mut slots,
         mut held,
         desk: _,
     } = actor;
+    slots.reverse();
     unload(slots, &mut held);
     (client, held)
 }
 
 /// Plays the script: makes its steps in order, with the calls that what it knows by then makes of
-/// them, and then vanishes, as by `vanish`, with all that it holds, in the list of each kind the
-/// newest thing first. The client is one that joined and has made no event since; `clients` are the
+/// them, and then vanishes, as by `vanish`, with all that it holds, in the list of each kind in the
+/// order in which it came: tokens as replies gave them, collections as they were bound or collected,
+/// handles as they were opened. The client is one that joined and has made no event since; `clients` are the
 /// ids of all actors, in the order of their scripts. The gate is told of each step.
 ///
 /// Ended `Wrecked`, the client's own list is a play of the script, each step's call once, and then

@@ -1,13 +1,18 @@
 use Rattle.std.proofs.Common.{◌∙◌, ap, subst, sym}
 use Rattle.client_parting.specs.Partings.{AreOf, sorted}
 use Rattle.client_parting.specs.Stacks.{both}
-use Rattle.client_actors.specs.Acting.{left_in}
-use Rattle.client_actors.proofs.ActingLaws.{left_owned}
+use Rattle.client_actors.specs.Acting.{left_in, left_of}
+use Rattle.client_actors.proofs.ActingLaws.{left_owned, left_turned}
 use Rattle.client_actors.proofs.playing.leave.Goals as goal
+
+pub returns-clause-held : goal.returns-clause-held
+returns-clause-held g c =
+    let items = c.args.actor.slots.items in
+    c.unload.ensures ∙ (ap (λ h. both h (sorted (left_in c.reverse.new.self.items))) c.requires.none
+    ∙ ap sorted (ap left_in c.reverse.ensures.items ∙ left_turned items))
 
 pub returns-clause-owned : goal.returns-clause-owned
 returns-clause-owned g c =
     let id = c.args.actor.client.id in
     let items = c.args.actor.slots.items in
-    let held = c.unload.ensures ∙ ap (λ h. both h (sorted (left_in items))) c.requires.none in
-    subst (AreOf id) (sym held) (left_owned id items c.requires.owned)
+    subst (AreOf id) (sym (returns-clause-held g c)) (left_owned id items c.requires.owned)
