@@ -4,24 +4,28 @@ use sm_names::{BufferName, Call, CollectionId, NodeKey, Strength};
 /// One thing that an actor holds.
 #[derive(Clone, Copy, Debug, PartialEq, Eq)]
 pub enum Thing {
+    /// A token: the node that it is the end of, and the collection that the node is in.
     Token {
         key: NodeKey,
         collection: CollectionId,
     },
+    /// A collection: the node that it is the end of, and the collection that the node is in.
     Collection {
         key: NodeKey,
         collection: CollectionId,
     },
+    /// An open handle on a buffer.
     Handle {
         buffer: BufferName,
         strength: Strength,
     },
 }
 
-/// The call that a step makes, and the slot of the thing that it is made on: none for Shut, OpenRoot
-/// and Collect.
+/// The call that a step makes, and what it is made on.
 #[derive(Clone, Copy, Debug, PartialEq, Eq)]
 pub struct Asked {
+    /// The call, with the key or the buffer of what it is made on.
     pub call: Call,
+    /// The slot of that thing, from 0 in the order in which things came: none for Shut, OpenRoot and Collect.
     pub slot: Option<usize>,
 }

@@ -6,6 +6,7 @@ pub mod abandoned;
 pub mod allocating;
 pub mod asks;
 pub mod births;
+mod by_counts;
 pub mod change;
 mod changing;
 pub mod deciding;

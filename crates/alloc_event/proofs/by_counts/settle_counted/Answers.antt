@@ -3,7 +3,7 @@ use Rattle.std.proofs.Common.{◌≡◌, Bool, ℕ, true, sym, subst, IfOk}
 use Rattle.alloc_event.specs.declared.change.Change.{Change}
 use Rattle.alloc_event.specs.Kept.{Finishes, forest_of, shelves_of}
 use Rattle.alloc_event.specs.Settling.{Handles, MayChange, changed, collection_or_new, no_key}
-use Rattle.alloc_event.proofs.changing.settle_counted.Goals as goal
+use Rattle.alloc_event.proofs.by_counts.settle_counted.Goals as goal
 
 pub lose_in_place-requires-clause-change : goal.lose_in_place-requires-clause-change
 lose_in_place-requires-clause-change c =

@@ -1,0 +1,50 @@
+//! A change in its place, where the counts tell that it forces nothing.
+ghost use Rattle.std.specs.Prelude.{◌≡◌, ℕ, false, true, IfOk, OnErr};
+ghost use Rattle.alloc_event.specs.Calm.{AreCounted};
+ghost use Rattle.alloc_event.specs.Counts.{HaveUnits};
+ghost use Rattle.alloc_event.specs.Kept.{IsKept, Finishes, SameTable, shelves_of, forest_of};
+ghost use Rattle.alloc_event.specs.Settling.{Handles, MayChange, changed, collection_or_new, no_key};
+
+use crate::change::Change;
+use crate::entry::Entry;
+use crate::falling::lose_in_place;
+use crate::in_place::settle_in_place;
+use crate::node::Node;
+use crate::units::Unit;
+use node_table::NodeTable;
+use sm_names::{CollectionId, Fault, NoMemory};
+
+/// Makes a change to a collection that is there in its place, if it is no birth and the counts tell
+/// that nothing is forced. Answers whether it did; if not, the table and the entries are as they
+/// were. `NoMemory` where a loss is refused the room for what it takes.
+pub(crate) fn settle_counted(
+    table: &mut NodeTable<Node>,
+    entries: &mut Vec<Entry>,
+    units: &mut Vec<Unit>,
+    id: CollectionId,
+    change: &Change,
+) -> Result<bool, NoMemory>
+    requires kept { IsKept table.old (shelves_of entries.old.items) }
+    requires counted { AreCounted table.old entries.old.items }
+    requires units { HaveUnits units.old.items table.old entries.old.items }
+    requires change { MayChange (forest_of table.old (shelves_of entries.old.items)) id change.now }
+    ensures err_table { OnErr result (table.new ≡ table.old) }
+    ensures err_entries { OnErr result (entries.new.items ≡ entries.old.items) }
+    ensures no_table { IfOk result (λ made. made ≡ false → table.new ≡ table.old) }
+    ensures no_entries { IfOk result (λ made. made ≡ false → entries.new.items ≡ entries.old.items) }
+    ensures ok { IfOk result (λ made. made ≡ true → (pool : ℕ) (handles : Handles) →
+        Finishes pool handles table.old (shelves_of entries.old.items) table.new (shelves_of entries.new.items)
+        (changed change.now no_key (collection_or_new (forest_of table.old (shelves_of entries.old.items)) id))) }
+    ensures shelves { shelves_of entries.new.items ≡ shelves_of entries.old.items }
+    ensures kept { IfOk result (λ made. made ≡ true → IsKept table.new (shelves_of entries.old.items)) }
+    ensures counted { IfOk result (λ made. made ≡ true → AreCounted table.new entries.new.items) }
+    ensures units { HaveUnits units.new.items table.new entries.new.items }
+    ensures same { SameTable table.old table.new }
+{
+    match *change {
+        Change::Loss(origin, cause) => {
+            lose_in_place(table, entries, units, id, Fault { cause, origin })
+        }
+        _ => Ok(settle_in_place(table, entries, units, id, change)),
+    }
+}
