@@ -5,11 +5,11 @@ ghost use Rattle.actor_steps.specs.Tables.{known};
 
 use crate::calls::{end_call, handle_call, node_label, strength_of, tracker_label};
 use crate::queues::Queues;
-use crate::replies::{handle_of, has_bit, new_place, new_tracker, spends};
+use crate::replies::{handle_of, new_place, new_tracker, spends};
 use crate::step::Step;
 use crate::thing::{Asked, Thing};
 use sm_names::{
-    BufferName, Call, ClientId, CollectionId, Kind, NodeKey, Reply, Strength, TrackerId,
+    BufferName, Call, ClientId, CollectionId, Kind, NodeKey, Reply, Strength, TrackerId, has_buffer,
 };
 use std::alloc::{AllocError, Global};
 use std::collections::HashMap;
@@ -270,7 +270,7 @@ impl Desk {
             ≡ with_things (known self.old) (handles_in collection strength set)) }
     {
         'pushing: for index in 0..64u8 {
-            if has_bit(set, index) {
+            if has_buffer(set, index) {
                 let buffer = BufferName { collection, index };
                 self.push(Thing::Handle { buffer, strength })?;
             }

@@ -1,6 +1,5 @@
 //! What replies tell.
-ghost use Rattle.std.specs.Prelude.{◌≡◌, ◌==◌, ◌<◌};
-ghost use Rattle.std.specs.Int.{bit_at};
+ghost use Rattle.std.specs.Prelude.{◌≡◌};
 ghost use Rattle.actor_steps.specs.Desks.{handle_of as let_go_by, new_place as place_told, new_tracker as tracker_told, spends as is_spending};
 
 use sm_names::{BufferName, Call, CollectionId, NodeKey, Reply, Strength, TrackerId};
@@ -55,12 +54,4 @@ pub(crate) fn handle_of(call: &Call) -> Option<(BufferName, Strength)>
         Call::GiveHandle(buffer, strength, _) => Some((buffer, strength)),
         _ => None,
     }
-}
-
-/// Whether the set has the buffer with this index.
-pub(crate) fn has_bit(set: u64, index: u8) -> bool
-    requires { index < 64 }
-    ensures { result ≡ (bit_at set index == 1) }
-{
-    (set >> index) % 2 == 1
 }

@@ -1,6 +1,5 @@
 //! The handles that a Take brings.
-ghost use Rattle.std.specs.Prelude.{◌≡◌, ◌==◌, ◌+◌, ◌≤◌, ◌<◌, ◌↔◌, [], length, IfOk, IfErr, vec_len, vec_capacity};
-ghost use Rattle.std.specs.Int.{bit_at};
+ghost use Rattle.std.specs.Prelude.{◌≡◌, ◌+◌, ◌≤◌, ◌<◌, ◌↔◌, [], length, IfOk, IfErr, vec_len, vec_capacity};
 ghost use Rattle.sm_names.specs.declared.outcomes.StepFault.{StepFault as Fault};
 ghost use Rattle.event_laws.specs.HandleSums.{indices_in};
 ghost use Rattle.service_lock.specs.Units.{HasOne, with_one};
@@ -10,7 +9,7 @@ ghost use Rattle.client_ends.specs.Taking.{grip_at, grips_at, handful, told_take
 use crate::handle::Handle;
 use crate::spare::{Spare, refused, spares};
 use service_lock::{State, Units, pass};
-use sm_names::{BufferName, ClientId, CollectionId, Reply, StepFault, Strength};
+use sm_names::{BufferName, ClientId, CollectionId, Reply, StepFault, Strength, has_buffer};
 use std::alloc::Global;
 use std::sync::ledger::Ledger;
 
@@ -83,14 +82,6 @@ pub(crate) fn make_room<E: Ledger, S: Ledger, W: Ledger>(
     }
 }
 
-// Whether the set has the buffer with this index.
-fn has_bit(set: u64, index: u8) -> bool
-    requires { index < 64 }
-    ensures { result ≡ (bit_at set index == 1) }
-{
-    (set >> index) % 2 == 1
-}
-
 // One handle, which takes its unit.
 fn hand_one<E: Ledger, S: Ledger, W: Ledger>(
     state: &mut State<E, S, W>,
@@ -139,7 +130,7 @@ pub(crate) fn hand_out<E: Ledger, S: Ledger, W: Ledger>(
         ≡ grips_at client taken.now (indices_in taken.now.set) }
 {
     'handing: for index in 0..64u8 {
-        if has_bit(taken.set, index) {
+        if has_buffer(taken.set, index) {
             let handle = hand_one(state, units, &mut room.spares, client, taken, index);
             room.handles.push_reserved(handle);
         }

@@ -13,5 +13,6 @@ pub mod MomentLaws
 pub mod NumberLaws
 pub mod ParcelEventLaws
 pub mod RecallLaws
+pub mod SetLaws
 pub mod TransitLaws
 pub mod WaitingLaws

@@ -2,6 +2,7 @@
 //! sm_names, for whoever keeps counts, queues and waiting trackers in place of a history.
 #![tactic(auto)]
 
+pub mod amounts;
 pub mod ends;
 pub mod handles;
 pub mod trackers;

@@ -1,5 +1,5 @@
 //! The handles that an event opens, drops or moves.
-ghost use Rattle.std.specs.Prelude.{◌≡◌, ◌==◌, ◌+◌, ◌<◌, ◌≤◌, OnOk, OnErr};
+ghost use Rattle.std.specs.Prelude.{◌≡◌, ◌+◌, ◌<◌, ◌≤◌, OnOk, OnErr};
 ghost use Rattle.std.specs.Int.{bit_at};
 ghost use Rattle.sm_names.specs.Marks.{Called};
 ghost use Rattle.buffer_holds.specs.Counts.{Counts, of, total};
@@ -7,7 +7,7 @@ ghost use Rattle.lifetime_core.specs.Hands.{MayMove, Moves, CanUndo, Opens, CanO
 ghost use Rattle.lifetime_core.specs.State.{counts_of};
 
 use buffer_holds::{HoldFault, Holds};
-use sm_names::{BufferName, Call, ClientId, CollectionId, NoMemory, Reply, Strength};
+use sm_names::{BufferName, Call, ClientId, CollectionId, NoMemory, Reply, Strength, has_buffer};
 
 /// Opens, drops or moves the handles of the call that was answered so.
 ///
@@ -166,14 +166,6 @@ fn close_below(
     }
 }
 
-// Whether the set has the buffer with this index.
-fn has_bit(set: u64, index: u8) -> bool
-    requires { index < 64 }
-    ensures { result ≡ (bit_at set index == 1) }
-{
-    (set >> index) % 2 == 1
-}
-
 // Opens a handle on the buffer with this index, if the set has it.
 fn open_at(
     holds: &mut Holds,
@@ -193,7 +185,7 @@ fn open_at(
     ensures err { OnErr result (holds.new ≡ holds.old) }
     ensures limit { holds.new.limit ≡ holds.old.limit }
 {
-    if !has_bit(set, index) {
+    if !has_buffer(set, index) {
         return Ok(());
     }
     open(holds, client, BufferName { collection, index }, strength)
@@ -214,7 +206,7 @@ fn close_at(
         Opens before holds.new client (is_below collection strength set index) }
     ensures limit { holds.new.limit ≡ holds.old.limit }
 {
-    if has_bit(set, index) {
+    if has_buffer(set, index) {
         close(holds, client, BufferName { collection, index }, strength);
     }
 }

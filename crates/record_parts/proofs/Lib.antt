@@ -4,4 +4,3 @@ pub mod LinkLaws
 pub mod MemberLaws
 pub mod OpenLaws
 pub mod SameLaws
-pub mod SetLaws

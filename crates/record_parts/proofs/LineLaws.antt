@@ -10,7 +10,7 @@ use Rattle.event_laws.specs.HandleSums.{indices_in}
 use Rattle.record_parts.specs.declared.own.Own.{Own}
 use Rattle.record_parts.specs.Lines.{gained_by, gains, losses, lost_by}
 use Rattle.record_parts.specs.Parts.{is_own, part_from}
-use Rattle.record_parts.proofs.SetLaws.{indices_most}
+use Rattle.event_laws.proofs.SetLaws.{indices_most}
 
 cond-le : (t : Bool) (n m : ℕ) → n ≤ m → cond t n 0 ≤ m
 cond-le true n m le = le

@@ -1,10 +1,9 @@
 //! What is said of each client.
-ghost use Rattle.std.specs.Prelude.{◌≡◌, ◌==◌, ◌<◌, ◌+◌, ◌≤◌, ◌^◌, length};
-ghost use Rattle.std.specs.Int.{bit_at};
-ghost use Rattle.event_laws.specs.HandleSums.{indices_in};
-ghost use Rattle.record_parts.specs.Lines.{count_if, gained_by, lost_by};
+ghost use Rattle.std.specs.Prelude.{◌≡◌, ◌<◌, ◌+◌, ◌≤◌, ◌^◌};
+ghost use Rattle.record_parts.specs.Lines.{gained_by, lost_by};
 
 use crate::own::Own;
+use event_laws::amounts::{count_one, count_set};
 use sm_names::{Call, ClientId, Reply, Strength};
 
 /// A client: how many events it made after its Join, and how many handles of each strength it has
@@ -15,49 +14,6 @@ pub struct ClientLine {
     pub events: u64,
     pub strong: u64,
     pub weak: u64,
-}
-
-// One, where the strengths are one.
-fn one_if(strength: Strength, other: Strength) -> u64
-    ensures { result ≡ count_if strength other 1 }
-{
-    match (strength, other) {
-        (Strength::Strong, Strength::Strong) => 1,
-        (Strength::Weak, Strength::Weak) => 1,
-        _ => 0,
-    }
-}
-
-// Whether the set has the buffer with this index.
-fn has_bit(set: u64, index: u64) -> bool
-    requires { index < 64 }
-    ensures { result ≡ (bit_at set index == 1) }
-{
-    (set >> index) % 2 == 1
-}
-
-// How many buffers the set has.
-fn size_of(set: u64) -> u64
-    ensures { result ≡ length (indices_in set) }
-{
-    let mut size = 0;
-    for index in 0..64u64 {
-        if has_bit(set, index) {
-            size += 1;
-        }
-    }
-    size
-}
-
-// How many buffers the set has, where the strengths are one.
-fn size_if(strength: Strength, other: Strength, set: u64) -> u64
-    ensures { result ≡ count_if strength other (length (indices_in set)) }
-{
-    match (strength, other) {
-        (Strength::Strong, Strength::Strong) => size_of(set),
-        (Strength::Weak, Strength::Weak) => size_of(set),
-        _ => 0,
-    }
 }
 
 // How many handles of this strength the event brought its client.
@@ -72,12 +28,12 @@ fn gained(strength: Strength, own: &Own) -> u64
                 set,
             } = own.reply
             {
-                return size_if(strength, taken, set);
+                return count_set(strength, taken, set);
             }
         }
         Call::DupHandle(_, dup) => {
             if let Reply::Done = own.reply {
-                return one_if(strength, dup);
+                return count_one(strength, dup);
             }
         }
         Call::Collect => {
@@ -86,7 +42,7 @@ fn gained(strength: Strength, own: &Own) -> u64
                 strength: got,
             } = own.reply
             {
-                return one_if(strength, got);
+                return count_one(strength, got);
             }
         }
         _ => {}
@@ -101,12 +57,12 @@ fn lost(strength: Strength, own: &Own) -> u64
     match own.call {
         Call::DropHandle(_, dropped) => {
             if let Reply::Done = own.reply {
-                return one_if(strength, dropped);
+                return count_one(strength, dropped);
             }
         }
         Call::GiveHandle(_, given, _) => {
             if let Reply::Done = own.reply {
-                return one_if(strength, given);
+                return count_one(strength, given);
             }
         }
         _ => {}

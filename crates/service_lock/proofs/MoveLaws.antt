@@ -1,49 +1,16 @@
 -- How many handles an event can open or move.
-use Rattle.std.proofs.Common.{ℕ, zero, suc, [], ◌∷◌, ◌++◌, ◌≡◌, ◌≤◌, ◌+◌, ◌*◌, ◌==◌, ◌⊎◌, refl, ap, ◌∙◌, Bool, true, false, cond, inl, inr, List, length, arith}
-use Rattle.std.proofs.lemmas.List.Sums.{count_by-le-length, length-filter, sum_by-cons}
-use Rattle.std.proofs.lemmas.List.FromFn.{length-range_with_len}
-use Rattle.std.proofs.lemmas.Grind.{common_steps}
-use Rattle.std.specs.Int.{bit_at}
-use Rattle.std.specs.List.{filter, range_with_len}
+use Rattle.std.proofs.Common.{ℕ, [], ◌∷◌, ◌≡◌, ◌≤◌, ◌+◌, ◌*◌, ◌⊎◌, refl, Bool, true, false, cond, inl, inr, List, length, arith}
+use Rattle.std.proofs.lemmas.List.Sums.{sum_by-cons}
 use Rattle.sm_names.specs.declared.keys.Strength.{Strength}
 use Rattle.sm_names.specs.declared.messages.Call.{Call}
 use Rattle.sm_names.specs.declared.messages.Reply.{Reply}
 use Rattle.sm_names.specs.Marks.{Entry, Mark, Called}
 use Rattle.sm_names.specs.Sameness.{same_strength}
 use Rattle.event_laws.specs.ByEvent.{anyone, mark_of}
-use Rattle.event_laws.specs.HandleSums.{indices_below, indices_in, opened, opened_at}
+use Rattle.event_laws.specs.HandleSums.{indices_in, opened, opened_at}
+use Rattle.event_laws.proofs.SetLaws.{indices_most}
 use Rattle.service_lock.specs.Counting.{moves_by}
 use Rattle.service_lock.specs.Units.{needed}
-
--- so many numbers have no more buffers
-pub below_most : (most set : ℕ) → length (indices_below most set) ≤ most
-below_most most set =
-    let p : ℕ → Bool = λ i. bit_at set i == 1 in
-    omega (arith, length-filter p (range_with_len 0 most), count_by-le-length p (range_with_len 0 most), length-range_with_len 0 most)
-
--- nor has the set of all
-indices_most : (set : ℕ) → length (indices_in set) ≤ 64
-unfolding indices_in
-indices_most set = below_most 64 set
-
--- one more number
-range-push : (a n : ℕ) → range_with_len a (n + 1) ≡ range_with_len a n ++ (a + n) ∷ []
-range-push a zero = let e : a ≡ a + 0 = omega arith in ap (λ k. k ∷ []) e
-range-push a (suc n) =
-    let e : (a + 1) + n ≡ a + suc n = omega arith in
-    let f : suc n + 1 ≡ suc (n + 1) = omega arith in
-    ap (range_with_len a) f ∙ ap (λ l. a ∷ l) (range-push (a + 1) n ∙ ap (λ k. range_with_len (a + 1) n ++ k ∷ []) e)
-
--- one number more to look at adds one buffer, or none
-pub below_push : (most set : ℕ) → length (indices_below (most + 1) set) ≡ length (indices_below most set) + cond (bit_at set most == 1) 1 0
-below_push most set =
-    let p : ℕ → Bool = λ i. bit_at set i == 1 in
-    let e : 0 + most ≡ most = omega arith in
-    ap (λ l. length (filter p l)) (range-push 0 most)
-    ∙ (one_more p (range_with_len 0 most) (0 + most) ∙ ap (λ k. length (indices_below most set) + cond (bit_at set k == 1) 1 0) e)
-  where
-    one_more : (p : ℕ → Bool) (xs : List ℕ) (x : ℕ) → length (filter p (xs ++ x ∷ [])) ≡ length (filter p xs) + cond (p x) 1 0
-    one_more p xs x = grind (arith, common_steps)
 
 -- where the strengths differ, there are none
 cond-le : (t : Bool) (n m : ℕ) → n ≤ m → cond t n 0 ≤ m

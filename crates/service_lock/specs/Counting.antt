@@ -4,12 +4,8 @@ use Rattle.sm_names.specs.declared.keys.Strength.{Strength}
 use Rattle.sm_names.specs.declared.messages.Call.{Call}
 use Rattle.sm_names.specs.declared.messages.Reply.{Reply}
 use Rattle.sm_names.specs.Sameness.{same_strength}
-use Rattle.event_laws.specs.HandleSums.{indices_in}
+use Rattle.event_laws.specs.HandleSums.{count_if, indices_in}
 use Rattle.service_lock.specs.declared.moves.Moves.{Moves}
-
--- so many, where the strengths are one
-abbrev pub count_if : Strength → Strength → ℕ → ℕ
-count_if strength other count = if same_strength other strength then count else 0
 
 -- no handle is opened or moved
 abbrev pub no_moves : Moves

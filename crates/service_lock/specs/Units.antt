@@ -6,7 +6,8 @@ use Rattle.sm_names.specs.declared.messages.Call.{Call}
 use Rattle.sm_names.specs.declared.messages.Reply.{Reply}
 use Rattle.service_lock.specs.declared.blanks.Blanks.{Blanks}
 use Rattle.service_lock.specs.declared.moves.Moves.{Moves}
-use Rattle.service_lock.specs.Counting.{count_if, moves_by}
+use Rattle.event_laws.specs.HandleSums.{count_if}
+use Rattle.service_lock.specs.Counting.{moves_by}
 
 -- the sum of a book, the part of it that is in parcels, and how many shares can still be handed out
 pub record Sums : Type 0 where

@@ -8,6 +8,7 @@ pub mod keys;
 pub mod laws;
 pub mod messages;
 pub mod outcomes;
+pub mod sets;
 pub mod tracking;
 
 pub use bounds::Limits;
@@ -15,4 +16,5 @@ pub use demands::Constraints;
 pub use keys::{BufferName, ClientId, CollectionId, Interval, Kind, NodeKey, Strength, TrackerId};
 pub use messages::{Call, Parcel, Reply};
 pub use outcomes::{Buffers, Cause, Failure, Fault, Misuse, NoMemory, Refusal, StepFault};
+pub use sets::has_buffer;
 pub use tracking::{Condition, Fired};

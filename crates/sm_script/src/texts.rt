@@ -11,7 +11,9 @@ use crate::act::Binds;
 use crate::tables::Tables;
 use lifetime_core::HeldBuffer;
 use script_lines::{Label, push, push_label, push_number};
-use sm_names::{BufferName, Cause, CollectionId, Failure, Fired, Kind, NodeKey, Reply, Strength};
+use sm_names::{
+    BufferName, Cause, CollectionId, Failure, Fired, Kind, NodeKey, Reply, Strength, has_buffer,
+};
 use std::alloc::AllocError;
 
 // Puts a number, a space and a name behind it.
@@ -193,7 +195,7 @@ fn push_member(
     ensures { OnOk result ((names : Names) → Keeps tables.now names →
         text.new.items ≡ text.old.items ++ member_text names set buffer) }
 {
-    if (set >> buffer.index) & 1 == 1 {
+    if has_buffer(set, buffer.index) {
         return push_buffer(text, tables, buffer);
     }
     Ok(())

@@ -5,7 +5,7 @@ use Rattle.client_ends.specs.Taking.{grips_at}
 use Rattle.event_laws.specs.HandleSums.{indices_in}
 use Rattle.client_ends.proofs.TakeLaws.{grips_all, grips_first, grips_with, grips_without, none_left, same_events, unit_there, units_behind, units_first, units_stay}
 use Rattle.client_ends.proofs.taking.hand_out.Goals as goal
-use Rattle.client_ends.proofs.taking.hand_out.Goals.{then-has_bit, else-has_bit}
+use Rattle.client_ends.proofs.taking.hand_out.Goals.{then-has_buffer, else-has_buffer}
 
 pub handing-init : goal.handing-init
 handing-init g c = record {
@@ -20,7 +20,7 @@ handing-init g c = record {
 pub hand_one-handle-requires-clause-unit : goal.hand_one-handle-requires-clause-unit
 hand_one-handle-requires-clause-unit g c =
     unit_there c.handing.index c.args.taken.now.set c.args.taken.now.strength c.handing.units c.handing-test.true
-    (sym c.has_bit.ensures ∙ c.if-has_bit.true) c.handing.invariant.units
+    (sym c.has_buffer.ensures ∙ c.if-has_buffer.true) c.handing.invariant.units
 
 pub handing-preserved : goal.handing-preserved
 handing-preserved g c =
@@ -30,9 +30,9 @@ handing-preserved g c =
     let low : i < 64 = c.handing-test.true in
     let all = grips_at c.args.client taken (indices_in taken.set) in
     let items = c.handing.room.handles.items in
-    elim c.if-has_bit.branch [
-      | then-has_bit w ↦
-          let bit : (bit_at taken.set i == 1) ≡ true = sym c.has_bit.ensures ∙ w.if-has_bit.true in
+    elim c.if-has_buffer.branch [
+      | then-has_buffer w ↦
+          let bit : (bit_at taken.set i == 1) ≡ true = sym c.has_buffer.ensures ∙ w.if-has_buffer.true in
           let passed = w.hand_one-handle.ensures.units in
           let pushed = w.push_reserved.ensures.items ∙ ap (λ (h : Grip). items ++ h ∷ []) w.hand_one-handle.ensures.handle in
           record {
@@ -43,8 +43,8 @@ handing-preserved g c =
             space = rw w.room-is (omega (arith, w.push_reserved.ensures.capacity, so.space));
             spares = rw w.room-is (omega (arith, w.hand_one-handle.ensures.spares, so.spares));
           }
-      | else-has_bit w ↦
-          let bit : (bit_at taken.set i == 1) ≡ false = sym c.has_bit.ensures ∙ w.if-has_bit.false in
+      | else-has_buffer w ↦
+          let bit : (bit_at taken.set i == 1) ≡ false = sym c.has_buffer.ensures ∙ w.if-has_buffer.false in
           record {
             units = rw w.units-is (units_stay i taken.set taken.strength c.handing.units low bit so.units);
             events = rw w.units-is so.events;

@@ -1,7 +1,7 @@
 use Rattle.std.proofs.Common.{◌∙◌, ap, sym, set}
 use Rattle.lifetime_core.specs.State.{Client}
 use Rattle.lifetime_core.specs.ClientRows.{without_first}
-use Rattle.lifetime_core.proofs.ClientRows.{one_changed, none_changed, finds_none}
+use Rattle.lifetime_core.proofs.joined.Rows.{one_changed, none_changed, finds_none}
 use Rattle.lifetime_core.proofs.clients.collect.Goals as goal
 
 -- the row of the client

@@ -1,6 +1,6 @@
 use Rattle.std.proofs.Common.{◌∙◌, ap, sym, refl, length, length-append}
 use Rattle.lifetime_core.specs.State.{Client}
-use Rattle.lifetime_core.proofs.ClientRows.{finds, finds_none}
+use Rattle.lifetime_core.proofs.joined.Rows.{finds, finds_none}
 use Rattle.lifetime_core.proofs.clients.count_waiting.Goals as goal
 
 -- the row of the client

@@ -1,7 +1,7 @@
 use Rattle.std.proofs.Common.{◌∙◌, ap, sym}
 use Rattle.std.specs.List.{slice_get}
 use Rattle.lifetime_core.specs.State.{Client}
-use Rattle.lifetime_core.proofs.ClientRows.{finds, finds_none, first_read}
+use Rattle.lifetime_core.proofs.joined.Rows.{finds, finds_none, first_read}
 use Rattle.lifetime_core.proofs.clients.first_waiting.Goals as goal
 
 pub returns-in_err-row : goal.returns-in_err-row

@@ -1,5 +1,5 @@
 use Rattle.std.proofs.Common.{◌∙◌, ap, is_some}
-use Rattle.lifetime_core.proofs.ClientRows.{place_tells}
+use Rattle.lifetime_core.proofs.joined.Rows.{place_tells}
 use Rattle.lifetime_core.proofs.clients.has_joined.Goals as goal
 
 pub returns : goal.returns

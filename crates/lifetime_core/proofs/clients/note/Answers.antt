@@ -1,4 +1,4 @@
-use Rattle.lifetime_core.proofs.ClientSteps.{not_joined, not_shut, not_given, not_handed, not_collected, not_theirs, by_join}
+use Rattle.lifetime_core.proofs.joined.NextRows.{not_joined, not_shut, not_given, not_handed, not_collected, not_theirs, by_join}
 use Rattle.lifetime_core.proofs.clients.note.Goals as goal
 
 pub returns-in-Joined-clause-ok : goal.returns-in-Joined-clause-ok

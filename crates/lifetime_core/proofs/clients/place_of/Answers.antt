@@ -1,6 +1,6 @@
 use Rattle.std.proofs.Common.{rules, ◌∙◌}
 use Rattle.std.proofs.lemmas.List.Sorted.{answers_always}
-use Rattle.lifetime_core.proofs.ClientRows.{search_places}
+use Rattle.lifetime_core.proofs.joined.Rows.{search_places}
 use Rattle.lifetime_core.proofs.clients.place_of.Goals as goal
 
 -- the closure gives a client's id, and the ids rise

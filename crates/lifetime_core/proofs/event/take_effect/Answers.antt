@@ -3,7 +3,7 @@ use Rattle.sm_names.specs.Marks.{Called}
 use Rattle.alloc_event.specs.Settling.{Handles}
 use Rattle.lifetime_core.specs.State.{HandleCounts, counts_of}
 use Rattle.lifetime_core.specs.Tasks.{Reworked, work_in}
-use Rattle.lifetime_core.proofs.Moving.{moves_to}
+use Rattle.lifetime_core.proofs.handles.Moves.{moves_to}
 use Rattle.lifetime_core.proofs.event.take_effect.Goals as goal
 
 pub returns-clause-ok : goal.returns-clause-ok

@@ -1,5 +1,5 @@
 use Rattle.std.proofs.Common.{rules}
-use Rattle.lifetime_core.proofs.Handing.{closes_one}
+use Rattle.lifetime_core.proofs.handles.Opening.{closes_one}
 use Rattle.lifetime_core.proofs.hands.close.Goals as goal
 
 pub returns-clause-closed : goal.returns-clause-closed

@@ -1,6 +1,6 @@
 use Rattle.std.proofs.Common.{◌≡◌, subst, arith}
 use Rattle.lifetime_core.specs.Hands.{Opens, is_below}
-use Rattle.lifetime_core.proofs.Handing.{all_closed}
+use Rattle.lifetime_core.proofs.handles.Opening.{all_closed}
 use Rattle.lifetime_core.proofs.hands.close_below.Goals as goal
 
 -- none is left below 0

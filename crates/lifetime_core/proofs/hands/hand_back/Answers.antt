@@ -4,8 +4,8 @@ use Rattle.buffer_holds.specs.Counts.{total}
 use Rattle.buffer_holds.proofs.Outcomes.{at_ok}
 use Rattle.sm_names.specs.Marks.{Called}
 use Rattle.lifetime_core.specs.Hands.{is_the}
-use Rattle.lifetime_core.proofs.Handing.{same_before, has_one}
-use Rattle.lifetime_core.proofs.HandSteps.{taken_opens, doubled_opens, undrops, ungives, uncollects, got_one, opened, moved_none, not_taken, not_doubled, not_dropped, not_handed, not_handles}
+use Rattle.lifetime_core.proofs.handles.Opening.{same_before, has_one}
+use Rattle.lifetime_core.proofs.handles.Undoing.{taken_opens, doubled_opens, undrops, ungives, uncollects, got_one, opened, moved_none, not_taken, not_doubled, not_dropped, not_handed, not_handles}
 use Rattle.lifetime_core.proofs.hands.hand_back.Goals as goal
 
 pub returns-in-Taken-clause-counts : goal.returns-in-Taken-clause-counts

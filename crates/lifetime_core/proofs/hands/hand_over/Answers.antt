@@ -1,8 +1,8 @@
 use Rattle.std.proofs.Common.{◌<◌, ◌^◌, arith, rules}
 use Rattle.std.proofs.lemmas.Bool.{OnTrue_at}
 use Rattle.std.proofs.lemmas.Result.{on_ok_weaker}
-use Rattle.lifetime_core.proofs.Handing.{of-le-total}
-use Rattle.lifetime_core.proofs.HandSteps.{moves_taken, moves_dropped, moves_given, moves_collected}
+use Rattle.lifetime_core.proofs.handles.Opening.{of-le-total}
+use Rattle.lifetime_core.proofs.handles.Undoing.{moves_taken, moves_dropped, moves_given, moves_collected}
 use Rattle.lifetime_core.proofs.hands.hand_over.Goals as goal
 
 pub returns-in-Taken-clause-ok : goal.returns-in-Taken-clause-ok

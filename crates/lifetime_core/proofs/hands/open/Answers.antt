@@ -1,4 +1,4 @@
-use Rattle.lifetime_core.proofs.Handing.{opens_one}
+use Rattle.lifetime_core.proofs.handles.Opening.{opens_one}
 use Rattle.lifetime_core.proofs.hands.open.Goals as goal
 
 pub returns-in-Ok-clause-ok : goal.returns-in-Ok-clause-ok

@@ -3,8 +3,8 @@ use Rattle.sm_names.specs.declared.messages.Reply.{Reply}
 use Rattle.sm_names.specs.Timelines.{timeline}
 use Rattle.sm_names.proofs.GrowthLaws.{legal_grows}
 use Rattle.sm_names.proofs.RestLaws.{every_rests}
-use Rattle.lifetime_core.proofs.ReadingAnswers.{answer_is}
-use Rattle.lifetime_core.proofs.TakenLaws.{stood, not_empty, some_opened}
+use Rattle.lifetime_core.proofs.views.Answers.{answer_is}
+use Rattle.lifetime_core.proofs.handles.Taken.{stood, not_empty, some_opened}
 use Rattle.lifetime_core.proofs.laws.a_take_is_never_empty.Goals as goal
 
 pub returns-clause-taken : goal.returns-clause-taken

@@ -3,7 +3,7 @@ use Rattle.std.specs.List.{list_any}
 use Rattle.sm_names.specs.declared.keys.BufferName.{BufferName}
 use Rattle.sm_names.specs.Answers.{is_at_limit}
 use Rattle.lifetime_core.specs.Reads.{readings_of}
-use Rattle.lifetime_core.proofs.ToOpen.{all_to_open, is_kept, kept_from, next_passes, none_kept}
+use Rattle.lifetime_core.proofs.handles.ToOpen.{all_to_open, is_kept, kept_from, next_passes, none_kept}
 use Rattle.lifetime_core.proofs.opening.is_one_full.Goals.{else-not-is_doomed-via-then-not-is_doomed+else-has_all_handles, else-not-is_doomed-via-else-not-is_doomed}
 use Rattle.lifetime_core.proofs.opening.is_one_full.Goals as goal
 

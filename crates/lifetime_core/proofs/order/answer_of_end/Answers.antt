@@ -1,7 +1,7 @@
 use Rattle.std.proofs.Common.{◌≡◌, sym, refl, Some}
 use Rattle.sm_names.specs.Timelines.{key_of}
 use Rattle.lifetime_core.specs.Reads.{end_in, open_end_of}
-use Rattle.lifetime_core.proofs.Ordering.{end_there, or_six}
+use Rattle.lifetime_core.proofs.answers.Order.{end_there, or_six}
 use Rattle.lifetime_core.proofs.order.answer_of_end.Goals as goal
 
 pub returns : goal.returns

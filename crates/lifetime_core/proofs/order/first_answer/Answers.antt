@@ -4,7 +4,7 @@ use Rattle.sm_names.specs.declared.messages.Reply.{Reply}
 use Rattle.sm_names.specs.Answers.{limits_met}
 use Rattle.sm_names.specs.Words.{first_some}
 use Rattle.lifetime_core.specs.Reads.{readings_of}
-use Rattle.lifetime_core.proofs.Ordering.{lines_in_order, sooner_of}
+use Rattle.lifetime_core.proofs.answers.Order.{lines_in_order, sooner_of}
 use Rattle.lifetime_core.proofs.order.first_answer.Goals as goal
 
 -- a line before the limits has an answer

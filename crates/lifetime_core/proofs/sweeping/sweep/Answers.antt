@@ -3,7 +3,7 @@ use Rattle.buffer_holds.specs.Counts.{total}
 use Rattle.sm_names.specs.Trackers.{World}
 use Rattle.trackers.specs.Table.{Waiting, is_due}
 use Rattle.lifetime_core.specs.Reads.{world_in}
-use Rattle.lifetime_core.proofs.Sweeps.{each_of, none_swept}
+use Rattle.lifetime_core.proofs.firing.Sweeps.{each_of, none_swept}
 use Rattle.lifetime_core.proofs.sweeping.sweep.Goals as goal
 
 -- where no collection is concerned, none is due

@@ -5,9 +5,9 @@ use Rattle.lifetime_core.specs.declared.task.Task.{Task}
 use Rattle.lifetime_core.specs.Steps.{Place, with_place}
 use Rattle.lifetime_core.specs.Tasks.{placed, spent_place}
 use Rattle.lifetime_core.specs.Whole.{CanFinish, IsAmid, IsSound}
-use Rattle.lifetime_core.proofs.Carrying.{carries}
-use Rattle.lifetime_core.proofs.Forgetting.{are_left, id_from, same_held, same_worked, sound_left}
-use Rattle.lifetime_core.proofs.Making.{ends_are_there}
+use Rattle.lifetime_core.proofs.ends.Transfers.{carries}
+use Rattle.lifetime_core.proofs.ends.Spending.{are_left, id_from, same_held, same_worked, sound_left}
+use Rattle.lifetime_core.proofs.forced.Change.{ends_are_there}
 use Rattle.lifetime_core.proofs.task.finish.Goals as goal
 
 -- there is no task

@@ -4,7 +4,7 @@ use Rattle.actor_steps.specs.Desks.{Known, with_things}
 use Rattle.actor_steps.specs.Tables.{known}
 use Rattle.actor_steps.proofs.TableLaws.{at_end, behind, step_with, step_without}
 use Rattle.actor_steps.proofs.desk.Desk.push_handles.Goals as goal
-use Rattle.actor_steps.proofs.desk.Desk.push_handles.Goals.{then-has_bit+in_ok-push, else-has_bit}
+use Rattle.actor_steps.proofs.desk.Desk.push_handles.Goals.{then-has_buffer+in_ok-push, else-has_buffer}
 
 pub pushing-preserved : goal.pushing-preserved
 pushing-preserved c =
@@ -12,14 +12,14 @@ pushing-preserved c =
     let low : i < 64 = c.pushing-test.true in
     let so = c.pushing.invariant in
     let rest = behind c.args.collection c.args.strength c.args.set i in
-    elim c.if-has_bit.branch [
-      | then-has_bit+in_ok-push w ↦
-          let bit : (bit_at c.args.set i == 1) ≡ true = sym c.has_bit.ensures ∙ w.if-has_bit.true in
+    elim c.if-has_buffer.branch [
+      | then-has_buffer+in_ok-push w ↦
+          let bit : (bit_at c.args.set i == 1) ≡ true = sym c.has_buffer.ensures ∙ w.if-has_buffer.true in
           rw w.self-is
           (ap (λ (d : Known). with_things d rest) w.in_ok-push.ensures
           ∙ (sym (ap (with_things (known c.pushing.self)) (step_with c.args.collection c.args.strength c.args.set i low bit)) ∙ so))
-      | else-has_bit w ↦
-          let bit : (bit_at c.args.set i == 1) ≡ false = sym c.has_bit.ensures ∙ w.if-has_bit.false in
+      | else-has_buffer w ↦
+          let bit : (bit_at c.args.set i == 1) ≡ false = sym c.has_buffer.ensures ∙ w.if-has_buffer.false in
           rw w.self-is
           (sym (ap (with_things (known c.pushing.self)) (step_without c.args.collection c.args.strength c.args.set i low bit)) ∙ so)
     ]

@@ -4,8 +4,8 @@ use Rattle.sm_names.specs.declared.keys.Interval.{Interval}
 use Rattle.sm_names.specs.Timelines.{HeldPages}
 use Rattle.alloc_event.specs.Forest.{all_held}
 use Rattle.lifetime_core.specs.Reads.{views_of}
-use Rattle.lifetime_core.proofs.Showing.{free_shown}
-use Rattle.lifetime_core.proofs.Pooling.{sum-sorted, sum-map}
+use Rattle.lifetime_core.proofs.views.Shown.{free_shown}
+use Rattle.lifetime_core.proofs.collections.Pages.{sum-sorted, sum-map}
 use Rattle.lifetime_core.proofs.machine.Core.free_pages.Goals as goal
 
 -- the pool's pages are those of the buffers, in another order

@@ -2,9 +2,9 @@ use Rattle.std.proofs.Common.{AllPairs, ap, sym, ◌∙◌, subst, map}
 use Rattle.std.proofs.lemmas.Result.{IfOk-weaker}
 use Rattle.alloc_event.specs.Forest.{held_buffer, held_by_page}
 use Rattle.lifetime_core.specs.State.{State}
-use Rattle.lifetime_core.proofs.Showing.{held_shown}
-use Rattle.lifetime_core.proofs.ViewingApart.{EndsBefore, held_in_order}
-use Rattle.lifetime_core.proofs.ViewingHeld.{HavePages, have_pages}
+use Rattle.lifetime_core.proofs.views.Shown.{held_shown}
+use Rattle.lifetime_core.proofs.views.HeldApart.{EndsBefore, held_in_order}
+use Rattle.lifetime_core.proofs.views.Held.{HavePages, have_pages}
 use Rattle.lifetime_core.proofs.machine.Core.held.Goals as goal
 
 pub returns-clause-shown : goal.returns-clause-shown

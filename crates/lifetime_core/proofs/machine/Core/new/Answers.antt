@@ -1,4 +1,4 @@
-use Rattle.lifetime_core.proofs.GoesOnLaws.{shows_nothing}
+use Rattle.lifetime_core.proofs.theorem.GoesOn.{shows_nothing}
 use Rattle.lifetime_core.proofs.machine.Core.new.Goals as goal
 
 -- nothing happened yet

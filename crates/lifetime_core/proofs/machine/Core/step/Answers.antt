@@ -3,11 +3,11 @@ use Rattle.sm_names.specs.Answers.{key_told}
 use Rattle.lifetime_core.specs.Reads.{readings_of}
 use Rattle.lifetime_core.specs.State.{State}
 use Rattle.lifetime_core.specs.Tasks.{Parts, placed}
-use Rattle.lifetime_core.proofs.Following.{Begins, after, alone, begins, can_carry, finishes, one, step_answers, step_follows}
-use Rattle.lifetime_core.proofs.KindLaws.{reply-fits}
-use Rattle.lifetime_core.proofs.GoesOnLaws.{goes_on}
-use Rattle.lifetime_core.proofs.Leading.{untaken_after}
-use Rattle.lifetime_core.proofs.Keeping.{above, fits, moves, none_elsewhere, whole_same, whole_then}
+use Rattle.lifetime_core.proofs.theorem.EventParts.{Begins, after, alone, begins, can_carry, finishes, one, step_answers, step_follows}
+use Rattle.lifetime_core.proofs.answers.Kinds.{reply-fits}
+use Rattle.lifetime_core.proofs.theorem.GoesOn.{goes_on}
+use Rattle.lifetime_core.proofs.theorem.Leads.{untaken_after}
+use Rattle.lifetime_core.proofs.theorem.Fields.{above, fits, moves, none_elsewhere, whole_same, whole_then}
 use Rattle.lifetime_core.proofs.machine.Core.step.Goals as goal
 
 -- what the call does may be done

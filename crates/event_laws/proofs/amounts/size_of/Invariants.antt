@@ -1,0 +1,7 @@
+use Rattle.std.proofs.Common.{◌≡◌, length}
+use Rattle.event_laws.specs.HandleSums.{indices_below}
+use Rattle.event_laws.proofs.amounts.size_of.Given as goal
+
+-- the indices looked at so far are counted
+abbrev pub invariant-loop-index : goal.invariant-loop-index
+invariant-loop-index l = l.size ≡ length (indices_below l.index l.set)

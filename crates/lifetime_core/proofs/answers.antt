@@ -1,0 +1,5 @@
+-- The answers of an event.
+pub mod Changes
+pub mod Kinds
+pub mod Order
+pub mod Passed

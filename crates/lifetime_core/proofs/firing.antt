@@ -1,0 +1,6 @@
+-- What an event makes of the trackers, and what they look at.
+pub mod Fields
+pub mod NextTrackers
+pub mod Sweeps
+pub mod Worlds
+pub mod WorldsApart

@@ -1,0 +1,266 @@
+-- What an event keeps of the trackers.
+use Rattle.std.proofs.Common.{ℕ, ◌≡◌, ◌<◌, ◌≤◌, ◌+◌, refl, ap, sym, ◌∙◌, subst, true, false, nat_le, length, not, ◌⊎◌, inl, inr, [], ◌∷◌, Option, Some, None, is_some, IfSome, arith}
+use Rattle.std.proofs.lemmas.Bool.{eqb-true, eq-eqb, leb-false}
+use Rattle.std.specs.List.{All}
+use Rattle.std.specs.Option.{option_map, option_or}
+use Rattle.sm_names.specs.declared.keys.BufferName.{BufferName}
+use Rattle.sm_names.specs.declared.keys.NodeKey.{NodeKey}
+use Rattle.sm_names.specs.declared.keys.Strength.{Strength}
+use Rattle.sm_names.specs.declared.messages.Call.{Call}
+use Rattle.sm_names.specs.declared.messages.Reply.{Reply}
+use Rattle.sm_names.specs.declared.outcomes.Refusal.{Refusal}
+use Rattle.sm_names.specs.declared.tracking.Condition.{Condition}
+use Rattle.sm_names.specs.Answers.{answer, closing, effect, makes_tracker}
+use Rattle.sm_names.specs.Bounds.{Bound}
+use Rattle.sm_names.specs.Handles.{drops, opens}
+use Rattle.sm_names.specs.Marks.{Called}
+use Rattle.sm_names.specs.Sameness.{same_buffer}
+use Rattle.sm_names.proofs.AnswerLaws.{took_effect_all}
+use Rattle.sm_names.proofs.HandleLaws.{same_buffer-true}
+use Rattle.sm_names.proofs.ListLaws.{In, In-append, In-filter}
+use Rattle.sm_names.proofs.SamenessLaws.{and_left, either_way}
+use Rattle.sm_names.proofs.SettledLaws.{map-Some, not_back}
+use Rattle.event_laws.specs.ByEvent.{anyone, one_if}
+use Rattle.buffer_holds.specs.Counts.{Counts, total}
+use Rattle.trackers.specs.Table.{Cell, Table, Waiting, is_due}
+use Rattle.alloc_event.specs.declared.change.Change.{Change}
+use Rattle.alloc_event.specs.declared.node.Node.{Node}
+use Rattle.alloc_event.specs.Forest.{Collection, Forest, SameKeys, collection_at, given, node_at}
+use Rattle.alloc_event.specs.Settling.{no_key}
+use Rattle.lifetime_core.specs.declared.sweeping.Tracking.{Tracking}
+use Rattle.lifetime_core.specs.declared.task.Task.{Task}
+use Rattle.lifetime_core.specs.Hands.{Moves}
+use Rattle.lifetime_core.specs.Reads.{readings_of, world_in}
+use Rattle.lifetime_core.specs.State.{State}
+use Rattle.lifetime_core.specs.Steps.{Gains, Place, Work, swept, tracker_by, with_place, without_over, work_of}
+use Rattle.lifetime_core.specs.Tasks.{MayDo, Reworked, spent_by, waiting_as, work_in}
+use Rattle.lifetime_core.specs.Whole.{CanFinish, Concerns, IsNodeOf, IsSound, StillWaits}
+use Rattle.lifetime_core.proofs.handles.Movable.{not_met}
+use Rattle.lifetime_core.proofs.forced.Forest.{node_with_key}
+use Rattle.lifetime_core.proofs.firing.Sweeps.{all_of, each_of}
+use Rattle.lifetime_core.proofs.firing.Worlds.{amid_named, sound_named, waits_on}
+use Rattle.lifetime_core.proofs.firing.WorldsApart.{AreKept, LeavesRest, changed_by, concerns_worked, leaves_rest, undue_elsewhere}
+
+-- what is known of a core where the call is answered
+pub record Starts (s : State) (client : ℕ) (call : Call) (asked : Reply) (task : Option Task) (tracking : Option Tracking) : Type 0 where
+  pub sound : IsSound s.forest
+  pub waiting : All (StillWaits s.forest (total s.holds)) s.trackers.unfired
+  pub work : work_in task ≡ work_of s client call asked
+  pub idle : work_of s client call asked ≡ None → spent_by call asked ≡ None → task ≡ None
+  pub may : IfSome task (MayDo s.forest)
+  pub tracks : option_map waiting_as tracking ≡ tracker_by s.forest call asked
+
+-- the collection that the event concerns
+abbrev pub concerned : Option Task → Option Tracking → Option ℕ
+concerned task tracking = option_or (option_map (λ (t : Task). t.collection) task) (option_map (λ (t : Tracking). t.collection) tracking)
+
+-- ---- the tracker that is attached
+
+-- a tracker is made with the event's number, and where one more may wait
+pub record IsMade (limits : Bound) (s : State) (t : Waiting) : Type 0 where
+  pub number : t.id ≡ s.events + 1
+  pub room : length s.trackers.unfired < limits.trackers
+
+module _ (limits : Bound) (s : State) (client : ℕ) where
+  -- so it is where the call is answered with one
+  called_made : (call : Call) (id : ℕ) → makes_tracker call ≡ true → closing call ≡ None → effect (readings_of s) client no_key call ≡ Reply.Tracker (s.events + 1) →
+      Reply.Tracker id ≡ answer limits (readings_of s) client no_key call → (t : Waiting) → id ≡ t.id → IsMade limits s t
+  called_made call id makes going tells told t is =
+      let all = took_effect_all limits (readings_of s) client no_key call (Reply.Tracker id) refl going told in
+      let fits : nat_le limits.trackers (length s.trackers.unfired) ≡ false = not_met _ Refusal.TrackersFull (rw makes at all.trackers_fit) in
+      record { number = sym is ∙ id_is id (s.events + 1) (all.answered ∙ tells); room = leb-false limits.trackers (length s.trackers.unfired) fits }
+    where
+      id_is : (a b : ℕ) → Reply.Tracker a ≡ Reply.Tracker b → a ≡ b
+      id_is a b h = cc
+
+  -- and no call makes one otherwise
+  is_made : (call : Call) (asked : Reply) → asked ≡ answer limits (readings_of s) client no_key call → (t : Waiting) → tracker_by s.forest call asked ≡ Some t → IsMade limits s t
+  is_made (Call.TrackNode key) (Reply.Tracker id) told t is =
+      let n = map-Some (λ (n : Node). record { id = id; place = n.collection; condition = Condition.Node key }) (node_at s.forest key) t is in
+      called_made (Call.TrackNode key) id refl refl refl told t (ap (λ (w : Waiting). w.id) n.2)
+  is_made (Call.TrackLifetime key most) (Reply.Tracker id) told t is =
+      let n = map-Some (λ (n : Node). record { id = id; place = n.collection; condition = Condition.Lifetime key n.collection most }) (node_at s.forest key) t is in
+      called_made (Call.TrackLifetime key most) id refl refl refl told t (ap (λ (w : Waiting). w.id) n.2)
+  is_made (Call.TrackWeak buffer) (Reply.Tracker id) told t is = called_made (Call.TrackWeak buffer) id refl refl refl told t (id_of is)
+    where
+      id_of : {w : Waiting} → Some w ≡ Some t → w.id ≡ t.id
+      id_of h = cc
+  is_made _ _ told t is = cc
+
+module _ (s : State) (call : Call) (asked : Reply) (limits : Bound) (client : ℕ) (tracking : Option Tracking) where
+  -- the call is answered so
+  abbrev IsTold : Type 0
+  IsTold = asked ≡ answer limits (readings_of s) client no_key call
+
+  -- and attaches this tracker, if it attaches one
+  abbrev Tracks : Type 0
+  Tracks = option_map waiting_as tracking ≡ tracker_by s.forest call asked
+
+  -- that is made
+  tracked : IsTold → Tracks → (t : Tracking) → tracking ≡ Some t → IsMade limits s (waiting_as t)
+  tracked told tracks t is = is_made limits s client call asked told (waiting_as t) (sym tracks ∙ ap (option_map waiting_as) is)
+
+  -- its id is above all others
+  pub attached_above : IsTold → Tracks → All (λ (c : Cell). c.id ≤ s.events) s.trackers.cells → IfSome tracking (λ t. All (λ (c : Cell). c.id < t.id) s.trackers.cells)
+  attached_above told tracks numbered = by tracking refl
+    where
+      by : (o : Option Tracking) → tracking ≡ o → IfSome o (λ t. All (λ (c : Cell). c.id < t.id) s.trackers.cells)
+      by None is = tt
+      by (Some t) is = all_of (λ (c : Cell). c.id < t.id) s.trackers.cells (λ c on.
+          let below : c.id ≤ s.events = each_of (λ (d : Cell). d.id ≤ s.events) s.trackers.cells numbered c on in
+          let number : t.id ≡ s.events + 1 = (tracked told tracks t is).number in
+          omega (arith, below, number))
+
+  -- one more may wait
+  pub attached_fits : IsTold → Tracks → s.trackers.limit ≡ limits.trackers → IfSome tracking (λ t. length s.trackers.unfired < s.trackers.limit)
+  attached_fits told tracks limit = by tracking refl
+    where
+      by : (o : Option Tracking) → tracking ≡ o → IfSome o (λ t. length s.trackers.unfired < s.trackers.limit)
+      by None is = tt
+      by (Some t) is = rw limit (tracked told tracks t is).room
+
+  -- the ids are still those of events
+  pub still_numbered : (attached : Table) → IsTold → Tracks → Gains s.trackers (option_map waiting_as tracking) attached → All (λ (c : Cell). c.id ≤ s.events) s.trackers.cells →
+      All (λ (c : Cell). c.id ≤ s.events + 1) attached.cells
+  still_numbered attached told tracks gains numbered = by tracking refl gains
+    where
+      before : (c : Cell) → In c s.trackers.cells → c.id ≤ s.events + 1
+      before c on = let below : c.id ≤ s.events = each_of (λ (d : Cell). d.id ≤ s.events) s.trackers.cells numbered c on in omega (arith, below)
+
+      by : (o : Option Tracking) → tracking ≡ o → Gains s.trackers (option_map waiting_as o) attached → All (λ (c : Cell). c.id ≤ s.events + 1) attached.cells
+      by None is gains = all_of (λ (c : Cell). c.id ≤ s.events + 1) attached.cells (λ c on. before c (subst (λ (t : Table). In c t.cells) gains on))
+      by (Some t) is gains = all_of (λ (c : Cell). c.id ≤ s.events + 1) attached.cells (λ c on.
+          elim (In-append s.trackers.cells (record { id = t.id; name = gains.name } ∷ []) c (subst (λ (x : Table). In c x.cells) gains.next on)) [
+            | inl old ↦ before c old
+            | inr (inl new) ↦
+                let id : c.id ≡ t.id = ap (λ (d : Cell). d.id) new in
+                let number : t.id ≡ s.events + 1 = (tracked told tracks t is).number in
+                omega (arith, id, number)
+            | inr (inr none) ↦ absurd none
+          ])
+
+-- ---- where trackers are filed
+
+-- a node that is found is of its collection
+node_filed : (f : Forest) → IsSound f → (key : NodeKey) (n : Node) → node_at f key ≡ Some n → IsNodeOf f n.collection key
+node_filed f sound key n at =
+    let c = node_with_key f key n at in
+    record { given = subst (λ (k : NodeKey). given f k ≡ true) c.3 (sound.fit c.0 c.1 n c.2).key; ours = rw at refl }
+
+-- a tracker is filed under the collection that it concerns
+made_filed : (f : Forest) → IsSound f → (call : Call) (asked : Reply) (t : Waiting) → tracker_by f call asked ≡ Some t → Concerns f t.place t.condition
+made_filed f sound (Call.TrackNode key) (Reply.Tracker id) t is =
+    let n = map-Some (λ (n : Node). record { id = id; place = n.collection; condition = Condition.Node key }) (node_at f key) t is in
+    subst (λ (w : Waiting). Concerns f w.place w.condition) n.2 (node_filed f sound key n.0 n.1)
+made_filed f sound (Call.TrackLifetime key most) (Reply.Tracker id) t is =
+    let n = map-Some (λ (n : Node). record { id = id; place = n.collection; condition = Condition.Lifetime key n.collection most }) (node_at f key) t is in
+    subst (λ (w : Waiting). Concerns f w.place w.condition) n.2 (refl, node_filed f sound key n.0 n.1)
+made_filed f sound (Call.TrackWeak buffer) (Reply.Tracker id) t is = subst (λ (w : Waiting). Concerns f w.place w.condition) (one is) refl
+  where
+    one : {w : Waiting} → Some w ≡ Some t → w ≡ t
+    one h = cc
+made_filed f sound _ _ t is = cc
+
+-- the trackers that wait are those that waited, and the one that is attached
+attached_from : (old new : Table) (o : Option Waiting) → Gains old o new → (t : Waiting) → In t new.unfired → In t old.unfired ⊎ (o ≡ Some t)
+attached_from old new None gains t on = inl (subst (λ (x : Table). In t x.unfired) gains on)
+attached_from old new (Some w) gains t on = elim (In-append old.unfired (w ∷ []) t (subst (λ (x : Table). In t x.unfired) gains.next on)) [
+  | inl before ↦ inl before
+  | inr (inl is) ↦ inr (ap Some (sym is))
+  | inr (inr none) ↦ absurd none
+]
+
+-- ---- the collection that is concerned
+
+-- a task that changes a collection concerns it
+task_concerned : (task : Option Task) (tracking : Option Tracking) (id : ℕ) → changed_by task ≡ Some id → concerned task tracking ≡ Some id
+task_concerned None tracking id is = cc
+task_concerned (Some t) tracking id is = by t.change is
+  where
+    by : (o : Option Change) → option_map (λ (w : Work). w.collection) (option_map (λ c. record { collection = t.collection; change = c }) o) ≡ Some id → Some t.collection ≡ Some id
+    by None h = cc
+    by (Some change) h = h
+
+module _ (s : State) (client : ℕ) (call : Call) (asked : Reply) (task : Option Task) (tracking : Option Tracking) (starts : Starts s client call asked task tracking) where
+  -- where there is no task, the tracker tells
+  tracker_tells : task ≡ None → (t : Waiting) → option_map waiting_as tracking ≡ Some t → concerned task tracking ≡ Some t.place
+  tracker_tells none t is = let tracking_is = map-Some waiting_as tracking t is in rw (none, tracking_is.1) (ap (λ (w : Waiting). Some w.place) tracking_is.2)
+
+  -- the tracker that is made concerns the collection under which it is filed
+  made_concerned : (t : Waiting) → option_map waiting_as tracking ≡ Some t → concerned task tracking ≡ Some t.place
+  made_concerned t is = by call asked starts.work starts.idle (sym starts.tracks ∙ is)
+    where
+      by : (call : Call) (asked : Reply) → work_in task ≡ work_of s client call asked → (work_of s client call asked ≡ None → spent_by call asked ≡ None → task ≡ None) →
+          tracker_by s.forest call asked ≡ Some t → concerned task tracking ≡ Some t.place
+      by (Call.TrackNode key) (Reply.Tracker id) work idle made =
+          let n = map-Some (λ (n : Node). record { id = id; place = n.collection; condition = Condition.Node key }) (node_at s.forest key) t made in
+          let change : changed_by task ≡ Some n.0.collection =
+          ap (option_map (λ (w : Work). w.collection)) (work ∙ ap (option_map (λ (m : Node). record { collection = m.collection; change = Change.Effect (Call.TrackNode key) })) n.1) in
+          task_concerned task tracking n.0.collection change ∙ ap (λ (w : Waiting). Some w.place) n.2
+      by (Call.TrackLifetime key most) (Reply.Tracker id) work idle made = tracker_tells (idle refl refl) t is
+      by (Call.TrackWeak buffer) (Reply.Tracker id) work idle made = tracker_tells (idle refl refl) t is
+      by _ _ work idle made = cc
+
+  -- a handle that is dropped is one of the collection that is changed, if it is there
+  drops_there : (buffer : BufferName) (strength : Strength) → drops anyone buffer strength (Called client asked call) ≡ true → is_some (collection_at s.forest buffer.collection) ≡ true →
+      changed_by task ≡ Some buffer.collection
+  drops_there buffer strength dropped there = ap (option_map (λ (w : Work). w.collection)) starts.work ∙ by asked call dropped
+    where
+      at : (id : ℕ) (o : Option Collection) → is_some o ≡ true → option_map (λ (w : Work). w.collection) (option_map (λ (c : Collection). record { collection = id; change = Change.Nothing }) o) ≡ Some id
+      at id None h = cc
+      at id (Some c) h = refl
+
+      by : (asked : Reply) (call : Call) → drops anyone buffer strength (Called client asked call) ≡ true → option_map (λ (w : Work). w.collection) (work_of s client call asked) ≡ Some buffer.collection
+      by Reply.Done (Call.DropHandle name other) h =
+          let same : name.collection ≡ buffer.collection = ap (λ (b : BufferName). b.collection) (same_buffer-true name buffer (and_left (same_buffer name buffer) _ h)) in
+          at name.collection (collection_at s.forest name.collection) (ap (λ (id : ℕ). is_some (collection_at s.forest id)) same ∙ there) ∙ ap Some same
+      by _ _ h = cc
+
+-- ---- after the event
+
+module _ (s : State) (client : ℕ) (call : Call) (asked : Reply) (task : Option Task) (tracking : Option Tracking) (starts : Starts s client call asked task tracking)
+    (holds : Counts) (moves : Moves s.holds holds (Called client asked call)) (worked : Forest) (key : Option NodeKey) (work : Reworked s.pool (total holds) s.forest (work_in task) key worked)
+    (amid : CanFinish worked task) (attached : Table) (gains : Gains s.trackers (option_map waiting_as tracking) attached) where
+  -- the other collections are as they were
+  rest : LeavesRest s.forest worked (changed_by task)
+  rest = leaves_rest s.pool (total holds) s.forest worked task key starts.sound starts.may work
+
+  -- no strong handle of their buffers was lost
+  kept_elsewhere : (buffer : BufferName) → (changed_by task ≡ Some buffer.collection → ⊥) → is_some (collection_at s.forest buffer.collection) ≡ true → AreKept (total s.holds) (total holds) buffer
+  kept_elsewhere buffer other there none = elim (either_way (drops anyone buffer Strength.Strong (Called client asked call))) [
+    | inl dropped ↦ absurd (other (drops_there s client call asked task tracking starts buffer Strength.Strong dropped there))
+    | inr not_dropped ↦
+        let sum : total holds buffer Strength.Strong + one_if (drops anyone buffer Strength.Strong (Called client asked call))
+        ≡ total s.holds buffer Strength.Strong + one_if (opens anyone buffer Strength.Strong (Called client asked call)) = (moves.in_all buffer Strength.Strong).adds_up in
+        let lost : one_if (drops anyone buffer Strength.Strong (Called client asked call)) ≡ 0 = ap one_if not_dropped in
+        let now : total holds buffer Strength.Strong ≡ 0 = eqb-true (total holds buffer Strength.Strong) 0 none in
+        eq-eqb (total s.holds buffer Strength.Strong) 0 (omega (arith, sum, lost, now))
+  ]
+
+  -- no tracker is due elsewhere
+  pub elsewhere : All (λ (t : Waiting). (concerned task tracking ≡ Some t.place → ⊥) → is_due (world_in worked (total holds)) t ≡ false) attached.unfired
+  elsewhere = all_of (λ (t : Waiting). (concerned task tracking ≡ Some t.place → ⊥) → is_due (world_in worked (total holds)) t ≡ false) attached.unfired (λ t on other.
+      elim (attached_from s.trackers attached (option_map waiting_as tracking) gains t on) [
+        | inl old ↦
+            let waits : StillWaits s.forest (total s.holds) t = each_of (StillWaits s.forest (total s.holds)) s.trackers.unfired starts.waiting t old in
+            let apart : changed_by task ≡ Some t.place → ⊥ = λ h. other (task_concerned task tracking t.place h) in
+            undue_elsewhere s.forest worked (changed_by task) starts.sound (amid_named worked task amid) rest (total s.holds) (total holds) t apart waits.filed
+            (λ buffer its. kept_elsewhere buffer (λ h. apart (h ∙ ap Some its))) waits.undue
+        | inr new ↦ absurd (other (made_concerned s client call asked task tracking starts t new))
+      ])
+
+  -- each tracker is filed under the collection that it concerns
+  filed : (t : Waiting) → In t attached.unfired → Concerns s.forest t.place t.condition
+  filed t on = elim (attached_from s.trackers attached (option_map waiting_as tracking) gains t on) [
+    | inl old ↦ (each_of (StillWaits s.forest (total s.holds)) s.trackers.unfired starts.waiting t old).filed
+    | inr new ↦ made_filed s.forest starts.sound call asked t (sym starts.tracks ∙ new)
+  ]
+
+  module _ (place : Option Place) (g : Forest) (left : g.collections ≡ without_over (with_place place worked).collections) (keys : SameKeys worked g) (sound : IsSound g) where
+    -- those that wait still are where they belong, and not due
+    pub waiting_after : All (StillWaits g (total holds)) (swept (world_in worked (total holds)) (s.events + 1) attached).unfired
+    waiting_after = all_of (StillWaits g (total holds)) (swept (world_in worked (total holds)) (s.events + 1) attached).unfired (λ t on.
+        let kept = In-filter (λ (x : Waiting). not (is_due (world_in worked (total holds)) x)) attached.unfired t on in
+        let there : Concerns worked t.place t.condition =
+        concerns_worked s.forest worked (changed_by task) starts.sound (amid_named worked task amid) rest t.place t.condition (filed t kept.0) in
+        waits_on worked g place (amid_named worked task amid) (sound_named g sound) left keys (total holds) t there (not_back (is_due (world_in worked (total holds)) t) kept.1))

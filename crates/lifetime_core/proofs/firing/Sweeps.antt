@@ -1,0 +1,29 @@
+-- A sweep where no tracker is due, and facts on each element.
+use Rattle.std.proofs.Common.{ℕ, ◌≡◌, refl, ap, sym, ◌∙◌, subst, false, not, inl, inr, List, [], ◌∷◌, ◌++◌, map}
+use Rattle.std.proofs.lemmas.List.{append-nil}
+use Rattle.std.proofs.lemmas.List.Elements.{All-nil, All-cons, All-head, All-tail}
+use Rattle.std.specs.List.{All}
+use Rattle.sm_names.specs.Trackers.{World}
+use Rattle.sm_names.proofs.ListLaws.{In, filter-none}
+use Rattle.trackers.specs.Table.{Table, Waiting, firing, firings, is_due, still_waiting}
+use Rattle.lifetime_core.specs.Steps.{swept}
+use Rattle.lifetime_core.proofs.lists.Maps.{filter-all}
+
+-- what holds of all holds of each
+pub each_of : {A : Type 0} (P : A → Type 0) (xs : List A) → All P xs → (x : A) → In x xs → P x
+each_of P [] all x on = absurd on
+each_of P (y ∷ ys) all x (inl is) = subst P (sym is) (All-head P y ys all)
+each_of P (y ∷ ys) all x (inr on) = each_of P ys (All-tail P y ys all) x on
+
+-- and the other way round
+pub all_of : {A : Type 0} (P : A → Type 0) (xs : List A) → ((x : A) → In x xs → P x) → All P xs
+all_of P [] each = All-nil P
+all_of P (y ∷ ys) each = All-cons P y ys (each y (inl refl)) (all_of P ys (λ x on. each x (inr on)))
+
+-- where none is due, a sweep leaves the trackers
+pub none_swept : (w : World) (event : ℕ) (t : Table) → ((x : Waiting) → In x t.unfired → is_due w x ≡ false) → swept w event t ≡ t
+none_swept w event t none =
+    let still : still_waiting w t.unfired ≡ t.unfired = filter-all (λ x. not (is_due w x)) t.unfired (λ x on. ap not (none x on)) in
+    let fired : t.fired ++ firings w event t.unfired ≡ t.fired =
+    ap (λ (l : List Waiting). t.fired ++ map (firing event) l) (filter-none (is_due w) t.unfired none) ∙ append-nil t.fired in
+    λ i. record t { unfired = still i; fired = fired i }

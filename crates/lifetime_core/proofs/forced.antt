@@ -1,0 +1,12 @@
+-- The work of an event: its change, and the steps that it forces.
+pub mod Beginning
+pub mod CallStep
+pub mod Change
+pub mod Fitting
+pub mod ForcedStep
+pub mod Forest
+pub mod NothingForced
+pub mod Settled
+pub mod Starting
+pub mod Whole
+pub mod Work

@@ -1,0 +1,10 @@
+-- What an event makes of the handles.
+pub mod Counts
+pub mod HeldNames
+pub mod Movable
+pub mod Moves
+pub mod Opening
+pub mod Parcels
+pub mod Taken
+pub mod ToOpen
+pub mod Undoing

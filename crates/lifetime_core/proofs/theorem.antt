@@ -1,0 +1,9 @@
+-- The headline: an event of a core is an event of the abstract machine.
+pub mod Event
+pub mod EventCount
+pub mod EventParts
+pub mod Fields
+pub mod Follows
+pub mod GoesOn
+pub mod Leads
+pub mod Runs

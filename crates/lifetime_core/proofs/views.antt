@@ -1,0 +1,12 @@
+-- What is read and seen of a core is what the marks tell.
+pub mod AfterEvents
+pub mod Answers
+pub mod Ends
+pub mod ForTrackers
+pub mod Forests
+pub mod Held
+pub mod HeldApart
+pub mod Live
+pub mod Nodes
+pub mod Seen
+pub mod Shown

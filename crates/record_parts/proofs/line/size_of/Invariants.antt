@@ -1,7 +1,0 @@
-use Rattle.std.proofs.Common.{◌≡◌, length}
-use Rattle.event_laws.specs.HandleSums.{indices_below}
-use Rattle.record_parts.proofs.line.size_of.Given as goal
-
--- the indices looked at so far are counted
-abbrev pub invariant-loop-index : goal.invariant-loop-index
-invariant-loop-index l = l.size ≡ length (indices_below l.index l.set)

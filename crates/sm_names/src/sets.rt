@@ -1,0 +1,11 @@
+//! Sets of buffers of one collection, as a Take tells them.
+ghost use Rattle.std.specs.Prelude.{◌≡◌, ◌==◌, ◌<◌};
+ghost use Rattle.std.specs.Int.{bit_at};
+
+/// Whether the set has the buffer with this index: bit i stands for buffer i. Takes a constant time.
+pub fn has_buffer(set: u64, index: u8) -> bool
+    requires { index < 64 }
+    ensures { result ≡ (bit_at set index == 1) }
+{
+    (set >> index) % 2 == 1
+}
