@@ -1,6 +1,6 @@
 -- What a step's call is made on takes it.
-use Rattle.std.proofs.Common.{ℕ, ◌≡◌, refl, sym, subst, Bool, true, false, if◌then◌else◌, ◌||◌, List, Option, Some, None}
-use Rattle.std.specs.Prelude.{IfSome, slice_get, ⊤}
+use Rattle.std.proofs.Common.{ℕ, ◌≡◌, refl, sym, subst, List, Option, Some, None}
+use Rattle.std.specs.Prelude.{IfSome, slice_get}
 use Rattle.std.specs.Option.{option_and_then, option_map}
 use Rattle.sm_names.specs.declared.messages.Call.{Call}
 use Rattle.actor_steps.specs.declared.step.BufferVerb.{BufferVerb}
@@ -8,7 +8,7 @@ use Rattle.actor_steps.specs.declared.step.Step.{Step}
 use Rattle.actor_steps.specs.declared.step.Verb.{Verb}
 use Rattle.actor_steps.specs.declared.thing.Asked.{Asked}
 use Rattle.actor_steps.specs.declared.thing.Thing.{Thing}
-use Rattle.actor_steps.specs.Desks.{Fits, FitsCollection, FitsHandle, FitsNone, FitsThere, FitsThing, FitsToken, Known, asked_at, call_at, end_call, end_slot, handle_call, handle_slot, strength_of, thing_at}
+use Rattle.actor_steps.specs.Desks.{Fits, FitsCollection, FitsHandle, FitsThere, FitsThing, FitsToken, Known, asked_at, call_at, end_call, end_slot, handle_call, handle_slot, strength_of, thing_at}
 
 -- what holds of the one holds of the other
 pub takes : {A : Type 0} (P : A → Type 0) (made call : A) → Some made ≡ Some call → P made → P call

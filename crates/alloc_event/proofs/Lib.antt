@@ -12,7 +12,7 @@ mod Finishing
 mod Leaving
 mod Lookups
 mod Newborn
-mod Ordered
+pub mod Ordered
 mod Pools
 mod Putting
 mod Showing

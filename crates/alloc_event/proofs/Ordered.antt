@@ -20,7 +20,7 @@ live_in_order t ss =
     ap (λ (ns : List Node). map (λ (n : Node). n.key) (sorted_by (λ (n : Node). n.event) (filter is_live ns))) (nodes_of_all t ss)
 
 -- one that is made of another is put into the place of that
-insert_by-map : {A B : Type 0} (number : B → ℕ) (f : A → B) (x : A) (xs : List A) →
+pub insert_by-map : {A B : Type 0} (number : B → ℕ) (f : A → B) (x : A) (xs : List A) →
     insert_by number (f x) (map f xs) ≡ map f (insert_by (λ y. number (f y)) x xs)
 insert_by-map number f x [] = refl
 insert_by-map number f x (y ∷ ys) =
@@ -32,7 +32,7 @@ insert_by-map number f x (y ∷ ys) =
     ]
 
 -- a map of sorted elements is sorted by what they were sorted by
-sorted_by-map : {A B : Type 0} (number : B → ℕ) (f : A → B) (xs : List A) →
+pub sorted_by-map : {A B : Type 0} (number : B → ℕ) (f : A → B) (xs : List A) →
     sorted_by number (map f xs) ≡ map f (sorted_by (λ y. number (f y)) xs)
 sorted_by-map number f [] = refl
 sorted_by-map number f (x ∷ xs) =

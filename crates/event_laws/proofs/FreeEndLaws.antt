@@ -26,7 +26,7 @@ pub record FreeEnd (marks : Timeline) (client : ℕ) (key : NodeKey) : Type 0 wh
   pub held : holder marks key ≡ client
 
 -- where nothing is refused, the test fails
-passed : (b : Bool) (refusal : Refusal) → refused_if b refusal ≡ None → b ≡ false
+pub passed : (b : Bool) (refusal : Refusal) → refused_if b refusal ≡ None → b ≡ false
 passed true refusal h = cc
 passed false refusal h = refl
 

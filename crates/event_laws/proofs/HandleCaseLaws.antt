@@ -5,7 +5,6 @@ use Rattle.std.specs.Int.{bit_at}
 use Rattle.sm_names.specs.declared.keys.BufferName.{BufferName}
 use Rattle.sm_names.specs.declared.keys.NodeKey.{NodeKey}
 use Rattle.sm_names.specs.declared.keys.Strength.{Strength}
-use Rattle.sm_names.specs.declared.keys.Strength.TheVariants.{Strong, Weak}
 use Rattle.sm_names.specs.declared.messages.Call.{Call}
 use Rattle.sm_names.specs.declared.messages.Reply.{Reply}
 use Rattle.sm_names.specs.Bounds.{Bound}
@@ -18,6 +17,7 @@ use Rattle.sm_names.specs.Timelines.{timeline}
 use Rattle.event_laws.proofs.HandleEventLaws.{open_of_event, open_total_event, moving_event, idle_gains, idle_loses, idle_opens, idle_drops, idle_lifts, idle_lands}
 use Rattle.sm_names.proofs.HandleLaws.{same_buffer-true, same_strength-true}
 use Rattle.sm_names.proofs.SamenessLaws.{either_way, and_left, and_right, or_false, and_both}
+use Rattle.sm_names.proofs.TakeLaws.{same_strength-refl}
 
 -- ---- how a count goes
 
@@ -40,11 +40,6 @@ still old new gained lost g none quiet = let x : one_if gained ≡ 0 = ap one_if
 -- a buffer passes the test with itself
 pub same_buffer-refl : (b : BufferName) → same_buffer b b ≡ true
 same_buffer-refl b = and_both (b.collection == b.collection) (b.index == b.index) (eq-eqb b.collection b.collection refl) (eq-eqb b.index b.index refl)
-
--- so does a strength
-pub same_strength-refl : (s : Strength) → same_strength s s ≡ true
-same_strength-refl Strong = refl
-same_strength-refl Weak = refl
 
 module _ (buffer : BufferName) (strength : Strength) where
   -- the kind of handle that was meant

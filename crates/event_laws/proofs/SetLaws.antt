@@ -1,5 +1,5 @@
 -- The buffers of a set.
-use Rattle.std.proofs.Common.{ℕ, zero, suc, ◌≡◌, ◌≤◌, ◌+◌, ◌==◌, ap, ◌∙◌, Bool, cond, List, [], ◌∷◌, ◌++◌, length, arith}
+use Rattle.std.proofs.Common.{ℕ, zero, suc, ◌≡◌, ◌≤◌, ◌+◌, ◌==◌, ap, ◌∙◌, Bool, true, false, cond, List, [], ◌∷◌, ◌++◌, length, arith}
 use Rattle.std.proofs.lemmas.List.Sums.{count_by-le-length, length-filter}
 use Rattle.std.proofs.lemmas.List.FromFn.{length-range_with_len}
 use Rattle.std.proofs.lemmas.Grind.{common_steps}
@@ -36,3 +36,8 @@ below_push most set =
   where
     one_more : (p : ℕ → Bool) (xs : List ℕ) (x : ℕ) → length (filter p (xs ++ x ∷ [])) ≡ length (filter p xs) + cond (p x) 1 0
     one_more p xs x = grind (arith, common_steps)
+
+-- none, or so many: no more than as many as that
+pub cond-le : (t : Bool) (n m : ℕ) → n ≤ m → cond t n 0 ≤ m
+cond-le true n m le = le
+cond-le false n m le = omega arith

@@ -1,5 +1,5 @@
 -- How much a part can bring.
-use Rattle.std.proofs.Common.{ℕ, ◌≡◌, ◌≤◌, ◌+◌, ◌*◌, refl, Bool, true, false, cond, List, [], ◌∷◌, length, arith}
+use Rattle.std.proofs.Common.{ℕ, ◌≡◌, ◌≤◌, ◌+◌, ◌*◌, refl, Bool, true, false, List, [], ◌∷◌, length, arith}
 use Rattle.std.proofs.lemmas.List.Sums.{sum_by-cons}
 use Rattle.sm_names.specs.declared.keys.Strength.{Strength}
 use Rattle.sm_names.specs.declared.messages.Call.{Call}
@@ -10,11 +10,7 @@ use Rattle.event_laws.specs.HandleSums.{indices_in}
 use Rattle.record_parts.specs.declared.own.Own.{Own}
 use Rattle.record_parts.specs.Lines.{gained_by, gains, losses, lost_by}
 use Rattle.record_parts.specs.Parts.{is_own, part_from}
-use Rattle.event_laws.proofs.SetLaws.{indices_most}
-
-cond-le : (t : Bool) (n m : ℕ) → n ≤ m → cond t n 0 ≤ m
-cond-le true n m le = le
-cond-le false n m le = omega arith
+use Rattle.event_laws.proofs.SetLaws.{indices_most, cond-le}
 
 -- an event brings 64 handles at most
 gained_most : (strength : Strength) (call : Call) (reply : Reply) → gained_by strength call reply ≤ 64

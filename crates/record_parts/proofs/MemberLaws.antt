@@ -1,8 +1,7 @@
 -- Who joined, and who is there.
 use Rattle.std.proofs.Common.{ℕ, ◌+◌, ◌-◌, ◌<◌, ◌≤◌, ◌≢◌, ◌≡◌, ◌==◌, ◌||◌, ◌∙◌, refl, sym, ap, subst, append-nil, Bool, true, false, List, [], ◌∷◌, ◌++◌, append_assoc, length, get_or, set, replicate, length-set, arith}
-use Rattle.std.proofs.lemmas.Bool.{eq-eqb, eqb-true, eqb-false, ne_eqb}
+use Rattle.std.proofs.lemmas.Bool.{eqb-true, eqb-false, ne_eqb}
 use Rattle.std.proofs.lemmas.List.{get_or-replicate, get_or_read, get_or-set_same, get_or-set_other}
-use Rattle.std.specs.List.{All, list_any}
 use Rattle.std.proofs.lemmas.List.Elements.{All-append, All-cons, All-nil}
 use Rattle.sm_names.specs.Marks.{Entry}
 use Rattle.record_parts.specs.Members.{AreAmong, IsFirstAbsent, Marks, is_among, is_join, joined, joined_from}

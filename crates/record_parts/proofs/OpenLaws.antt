@@ -1,5 +1,5 @@
 -- A line tells how many handles its client has open, and each client has one.
-use Rattle.std.proofs.Common.{ℕ, ◌≡◌, ◌≤◌, ◌<◌, ◌+◌, ◌-◌, ◌∙◌, ◌==◌, ◌&&◌, refl, ap, sym, subst, Bool, true, false, cond, List, [], ◌∷◌, ◌++◌, Option, Some, None, is_some, append_assoc, append-nil, get_or, length, length-append, map, reverse, arith}
+use Rattle.std.proofs.Common.{ℕ, ◌≡◌, ◌≤◌, ◌<◌, ◌+◌, ◌-◌, ◌∙◌, ◌==◌, ◌&&◌, refl, ap, sym, subst, Bool, true, false, cond, List, [], ◌∷◌, ◌++◌, Option, Some, None, is_some, append_assoc, append-nil, get_or, length, length-append, reverse, arith}
 use Rattle.std.proofs.lemmas.Bool.{lt-ltb}
 use Rattle.std.proofs.lemmas.List.{reverse-append}
 use Rattle.std.proofs.lemmas.List.Elements.{All-cons, All-map, All-nil}
@@ -20,7 +20,7 @@ use Rattle.sm_names.specs.Timelines.{after, timeline}
 use Rattle.sm_names.proofs.GrowthLaws.{legal_grows}
 use Rattle.sm_names.proofs.SumLaws.{sum_by-same, sum_by-zero}
 use Rattle.event_laws.specs.ByEvent.{mark_of, only}
-use Rattle.event_laws.specs.HandleSums.{all_open_of, allocated_collections, dropped, dropped_at, got, got_at, indices_in, opened, opened_at, over_buffers, sent, sent_at}
+use Rattle.event_laws.specs.HandleSums.{all_open_of, allocated_collections, dropped_at, got_at, indices_in, opened_at, sent_at}
 use Rattle.event_laws.proofs.HandleBufferLaws.{stranger_has_none}
 use Rattle.event_laws.proofs.HandleSumLaws.{all_client_adds}
 use Rattle.event_laws.proofs.MomentLaws.{events_after}

@@ -6,13 +6,11 @@ use Rattle.sm_names.specs.declared.keys.Strength.TheVariants.{Strong, Weak}
 use Rattle.sm_names.specs.declared.messages.Call.{Call}
 use Rattle.sm_names.specs.declared.messages.Reply.{Reply}
 use Rattle.sm_names.specs.Marks.{Entry}
-use Rattle.sm_names.specs.Sameness.{same_strength}
 use Rattle.event_laws.specs.HandleSums.{count_if, indices_in}
 use Rattle.record_parts.specs.declared.line.ClientLine.{ClientLine}
 use Rattle.record_parts.specs.declared.own.Own.{Own}
 use Rattle.record_parts.specs.Members.{joined}
 use Rattle.record_parts.specs.Parts.{part}
-use Rattle.std.specs.Prelude.{if◌then◌else◌}
 
 -- the handles of this strength that an event brings its client: a Take one on each buffer of its set, a DupHandle one,
 -- a Collect may bring one. No other event brings any

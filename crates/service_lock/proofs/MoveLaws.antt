@@ -1,5 +1,5 @@
 -- How many handles an event can open or move.
-use Rattle.std.proofs.Common.{ℕ, [], ◌∷◌, ◌≡◌, ◌≤◌, ◌+◌, ◌*◌, ◌⊎◌, refl, Bool, true, false, cond, inl, inr, List, length, arith}
+use Rattle.std.proofs.Common.{[], ◌∷◌, ◌≡◌, ◌≤◌, ◌+◌, ◌*◌, ◌⊎◌, refl, inl, inr, List, length, arith}
 use Rattle.std.proofs.lemmas.List.Sums.{sum_by-cons}
 use Rattle.sm_names.specs.declared.keys.Strength.{Strength}
 use Rattle.sm_names.specs.declared.messages.Call.{Call}
@@ -8,14 +8,9 @@ use Rattle.sm_names.specs.Marks.{Entry, Mark, Called}
 use Rattle.sm_names.specs.Sameness.{same_strength}
 use Rattle.event_laws.specs.ByEvent.{anyone, mark_of}
 use Rattle.event_laws.specs.HandleSums.{indices_in, opened, opened_at}
-use Rattle.event_laws.proofs.SetLaws.{indices_most}
+use Rattle.event_laws.proofs.SetLaws.{indices_most, cond-le}
 use Rattle.service_lock.specs.Counting.{moves_by}
 use Rattle.service_lock.specs.Units.{needed}
-
--- where the strengths differ, there are none
-cond-le : (t : Bool) (n m : ℕ) → n ≤ m → cond t n 0 ≤ m
-cond-le true n m le = le
-cond-le false n m le = omega arith
 
 -- so a mark opens no more
 opened_most : (strength : Strength) (mark : Mark) → opened_at anyone strength mark ≤ 64

@@ -1,9 +1,8 @@
 -- What an event does to the open handles of one strength.
-use Rattle.std.specs.Prelude.{ℕ, if◌then◌else◌, length}
+use Rattle.std.specs.Prelude.{length}
 use Rattle.sm_names.specs.declared.keys.Strength.{Strength}
 use Rattle.sm_names.specs.declared.messages.Call.{Call}
 use Rattle.sm_names.specs.declared.messages.Reply.{Reply}
-use Rattle.sm_names.specs.Sameness.{same_strength}
 use Rattle.event_laws.specs.HandleSums.{count_if, indices_in}
 use Rattle.service_lock.specs.declared.moves.Moves.{Moves}
 

@@ -185,7 +185,7 @@ constrains_it node client Reply.Done (Call.SetConstraints key demand) h =
 constrains_it node client _ _ h = cc
 
 -- what is not there is None
-is_none_if : (o : Option Demand) → is_some o ≡ false → o ≡ None
+pub is_none_if : (o : Option Demand) → is_some o ≡ false → o ≡ None
 is_none_if None h = refl
 is_none_if (Some x) h = cc
 

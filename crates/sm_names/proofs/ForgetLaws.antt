@@ -31,7 +31,7 @@ find-left p kept r (x ∷ xs) same =
     ]
 
 -- where only kept elements pass, some of them pass exactly if some of all do
-any-left : {A : Type 0} (p kept : A → Bool) (xs : List A) → ((x : A) → In x xs → kept x ≡ false → p x ≡ false) → list_any p (filter kept xs) ≡ list_any p xs
+pub any-left : {A : Type 0} (p kept : A → Bool) (xs : List A) → ((x : A) → In x xs → kept x ≡ false → p x ≡ false) → list_any p (filter kept xs) ≡ list_any p xs
 any-left p kept [] less = refl
 any-left p kept (x ∷ xs) less =
     let on : list_any p (filter kept xs) ≡ list_any p xs = any-left p kept xs (λ y there. less y (inr there)) in

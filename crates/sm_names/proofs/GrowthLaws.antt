@@ -115,7 +115,7 @@ legal_grows pool limits history legal = grows_history pool limits [] [] history 
 -- ---- a history that goes on
 
 -- the answers of a history that goes on are those of its parts
-AreAnswers-append : (pool : ℕ) (limits : Bound) (marks : Timeline) (history more : List Entry) → AreAnswers pool limits marks (history ++ more) →
+pub AreAnswers-append : (pool : ℕ) (limits : Bound) (marks : Timeline) (history more : List Entry) → AreAnswers pool limits marks (history ++ more) →
     AreAnswers pool limits marks history × AreAnswers pool limits (fold (after pool) marks history) more
 AreAnswers-append pool limits marks [] more h = (tt, h)
 AreAnswers-append pool limits marks (e ∷ es) more h = let r = AreAnswers-append pool limits (after pool marks e) es more h.1 in ((h.0, r.0), r.1)

@@ -36,7 +36,7 @@ In-any test (y ∷ ys) x (inr on) is = or_right (test y) _ (In-any test ys x on 
 -- ---- the reach of a loss, as the nodes stand
 
 -- the top is the same where the tests agree along the line
-top-same : (f g : NodeKey → Bool) (node : NodeKey) (above : List NodeKey) → ((k : NodeKey) → In k (node ∷ above) → f k ≡ g k) → top f node above ≡ top g node above
+pub top-same : (f g : NodeKey → Bool) (node : NodeKey) (above : List NodeKey) → ((k : NodeKey) → In k (node ∷ above) → f k ≡ g k) → top f node above ≡ top g node above
 top-same f g node [] same = refl
 top-same f g node (p ∷ above) same =
     let on : top f p above ≡ top g p above = top-same f g p above (λ k there. same k (inr there)) in

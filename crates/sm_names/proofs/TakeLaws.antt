@@ -136,7 +136,7 @@ took = took_by_call
 -- ---- what Take opens
 
 -- a strength passes the test with itself
-same_strength-refl : (s : Strength) → same_strength s s ≡ true
+pub same_strength-refl : (s : Strength) → same_strength s s ≡ true
 same_strength-refl Strong = refl
 same_strength-refl Weak = refl
 

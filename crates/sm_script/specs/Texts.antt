@@ -1,5 +1,5 @@
 -- The text of a reply, of a poll and of a view. Labels stand for nodes and trackers; keys are never shown.
-use Rattle.std.specs.Prelude.{ℕ, ◌==◌, if◌then◌else◌, List, [], ◌∷◌, ◌++◌, map, codes, Option, Some, None}
+use Rattle.std.specs.Prelude.{ℕ, ◌==◌, if◌then◌else◌, List, [], ◌∷◌, ◌++◌, map, codes}
 use Rattle.std.specs.Fmt.{decimal}
 use Rattle.std.specs.Int.{bit_at}
 use Rattle.std.specs.List.{flat_map}
@@ -19,7 +19,6 @@ use Rattle.sm_names.specs.Numbers.{refusal_number, refusal_name, misuse_number, 
 use Rattle.sm_names.specs.Trackers.{fired}
 use Rattle.sm_names.specs.Views.{live_nodes, held_by_page, free_pages}
 use Rattle.sm_script.specs.declared.act.Binds.{Binds}
-use Rattle.script_lines.specs.declared.label.Label.{Label}
 use Rattle.script_lines.specs.declared.line.View.{View}
 use Rattle.script_lines.specs.Labels.{label_text, text_of_label}
 use Rattle.sm_script.specs.Names.{Names, label_of_node, label_of_root, label_of_tracker}

@@ -1,5 +1,5 @@
 -- An end is spent, and what is over is forgotten.
-use Rattle.std.proofs.Common.{ℕ, ◌≡◌, ◌<◌, refl, ap, sym, ◌∙◌, subst, Bool, true, false, ◌==◌, ◌||◌, ◌&&◌, not, if◌then◌else◌, List, [], ◌∷◌, ◌++◌, length, map, Option, Some, None, inl, inr, arith}
+use Rattle.std.proofs.Common.{ℕ, ◌≡◌, ◌<◌, refl, ap, sym, ◌∙◌, subst, Bool, true, false, ◌==◌, ◌||◌, ◌&&◌, not, if◌then◌else◌, List, [], ◌∷◌, ◌++◌, length, map, Option, Some, None, arith}
 use Rattle.std.proofs.lemmas.Bool.{eqb-true, eqb-false}
 use Rattle.std.specs.List.{filter, flat_map, AllByRecursion}
 use Rattle.sm_names.specs.declared.keys.NodeKey.{NodeKey}
@@ -16,20 +16,16 @@ use Rattle.lifetime_core.specs.Steps.{with_place, without_over}
 use Rattle.lifetime_core.specs.Tasks.{spent_place}
 use Rattle.lifetime_core.specs.Whole.{AreFit, AreOnce, IsAmid, IsFit, IsSound, IsTidy, Rise}
 use Rattle.lifetime_core.proofs.collections.ById.{ids, others_tidy}
+use Rattle.lifetime_core.proofs.collections.Replacing.{map-stays}
 
 -- the collection once the end is spent
 abbrev spent_in_one : Option NodeKey → Collection → Collection
 spent_in_one None c = c
 spent_in_one (Some key) c = with_nodes (map (with_end key End.Spent)) c
 
--- a map that changes no element
-map-same : {A : Type 0} (f : A → A) (xs : List A) → ((x : A) → In x xs → f x ≡ x) → map f xs ≡ xs
-map-same f [] same = refl
-map-same f (x ∷ xs) same = λ i. same x (inl refl) i ∷ map-same f xs (λ y on. same y (inr on)) i
-
 -- each collection, once the end is spent
 spent_is : (leaving : Option NodeKey) (f : Forest) → (with_place (spent_place leaving) f).collections ≡ map (spent_in_one leaving) f.collections
-spent_is None f = sym (map-same (λ c. c) f.collections (λ c on. refl))
+spent_is None f = sym (map-stays (λ c. c) f.collections (λ c on. refl))
 spent_is (Some key) f = refl
 
 -- spending keeps the ids
@@ -136,7 +132,7 @@ module _ (f : Forest) (id : ℕ) (leaving : Option NodeKey) (amid : IsAmid f id 
   -- another collection stays as it is
   untouched : (o : Option NodeKey) → leaving ≡ o → (c : Collection) → In c f.collections → (c.id == id) ≡ false → spent_in_one o c ≡ c
   untouched None is c on apart = refl
-  untouched (Some key) is c on apart = λ i. record c { nodes = map-same (with_end key End.Spent) c.nodes others i }
+  untouched (Some key) is c on apart = λ i. record c { nodes = map-stays (with_end key End.Spent) c.nodes others i }
     where
       others : (n : Node) → In n c.nodes → with_end key End.Spent n ≡ n
       others n there = other_node key n (false_if (same_key key n.key) (λ same.

@@ -21,6 +21,8 @@ use Rattle.sm_names.proofs.ListLaws.{In, In-append, In-filter}
 use Rattle.sm_names.proofs.SamenessLaws.{and_left, either_way}
 use Rattle.sm_names.proofs.SettledLaws.{map-Some, not_back}
 use Rattle.event_laws.specs.ByEvent.{anyone, one_if}
+use Rattle.event_laws.proofs.NumberLaws.{In-all}
+use Rattle.event_laws.proofs.FreeEndLaws.{passed}
 use Rattle.buffer_holds.specs.Counts.{Counts, total}
 use Rattle.trackers.specs.Table.{Cell, Table, Waiting, is_due}
 use Rattle.alloc_event.specs.declared.change.Change.{Change}
@@ -35,9 +37,8 @@ use Rattle.lifetime_core.specs.State.{State}
 use Rattle.lifetime_core.specs.Steps.{Gains, Place, Work, swept, tracker_by, with_place, without_over, work_of}
 use Rattle.lifetime_core.specs.Tasks.{MayDo, Reworked, spent_by, waiting_as, work_in}
 use Rattle.lifetime_core.specs.Whole.{CanFinish, Concerns, IsNodeOf, IsSound, StillWaits}
-use Rattle.lifetime_core.proofs.handles.Movable.{not_met}
 use Rattle.lifetime_core.proofs.forced.Forest.{node_with_key}
-use Rattle.lifetime_core.proofs.firing.Sweeps.{all_of, each_of}
+use Rattle.lifetime_core.proofs.firing.Sweeps.{all_of}
 use Rattle.lifetime_core.proofs.firing.Worlds.{amid_named, sound_named, waits_on}
 use Rattle.lifetime_core.proofs.firing.WorldsApart.{AreKept, LeavesRest, changed_by, concerns_worked, leaves_rest, undue_elsewhere}
 
@@ -67,7 +68,7 @@ module _ (limits : Bound) (s : State) (client : ℕ) where
       Reply.Tracker id ≡ answer limits (readings_of s) client no_key call → (t : Waiting) → id ≡ t.id → IsMade limits s t
   called_made call id makes going tells told t is =
       let all = took_effect_all limits (readings_of s) client no_key call (Reply.Tracker id) refl going told in
-      let fits : nat_le limits.trackers (length s.trackers.unfired) ≡ false = not_met _ Refusal.TrackersFull (rw makes at all.trackers_fit) in
+      let fits : nat_le limits.trackers (length s.trackers.unfired) ≡ false = passed _ Refusal.TrackersFull (rw makes at all.trackers_fit) in
       record { number = sym is ∙ id_is id (s.events + 1) (all.answered ∙ tells); room = leb-false limits.trackers (length s.trackers.unfired) fits }
     where
       id_is : (a b : ℕ) → Reply.Tracker a ≡ Reply.Tracker b → a ≡ b
@@ -107,7 +108,7 @@ module _ (s : State) (call : Call) (asked : Reply) (limits : Bound) (client : �
       by : (o : Option Tracking) → tracking ≡ o → IfSome o (λ t. All (λ (c : Cell). c.id < t.id) s.trackers.cells)
       by None is = tt
       by (Some t) is = all_of (λ (c : Cell). c.id < t.id) s.trackers.cells (λ c on.
-          let below : c.id ≤ s.events = each_of (λ (d : Cell). d.id ≤ s.events) s.trackers.cells numbered c on in
+          let below : c.id ≤ s.events = In-all (λ (d : Cell). d.id ≤ s.events) s.trackers.cells numbered c on in
           let number : t.id ≡ s.events + 1 = (tracked told tracks t is).number in
           omega (arith, below, number))
 
@@ -125,7 +126,7 @@ module _ (s : State) (call : Call) (asked : Reply) (limits : Bound) (client : �
   still_numbered attached told tracks gains numbered = by tracking refl gains
     where
       before : (c : Cell) → In c s.trackers.cells → c.id ≤ s.events + 1
-      before c on = let below : c.id ≤ s.events = each_of (λ (d : Cell). d.id ≤ s.events) s.trackers.cells numbered c on in omega (arith, below)
+      before c on = let below : c.id ≤ s.events = In-all (λ (d : Cell). d.id ≤ s.events) s.trackers.cells numbered c on in omega (arith, below)
 
       by : (o : Option Tracking) → tracking ≡ o → Gains s.trackers (option_map waiting_as o) attached → All (λ (c : Cell). c.id ≤ s.events + 1) attached.cells
       by None is gains = all_of (λ (c : Cell). c.id ≤ s.events + 1) attached.cells (λ c on. before c (subst (λ (t : Table). In c t.cells) gains on))
@@ -242,7 +243,7 @@ module _ (s : State) (client : ℕ) (call : Call) (asked : Reply) (task : Option
   elsewhere = all_of (λ (t : Waiting). (concerned task tracking ≡ Some t.place → ⊥) → is_due (world_in worked (total holds)) t ≡ false) attached.unfired (λ t on other.
       elim (attached_from s.trackers attached (option_map waiting_as tracking) gains t on) [
         | inl old ↦
-            let waits : StillWaits s.forest (total s.holds) t = each_of (StillWaits s.forest (total s.holds)) s.trackers.unfired starts.waiting t old in
+            let waits : StillWaits s.forest (total s.holds) t = In-all (StillWaits s.forest (total s.holds)) s.trackers.unfired starts.waiting t old in
             let apart : changed_by task ≡ Some t.place → ⊥ = λ h. other (task_concerned task tracking t.place h) in
             undue_elsewhere s.forest worked (changed_by task) starts.sound (amid_named worked task amid) rest (total s.holds) (total holds) t apart waits.filed
             (λ buffer its. kept_elsewhere buffer (λ h. apart (h ∙ ap Some its))) waits.undue
@@ -252,7 +253,7 @@ module _ (s : State) (client : ℕ) (call : Call) (asked : Reply) (task : Option
   -- each tracker is filed under the collection that it concerns
   filed : (t : Waiting) → In t attached.unfired → Concerns s.forest t.place t.condition
   filed t on = elim (attached_from s.trackers attached (option_map waiting_as tracking) gains t on) [
-    | inl old ↦ (each_of (StillWaits s.forest (total s.holds)) s.trackers.unfired starts.waiting t old).filed
+    | inl old ↦ (In-all (StillWaits s.forest (total s.holds)) s.trackers.unfired starts.waiting t old).filed
     | inr new ↦ made_filed s.forest starts.sound call asked t (sym starts.tracks ∙ new)
   ]
 

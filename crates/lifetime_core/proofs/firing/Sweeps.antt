@@ -1,19 +1,13 @@
 -- A sweep where no tracker is due, and facts on each element.
-use Rattle.std.proofs.Common.{ℕ, ◌≡◌, refl, ap, sym, ◌∙◌, subst, false, not, inl, inr, List, [], ◌∷◌, ◌++◌, map}
+use Rattle.std.proofs.Common.{ℕ, ◌≡◌, refl, ap, ◌∙◌, false, not, inl, inr, List, [], ◌∷◌, ◌++◌, map}
 use Rattle.std.proofs.lemmas.List.{append-nil}
-use Rattle.std.proofs.lemmas.List.Elements.{All-nil, All-cons, All-head, All-tail}
+use Rattle.std.proofs.lemmas.List.Elements.{All-nil, All-cons}
 use Rattle.std.specs.List.{All}
 use Rattle.sm_names.specs.Trackers.{World}
 use Rattle.sm_names.proofs.ListLaws.{In, filter-none}
 use Rattle.trackers.specs.Table.{Table, Waiting, firing, firings, is_due, still_waiting}
 use Rattle.lifetime_core.specs.Steps.{swept}
 use Rattle.lifetime_core.proofs.lists.Maps.{filter-all}
-
--- what holds of all holds of each
-pub each_of : {A : Type 0} (P : A → Type 0) (xs : List A) → All P xs → (x : A) → In x xs → P x
-each_of P [] all x on = absurd on
-each_of P (y ∷ ys) all x (inl is) = subst P (sym is) (All-head P y ys all)
-each_of P (y ∷ ys) all x (inr on) = each_of P ys (All-tail P y ys all) x on
 
 -- and the other way round
 pub all_of : {A : Type 0} (P : A → Type 0) (xs : List A) → ((x : A) → In x xs → P x) → All P xs

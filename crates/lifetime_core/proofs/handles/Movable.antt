@@ -15,7 +15,7 @@ use Rattle.sm_names.specs.declared.messages.Parcel.{Parcel}
 use Rattle.sm_names.specs.declared.messages.Reply.{Reply}
 use Rattle.sm_names.specs.declared.outcomes.Buffers.{Buffers}
 use Rattle.sm_names.specs.declared.outcomes.Refusal.{Refusal}
-use Rattle.sm_names.specs.Answers.{OpenEnd, Readings, answer, closing, collected, is_at_limit, refused_if, set_of, strength_of}
+use Rattle.sm_names.specs.Answers.{OpenEnd, Readings, answer, closing, collected, is_at_limit, set_of, strength_of}
 use Rattle.sm_names.specs.Bounds.{Bound}
 use Rattle.sm_names.specs.Ends.{is_handle_of}
 use Rattle.sm_names.specs.Handles.{is_doomed, names}
@@ -38,11 +38,7 @@ use Rattle.lifetime_core.specs.Hands.{CanOpen, MayMove}
 use Rattle.lifetime_core.specs.Reads.{buffers_in, client_in, end_in, open_end_of, readings_of, to_open_in}
 use Rattle.lifetime_core.specs.State.{Client, State, counts_of}
 use Rattle.lifetime_core.specs.Whole.{AreSent, waiting_in}
-
--- a test that refuses nothing fails
-pub not_met : (b : Bool) (refusal : Refusal) → refused_if b refusal ≡ None → b ≡ false
-not_met true refusal h = cc
-not_met false refusal h = refl
+use Rattle.event_laws.proofs.FreeEndLaws.{passed}
 
 -- ---- the set of a Take
 
@@ -137,7 +133,7 @@ module _ (limits : Bound) (s : State) (client : ℕ) (sent : AreSent s.clients (
       CanOpen s.holds collection strength set
   may_take key collection strength set told =
       let t = took (Call.Take key) (Reply.Taken collection strength set) refl refl told in
-      by (end_in s key) refl t.answered (not_met _ _ t.handles_fit)
+      by (end_in s key) refl t.answered (passed _ _ t.handles_fit)
     where
       parts : (c d : ℕ) (x y : Strength) (a b : ℕ) → Reply.Taken c x a ≡ Reply.Taken d y b → (c ≡ d) × (x ≡ y) × (a ≡ b)
       parts c d x y a b is = (cc, cc, cc)
@@ -173,7 +169,7 @@ module _ (limits : Bound) (s : State) (client : ℕ) (sent : AreSent s.clients (
   pub may_move : (call : Call) (asked : Reply) → asked ≡ answer limits (readings_of s) client no_key call → MayMove s.holds client call asked
   may_move (Call.Take key) (Reply.Taken collection strength set) told = may_take key collection strength set told
   may_move (Call.DupHandle buffer strength) Reply.Done told =
-      rw limit (leb-false limits.handles (total s.holds buffer strength) (not_met _ _ (took (Call.DupHandle buffer strength) Reply.Done refl refl told).handles_fit))
+      rw limit (leb-false limits.handles (total s.holds buffer strength) (passed _ _ (took (Call.DupHandle buffer strength) Reply.Done refl refl told).handles_fit))
   may_move (Call.DropHandle buffer strength) Reply.Done told = some_open _ (took (Call.DropHandle buffer strength) Reply.Done refl refl told).has_handle
   may_move (Call.GiveHandle buffer strength to) Reply.Done told = some_open _ (took (Call.GiveHandle buffer strength to) Reply.Done refl refl told).has_handle
   may_move Call.Collect (Reply.CollectedHandle buffer strength) told = was_moving buffer strength told

@@ -22,12 +22,13 @@ use Rattle.sm_names.proofs.ListLaws.{In}
 use Rattle.sm_names.proofs.SamenessLaws.{either_way, false_if, or_none_right, or_right}
 use Rattle.sm_names.proofs.SumLaws.{AreOnce, one, one_of, sum_by-zero, sum_once}
 use Rattle.event_laws.specs.ByEvent.{anyone, one_if}
+use Rattle.event_laws.proofs.FreeEndLaws.{passed}
 use Rattle.alloc_event.specs.Settling.{no_key}
 use Rattle.lifetime_core.specs.Reads.{readings_of}
 use Rattle.lifetime_core.specs.State.{Client, State, counts_of}
 use Rattle.lifetime_core.specs.Steps.{client_by, clients_by, handles_by, new_client}
 use Rattle.lifetime_core.specs.Whole.{AreSent, Rise, waiting_in}
-use Rattle.lifetime_core.proofs.handles.Movable.{client_of, first_end, first_handle, not_met}
+use Rattle.lifetime_core.proofs.handles.Movable.{client_of, first_end, first_handle}
 use Rattle.lifetime_core.proofs.lists.Maps.{list_any-map}
 
 -- the numbers of clients
@@ -122,7 +123,7 @@ module _ (limits : Bound) (s : State) (client : ℕ) (sent : AreSent s.clients (
   handle_given name given to told buffer strength =
       let mark : Mark = Called client Reply.Done (Call.GiveHandle name given to) in
       let t : Bool = same_buffer name buffer && same_strength given strength in
-      let known : not ((readings_of s).has_joined to) ≡ false = or_none_right (not ((readings_of s).has_joined client)) _ (not_met _ _ (took_effect_all limits (readings_of s) client no_key (Call.GiveHandle name given to) Reply.Done refl refl told).known) in
+      let known : not ((readings_of s).has_joined to) ≡ false = or_none_right (not ((readings_of s).has_joined client)) _ (passed _ _ (took_effect_all limits (readings_of s) client no_key (Call.GiveHandle name given to) Reply.Done refl refl told).known) in
       let joined : one_of (ids s.clients) to ≡ true = list_any-map (λ n. n == to) (λ (c : Client). c.id) s.clients ∙ not_forth ((readings_of s).has_joined to) known in
       let all : sum_by (waiting_in buffer strength) (map (client_by mark) s.clients) + sum_by (λ (n : ℕ). 0) (ids s.clients)
       ≡ sum_by (waiting_in buffer strength) s.clients + sum_by (λ n. one ((to == n) && t)) (ids s.clients) =

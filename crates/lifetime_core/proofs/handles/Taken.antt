@@ -3,7 +3,7 @@ use Rattle.std.proofs.Common.{ℕ, zero, suc, ◌≡◌, ◌<◌, refl, ap, sym,
 use Rattle.std.proofs.lemmas.Bool.{eqb-true, eq-eqb, lt-ltb, ltb-true}
 use Rattle.std.proofs.lemmas.Nat.Bits.{bit_at-zero}
 use Rattle.std.specs.Int.{bit_at}
-use Rattle.std.specs.List.{filter, find, fold, list_any, range_with_len}
+use Rattle.std.specs.List.{filter, find, list_any, range_with_len}
 use Rattle.std.specs.Option.{option_map_or}
 use Rattle.sm_names.specs.declared.keys.BufferName.{BufferName}
 use Rattle.sm_names.specs.declared.keys.NodeKey.{NodeKey}
@@ -26,14 +26,14 @@ use Rattle.sm_names.specs.Members.{Member, member, members, asked, is_root, root
 use Rattle.sm_names.specs.Pages.{places, pages_of}
 use Rattle.sm_names.specs.Reading.{readings, open_end}
 use Rattle.sm_names.specs.Sameness.{same_buffer, same_key, same_strength}
-use Rattle.sm_names.specs.Timelines.{after, standing, next_forced, timeline}
+use Rattle.sm_names.specs.Timelines.{standing, next_forced, timeline}
 use Rattle.sm_names.specs.Weakness.{weak}
 use Rattle.sm_names.specs.Words.{first_some, when}
 use Rattle.sm_names.proofs.AnswerLaws.{took_effect_all}
 use Rattle.sm_names.proofs.BirthLaws.{named}
 use Rattle.sm_names.proofs.BitLaws.{bit_of_set, named_below}
 use Rattle.sm_names.proofs.CountLaws.{anyone}
-use Rattle.sm_names.proofs.GrowthLaws.{Grows, Stays, Answers, Loses, Allocates, Ends, grows_history}
+use Rattle.sm_names.proofs.GrowthLaws.{Grows, Stays, Answers, Loses, Allocates, Ends, grows_history, AreAnswers-append}
 use Rattle.sm_names.proofs.HeldLaws.{given_root}
 use Rattle.sm_names.proofs.LifeLaws.{IsOrdered, ordered, members_on, whole}
 use Rattle.sm_names.proofs.ListLaws.{In, In-find, In-list_any, In-map, is_some-find}
@@ -271,12 +271,6 @@ module _ (pool : ℕ) (limits : Bound) (marks : Timeline) (grown : Grows pool li
 
 -- ---- in a history
 
--- the answers of a history that goes on are those of its parts
-split_answers : (pool : ℕ) (limits : Bound) (marks : Timeline) (history more : List Entry) → AreAnswers pool limits marks (history ++ more) →
-    AreAnswers pool limits marks history × AreAnswers pool limits (fold (after pool) marks history) more
-split_answers pool limits marks [] more h = (tt, h)
-split_answers pool limits marks (e ∷ es) more h = let r = split_answers pool limits (after pool marks e) es more h.1 in ((h.0, r.0), r.1)
-
 -- the answer before which this history was, and that nothing was forced then
 pub record Stood (pool : ℕ) (limits : Bound) (history : List Entry) (entry : Entry) : Type 0 where
   pub grown : Grows pool limits [] (timeline pool history)
@@ -286,5 +280,5 @@ pub record Stood (pool : ℕ) (limits : Bound) (history : List Entry) (entry : E
 -- so it stood before each event of a legal history
 pub stood : (pool : ℕ) (limits : Bound) (before more : List Entry) (entry : Entry) → AreAnswers pool limits [] (before ++ entry ∷ more) → Stood pool limits before entry
 stood pool limits before more entry answers =
-    let r = split_answers pool limits [] before (entry ∷ more) answers in
+    let r = AreAnswers-append pool limits [] before (entry ∷ more) answers in
     record { grown = grows_history pool limits [] [] before Stays r.0; rest = every_rests pool limits before r.0; answer = r.1.0 }

@@ -8,6 +8,7 @@ use Rattle.sm_names.specs.Words.{times}
 use Rattle.sm_names.proofs.ListLaws.{In}
 use Rattle.sm_names.proofs.SamenessLaws.{either_way, both_ways, or_right}
 use mathlib.Core.List.{reverse_aux}
+use Rattle.alloc_event.proofs.Links.{map-reverse_aux}
 
 -- ---- filters
 
@@ -60,11 +61,6 @@ map-map_In f g h [] same = refl
 map-map_In f g h (x ∷ xs) same = λ i. same x (inl refl) i ∷ map-map_In f g h xs (λ y on. same y (inr on)) i
 
 -- ---- lists turned round
-
--- a map of a list that is turned round onto another
-map-reverse_aux : {A B : Type 0} (f : A → B) (xs ys : List A) → map f (reverse_aux xs ys) ≡ reverse_aux (map f xs) (map f ys)
-map-reverse_aux f [] ys = refl
-map-reverse_aux f (x ∷ xs) ys = map-reverse_aux f xs (x ∷ ys)
 
 -- a map may be turned round before or after
 pub map-reverse : {A B : Type 0} (f : A → B) (xs : List A) → map f (reverse xs) ≡ reverse (map f xs)
@@ -136,16 +132,6 @@ find_number n (m ∷ ms) = elim (either_way (m == n)) [
 pub times_none : {A : Type 0} (p : A → Bool) (xs : List A) → ((y : A) → In y xs → p y ≡ false) → times p xs ≡ 0
 times_none p [] none = refl
 times_none p (y ∷ ys) none = rw (none y (inl refl)) (times_none p ys (λ z on. none z (inr on)))
-
--- where all that fail one test fail the other, those that pass the first tell whether some pass the second
-pub any_kept : {A : Type 0} (p kept : A → Bool) (xs : List A) → ((x : A) → In x xs → kept x ≡ false → p x ≡ false) → list_any p (filter kept xs) ≡ list_any p xs
-any_kept p kept [] less = refl
-any_kept p kept (x ∷ xs) less =
-    let on : list_any p (filter kept xs) ≡ list_any p xs = any_kept p kept xs (λ y there. less y (inr there)) in
-    elim (either_way (kept x)) [
-      | inl e ↦ rw (e, on) refl
-      | inr e ↦ rw (e, less x (inl refl) e) on
-    ]
 
 -- an element that passes shows that some do
 pub any_of : {A : Type 0} (p : A → Bool) (xs : List A) (x : A) → In x xs → p x ≡ true → list_any p xs ≡ true

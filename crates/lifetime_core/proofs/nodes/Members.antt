@@ -1,5 +1,5 @@
 -- What the forced steps read of the nodes that are kept.
-use Rattle.std.proofs.Common.{ℕ, ◌≡◌, refl, ap, sym, ◌∙◌, Bool, true, false, not, ◌&&◌, ◌==◌, inl, inr, List, [], ◌∷◌, map, Some}
+use Rattle.std.proofs.Common.{ℕ, ◌≡◌, refl, ap, sym, ◌∙◌, Bool, true, false, not, ◌&&◌, ◌==◌, inl, inr, List, ◌∷◌, map, Some}
 use Rattle.std.proofs.lemmas.Bool.{eqb-true, eq-eqb}
 use Rattle.std.specs.List.{find, filter}
 use Rattle.sm_names.specs.declared.keys.NodeKey.{NodeKey}
@@ -9,18 +9,18 @@ use Rattle.sm_names.specs.Losses.{top, gone, blocked, reaches}
 use Rattle.sm_names.specs.Marks.{Timeline}
 use Rattle.sm_names.specs.Members.{Member, member, members, births_in, is_under}
 use Rattle.sm_names.specs.Sameness.{same_key}
-use Rattle.sm_names.proofs.ForgetLaws.{is_left, left_of}
+use Rattle.sm_names.proofs.ForgetLaws.{is_left, left_of, any-left}
 use Rattle.sm_names.proofs.IsolationLaws.{birth_of_collection}
 use Rattle.sm_names.proofs.ListLaws.{In, In-filter, In-filter-back, In-map, In-map-back, In-reverse-back}
 use Rattle.sm_names.proofs.SamenessLaws.{either_way, same_key-true, same_key-refl, both_ways}
 use Rattle.sm_names.proofs.SettledLaws.{find_birth, member_birth, not_back}
-use Rattle.sm_names.proofs.StandingLaws.{highest-members}
+use Rattle.sm_names.proofs.StandingLaws.{highest-members, top-same}
 use Rattle.sm_names.proofs.WholeLaws.{IsWhole}
 use Rattle.alloc_event.specs.declared.node.Node.{Node}
 use Rattle.alloc_event.specs.Nodes.{is_of, node_of, member_of, members_of, is_taken}
 use Rattle.lifetime_core.specs.Shown.{node_after}
 use Rattle.lifetime_core.proofs.nodes.Ancestors.{Keeps, kept_in, nodes_kept, kept_births, above_kept, line_left}
-use Rattle.lifetime_core.proofs.lists.Maps.{filter-map, filter-wider, map-map_In, find_only, any_kept}
+use Rattle.lifetime_core.proofs.lists.Maps.{filter-map, filter-wider, map-map_In, find_only}
 
 -- ---- births of one node
 
@@ -83,20 +83,12 @@ module _ (keep : NodeKey → Bool) (marks : Timeline) (collection : ℕ) (w : Is
 
 -- ---- what a loss takes
 
--- the top is the same where the tests agree along the line
-top-same : (f g : NodeKey → Bool) (node : NodeKey) (above : List NodeKey) → ((k : NodeKey) → In k (node ∷ above) → f k ≡ g k) → top f node above ≡ top g node above
-top-same f g node [] same = refl
-top-same f g node (p ∷ above) same =
-    let on : top f p above ≡ top g p above = top-same f g p above (λ k there. same k (inr there)) in
-    let here : f node ≡ g node = same node (inl refl) in
-    rw (here, on) refl
-
 -- the nodes that are not gone tell the highest one that the failure of one of them goes to
 highest-left : (marks : Timeline) (collection : ℕ) → IsWhole marks → (b : Birth) → gone marks b.node ≡ false →
     highest (left_of (members marks collection)) (member marks b) ≡ highest (members marks collection) (member marks b)
 highest-left marks collection w b here =
     top-same _ _ b.node (ancestors (births marks) b.node)
-    (λ k on. any_kept (λ (n : Member). same_key n.key k && blocks n) is_left (members marks collection) (λ n there lost. never k on n there lost))
+    (λ k on. any-left (λ (n : Member). same_key n.key k && blocks n) is_left (members marks collection) (λ n there lost. never k on n there lost))
   where
     never : (k : NodeKey) → In k (b.node ∷ ancestors (births marks) b.node) → (n : Member) → In n (members marks collection) → is_left n ≡ false → (same_key n.key k && blocks n) ≡ false
     never k on n there lost =

@@ -7,7 +7,6 @@ use Rattle.sm_names.specs.declared.messages.Reply.{Reply}
 use Rattle.sm_names.specs.Answers.{IsAnswer}
 use Rattle.sm_names.specs.Births.{Birth, births, birth_at, was_born}
 use Rattle.sm_names.specs.Bounds.{Bound}
-use Rattle.sm_names.specs.Demands.{Demand}
 use Rattle.sm_names.specs.Losses.{is_allocation, is_dispensable, is_release, released, gone, fault}
 use Rattle.sm_names.specs.Marks.{Mark, Timeline, Called, Loss, Allocated, Ended, events, is_event}
 use Rattle.sm_names.specs.Members.{constraints_at, constraints}
@@ -23,6 +22,7 @@ use Rattle.sm_names.proofs.LifeLaws.{ordered}
 use Rattle.sm_names.proofs.RejectLaws.{is_refusal, not_refused_end}
 use Rattle.sm_names.proofs.SamenessLaws.{either_way, same_key-true, both_ways, false_if, none_or_some, or_none_left, or_none_right, or_both}
 use Rattle.sm_names.proofs.SettledLaws.{In-was_born, Why, Initial, Logical, forced_why}
+use Rattle.sm_names.proofs.EventLaws.{is_none_if}
 
 -- ---- which node a mark speaks of
 
@@ -74,11 +74,6 @@ constrains_it node client Reply.Done (Call.SetConstraints key demand) h =
       | inr e ↦ let x : false ≡ true = rw e at h in cc
     ]
 constrains_it node client _ _ h = cc
-
--- what is not there is None
-is_none_if : (o : Option Demand) → is_some o ≡ false → o ≡ None
-is_none_if None h = refl
-is_none_if (Some x) h = cc
 
 -- a mark that is not the node's birth tells no parent of it
 not_born_to : (older : List Birth) (event : ℕ) (mark : Mark) (node : NodeKey) → was_born (cons_option (birth_at event mark) older) node ≡ false → born_to node mark ≡ None

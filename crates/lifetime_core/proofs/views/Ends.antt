@@ -21,6 +21,7 @@ use Rattle.sm_names.specs.Words.{times}
 use Rattle.sm_names.proofs.BirthLaws.{birth_is}
 use Rattle.sm_names.proofs.GrowthLaws.{Grows}
 use Rattle.sm_names.proofs.ListLaws.{In, In-map, filter-In}
+use Rattle.sm_names.proofs.ForgetLaws.{any-left}
 use Rattle.buffer_holds.specs.Counts.{total}
 use Rattle.alloc_event.specs.declared.node.End.{End}
 use Rattle.alloc_event.specs.declared.node.Node.{Node}
@@ -29,7 +30,7 @@ use Rattle.alloc_event.specs.Nodes.{is_over, is_spent, member_of, members_of}
 use Rattle.lifetime_core.specs.Reads.{holder_of, is_moving, buffers_in, to_open_in, open_end_of, end_in}
 use Rattle.lifetime_core.specs.Shown.{IsAfter, end_after, node_after, nodes_after, collection_after}
 use Rattle.lifetime_core.specs.State.{HandleCounts, State}
-use Rattle.lifetime_core.proofs.lists.Maps.{list_any-map, any_kept}
+use Rattle.lifetime_core.proofs.lists.Maps.{list_any-map}
 use Rattle.lifetime_core.proofs.views.Nodes.{spent_end, node_kept, node_forgotten, node_unknown, collection_kept}
 use Rattle.lifetime_core.proofs.collections.Roots.{collection_of_kept}
 
@@ -43,11 +44,11 @@ is_strong_live n = (not n.gone && not n.released) && not n.weak
 strong_members : (nodes : List Node) → some_strong_live (members_of nodes) ≡ list_any is_strong_live nodes
 strong_members nodes =
     list_any-map (λ (m : Member). is_live m && not m.weak) (member_of nodes) (filter (λ n. not n.gone) nodes)
-    ∙ any_kept is_strong_live (λ n. not n.gone) nodes (λ n on lost. rw lost refl)
+    ∙ any-left is_strong_live (λ n. not n.gone) nodes (λ n on lost. rw lost refl)
 
 -- so the nodes that are over tell nothing of it
 strong_kept : (nodes : List Node) → list_any is_strong_live (filter (λ n. not (is_over n)) nodes) ≡ list_any is_strong_live nodes
-strong_kept nodes = any_kept is_strong_live (λ n. not (is_over n)) nodes (λ n on over. dead n.gone n.released n.weak (is_spent n.end) over)
+strong_kept nodes = any-left is_strong_live (λ n. not (is_over n)) nodes (λ n on over. dead n.gone n.released n.weak (is_spent n.end) over)
   where
     dead : (g r w s : Bool) → not (g && s) ≡ false → ((not g && not r) && not w) ≡ false
     dead true r w s over = refl

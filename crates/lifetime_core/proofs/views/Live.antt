@@ -23,13 +23,14 @@ use Rattle.sm_names.proofs.SamenessLaws.{both_ways, none_or_some}
 use Rattle.sm_names.proofs.SettledLaws.{In-was_born}
 use Rattle.alloc_event.specs.declared.node.Node.{Node}
 use Rattle.alloc_event.specs.Forest.{node_at, live_keys}
+use Rattle.alloc_event.proofs.Ordered.{sorted_by-map}
 use Rattle.lifetime_core.specs.Reads.{is_live_in, fault_in}
 use Rattle.lifetime_core.specs.Shown.{IsAfter, node_after}
 use Rattle.lifetime_core.specs.State.{State}
 use Rattle.lifetime_core.proofs.lists.Maps.{filter-map, filter-filter, filter-reverse, map-map}
 use Rattle.lifetime_core.proofs.lists.Reorderings.{Mixed, mixed_filter}
 use Rattle.lifetime_core.proofs.views.Nodes.{kept_births, kept_by_collection, all_nodes_are, mixed_births, node_kept, node_forgotten, node_unknown}
-use Rattle.lifetime_core.proofs.lists.ByNumber.{AreFalling, falling_filter, falling_numbered, sorted_falling, sorted-mixed, sorted_by-map}
+use Rattle.lifetime_core.proofs.lists.ByNumber.{AreFalling, falling_filter, falling_numbered, sorted_falling, sorted-mixed}
 
 -- ---- births come one after another
 

@@ -1,4 +1,4 @@
-use Rattle.std.proofs.Common.{◌≡◌, ◌+◌, ◌<◌, ◌∙◌, sym, true, false, length, arith}
+use Rattle.std.proofs.Common.{◌≡◌, ◌+◌, ◌∙◌, sym, true, false, length, arith}
 use Rattle.record_parts.specs.Members.{is_among, is_join}
 use Rattle.record_parts.proofs.MemberLaws.{marked_there, read_next}
 use Rattle.record_parts.proofs.parts.Parts.first_absent.Goals as goal

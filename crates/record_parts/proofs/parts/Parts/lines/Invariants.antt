@@ -1,4 +1,4 @@
-use Rattle.std.proofs.Common.{◌≡◌, ◌++◌, ◌+◌, ◌<◌, ◌^◌, length, map}
+use Rattle.std.proofs.Common.{◌≡◌, ◌++◌, ◌+◌, length, map}
 use Rattle.record_parts.specs.Lines.{line_of, lines_of}
 use Rattle.record_parts.specs.Members.{joined_from}
 use Rattle.record_parts.proofs.parts.Parts.lines.Given as goal
