@@ -8,7 +8,7 @@ use Rattle.actor_steps.specs.declared.thing.Thing.{Thing}
 use Rattle.sm_names.specs.declared.messages.Reply.{Reply}
 use Rattle.actor_steps.specs.declared.step.Step.{Step}
 use Rattle.actor_steps.specs.declared.thing.Asked.{Asked}
-use Rattle.actor_steps.specs.Desks.{Known, desk_after, emptied, given, handle_of, handles_from, on_of, spends, spent, things_after, with_node, with_queues, with_thing, with_things, with_tracker, without_handle, without_thing}
+use Rattle.actor_steps.specs.Desks.{Known, desk_after, emptied, given, handle_of, handles_from, on_of, spends, spent, things_after, with_node, with_thing, with_things, with_tracker, without_handle, without_thing}
 use Rattle.actor_steps.specs.Tables.{both_of, queues_of}
 
 -- with no handle of either strength there is none
@@ -16,18 +16,6 @@ pub both_none : (strong weak : Queues) → queues_of strong ≡ (λ buffer. []) 
     (strength : Strength) → both_of strong weak strength ≡ (λ buffer. [])
 both_none strong weak none none' Strength.Strong = none
 both_none strong weak none none' Strength.Weak = none'
-
--- other queues of strong handles
-pub both_strong : (strong new weak : Queues) (queues : BufferName → List ℕ) → queues_of new ≡ queues →
-    (strength : Strength) → both_of new weak strength ≡ with_queues (both_of strong weak) Strength.Strong queues strength
-both_strong strong new weak queues is Strength.Strong = is
-both_strong strong new weak queues is Strength.Weak = refl
-
--- of weak ones
-pub both_weak : (strong weak new : Queues) (queues : BufferName → List ℕ) → queues_of new ≡ queues →
-    (strength : Strength) → both_of strong new strength ≡ with_queues (both_of strong weak) Strength.Weak queues strength
-both_weak strong weak new queues is Strength.Strong = refl
-both_weak strong weak new queues is Strength.Weak = is
 
 module _ (collection : ℕ) (strength : Strength) (set index : ℕ) where
   -- the handles from this index on

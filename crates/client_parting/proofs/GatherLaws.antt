@@ -1,10 +1,8 @@
 -- Parts, one after another.
 use Rattle.std.proofs.Common.{ℕ, ◌≡◌, ◌<◌, ◌+◌, ◌∙◌, sym, ap, subst, inl, inr, List, [], ◌∷◌, ◌++◌, append_assoc, append-nil, length, arith}
-use Rattle.std.proofs.lemmas.List.Elements.{All-nil, All-push, All-weaker}
-use Rattle.std.proofs.lemmas.List.Sums.{sum_by-cons}
-use Rattle.sm_names.specs.declared.keys.Strength.{Strength}
+use Rattle.std.proofs.lemmas.List.Elements.{All-push, All-weaker}
 use Rattle.client_parting.specs.declared.gathering.Holding.{Holding}
-use Rattle.client_parting.specs.Gatherings.{IsFirstMismatch, IsFound, Matches, all_handed, handed, id_of, own_of}
+use Rattle.client_parting.specs.Gatherings.{IsFirstMismatch, IsFound, Matches, id_of, own_of}
 use Rattle.record_parts.specs.declared.own.Own.{Own}
 use Rattle.record_parts.specs.Parts.{DifferAt, part}
 use Rattle.sm_names.specs.Marks.{Entry}
@@ -17,10 +15,6 @@ pub record Mismatch {E S W : Type 0} (history : List Entry) (seen : List (Holdin
   pub differs : DifferAt event own (part client history)
   pub before : All (λ p. id_of p < client → Matches history p) seen
 
--- the handles of one part, and of the others
-pub handed-cons : {E S W : Type 0} (strength : Strength) (part : Holding E S W) (others : List (Holding E S W)) → all_handed strength (part ∷ others) ≡ handed strength part + all_handed strength others
-handed-cons strength part others = sum_by-cons (handed strength) part others
-
 -- what was found: nothing, and the lists are the parts, or the mismatch of the least client
 abbrev pub Found : {E S W : Type 0} → List Entry → List (Holding E S W) → Option (ℕ × ℕ) → Type 0
 Found history seen None = All (Matches history) seen
@@ -31,10 +25,6 @@ pub record FoundSoFar {E S W : Type 0} (history : List Entry) (parts rest : List
   pub seen : List (Holding E S W)
   pub all : parts ≡ seen ++ rest
   pub is : Found history seen found
-
--- at first nothing was looked at
-pub found_none : {E S W : Type 0} (history : List Entry) (parts rest : List (Holding E S W)) → rest ≡ parts → FoundSoFar history parts rest None
-found_none history parts rest is = record { seen = []; all = sym is; is = All-nil (Matches history) }
 
 -- a part whose list is its client's part changes nothing
 pub found_same : {E S W : Type 0} (history : List Entry) (parts rest others : List (Holding E S W)) (p : Holding E S W) (found : Option (ℕ × ℕ)) → FoundSoFar history parts rest found → rest ≡ p ∷ others →
@@ -83,11 +73,6 @@ found_other history parts rest others p event found now so on differs is = recor
     other (Some at) m (inr less) =
         subst (λ (n : ℕ × ℕ). Mismatch history (so.seen ++ p ∷ []) n.0 n.1) (sym less.1)
         (mine (All-weaker (λ q. id_of q < at.0 → Matches history q) (λ q. id_of q < id_of p → Matches history q) (λ q was below. was (omega (arith, below, less.0))) so.seen m.before))
-
--- and once all were looked at, that is the first of all
-pub found_all : {E S W : Type 0} (history : List Entry) (parts rest : List (Holding E S W)) → length rest ≡ 0 → FoundSoFar history parts rest None → All (Matches history) parts
-found_all history parts [] none so = subst (All (Matches history)) (sym (so.all ∙ append-nil so.seen)) so.is
-found_all history parts (p ∷ ps) none so = absurd (omega (arith, none))
 
 pub found_first : {E S W : Type 0} (history : List Entry) (parts rest : List (Holding E S W)) (at : ℕ × ℕ) → length rest ≡ 0 → FoundSoFar history parts rest (Some at) → IsFirstMismatch history parts at.1
 found_first history parts [] at none so = record {

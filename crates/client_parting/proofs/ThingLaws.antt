@@ -2,7 +2,7 @@
 use Rattle.std.proofs.Common.{◌≡◌, ◌+◌, ◌∙◌, refl, sym, ap, List, [], ◌∷◌, ◌++◌, append_assoc, append-nil, length, length-append, map, arith}
 use Rattle.std.specs.Prelude.{flat_map, vec_capacity}
 use Rattle.client_ends.specs.declared.held.Held.{Held}
-use Rattle.std.proofs.lemmas.List.{map-append, reverse-append}
+use Rattle.std.proofs.lemmas.List.{reverse-append}
 use Rattle.client_ends.specs.declared.held.End.{End}
 use Rattle.client_ends.specs.Clients.{Grip, Tag}
 use Rattle.client_parting.specs.Partings.{Collection, Handle, Holds, Thing, Token, collection_in, handle_in, held_in, sorted, thing_of, token_in}
@@ -11,14 +11,6 @@ use Rattle.client_parting.specs.Stacks.{HasRoomFor, both, sorted_one, top_first}
 -- the last one that is put on a stack is its top
 pub top_push : {E S W : Type 0} (items : List (End E S W)) (e : End E S W) → top_first (items ++ e ∷ []) ≡ thing_of e ∷ top_first items
 top_push items e = ap (map thing_of) (reverse-append items (e ∷ []))
-
--- so is the last of a list that goes on the stack from its end
-pub stack_more : {E S W X : Type 0} (f : X → Thing) (xs rest : List X) (x : X) (stack grown : List (End E S W)) (e : End E S W) →
-    xs ≡ rest ++ x ∷ [] → grown ≡ stack ++ e ∷ [] → thing_of e ≡ f x → map f rest ++ top_first grown ≡ map f xs ++ top_first stack
-stack_more f xs rest x stack grown e last on is =
-    let top : top_first grown ≡ f x ∷ top_first stack = ap top_first on ∙ (top_push stack e ∙ ap (λ t. t ∷ top_first stack) is) in
-    let whole : map f xs ≡ map f rest ++ f x ∷ [] = ap (map f) last ∙ map-append f rest (x ∷ []) in
-    ap (λ l. map f rest ++ l) top ∙ (sym (append_assoc (map f rest) (f x ∷ []) (top_first stack)) ∙ ap (λ l. l ++ top_first stack) (sym whole))
 
 -- the things of a list come one by one
 pub flat-append : {A B : Type 0} (f : A → List B) (xs ys : List A) → flat_map f (xs ++ ys) ≡ flat_map f xs ++ flat_map f ys
@@ -32,9 +24,6 @@ sorted-append xs ys = λ i. record {
   collections = flat-append collection_in xs ys i;
   handles = flat-append handle_in xs ys i;
 }
-
-pub sorted-cons : (x : Thing) (xs : List Thing) → sorted (x ∷ xs) ≡ both (sorted_one x) (sorted xs)
-sorted-cons x xs = refl
 
 pub both_assoc : (a b c : Holds) → both (both a b) c ≡ both a (both b c)
 both_assoc a b c = λ i. record {

@@ -1,7 +1,7 @@
 -- The children of a key, met one after the other.
-use Rattle.std.proofs.Common.{◌≡◌, ◌≢◌, ℕ, ◌+◌, ◌<◌, List, [], ◌∷◌, ◌++◌, length, take, Option, Some, None, Contains, cond, arith, refl, sym, ap, ◌∙◌, subst}
+use Rattle.std.proofs.Common.{◌≡◌, ◌≢◌, ◌+◌, ◌<◌, List, [], ◌∷◌, ◌++◌, length, Option, Some, None, Contains, cond, arith, refl, sym, ap, ◌∙◌, subst}
 use Rattle.std.specs.Option.{option_map_or}
-use Rattle.std.proofs.lemmas.List.{append_assoc, append-nil, length-append, take_at}
+use Rattle.std.proofs.lemmas.List.{append_assoc, append-nil, length-append}
 use Rattle.std.proofs.Math.Seq.{append_snoc}
 use Rattle.std.proofs.lemmas.List.Elements.{Contains-append_right}
 use Rattle.sm_names.specs.declared.keys.NodeKey.{NodeKey}
@@ -54,10 +54,6 @@ module _ {N : Type 0} (t : Table N) (forest : IsForest t) (key : NodeKey) where
       by_rest : (rest : List NodeKey) → children_at t key ≡ so.done ++ rest → at ≡ first_key rest → now ≡ old ++ children_at t key
       by_rest [] all first = so.items ∙ ap (λ keys. old ++ keys) (sym (all ∙ append-nil so.done))
       by_rest (k ∷ rest) all first = absurd (cc)
-
--- what was appended is taken back
-pub appends-back : (children old now back : List NodeKey) (next : Option NodeKey) (size : ℕ) → Appends children old now next → size ≡ length old → back ≡ take size now → back ≡ old
-appends-back children old now back next size so is taken = taken ∙ (ap (take size) so.items ∙ take_at old so.done size (sym is))
 
 -- a child that is still to come has its place in room for all
 pub appends-within : (children old now : List NodeKey) (at : Option NodeKey) (child : NodeKey) → Appends children old now at → at ≡ Some child → length now < length old + length children

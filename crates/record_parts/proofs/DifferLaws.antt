@@ -23,11 +23,6 @@ alike_more own part left rest more later mine told so goes_on told_on one = reco
       ∙ (ap (λ l. so.same ++ l) (told_on ∙ ap (λ o. o ∷ later) (sym one)) ∙ sym (append_assoc so.same (mine ∷ []) later));
 }
 
--- once both are over
-pub alike_all : (own part left rest : List Own) → Alike own part left rest → left ≡ [] → rest ≡ [] → own ≡ part
-alike_all own part left rest so over done =
-    so.own_is ∙ (ap (λ l. so.same ++ l) (over ∙ sym done) ∙ sym so.part_is)
-
 -- and where they go on otherwise
 pub apart_at : (event : ℕ) (own part left rest mine told : List Own) → Alike own part left rest → left ≡ mine → rest ≡ told → BeginApart event mine told → DifferAt event own part
 apart_at event own part left rest mine told so goes_on told_on apart = record {

@@ -51,19 +51,6 @@ pub record IsCounted (strength : Strength) (gained lost : ℕ) (rest whole : Lis
   pub gained_is : gained + gains strength rest ≡ gains strength whole
   pub lost_is : lost + losses strength rest ≡ losses strength whole
 
--- one more is counted
-pub counted_more : (strength : Strength) (gained lost gained' lost' : ℕ) (rest whole later : List Own) (own : Own) → IsCounted strength gained lost rest whole → rest ≡ own ∷ later →
-    gained' ≡ gained + gained_by strength own.call own.reply → lost' ≡ lost + lost_by strength own.call own.reply → IsCounted strength gained' lost' later whole
-counted_more strength gained lost gained' lost' rest whole later own so on gained_on lost_on =
-    let one : gains strength rest ≡ gained_by strength own.call own.reply + gains strength later =
-    rw on (sum_by-cons (λ (x : Own). gained_by strength x.call x.reply) own later) in
-    let two : losses strength rest ≡ lost_by strength own.call own.reply + losses strength later =
-    rw on (sum_by-cons (λ (x : Own). lost_by strength x.call x.reply) own later) in
-    record {
-      gained_is = omega (arith, so.gained_is, one, gained_on);
-      lost_is = omega (arith, so.lost_is, two, lost_on);
-    }
-
 -- and fits a number
 pub fits_more : (strength : Strength) (gained lost : ℕ) (rest whole later : List Own) (own : Own) → IsCounted strength gained lost rest whole → rest ≡ own ∷ later →
     (gained + gained_by strength own.call own.reply ≤ length whole * 64) × (lost + lost_by strength own.call own.reply ≤ length whole * 64)

@@ -1,7 +1,7 @@
 -- Chained events.
-use Rattle.std.proofs.Common.{ℕ, ◌+◌, ◌-◌, ◌<◌, ◌≤◌, ◌≢◌, ◌≡◌, ◌==◌, ◌&&◌, ◌∙◌, refl, sym, ap, subst, Bool, true, false, List, [], ◌∷◌, length, drop, get_or, set, replicate, arith}
+use Rattle.std.proofs.Common.{ℕ, ◌+◌, ◌-◌, ◌<◌, ◌≤◌, ◌≢◌, ◌≡◌, ◌==◌, ◌&&◌, ◌∙◌, refl, sym, ap, subst, Bool, true, false, List, [], ◌∷◌, length, drop, get_or, set, arith}
 use Rattle.std.proofs.lemmas.Bool.{eq-eqb, eqb-true, eqb-false, ne_eqb, lt-ltb, le-ltb, ltb-false, ltb-true}
-use Rattle.std.proofs.lemmas.List.{drop_more, drop_all, get_or_default, get_or_read, drop-drop, get_or-replicate, get_or-set_same, get_or-set_other, length-set, length-replicate}
+use Rattle.std.proofs.lemmas.List.{drop_more, drop_all, get_or_default, get_or_read, drop-drop, get_or-set_same, get_or-set_other, length-set}
 use Rattle.std.specs.Prelude.{nat_lt}
 use Rattle.sm_names.specs.Marks.{Entry}
 use Rattle.record_parts.specs.Links.{Links, Stands, first_from, rest_at}
@@ -29,17 +29,6 @@ no_both : (b : Bool) → b ≡ true → b ≡ false → ⊥
 no_both b is is_not = cc
 
 -- ---- chains
-
--- before the first link there is none
-pub links_start : (history : List Entry) (first next : List ℕ) → first ≡ replicate (length history) 0 → length next ≡ length history → Links (length history) first next history
-links_start history first next none many = record {
-  all_first = ap length none ∙ length-replicate (length history) 0;
-  all_next = many;
-  firsts = λ client within.
-      let over : drop (length history) history ≡ [] = drop_all (length history) history (omega arith) in
-      rw (none, over) (get_or-replicate (length history) client 0 0 within);
-  nexts = λ k e from within is own. absurd (omega arith);
-}
 
 module _ (history : List Entry) (passed : ℕ) (e : Entry) (within : passed < length history) (is : e ≡ get_or history passed e) where
   -- the record goes on with the event

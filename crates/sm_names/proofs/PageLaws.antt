@@ -25,12 +25,6 @@ pub record ArePlaced (pool pages count : ℕ) (held : List Interval) (starts : L
   pub apart : AreApart held → AreApart (map (at_pages pages) starts ++ held)
   pub inside : are_in pool held ≡ true → are_in pool (map (at_pages pages) starts ++ held) ≡ true
 
--- of three tests that all fail, the first two may change places
-or_flip : (a b c : Bool) → (a || (b || c)) ≡ false → (b || (a || c)) ≡ false
-or_flip true b c h = cc
-or_flip false true c h = cc
-or_flip false false c h = h
-
 -- if one misses the other, the other misses the one
 meets_back : (a b : Interval) → meets a b ≡ false → meets b a ≡ false
 meets_back a b h = both_turned (nat_lt a.start (b.start + b.pages)) (nat_lt b.start (a.start + a.pages)) h

@@ -106,10 +106,6 @@ settled_matches pool limits handles keep marks others c after grown counts m s =
 pub settled_at_rest : (pool id : ℕ) (marks : Timeline) → IsWhole marks → next_forced pool id marks ≡ None → settled pool id marks ≡ marks
 settled_at_rest pool id marks w none = Settles-one pool id marks (settled pool id marks) marks (settled_rests pool id marks w.sound).1 (Rests marks none)
 
--- after them none is forced
-pub settled_rest : (pool id : ℕ) (marks : Timeline) → IsWhole marks → next_forced pool id (settled pool id marks) ≡ None
-settled_rest pool id marks w = (settled_rests pool id marks w.sound).0
-
 -- ---- pages given back
 
 module _ (pool : ℕ) (limits : Bound) (handles : Handles) (keep : NodeKey → Bool) (marks : Timeline) (others : List Interval) (c : Collection) (grown : Grows pool limits [] marks)

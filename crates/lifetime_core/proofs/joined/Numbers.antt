@@ -3,7 +3,7 @@ use Rattle.std.proofs.Common.{ℕ, ◌≡◌, ◌+◌, refl, true, false, inl, i
 use Rattle.sm_names.specs.declared.keys.NodeKey.{NodeKey}
 use Rattle.sm_names.specs.declared.messages.Call.{Call}
 use Rattle.sm_names.specs.declared.messages.Reply.{Reply}
-use Rattle.sm_names.specs.Answers.{Readings, answer, effect, makes_tracker}
+use Rattle.sm_names.specs.Answers.{Readings, answer, effect}
 use Rattle.sm_names.specs.Bounds.{Bound}
 use Rattle.sm_names.specs.Marks.{took_effect}
 use Rattle.sm_names.proofs.AnswerLaws.{took_effect_all}
@@ -31,17 +31,3 @@ joined_number limits r client new Call.Join made told = number (took_effect_all 
     number : Reply.Joined made ≡ Reply.Joined (r.events + 1) → made ≡ r.events + 1
     number is = cc
 joined_number limits r client new call made told = both_ways (is_join call) (reply-fits limits r client new call (Reply.Joined made) told) refl
-
--- and so is a tracker
-pub tracker_number : (limits : Bound) (r : Readings) (client : ℕ) (new : NodeKey) (call : Call) (id : ℕ) → Reply.Tracker id ≡ answer limits r client new call → id ≡ r.events + 1
-tracker_number limits r client new call id told = by (answered limits r client new call (Reply.Tracker id) refl told)
-  where
-    of : (call : Call) → makes_tracker call ≡ true → Reply.Tracker id ≡ effect r client new call → id ≡ r.events + 1
-    of (Call.TrackNode key) makes is = cc
-    of (Call.TrackLifetime key most) makes is = cc
-    of (Call.TrackWeak buffer) makes is = cc
-    of _ makes is = cc
-
-    by : (Reply.Tracker id ≡ effect r client new call) ⊎ (Reply.Tracker id ≡ Reply.Done) → id ≡ r.events + 1
-    by (inl is) = of call (reply-fits limits r client new call (Reply.Tracker id) told) is
-    by (inr done) = cc

@@ -14,9 +14,9 @@ use Rattle.sm_names.proofs.SamenessLaws.{false_if, both_ways}
 use Rattle.sm_names.proofs.WholeLaws.{IsWhole}
 use Rattle.alloc_event.specs.declared.node.Node.{Node}
 use Rattle.alloc_event.specs.Nodes.{member_of, lost, is_taken, after_loss, given_buffers, after_allocation, ended, after_end}
-use Rattle.lifetime_core.specs.Shown.{node_after, nodes_after}
+use Rattle.lifetime_core.specs.Shown.{node_after}
 use Rattle.lifetime_core.proofs.nodes.Ancestors.{Keeps, kept_in, nodes_kept, kept_births}
-use Rattle.lifetime_core.proofs.lists.Maps.{map-map_In, filter-all}
+use Rattle.lifetime_core.proofs.lists.Maps.{map-map_In}
 use Rattle.lifetime_core.proofs.nodes.Members.{of_collection, member_kept, taken_kept}
 
 -- ---- which nodes are kept
@@ -25,14 +25,6 @@ use Rattle.lifetime_core.proofs.nodes.Members.{of_collection, member_kept, taken
 pub keeps_on : (keep : NodeKey → Bool) (marks : Timeline) (mark : Mark) → Keeps keep marks → Keeps keep (mark ∷ marks)
 keeps_on keep marks mark keeps node here =
     keeps node (false_if (gone marks node) (λ e. both_ways (gone (mark ∷ marks) node) (gone_stays mark marks node e) here))
-
--- all nodes may be kept
-pub keeps_all : (marks : Timeline) → Keeps (λ k. true) marks
-keeps_all marks node here = refl
-
--- and then they are those of the collection
-pub all_kept : (marks : Timeline) (collection : ℕ) → nodes_kept (λ k. true) marks collection ≡ nodes_after marks collection
-all_kept marks collection = filter-all (λ (n : Node). true) (nodes_after marks collection) (λ n on. refl)
 
 -- a birth that is kept is one of the collection
 kept_of : (keep : NodeKey → Bool) (marks : Timeline) (collection : ℕ) (b : Birth) → In b (kept_in keep marks collection) → In b (births marks) × (b.collection ≡ collection)
@@ -112,20 +104,3 @@ nodes_ended keep marks collection w keeps top =
     ∙ ap (map (ended kept top)) (sym (kept_births keep marks collection)))
 
 -- ---- the same of all nodes
-
--- an allocation
-pub all_allocated : (marks : Timeline) (collection : ℕ) (head : NodeKey) → nodes_after (Allocated head ∷ marks) collection ≡ after_allocation head (nodes_after marks collection)
-all_allocated marks collection head =
-    sym (all_kept (Allocated head ∷ marks) collection) ∙ (nodes_allocated (λ k. true) marks collection head ∙ ap (after_allocation head) (all_kept marks collection))
-
--- a loss
-pub all_lost : (marks : Timeline) (collection : ℕ) → IsWhole marks → (b : Birth) → In b (births marks) → b.collection ≡ collection → gone marks b.node ≡ false → (cause : Cause) →
-    nodes_after (Loss b.node cause ∷ marks) collection ≡ after_loss (record { cause = cause; origin = b.node }) (nodes_after marks collection)
-all_lost marks collection w b on ours here cause =
-    sym (all_kept (Loss b.node cause ∷ marks) collection)
-    ∙ (nodes_lost (λ k. true) marks collection w (keeps_all marks) b on ours here cause ∙ ap (after_loss (record { cause = cause; origin = b.node })) (all_kept marks collection))
-
--- an end
-pub all_ended : (marks : Timeline) (collection : ℕ) → IsWhole marks → (top : NodeKey) → nodes_after (Ended top ∷ marks) collection ≡ after_end top (nodes_after marks collection)
-all_ended marks collection w top =
-    sym (all_kept (Ended top ∷ marks) collection) ∙ (nodes_ended (λ k. true) marks collection w (keeps_all marks) top ∙ ap (after_end top) (all_kept marks collection))

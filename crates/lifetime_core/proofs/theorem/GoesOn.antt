@@ -25,7 +25,7 @@ use Rattle.alloc_event.specs.Forest.{Forest, given, empty_forest}
 use Rattle.alloc_event.specs.Settling.{Handles}
 use Rattle.lifetime_core.specs.Reads.{readings_of}
 use Rattle.lifetime_core.specs.Shown.{IsAfter, Shows, collection_after, handles_after, kept_ids}
-use Rattle.lifetime_core.specs.State.{HandleCounts, IsSame, State, counts_of}
+use Rattle.lifetime_core.specs.State.{HandleCounts, State, counts_of}
 use Rattle.lifetime_core.specs.Steps.{Follows, Work, Worked, clients_by, end_by, handles_by, with_place, without_over, work_of}
 use Rattle.lifetime_core.specs.Theorem.{GoesOn}
 use Rattle.lifetime_core.proofs.forced.CallStep.{IsIdle}
@@ -177,20 +177,6 @@ shows_nothing pool limits = record {
 }
 
 -- ---- changes that no event makes
-
--- rows of handles in another order show the same
-pub stays_shown : (old new : State) → IsSame old new → (history : List Entry) → Shows old history → Shows new history
-stays_shown old new same history shows = subst (λ (s : State). Shows s history) (sym same.rest) (record {
-  legal = shows.legal;
-  shown = record {
-    events = shows.shown.events;
-    clients = shows.shown.clients;
-    collections = shows.shown.collections;
-    given = shows.shown.given;
-    handles = same.counts ∙ shows.shown.handles;
-    trackers = shows.shown.trackers;
-  };
-})
 
 -- and so does a state once a tracker was taken
 pub take_shows : (s : State) (id : ℕ) (history : List Entry) → Shows s history → Shows (record s { trackers = record s.trackers { untaken = without s.trackers.untaken id } }) history
