@@ -74,11 +74,11 @@ module _ (w : World) (place : ℕ) where
   due_rise n (row ∷ rows) = due_rise_at n row.id row.cell row.stage row.has_reader _ (due_above n (n + 1) rows (omega arith)) (due_rise (n + 1) rows)
 
   -- so the sorted places that are due are those of the rows, in their order
-  pub due_sorted : (rows : List Kept) (entries : List Wish) (due sorted : List ℕ) → AreAlike entries (asked_from place 0 rows) → due ≡ due_in w entries → IsPermutation due sorted → IsNonDecreasing sorted →
+  pub due_sorted : (rows : List Kept) (entries : List Wish) (due sorted : List ℕ) → AreAlike entries (asked_from place 0 rows) → AreAlike due (due_in w entries) → IsPermutation due sorted → IsNonDecreasing sorted →
       sorted ≡ due_in w (asked_from place 0 rows)
-  due_sorted rows entries due sorted alike is moved rises =
+  due_sorted rows entries due sorted alike gathered moved rises =
       let found : AreAlike (due_in w entries) (due_in w (asked_from place 0 rows)) = alike_map _ _ (λ (wish : Wish). wish.1) (alike_filter _ _ (is_wish_met w) alike) in
-      let same : AreAlike sorted (due_in w (asked_from place 0 rows)) = λ f. sym (alike_moved due sorted moved f) ∙ (ap (weigh f) is ∙ found f) in
+      let same : AreAlike sorted (due_in w (asked_from place 0 rows)) = λ f. sym (alike_moved due sorted moved f) ∙ (gathered f ∙ found f) in
       rising_same sorted (due_in w (asked_from place 0 rows)) (do_rise sorted rises) (due_rise 0 rows) same
 
 -- ---- how many are filed
@@ -138,23 +138,15 @@ module _ (w : World) (e : ℕ) where
       ∙ ap (λ o. cons_option o (asked_from collection (n + 1) rows)) (other_at place collection n row.id row.cell row.stage row.has_reader differ parts.0)
 
   -- what is filed is right again once what holds was taken out under the place
-  pub filed_dropped : (place : ℕ) (rows : List Kept) (old new : Piles) → AllByRecursion (Elsewhere w place) (filter_map waiting_of_row rows) → AreFiled rows old → ((c : ℕ) → entries_of new c ≡ (if c == place then undue_in w (entries_of old c) else entries_of old c)) → AreFiled (map (after w e) rows) new
+  pub filed_dropped : (place : ℕ) (rows : List Kept) (old new : Piles) → AllByRecursion (Elsewhere w place) (filter_map waiting_of_row rows) → AreFiled rows old → ((c : ℕ) (f : Wish → ℕ) → weigh f (entries_of new c) ≡ (if c == place then weigh f (undue_in w (entries_of old c)) else weigh f (entries_of old c))) → AreFiled (map (after w e) rows) new
   filed_dropped place rows old new all filed dropped = record {
-    at = λ c f. ap (weigh f) (dropped c) ∙ elim (c == place) as (λ b. (c == place) ≡ b → weigh f (if b then undue_in w (entries_of old c) else entries_of old c) ≡ weigh f (asked_from c 0 (map (after w e) rows))) [
+    at = λ c f. dropped c f ∙ elim (c == place) as (λ b. (c == place) ≡ b → (if b then weigh f (undue_in w (entries_of old c)) else weigh f (entries_of old c)) ≡ weigh f (asked_from c 0 (map (after w e) rows))) [
       | true ↦ λ same. alike_filter _ _ (λ wish. not (is_wish_met w wish)) (filed.at c) f ∙ ap (weigh f) (asked_after c 0 rows)
       | false ↦ λ other.
           let differ : c ≢ place = λ same. apart c place other (sym same) in
           filed.at c f ∙ ap (weigh f) (sym (other_asked place c 0 rows differ all))
     ] refl;
   }
-
--- where none is due all stays
-pub none_due : (w : World) (wishes : List Wish) → due_in w wishes ≡ [] → undue_in w wishes ≡ wishes
-none_due w [] none_found = refl
-none_due w (wish ∷ wishes) none_found = elim (is_wish_met w wish) as (λ b. map (λ (x : Wish). x.1) (cond b (wish ∷ filter (is_wish_met w) wishes) (filter (is_wish_met w) wishes)) ≡ [] → cond (not b) (wish ∷ undue_in w wishes) (undue_in w wishes) ≡ wish ∷ wishes) [
-  | true ↦ λ bad. absurd (cc)
-  | false ↦ λ rest. ap (λ l. wish ∷ l) (none_due w wishes rest)
-] none_found
 
 -- what one row more asks
 pub asked_push : (collection n : ℕ) (rows : List Kept) (row : Kept) → asked_from collection n (rows ++ row ∷ []) ≡ asked_from collection n rows ++ option_to_list (asked collection (n + length rows) row)

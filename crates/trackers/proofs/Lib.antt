@@ -6,5 +6,5 @@ pub mod HeldLemmas
 pub mod PlaceLemmas
 pub mod SweepLemmas
 pub mod Walks
-pub mod QueueLemmas
+pub mod GroupLemmas
 pub mod Weights

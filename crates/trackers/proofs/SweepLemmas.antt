@@ -1,14 +1,13 @@
 -- What a sweep leaves, from what its walk did.
-use Rattle.std.proofs.Common.{◌≡◌, ℕ, ◌≤◌, true, false, ◌==◌, if◌then◌else◌, List, [], ◌++◌, map, refl, sym, ap, ◌∙◌, arith}
+use Rattle.std.proofs.Common.{◌≡◌, ℕ, ◌≤◌, ◌==◌, if◌then◌else◌, List, ◌++◌, map, ap, ◌∙◌, arith}
 use Rattle.std.specs.List.{filter_map, AllByRecursion}
-use Rattle.std.proofs.lemmas.Bool.{eqb-true}
 use Rattle.sm_names.specs.declared.tracking.Fired.{Fired}
 use Rattle.sm_names.specs.Trackers.{World}
 use Rattle.trackers.specs.Table.{still_waiting}
 use Rattle.trackers.specs.Row.{Kept, waiting_of_row}
-use Rattle.trackers.specs.Filing.{Piles, due_in, entries_of, undue_in}
+use Rattle.trackers.specs.Filing.{Piles, Wish, entries_of, undue_in, weigh}
 use Rattle.trackers.specs.Held.{cell_of_row, untaken_of_row, after, fires, IsKeptUp, table_of}
-use Rattle.trackers.proofs.FilingLemmas.{Elsewhere, filed_dropped, none_due}
+use Rattle.trackers.proofs.FilingLemmas.{Elsewhere, filed_dropped}
 use Rattle.trackers.proofs.FoundLemmas.{table_with}
 use Rattle.trackers.proofs.HeldLemmas.{count_after, held_after, cells_after, untaken_after, unfired_after}
 
@@ -25,16 +24,10 @@ module _ (w : World) (e : ℕ) (rows rows' : List Kept) (over : rows' ≡ map (a
 
   module _ (limit capacity capacity' spare spare' : ℕ) (fired fired' : List Fired) (old : Piles) (kept : IsKeptUp limit rows fired capacity spare old) (grown : fired' ≡ fired ++ filter_map (fires w e) rows) (same : capacity' ≡ capacity) (more : spare ≤ spare') where
     -- the table is right once what holds was taken out under the place
-    pub swept_dropped : (new : Piles) (place : ℕ) → AllByRecursion (Elsewhere w place) (filter_map waiting_of_row rows) → ((c : ℕ) → entries_of new c ≡ (if c == place then undue_in w (entries_of old c) else entries_of old c)) → IsKeptUp limit rows' fired' capacity' spare' new
+    pub swept_dropped : (new : Piles) (place : ℕ) → AllByRecursion (Elsewhere w place) (filter_map waiting_of_row rows) → ((c : ℕ) (f : Wish → ℕ) → weigh f (entries_of new c) ≡ (if c == place then weigh f (undue_in w (entries_of old c)) else weigh f (entries_of old c))) →
+        IsKeptUp limit rows' fired' capacity' spare' new
     swept_dropped new place all dropped = rw (over, grown, same) record {
       held = held_after w e limit fired capacity rows kept.held;
       filed = filed_dropped w e place rows old new all kept.filed dropped;
       spare_room = omega (arith, kept.spare_room, more, count_after w e rows);
     }
-
-    -- where none was due it is right as it is
-    pub swept_quiet : (place : ℕ) → AllByRecursion (Elsewhere w place) (filter_map waiting_of_row rows) → due_in w (entries_of old place) ≡ [] → IsKeptUp limit rows' fired' capacity' spare' old
-    swept_quiet place all none_found = swept_dropped old place all (λ c. elim (c == place) as (λ b. (c == place) ≡ b → entries_of old c ≡ (if b then undue_in w (entries_of old c) else entries_of old c)) [
-      | true ↦ λ here. let there : c ≡ place = eqb-true c place here in sym (none_due w (entries_of old c) (ap (λ k. due_in w (entries_of old k)) there ∙ none_found))
-      | false ↦ λ other. refl
-    ] refl)

@@ -1,5 +1,6 @@
--- How the rows that wait are filed, by collection and then by what they wait for. No public clause cites this module.
-use Rattle.std.specs.Prelude.{◌≡◌, ℕ, ◌+◌, Bool, not, nat_eq, ◌==◌, if◌then◌else◌, List, [], ◌∷◌, ◌++◌, map, Vec, length}
+-- How the rows that wait are filed, by collection and then by the node or the buffer that they wait for. No public clause cites this module.
+use Rattle.std.specs.Prelude.{◌≡◌, ℕ, ◌+◌, Bool, true, not, nat_eq, ◌==◌, if◌then◌else◌, List, [], ◌∷◌, ◌++◌, map, Vec}
+use Rattle.std.specs.BinaryHeap.{heap_items, heap_len}
 use Rattle.std.specs.List.{filter}
 use Rattle.std.specs.Option.{option_map_or}
 use Rattle.std.specs.HashMap.{get, HashMap}
@@ -8,32 +9,48 @@ use Rattle.std.specs.declared.hash.BuildHasherDefault.{BuildHasherDefault}
 use Rattle.std.specs.declared.alloc.Global.{Global}
 use Rattle.sm_names.specs.declared.tracking.Condition.{Condition}
 use Rattle.sm_names.specs.Trackers.{World, holds}
-use Rattle.trackers.specs.declared.filing.Queue.{Queue}
+use Rattle.trackers.specs.declared.group.Group.{Group}
 
--- queues, by collection
+-- groups, by collection
 abbrev pub Piles : Type 0
-Piles = HashMap ℕ (Vec Queue Global) (BuildHasherDefault FoldHasher)
+Piles = HashMap ℕ (Vec Group Global) (BuildHasherDefault FoldHasher)
 
 -- what the row at a place waits for
 abbrev pub Wish : Type 0
 Wish = Condition × ℕ
 
--- what the rows of the queue wait for
-abbrev pub asking : Queue → List Wish
-asking queue = map (λ (place : ℕ). (queue.condition, place)) queue.places.items
+-- the condition, with this number of buffers that may be left, if it has one
+abbrev pub at_most : Condition → ℕ → Condition
+at_most (Condition.Node key) most = Condition.Node key
+at_most (Condition.Lifetime key collection number) most = Condition.Lifetime key collection most
+at_most (Condition.Weak buffer) most = Condition.Weak buffer
 
--- the same of all these queues
-abbrev pub entries_in : List Queue → List Wish
+-- how many buffers may be left, or 0
+abbrev pub number_of : Condition → ℕ
+number_of (Condition.Node key) = 0
+number_of (Condition.Lifetime key collection most) = most
+number_of (Condition.Weak buffer) = 0
+
+-- what one row of a group waits for, where this is the condition of another
+abbrev pub wish_at : Condition → ℕ × ℕ → Wish
+wish_at condition entry = (at_most condition entry.0, entry.1)
+
+-- what the rows of the group wait for
+abbrev pub asking : Group → List Wish
+asking group = map (wish_at group.condition) (heap_items group.waiting)
+
+-- the same of all these groups
+abbrev pub entries_in : List Group → List Wish
 entries_in [] = []
-entries_in (queue ∷ queues) = asking queue ++ entries_in queues
+entries_in (group ∷ groups) = asking group ++ entries_in groups
 
--- the queues of the collection
-abbrev pub queues_of : Piles → ℕ → List Queue
-queues_of piles collection = option_map_or (λ (pile : Vec Queue Global). pile.items) (get nat_eq piles collection) []
+-- the groups of the collection
+abbrev pub groups_of : Piles → ℕ → List Group
+groups_of piles collection = option_map_or (λ (pile : Vec Group Global). pile.items) (get nat_eq piles collection) []
 
 -- what is filed under the collection
 abbrev pub entries_of : Piles → ℕ → List Wish
-entries_of piles collection = entries_in (queues_of piles collection)
+entries_of piles collection = entries_in (groups_of piles collection)
 
 -- what is waited for holds
 abbrev pub is_wish_met : World → Wish → Bool
@@ -47,9 +64,9 @@ due_in world wishes = map (λ (wish : Wish). wish.1) (filter (is_wish_met world)
 abbrev pub undue_in : World → List Wish → List Wish
 undue_in world wishes = filter (λ wish. not (is_wish_met world wish)) wishes
 
--- the queue has a place
-abbrev pub is_filled : Queue → Bool
-is_filled queue = not (length queue.places.items == 0)
+-- the group has a place
+abbrev pub is_filled : Group → Bool
+is_filled group = not (heap_len group.waiting == 0)
 
 -- the sum of what the elements weigh
 abbrev pub weigh : {X : Type 0} → (X → ℕ) → List X → ℕ
@@ -63,3 +80,9 @@ weigh_at place f wish = if wish.1 == place then f wish else 0
 -- the lists have the same elements, each as often
 abbrev pub AreAlike : {X : Type 0} → List X → List X → Type 0
 AreAlike {X} xs ys = (f : X → ℕ) → weigh f xs ≡ weigh f ys
+
+-- what the row at this place waited for holds, and it is no longer among the wishes
+pub record TakesDue (world : World) (old : List Wish) (place : ℕ) (new : List Wish) : Type 0 where
+  pub condition : Condition
+  pub met : holds world condition ≡ true
+  pub rest : (f : Wish → ℕ) → weigh f old ≡ f (condition, place) + weigh f new

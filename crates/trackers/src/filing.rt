@@ -1,88 +1,96 @@
-//! The rows that wait, filed by collection and then by what they wait for.
-ghost use Rattle.std.specs.Prelude.{◌≡◌, ℕ, ◌+◌, ◌<◌, ◌≤◌, ◌==◌, ◌++◌, not, true, length, vec_len, vec_capacity, slice_index_or, if◌then◌else◌, OnOk, OnErr, IfSome};
-ghost use Rattle.std.specs.List.{filter};
-ghost use Rattle.trackers.specs.declared.filing.Queue.{Queue as Filed};
-ghost use Rattle.trackers.specs.Filing.{Wish, asking, due_in, entries_in, entries_of, queues_of, undue_in, weigh, weigh_at};
+//! The rows that wait, filed by collection and then by the node or the buffer that they wait for.
+ghost use Rattle.std.specs.Prelude.{◌≡◌, ℕ, ◌+◌, ◌<◌, ◌≤◌, ◌==◌, [], true, length, vec_len, vec_capacity, slice_index_or, if◌then◌else◌, ⊤, OnOk, OnErr, OnSome, IfSome, MatchOption};
+ghost use Rattle.std.specs.BinaryHeap.{heap_len};
+ghost use Rattle.trackers.specs.declared.group.Group.{Group as Filed};
+ghost use Rattle.trackers.specs.Filing.{Wish, TakesDue, asking, at_most as narrowed, due_in, entries_in, entries_of, number_of as number_in, undue_in, weigh, weigh_at};
 
+use crate::group::Group;
 use crate::world::{World, holds_in};
 use sm_names::{CollectionId, Condition};
 use std::alloc::{AllocError, Global};
-use std::collections::HashMap;
+use std::collections::{BinaryHeap, HashMap};
 
-/// The places of rows that wait for the same.
-#[derive(Drop)]
-pub(crate) struct Queue {
-    condition: Condition,
-    places: Vec<usize>,
-}
+/// Under each collection the groups of its rows that wait.
+pub(crate) type Piles = HashMap<CollectionId, Vec<Group>>;
 
-/// Under each collection the queues of its rows that wait, one for each condition.
-pub(crate) type Piles = HashMap<CollectionId, Vec<Queue>>;
-
-/// The queues of the collection.
-pub(crate) fn pile(piles: &Piles, collection: CollectionId) -> &[Queue]
-    ensures { result.now ≡ queues_of piles.now collection }
+/// The condition, with this number of buffers that may be left, if it has one.
+fn at_most(condition: Condition, most: u32) -> Condition
+    ensures { result ≡ narrowed condition most }
 {
-    match piles.get(&collection) {
-        Some(pile) => pile,
-        None => &[],
+    match condition {
+        Condition::Lifetime(key, collection, _) => Condition::Lifetime(key, collection, most),
+        Condition::Node(_) | Condition::Weak(_) => condition,
     }
 }
 
-/// Whether the conditions are one.
-fn is_same(one: Condition, other: Condition) -> bool
-    ensures { result ≡ true → one ≡ other }
+/// How many buffers may be left where the condition holds, and 0 where they are not looked at.
+fn number_of(condition: Condition) -> u32
+    ensures { result ≡ number_in condition }
 {
-    one == other
+    match condition {
+        Condition::Lifetime(_, _, most) => most,
+        Condition::Node(_) | Condition::Weak(_) => 0,
+    }
 }
 
-/// Where a queue of this condition stands.
-fn find(queues: &[Queue], condition: Condition) -> Option<usize>
-    ensures within { IfSome result (λ at. at < length queues.now) }
-    ensures named { IfSome result (λ at. (d : Filed) →
-        (slice_index_or queues.now at d).condition ≡ condition) }
+/// Whether the condition is one of the group.
+fn is_of(group: &Group, condition: Condition) -> bool
+    ensures { result ≡ true → narrowed group.now.condition (number_in condition) ≡ condition }
 {
-    for at in 0..queues.len() {
-        if is_same(queues[at].condition, condition) {
+    at_most(group.condition, number_of(condition)) == condition
+}
+
+/// Where the group of the condition stands.
+fn find(groups: &[Group], condition: Condition) -> Option<usize>
+    ensures within { IfSome result (λ at. at < length groups.now) }
+    ensures named { IfSome result (λ at. (d : Filed) →
+        narrowed (slice_index_or groups.now at d).condition (number_in condition) ≡ condition) }
+{
+    for at in 0..groups.len() {
+        if is_of(&groups[at], condition) {
             return Some(at);
         }
     }
     None
 }
 
-/// Puts the place into the queue.
-fn put(queue: &mut Queue, place: usize) -> Result<(), AllocError>
+/// Puts the place into the group, of which the condition is one.
+fn put(group: &mut Group, condition: Condition, place: usize) -> Result<(), AllocError>
+    requires { narrowed group.old.condition (number_in condition) ≡ condition }
     ensures ok { OnOk result ((f : Wish → ℕ) →
-        weigh f (asking queue.new) ≡ f (queue.old.condition, place) + weigh f (asking queue.old)) }
-    ensures err { OnErr result (asking queue.new ≡ asking queue.old) }
+        weigh f (asking group.new) ≡ f (condition, place) + weigh f (asking group.old)) }
+    ensures err { OnErr result (asking group.new ≡ asking group.old) }
 {
-    queue.places.push(place)?;
+    group.waiting.push((number_of(condition), place))?;
     Ok(())
 }
 
-/// Puts the place into the queue of the condition, or into a new one.
+/// Puts the place into the group of the condition, or into a new one.
 fn join(
-    queues: &mut Vec<Queue>,
+    groups: &mut Vec<Group>,
     alloc: Global,
     condition: Condition,
     place: usize,
 ) -> Result<(), AllocError>
-    ensures ok { OnOk result ((f : Wish → ℕ) → weigh f (entries_in queues.new.items)
-        ≡ f (condition, place) + weigh f (entries_in queues.old.items)) }
-    ensures err { OnErr result ((f : Wish → ℕ) → weigh f (entries_in queues.new.items)
-        ≡ weigh f (entries_in queues.old.items)) }
+    ensures ok { OnOk result ((f : Wish → ℕ) → weigh f (entries_in groups.new.items)
+        ≡ f (condition, place) + weigh f (entries_in groups.old.items)) }
+    ensures err { OnErr result ((f : Wish → ℕ) → weigh f (entries_in groups.new.items)
+        ≡ weigh f (entries_in groups.old.items)) }
 {
-    if let Some(at) = find(queues, condition) {
-        return put(&mut queues[at], place);
+    if let Some(at) = find(groups, condition) {
+        return put(&mut groups[at], condition, place);
     }
-    queues.reserve(1)?;
-    let mut places = Vec::with_capacity(alloc, 1)?;
-    places.push_reserved(place);
-    queues.push_reserved(Queue { condition, places });
+    groups.reserve(1)?;
+    let mut group = Group {
+        condition,
+        waiting: BinaryHeap::new(alloc),
+    };
+    put(&mut group, condition, place)?;
+    groups.push_reserved(group);
     Ok(())
 }
 
-/// Files this place under the collection, and there under the condition.
+/// Files this place under the collection, and there in the group of the condition.
 pub(crate) fn file(
     piles: &mut Piles,
     alloc: Global,
@@ -96,84 +104,116 @@ pub(crate) fn file(
     ensures err { OnErr result ((c : ℕ) (f : Wish → ℕ) →
         weigh f (entries_of piles.new c) ≡ weigh f (entries_of piles.old c)) }
 {
-    if let Some(queues) = piles.get_mut(&collection) {
-        return join(queues, alloc, condition, place);
+    if let Some(groups) = piles.get_mut(&collection) {
+        return join(groups, alloc, condition, place);
     }
-    let mut queues = Vec::new(alloc);
-    join(&mut queues, alloc, condition, place)?;
-    piles.insert(collection, queues)?;
+    let mut groups = Vec::new(alloc);
+    join(&mut groups, alloc, condition, place)?;
+    piles.insert(collection, groups)?;
     Ok(())
 }
 
-/// Adds the places to the list, which has room.
-fn append(due: &mut Vec<usize>, places: &[usize])
-    requires { vec_len due.old + length places.now ≤ vec_capacity due.old }
-    ensures items { due.new.items ≡ due.old.items ++ places.now }
-    ensures capacity { vec_capacity due.old ≤ vec_capacity due.new }
+/// Takes the widest of the group out, if it is due, and answers its place: one test.
+fn take_widest<W: World>(group: &mut Group, world: &W) -> Option<usize>
+    ensures some { IfSome result (λ place.
+        TakesDue (W.seen world.now) (asking group.old) place (asking group.new)) }
+    ensures fewer { OnSome result
+        (heap_len group.new.waiting + 1 ≡ heap_len group.old.waiting) }
+    ensures none { MatchOption result (due_in (W.seen world.now) (asking group.old) ≡ []) (λ place. ⊤) }
+    ensures kept { MatchOption result (asking group.new ≡ asking group.old) (λ place. ⊤) }
 {
-    let _ = due.extend_from_slice(places);
+    let (most, _) = *group.waiting.peek()?;
+    if !holds_in(at_most(group.condition, most), world) {
+        return None;
+    }
+    let (_, place) = group.waiting.pop()?;
+    Some(place)
 }
 
-/// Adds the places of the rows that are due to the list, which has room: one test a queue.
-pub(crate) fn gather<W: World>(queues: &[Queue], due: &mut Vec<usize>, world: &W)
-    requires { vec_len due.old + length (due_in (W.seen world.now) (entries_in queues.now))
+/// Takes out of the group what is due, into the list, which has room: one test for each, and one
+/// more.
+fn take_due<W: World>(group: &mut Group, due: &mut Vec<usize>, world: &W)
+    requires { vec_len due.old + length (due_in (W.seen world.now) (asking group.old))
         ≤ vec_capacity due.old }
-    ensures items { due.new.items
-        ≡ due.old.items ++ due_in (W.seen world.now) (entries_in queues.now) }
-    ensures capacity { vec_capacity due.old ≤ vec_capacity due.new }
+    ensures due { (f : ℕ → ℕ) → weigh f due.new.items ≡ weigh f due.old.items
+        + weigh f (due_in (W.seen world.now) (asking group.old)) }
+    ensures kept { (f : Wish → ℕ) → weigh f (asking group.new)
+        ≡ weigh f (undue_in (W.seen world.now) (asking group.old)) }
+    ensures capacity { vec_capacity due.new ≡ vec_capacity due.old }
 {
-    for queue in queues {
-        if holds_in(queue.condition, world) {
-            append(due, &queue.places);
+    while let Some(place) = take_widest(group, world) {
+        due.push_reserved(place);
+    }
+}
+
+/// Takes out of all groups what is due.
+fn take_all_due<W: World>(groups: &mut Vec<Group>, due: &mut Vec<usize>, world: &W)
+    requires { vec_len due.old + length (due_in (W.seen world.now) (entries_in groups.old.items))
+        ≤ vec_capacity due.old }
+    ensures due { (f : ℕ → ℕ) → weigh f due.new.items ≡ weigh f due.old.items
+        + weigh f (due_in (W.seen world.now) (entries_in groups.old.items)) }
+    ensures kept { (f : Wish → ℕ) → weigh f (entries_in groups.new.items)
+        ≡ weigh f (undue_in (W.seen world.now) (entries_in groups.old.items)) }
+    ensures capacity { vec_capacity due.new ≡ vec_capacity due.old }
+{
+    for at in 0..groups.len() {
+        take_due(&mut groups[at], due, world);
+    }
+}
+
+/// Takes what is due out of the collection's groups, into the list, which is empty and has room, and
+/// the collection where none is left.
+pub(crate) fn gather<W: World>(
+    piles: &mut Piles,
+    collection: CollectionId,
+    due: &mut Vec<usize>,
+    world: &W,
+)
+    requires empty { due.old.items ≡ [] }
+    requires room { length (due_in (W.seen world.now) (entries_of piles.old collection))
+        ≤ vec_capacity due.old }
+    ensures due { (f : ℕ → ℕ) → weigh f due.new.items
+        ≡ weigh f (due_in (W.seen world.now) (entries_of piles.old collection)) }
+    ensures kept { (c : ℕ) (f : Wish → ℕ) → weigh f (entries_of piles.new c)
+        ≡ (if c == collection then weigh f (undue_in (W.seen world.now) (entries_of piles.old c))
+        else weigh f (entries_of piles.old c)) }
+    ensures capacity { vec_capacity due.new ≡ vec_capacity due.old }
+{
+    if let Some(groups) = piles.get_mut(&collection) {
+        take_all_due(groups, due, world);
+        if !due.is_empty() {
+            keep_filled(groups);
+            if groups.is_empty() {
+                piles.remove(&collection);
+            }
         }
     }
 }
 
-/// Keeps the queues of what does not hold.
-fn keep_undue<W: World>(queues: &mut Vec<Queue>, world: &W)
-    ensures { entries_in queues.new.items
-        ≡ undue_in (W.seen world.now) (entries_in queues.old.items) }
+/// Takes the groups without a place away.
+fn keep_filled(groups: &mut Vec<Group>)
+    ensures { entries_in groups.new.items ≡ entries_in groups.old.items }
 {
-    queues.retain(|queue| !holds_in(queue.condition, world));
+    groups.retain(|group| !group.waiting.is_empty());
 }
 
-/// Takes the queues of what holds out of the collection's, and the collection where none is left.
-pub(crate) fn drop_due<W: World>(piles: &mut Piles, collection: CollectionId, world: &W)
-    ensures { (c : ℕ) → entries_of piles.new c
-        ≡ (if c == collection then undue_in (W.seen world.now) (entries_of piles.old c)
-        else entries_of piles.old c) }
+/// Takes the place out of the group.
+fn leave(group: &mut Group, place: usize)
+    ensures { (f : Wish → ℕ) → weigh f (asking group.new) + weigh (weigh_at place f) (asking group.old)
+        ≡ weigh f (asking group.old) }
 {
-    if let Some(queues) = piles.get_mut(&collection) {
-        keep_undue(queues, world);
-        if queues.is_empty() {
-            piles.remove(&collection);
-        }
+    group.waiting.retain(|entry| entry.1 != place);
+}
+
+/// Takes the place out of each group.
+fn leave_all(groups: &mut Vec<Group>, place: usize)
+    ensures { (f : Wish → ℕ) → weigh f (entries_in groups.new.items)
+        + weigh (weigh_at place f) (entries_in groups.old.items)
+        ≡ weigh f (entries_in groups.old.items) }
+{
+    for at in 0..groups.len() {
+        leave(&mut groups[at], place);
     }
-}
-
-/// Takes the place out of the queue.
-fn leave(queue: &mut Queue, place: usize)
-    ensures { asking queue.new ≡ filter (λ (e : Wish). not (e.1 == place)) (asking queue.old) }
-{
-    queue.places.retain(|other| *other != place);
-}
-
-/// Takes the place out of each queue.
-fn leave_all(queues: &mut Vec<Queue>, place: usize)
-    ensures { (f : Wish → ℕ) → weigh f (entries_in queues.new.items)
-        + weigh (weigh_at place f) (entries_in queues.old.items)
-        ≡ weigh f (entries_in queues.old.items) }
-{
-    for at in 0..queues.len() {
-        leave(&mut queues[at], place);
-    }
-}
-
-/// Takes the queues without a place away.
-fn keep_filled(queues: &mut Vec<Queue>)
-    ensures { entries_in queues.new.items ≡ entries_in queues.old.items }
-{
-    queues.retain(|queue| !queue.places.is_empty());
 }
 
 /// Takes the place out of what is filed under the collection.
@@ -182,10 +222,10 @@ pub(crate) fn withdraw(piles: &mut Piles, collection: CollectionId, place: usize
         then weigh f (entries_of piles.new c) + weigh (weigh_at place f) (entries_of piles.old c)
         else weigh f (entries_of piles.new c)) ≡ weigh f (entries_of piles.old c) }
 {
-    if let Some(queues) = piles.get_mut(&collection) {
-        leave_all(queues, place);
-        keep_filled(queues);
-        if queues.is_empty() {
+    if let Some(groups) = piles.get_mut(&collection) {
+        leave_all(groups, place);
+        keep_filled(groups);
+        if groups.is_empty() {
             piles.remove(&collection);
         }
     }

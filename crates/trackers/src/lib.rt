@@ -3,6 +3,7 @@
 #![tactic(auto)]
 
 mod filing;
+mod group;
 mod row;
 mod table;
 mod tracker;

@@ -5,7 +5,7 @@ ghost use Rattle.trackers.specs.Table.{Table, Waiting, Cell, empty, is_due, firi
 ghost use Rattle.trackers.specs.Filing.{Wish, entries_of, weigh};
 ghost use Rattle.trackers.specs.Held.{AreRising, IsPlace, attached};
 
-use crate::filing::{Piles, drop_due, file, gather, pile, withdraw};
+use crate::filing::{Piles, file, gather, withdraw};
 use crate::row::Row;
 use crate::tracker::Tracker;
 use crate::walk::fire_due;
@@ -68,8 +68,9 @@ impl Trackers {
     /// Attaches a tracker under the number of this event, filed under the collection that its
     /// condition concerns. It is `Full` exactly where as many wait as may, whatever memory there
     /// is; a fault changes nothing. All memory that the firing and the taking will need is taken here:
-    /// a cell, the room for its value, and a place in each table. It costs a pass over the conditions
-    /// that are waited for under the collection, and the growth of the tables.
+    /// a cell, the room for its value, and a place in each table. It costs a pass over the nodes and the
+    /// buffers that are waited for under the collection, the logarithm of how many wait for the same,
+    /// and the growth of the tables.
     pub fn attach(
         &mut self,
         id: TrackerId,
@@ -125,9 +126,11 @@ impl Trackers {
 
     /// Fires the trackers that wait and whose condition holds, by rising id, at this event, which
     /// concerned one collection: under another none holds. It takes no memory. It looks up that
-    /// collection, and makes one test for each condition that is waited for under it, however many
-    /// wait for the same. Those that fire are sorted and fired, and the conditions gone through once
-    /// more. Those that do not fire, those of other collections, and those that fired, cost nothing.
+    /// collection, and makes one test for each node of which trackers wait under it, for each node of
+    /// which lifetimes are waited for, and for each buffer, whatever numbers of buffers the lifetimes
+    /// allow and however many wait for the same. Each that fires costs a test more, is sorted among
+    /// those that fire, and then the nodes and buffers are gone through once more. Those that do not
+    /// fire, those of other collections, and those that fired, cost nothing else.
     pub fn sweep<W: World>(&mut self, event: u64, collection: CollectionId, world: &W)
         requires elsewhere { All (λ (t : Waiting). t.place ≢ collection
             → is_due (W.seen world.now) t ≡ false) self.old.unfired }
@@ -139,12 +142,9 @@ impl Trackers {
             ≡ record self.old { unfired = self.new.unfired; fired = self.new.fired } }
     {
         self.due.clear();
-        gather(pile(&self.piles, collection), &mut self.due, world);
+        gather(&mut self.piles, collection, &mut self.due, world);
         self.due.sort_unstable();
         fire_due(&mut self.rows, &mut self.fired, &self.due, event, world);
-        if !self.due.is_empty() {
-            drop_due(&mut self.piles, collection, world);
-        }
     }
 
     /// The firings in their order: by event, as the sweeps came, and by rising id within one. It

@@ -1,10 +1,12 @@
-use Rattle.std.proofs.Common.{ℕ, ap, map, ◌∙◌, not, ◌==◌, rules}
+use Rattle.std.proofs.Common.{ℕ, not, ◌==◌, rules}
+use Rattle.std.specs.BinaryHeap.{heap_items}
 use Rattle.std.proofs.lemmas.Fn.{filter_same}
-use Rattle.trackers.proofs.QueueLemmas.{asking_filter}
+use Rattle.trackers.proofs.GroupLemmas.{asking_out}
 use Rattle.trackers.proofs.filing.leave.Goals as goal
 
 -- the closure computes the test
 pub returns : goal.returns
-returns c =
-    ap (map (λ (place : ℕ). (c.args.queue.now.condition, place))) (filter_same _ (λ (p : ℕ). not (p == c.args.place)) _ (λ x b f' h. search rules) _ _ c.retain.ensures.filtered)
-    ∙ asking_filter c.args.queue.now.condition (λ (p : ℕ). not (p == c.args.place)) c.args.queue.now.places.items
+returns c = λ f.
+    let kept = c.retain.ensures.filtered in
+    asking_out f c.args.group.now.condition c.args.place (heap_items c.args.group.now.waiting) kept.0 _
+    (filter_same _ (λ (e : ℕ × ℕ). not (e.1 == c.args.place)) _ (λ x b f' h. search rules) _ _ kept.1) kept.2

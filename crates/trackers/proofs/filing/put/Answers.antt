@@ -1,9 +1,6 @@
-use Rattle.std.proofs.Common.{ℕ, map, ap, ◌∙◌}
-use Rattle.trackers.specs.Filing.{weigh}
-use Rattle.trackers.proofs.QueueLemmas.{asking_push}
+use Rattle.std.specs.BinaryHeap.{heap_items}
+use Rattle.trackers.proofs.GroupLemmas.{asking_push}
 use Rattle.trackers.proofs.filing.put.Goals as goal
 
 pub returns-clause-ok : goal.returns-clause-ok
-returns-clause-ok c = λ f.
-    ap (λ l. weigh f (map (λ (p : ℕ). (c.args.queue.now.condition, p)) l)) c.in_ok-push.ensures.items
-    ∙ asking_push f c.args.queue.now.condition c.args.queue.now.places.items c.args.place
+returns-clause-ok c = λ f. asking_push f c.args.group.now.condition c.args.condition c.number_of.result c.args.place (heap_items c.args.group.now.waiting) _ (rw c.number_of.ensures c.requires) c.in_ok-push.ensures.permutation

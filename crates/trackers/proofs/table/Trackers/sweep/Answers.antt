@@ -1,16 +1,13 @@
-use Rattle.std.proofs.Common.{◌≡◌, ◌≤◌, ◌++◌, List, length, count_by, ap, sym, subst, ◌∙◌, arith}
-use Rattle.std.proofs.lemmas.Bool.Decides.{nat_tests}
-use Rattle.std.proofs.lemmas.List.{nil_from_length}
+use Rattle.std.proofs.Common.{◌≤◌, ◌++◌, length, count_by, ap, sym, subst, ◌∙◌, arith}
 use Rattle.std.proofs.lemmas.List.Elements.{recursion_from_All}
 use Rattle.std.proofs.lemmas.List.Sorted.{IsNonDecreasingBy-from_sort}
 use Rattle.sm_names.specs.Trackers.{World}
-use Rattle.trackers.specs.declared.filing.Queue.{Queue}
-use Rattle.trackers.specs.Filing.{due_in, entries_in, entries_of}
+use Rattle.trackers.specs.Filing.{due_in, entries_of}
 use Rattle.trackers.specs.Held.{Reach}
 use Rattle.trackers.specs.Row.{is_waiting}
 use Rattle.trackers.proofs.FilingLemmas.{due_fit, due_sorted, reach_due}
 use Rattle.trackers.proofs.HeldLemmas.{firings_after}
-use Rattle.trackers.proofs.SweepLemmas.{swept_rest, swept_unfired, swept_dropped, swept_quiet}
+use Rattle.trackers.proofs.SweepLemmas.{swept_rest, swept_unfired, swept_dropped}
 use Rattle.trackers.proofs.table.Trackers.sweep.Goals as goal
 
 -- there is room for the places of all that wait
@@ -18,51 +15,29 @@ pub gather-requires : goal.gather-requires
 gather-requires g c =
     let w : World = g.W.World.seen c.args.world.now in
     let fit : length (due_in w (entries_of c.self.inside.piles c.args.collection)) ≤ count_by is_waiting c.self.inside.rows.items = due_fit w c.args.collection c.self.inside.rows.items _ (c.self.invariant.filed.at c.args.collection) in
-    omega (arith, fit, ap (λ (qs : List Queue). length (due_in w (entries_in qs))) c.pile.ensures, c.clear.ensures.len, c.clear.ensures.capacity, c.self.invariant.spare_room)
+    record { empty = c.clear.ensures.items; room = omega (arith, fit, c.clear.ensures.capacity, c.self.invariant.spare_room) }
 
--- sorted, the places of the queues that are due reach all that is due
+-- sorted, the places of the groups that are due reach all that is due
 pub fire_due-requires-clause-reach : goal.fire_due-requires-clause-reach
 fire_due-requires-clause-reach g c =
     let w : World = g.W.World.seen c.args.world.now in
     let all = recursion_from_All _ _ (rw (← c.self.view_is) at c.requires.elsewhere) in
-    let found : c.gather.new.due.items ≡ due_in w (entries_of c.self.inside.piles c.args.collection) =
-    c.gather.ensures.items ∙ (ap (λ l. l ++ due_in w (entries_in c.pile.result.now)) c.clear.ensures.items ∙ ap (λ (qs : List Queue). due_in w (entries_in qs)) c.pile.ensures) in
-    let sorted = due_sorted w c.args.collection c.self.inside.rows.items _ c.gather.new.due.items c.sort_unstable.new.self.items (c.self.invariant.filed.at c.args.collection) found c.sort_unstable.ensures.permutation
+    let sorted = due_sorted w c.args.collection c.self.inside.rows.items _ c.gather.new.due.items c.sort_unstable.new.self.items (c.self.invariant.filed.at c.args.collection) c.gather.ensures.due c.sort_unstable.ensures.permutation
     (IsNonDecreasingBy-from_sort (λ x. x) c.sort_unstable.new.self.items c.sort_unstable.ensures.sorted) in
     subst (Reach w 0 c.self.inside.rows.items) (sym (c.deref.ensures.value ∙ sorted)) (reach_due w c.args.collection 0 c.self.inside.rows.items all)
 
--- the queues that were due are gone
+-- what was due is no longer filed
 pub invariant_of-self : goal.invariant_of-self
 invariant_of-self g c =
     let all = recursion_from_All _ _ (rw (← c.self.view_is) at c.requires.elsewhere) in
     swept_dropped _ _ _ _ c.fire_due.ensures.rows _ _ _ _ _ _ _ _ c.self.invariant c.fire_due.ensures.fired c.fire_due.ensures.capacity
-    (omega (arith, c.clear.ensures.capacity, c.gather.ensures.capacity, c.sort_unstable.ensures.capacity)) _ c.args.collection all c.drop_due.ensures
+    (omega (arith, c.clear.ensures.capacity, c.gather.ensures.capacity, c.sort_unstable.ensures.capacity)) _ c.args.collection all c.gather.ensures.kept
 
--- nothing was due
-pub invariant_of-self-else-not-is_empty : goal.invariant_of-self-else-not-is_empty
-invariant_of-self-else-not-is_empty g c =
-    let w : World = g.W.World.seen c.args.world.now in
-    let all = recursion_from_All _ _ (rw (← c.self.view_is) at c.requires.elsewhere) in
-    let found : c.gather.new.due.items ≡ due_in w (entries_of c.self.inside.piles c.args.collection) =
-    c.gather.ensures.items ∙ (ap (λ l. l ++ due_in w (entries_in c.pile.result.now)) c.clear.ensures.items ∙ ap (λ (qs : List Queue). due_in w (entries_in qs)) c.pile.ensures) in
-    let empty : length c.gather.new.due.items ≡ 0 = grind (arith, nat_tests, c.is_empty.ensures, c.if-not-is_empty.false, c.sort_unstable.ensures.len) in
-    swept_quiet _ _ _ _ c.fire_due.ensures.rows _ _ _ _ _ _ _ _ c.self.invariant c.fire_due.ensures.fired c.fire_due.ensures.capacity
-    (omega (arith, c.clear.ensures.capacity, c.gather.ensures.capacity, c.sort_unstable.ensures.capacity)) c.args.collection all (sym found ∙ nil_from_length c.gather.new.due.items (omega (arith, empty)))
+pub returns-clause-fired : goal.returns-clause-fired
+returns-clause-fired g c = rw (← c.self.view_is) (c.fire_due.ensures.fired ∙ ap (λ l. c.self.inside.fired.items ++ l) (firings_after _ _ c.self.inside.rows.items))
 
-pub returns-then-not-is_empty-clause-fired : goal.returns-then-not-is_empty-clause-fired
-returns-then-not-is_empty-clause-fired g c = rw (← c.self.view_is) (c.fire_due.ensures.fired ∙ ap (λ l. c.self.inside.fired.items ++ l) (firings_after _ _ c.self.inside.rows.items))
+pub returns-clause-unfired : goal.returns-clause-unfired
+returns-clause-unfired g c = rw (← c.self.view_is) (swept_unfired _ _ _ _ c.fire_due.ensures.rows)
 
-pub returns-then-not-is_empty-clause-unfired : goal.returns-then-not-is_empty-clause-unfired
-returns-then-not-is_empty-clause-unfired g c = rw (← c.self.view_is) (swept_unfired _ _ _ _ c.fire_due.ensures.rows)
-
-pub returns-then-not-is_empty-clause-rest : goal.returns-then-not-is_empty-clause-rest
-returns-then-not-is_empty-clause-rest g c = rw (← c.self.view_is) (swept_rest _ _ _ _ c.fire_due.ensures.rows c.self.inside.limit c.self.inside.fired.items c.fire_due.new.fired.items)
-
-pub returns-else-not-is_empty-clause-fired : goal.returns-else-not-is_empty-clause-fired
-returns-else-not-is_empty-clause-fired g c = rw (← c.self.view_is) (c.fire_due.ensures.fired ∙ ap (λ l. c.self.inside.fired.items ++ l) (firings_after _ _ c.self.inside.rows.items))
-
-pub returns-else-not-is_empty-clause-unfired : goal.returns-else-not-is_empty-clause-unfired
-returns-else-not-is_empty-clause-unfired g c = rw (← c.self.view_is) (swept_unfired _ _ _ _ c.fire_due.ensures.rows)
-
-pub returns-else-not-is_empty-clause-rest : goal.returns-else-not-is_empty-clause-rest
-returns-else-not-is_empty-clause-rest g c = rw (← c.self.view_is) (swept_rest _ _ _ _ c.fire_due.ensures.rows c.self.inside.limit c.self.inside.fired.items c.fire_due.new.fired.items)
+pub returns-clause-rest : goal.returns-clause-rest
+returns-clause-rest g c = rw (← c.self.view_is) (swept_rest _ _ _ _ c.fire_due.ensures.rows c.self.inside.limit c.self.inside.fired.items c.fire_due.new.fired.items)
