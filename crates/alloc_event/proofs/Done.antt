@@ -1,55 +1,28 @@
 -- A change that was made in its place and forces nothing: the forest then, and the entry of its collection.
-use Rattle.std.proofs.Common.{◌≡◌, ◌≢◌, ℕ, ◌+◌, ◌==◌, nat_lt, Bool, true, false, ◌||◌, ◌&&◌, not, if◌then◌else◌, is_some, ◌<◌, ◌⊎◌, inl, inr, List, [], ◌∷◌, map, length, get_or, set, Option, Some, None, option_map, refl, sym, ap, subst, ◌∙◌, arith}
-use Rattle.std.proofs.lemmas.Bool.{eq-eqb, eqb-true, not-true}
-use Rattle.std.proofs.lemmas.List.{get_or-set_other, get_or-set_same, get_or_default, length-set}
+use Rattle.std.proofs.Common.{◌≡◌, ℕ, ◌==◌, nat_lt, true, false, List, map, get_or, set, Some, option_map, refl, sym, ap, subst, ◌∙◌}
+use Rattle.std.proofs.lemmas.List.{get_or_default}
 use Rattle.std.specs.List.{find, list_all, list_any}
-use Rattle.std.specs.Option.{option_map_or, unwrap_or}
-use Rattle.sm_names.specs.declared.keys.NodeKey.{NodeKey}
-use Rattle.sm_names.specs.declared.messages.Call.{Call}
-use Rattle.sm_names.specs.declared.outcomes.Cause.{Cause}
 use Rattle.sm_names.specs.Forced.{forced}
-use Rattle.sm_names.specs.Sameness.{same_key}
-use Rattle.sm_names.specs.Timelines.{key_of}
-use Rattle.sm_names.specs.Words.{times}
-use Rattle.sm_names.proofs.ListLaws.{In, In-find, In-map, In-map-back}
-use Rattle.sm_names.proofs.SamenessLaws.{and_both, and_left, and_right, both_ways, either_way, or_right, same_key-refl, same_key-true}
-use Rattle.sm_names.proofs.StandingLaws.{In-any}
-use Rattle.node_table.specs.Table.{Table, node_at}
-use Rattle.node_table.specs.Changes.{Writes}
-use Rattle.node_table.specs.Lending.{table_with_node}
+use Rattle.node_table.specs.Table.{Table}
 use Rattle.alloc_event.specs.declared.change.Change.{Change}
 use Rattle.alloc_event.specs.declared.entry.Entry.{Entry}
 use Rattle.alloc_event.specs.declared.node.Node.{Node}
 use Rattle.alloc_event.specs.declared.units.Unit.{Unit}
 use Rattle.alloc_event.specs.Calm.{AreCounted, IsCalm, IsCounted, strong_count}
-use Rattle.alloc_event.specs.Counts.{AreUnits, HasBelow, HasUnits, HaveUnits, is_unready, lives_in, no_unit, unit_at, unit_of, waits_in}
+use Rattle.alloc_event.specs.Counts.{AreUnits, HaveUnits}
 use Rattle.alloc_event.specs.Decisions.{has_strong}
-use Rattle.alloc_event.specs.Forest.{Collection, beside, with_nodes}
+use Rattle.alloc_event.specs.Forest.{Collection, beside}
 use Rattle.alloc_event.specs.InPlace.{IsDone, IsOpen}
-use Rattle.alloc_event.specs.Kept.{Finishes, IsKept, IsWhole, Shelf, Stores, are_filed, collection_in, forest_of, is_filed, is_strong, nodes_with, place_in, put_shelf, shelf_of, shelves_of}
-use Rattle.alloc_event.specs.Nodes.{affected, is_over, is_of}
-use Rattle.alloc_event.specs.Questions.{is_live_node}
-use Rattle.alloc_event.specs.Settling.{Handles, MayChange, Rests, changed, collection_or_new, given_back, is_kept, is_there, no_key, put, standing}
-use Rattle.alloc_event.specs.Units.{is_head}
-use Rattle.alloc_event.proofs.Amounts.{times_changed}
-use Rattle.alloc_event.proofs.Altering.{found_filed, found_put, found_whole, looked-of, same_affected}
-use Rattle.alloc_event.proofs.Calming.{IsPlain, any_map, calm_map, rests_strong, times_map}
+use Rattle.alloc_event.specs.Kept.{Finishes, IsKept, Shelf, Stores, are_filed, collection_in, forest_of, is_filed, nodes_with, place_in, put_shelf, shelf_of, shelves_of}
+use Rattle.alloc_event.specs.Nodes.{is_over}
+use Rattle.alloc_event.specs.Settling.{Handles, MayChange, Rests, changed, collection_or_new, given_back, no_key, put, standing}
+use Rattle.alloc_event.proofs.Altering.{found_put}
+use Rattle.alloc_event.proofs.Calming.{rests_strong}
 use Rattle.alloc_event.proofs.Counted.{counted_but, counted_put, filed_every, moved_but, set_shelves}
 use Rattle.alloc_event.proofs.Entries.{IsPlace, set_put}
 use Rattle.alloc_event.proofs.Finishing.{collection-beside, collections-put, keys_in}
-use Rattle.alloc_event.proofs.Hanging.{all_in, in_all, looked_there}
-use Rattle.alloc_event.proofs.Holding.{hangs_in, head_there, holds_unit}
-use Rattle.alloc_event.proofs.LeftParents.{loss_left}
-use Rattle.alloc_event.proofs.Lookups.{looked-map}
-use Rattle.alloc_event.proofs.Putting.{put-map}
-use Rattle.alloc_event.proofs.Reckoning.{lives_other, lives_own, waits_other, waits_own}
-use Rattle.alloc_event.proofs.Rooted.{IsLeft, left_node}
-use Rattle.alloc_event.proofs.Showing.{collection_is, node_is, shelf_found}
-use Rattle.alloc_event.proofs.Slots.{Stays, all_at, but_all, but_join, but_moved, but_stays, one_shelf, one_slot, units_mapped}
-use Rattle.alloc_event.proofs.Steps.{all-In}
-use Rattle.alloc_event.proofs.Storing.{Stores-more, Stores-none}
+use Rattle.alloc_event.proofs.Showing.{shelf_found}
 use Rattle.alloc_event.proofs.Watched.{found_counted, nothing_back, strong_lives}
-use Rattle.alloc_event.proofs.Writing.{IsSameNode, kept-map, look-changed, parents-written}
 
 -- where nodes were written, and nothing is forced while a strong one lives
 module _ (t now : Table Node) (ss : List Shelf) (s : Shelf) (kept : IsKept t ss) (found : find (λ (x : Shelf). x.id == s.id) ss ≡ Some s)

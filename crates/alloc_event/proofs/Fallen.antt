@@ -1,8 +1,8 @@
 -- Nodes that fell in their places are those that the loss takes, and the counts are those of the nodes that are left.
-use Rattle.std.proofs.Common.{◌≡◌, ◌≢◌, ℕ, ◌+◌, ◌-◌, ◌<◌, ◌≤◌, ◌==◌, nat_lt, refl, ap, sym, ◌∙◌, subst, Bool, true, false, not, ◌&&◌, ◌||◌, ◌⊎◌, inl, inr, if◌then◌else◌, cond, is_none, is_some, List, [], ◌∷◌, map, reverse, length, Option, Some, None, option_map, arith}
-use Rattle.std.proofs.lemmas.Bool.{eq-eqb, eqb-false, eqb-true, ltb-true, lt-ltb, not-true}
+use Rattle.std.proofs.Common.{◌≡◌, ◌≢◌, ℕ, ◌+◌, ◌<◌, ◌==◌, nat_lt, refl, ap, sym, ◌∙◌, subst, Bool, true, false, not, ◌&&◌, ◌||◌, ◌⊎◌, inl, inr, if◌then◌else◌, is_some, List, [], ◌∷◌, map, reverse, length, Option, Some, None, option_map, arith}
+use Rattle.std.proofs.lemmas.Bool.{eqb-false, eqb-true, ltb-true}
 use Rattle.std.proofs.lemmas.Map.Views.{Contains-from_any, list_any-from_Contains}
-use Rattle.std.specs.List.{AllByRecursion, Contains, cons_option, find, flat_map, list_all, list_any}
+use Rattle.std.specs.List.{AllByRecursion, Contains, cons_option, flat_map, list_all, list_any}
 use Rattle.std.specs.Option.{option_map_or, unwrap_or}
 use Rattle.sm_names.specs.declared.keys.NodeKey.{NodeKey}
 use Rattle.sm_names.specs.declared.outcomes.Fault.{Fault}
@@ -12,7 +12,6 @@ use Rattle.sm_names.proofs.ListLaws.{In, In-find, In-list_any, In-map, In-map-ba
 use Rattle.sm_names.proofs.SamenessLaws.{and_both, and_left, and_right, both_ways, either_way, false_if, or_cases, same_key-refl, same_key-true}
 use Rattle.sm_names.proofs.StandingLaws.{In-any}
 use Rattle.node_table.specs.Table.{Table, children_at, node_at, parent_at}
-use Rattle.node_table.specs.Forest.{IsForest}
 use Rattle.failure_domains.specs.Falls.{IsByLayers}
 use Rattle.failure_domains.proofs.Lists.{Contains-cases, flat_map_source}
 use Rattle.alloc_event.specs.declared.change.Change.{Change}
@@ -45,7 +44,7 @@ use Rattle.alloc_event.proofs.Showing.{collection_is}
 use Rattle.alloc_event.proofs.Slots.{Stays, all_at, but_all, but_join, but_moved, but_stays, one_shelf, one_slot}
 use Rattle.alloc_event.proofs.Steps.{all-In}
 use Rattle.alloc_event.proofs.United.{united_mapped}
-use Rattle.alloc_event.proofs.Untold.{TakesAll, but, taken_count, untallied_long, untallied_other, untallied_takes}
+use Rattle.alloc_event.proofs.Untold.{but, taken_count, untallied_long, untallied_other, untallied_takes}
 use Rattle.alloc_event.proofs.Writing.{IsSameNode, IsSound-map, kept-with}
 
 -- the node fails

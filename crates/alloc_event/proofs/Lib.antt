@@ -13,6 +13,7 @@ mod Leaving
 mod Lookups
 mod Newborn
 pub mod Ordered
+mod Ordering
 mod Pools
 mod Putting
 mod Showing

@@ -1,9 +1,10 @@
 -- Nodes that fall in their places. No public clause cites this module.
 use Rattle.std.specs.Prelude.{◌≡◌, ◌≢◌, ℕ, ◌-◌, Bool, false, ◌||◌, ◌&&◌, ◌==◌, nat_lt, if◌then◌else◌, List, [], ◌∷◌, set, Some}
-use Rattle.std.specs.List.{AllPairs, find, list_any}
+use Rattle.std.specs.List.{AllPairs, list_any}
 use Rattle.std.specs.Option.{option_map_or}
+use Rattle.std.specs.Ordering.{nat_cmp, ordering_then}
+use Rattle.std.specs.declared.cmp.Ordering.{Ordering}
 use Rattle.sm_names.specs.declared.keys.NodeKey.{NodeKey}
-use Rattle.sm_names.specs.declared.outcomes.Cause.{Cause}
 use Rattle.sm_names.specs.declared.outcomes.Fault.{Fault}
 use Rattle.node_table.specs.Table.{Table, children_at, node_at, parent_at}
 use Rattle.node_table.specs.Forest.{IsForest}
@@ -17,6 +18,10 @@ use Rattle.alloc_event.specs.Kept.{Shelf, nodes_with}
 use Rattle.alloc_event.specs.Nodes.{is_over}
 use Rattle.alloc_event.specs.Questions.{is_live_node}
 use Rattle.alloc_event.specs.Ties.{IsFall}
+
+-- the order of keys, by slot and then by generation
+abbrev pub key_order : NodeKey → NodeKey → Ordering
+key_order a b = ordering_then (nat_cmp a.slot b.slot) (nat_cmp a.generation b.generation)
 
 -- one less, if it counted and there is one
 abbrev pub lowered : Bool → ℕ → ℕ

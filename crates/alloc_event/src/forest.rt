@@ -79,10 +79,10 @@ impl Forest {
     /// takes, and where that unit does not become ready by it or has its buffers.
     ///
     /// These and any other change cost a copy of the collection, a pass over its units, and the
-    /// question for the next step after each that is made. A loss costs besides a walk over what
-    /// falls for each node. Where no strong node is live, a birth that forces nothing and sends no
-    /// buffer home costs the copy, the pass and one question, and another a copy of the whole table
-    /// besides.
+    /// question for the next step after each that is made. A loss costs besides what `fall` costs,
+    /// and a logarithm for each node. Where no strong node is live, a birth that forces nothing and
+    /// sends no buffer home costs the copy, the pass and one question, and another a copy of the
+    /// whole table besides.
     pub fn settle(
         &mut self,
         pool: &mut Pool,

@@ -1,9 +1,12 @@
 //! What a failure takes.
 ghost use Rattle.std.specs.Prelude.{◌≡◌, map, reverse, OnOk, true};
 ghost use Rattle.std.specs.List.{list_any};
+ghost use Rattle.std.specs.List.Sorted.{IsSorted};
 ghost use Rattle.sm_names.specs.Losses.{top as topmost};
 ghost use Rattle.sm_names.specs.Sameness.{same_key};
+ghost use Rattle.sm_names.specs.declared.keys.NodeKey.{NodeKey as Key};
 ghost use Rattle.alloc_event.specs.Decisions.{is_left_of};
+ghost use Rattle.alloc_event.specs.Falling.{key_order};
 ghost use Rattle.alloc_event.specs.Nodes.{above_among, after_loss, lost};
 ghost use Rattle.alloc_event.specs.Questions.{blocks_here, is_below};
 ghost use Rattle.alloc_event.specs.Ties.{IsTied};
@@ -19,8 +22,8 @@ use std::alloc::Global;
 /// and all below that one, as `fall` finds them in the table. Nodes that are gone keep their
 /// faults.
 ///
-/// `NoMemory` where the list of what fails is refused room. It takes a walk over that list for
-/// each node.
+/// `NoMemory` where the list of what fails is refused room. It costs what `fall` costs, puts that
+/// list in order, and looks each node up in it: the nodes and what fails, times a logarithm.
 pub(crate) fn lose_by_fall(
     alloc: Global,
     table: &NodeTable<Node>,
@@ -32,12 +35,15 @@ pub(crate) fn lose_by_fall(
     ensures { OnOk result (nodes.new ≡ after_loss fault nodes.old) }
 {
     let fallen = fall(alloc, table, fault.origin)?;
-    fail_all(nodes, &fallen.keys, fault);
+    let mut keys = fallen.keys;
+    order(&mut keys);
+    fail_all(nodes, &keys, fault);
     Ok(())
 }
 
-/// The nodes with these keys fail.
+/// The nodes with these keys, which stand in order, fail.
 fn fail_all(nodes: &mut [Node], keys: &[NodeKey], fault: Fault)
+    requires { IsSorted key_order keys.now }
     ensures { nodes.new ≡ map (lost (λ n. list_any (same_key n.key) keys.now) fault) nodes.old }
 {
     for node in nodes.iter_mut() {
@@ -46,11 +52,20 @@ fn fail_all(nodes: &mut [Node], keys: &[NodeKey], fault: Fault)
     }
 }
 
-/// Whether the key is one of these.
+/// Puts the keys in order.
+fn order(keys: &mut Vec<NodeKey>)
+    ensures sorted { IsSorted key_order keys.new.items }
+    ensures same { (key : Key) → list_any (same_key key) keys.new.items ≡ list_any (same_key key) keys.old.items }
+{
+    keys.sort_unstable();
+}
+
+/// Whether the key is one of these, which stand in order. A binary search.
 fn is_among(keys: &[NodeKey], key: NodeKey) -> bool
+    requires { IsSorted key_order keys.now }
     ensures { result ≡ list_any (same_key key) keys.now }
 {
-    keys.iter().any(|other| key == *other)
+    keys.binary_search(&key).is_ok()
 }
 
 /// The node where the fault began fails, and with it the highest node that its failure goes up to

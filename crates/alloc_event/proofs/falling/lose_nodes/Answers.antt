@@ -1,5 +1,5 @@
 -- The loss is made in its place, and the entry of the collection has the count.
-use Rattle.std.proofs.Common.{◌≡◌, ◌&&◌, not, true, false, List, Some, map, get_or, set, refl, sym, ◌∙◌, ap, subst, arith}
+use Rattle.std.proofs.Common.{◌≡◌, true, false, List, Some, map, get_or, set, refl, sym, ◌∙◌, ap, subst, arith}
 use Rattle.std.proofs.lemmas.Bool.{not-true}
 use Rattle.std.proofs.lemmas.List.{get_or_default}
 use Rattle.std.specs.List.{list_any}

@@ -1,7 +1,8 @@
 -- What the failure takes of the table is what the loss takes of the nodes.
-use Rattle.std.proofs.Common.{◌≡◌, Some, is_some, ap, sym, ◌∙◌}
+use Rattle.std.proofs.Common.{◌≡◌, Some, is_some, map, ap, sym, ◌∙◌}
 use Rattle.node_table.specs.Table.{node_at}
 use Rattle.alloc_event.specs.declared.node.Node.{Node}
+use Rattle.alloc_event.specs.Nodes.{lost}
 use Rattle.alloc_event.proofs.FallTies.{losses_by_fall}
 use Rattle.alloc_event.proofs.Hanging.{in_all}
 use Rattle.alloc_event.proofs.Rooted.{left_node}
@@ -17,4 +18,5 @@ fall-requires c =
 pub returns : goal.returns
 returns c =
     rw c.deref.ensures.value at c.fail_all.ensures
-    ∙ losses_by_fall c.args.table.now c.args.nodes.now c.requires.tied c.args.fault c.requires.left c.in_ok-fallen.fallen.keys.items c.in_ok-fallen.ensures.keys
+    ∙ ((λ i. map (lost (λ n. c.order.ensures.same n.key i) c.args.fault) c.args.nodes.now)
+    ∙ losses_by_fall c.args.table.now c.args.nodes.now c.requires.tied c.args.fault c.requires.left c.in_ok-fallen.fallen.keys.items c.in_ok-fallen.ensures.keys)
