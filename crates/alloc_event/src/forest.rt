@@ -1,5 +1,5 @@
 //! The forest: the collections with their nodes and buffers.
-ghost use Rattle.std.specs.Prelude.{◌≡◌, ◌≤◌, ℕ, [], false, true, None, IfOk, IfSome, OnErr, OnOk, map, length, not, is_some, ◌&&◌, ◌==◌};
+ghost use Rattle.std.specs.Prelude.{◌≡◌, ◌≤◌, ℕ, [], false, true, None, IfOk, IfSome, OnErr, OnOk, map, length, not, is_some, option_copied, ◌&&◌, ◌==◌};
 ghost use Rattle.std.specs.List.{filter};
 ghost use Rattle.sm_names.specs.declared.keys.BufferName.{BufferName};
 ghost use Rattle.sm_names.specs.declared.keys.NodeKey.{NodeKey as Key};
@@ -115,10 +115,10 @@ impl Forest {
     }
 
     /// The node with this key, unless it was never born or was forgotten. It costs a constant.
-    pub fn node(&self, key: NodeKey) -> Option<Node>
-        ensures { result ≡ node_at self.now key }
+    pub fn node(&self, key: NodeKey) -> Option<&Node>
+        ensures { option_copied result ≡ node_at self.now key }
     {
-        self.table.get(key).copied()
+        self.table.get(key)
     }
 
     /// The collection with this id at a glance, if it is there. A binary search.

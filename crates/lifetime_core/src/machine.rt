@@ -1,7 +1,7 @@
 //! Every call on one state.
 ghost use Rattle.std.specs.Prelude.{◌≡◌, ◌+◌, ◌<◌, ◌≤◌, ◌↔◌, ◌∷◌, ◌++◌, ◌==◌, ◌&&◌, not, nat_le};
 ghost use Rattle.std.specs.Prelude.{[], List, map, length, slice_get, option_map, if◌then◌else◌, IfOk, IfErr, IfSome};
-ghost use Rattle.std.specs.Prelude.{AllPairs, OnErr, false, true, None, is_some};
+ghost use Rattle.std.specs.Prelude.{AllPairs, OnErr, false, true, None, is_some, option_copied};
 ghost use Rattle.sm_names.specs.declared.outcomes.Fault.{Fault};
 ghost use Rattle.sm_names.specs.declared.keys.Strength.{Strength};
 ghost use Rattle.sm_names.specs.Answers.{IsAnswer, is_at_limit};
@@ -88,8 +88,9 @@ impl Model for Core {
 }
 
 // Whether the node is there and live.
-fn is_live(node: Option<Node>) -> bool
-    ensures { result ≡ option_map_or (λ (n : Kept). not n.gone && not n.released) node false }
+fn is_live(node: Option<&Node>) -> bool
+    ensures { result
+        ≡ option_map_or (λ (n : Kept). not n.gone && not n.released) (option_copied node.entry) false }
 {
     match node {
         Some(node) => !node.gone && !node.released,
@@ -98,9 +99,9 @@ fn is_live(node: Option<Node>) -> bool
 }
 
 // Why and where the node failed, if it is there and failed.
-fn cause(node: Option<Node>) -> Option<(Cause, NodeKey)>
+fn cause(node: Option<&Node>) -> Option<(Cause, NodeKey)>
     ensures { result ≡ option_map (λ (f : Fault). (f.cause, f.origin))
-        (option_map_or (λ (n : Kept). n.fault) node None) }
+        (option_map_or (λ (n : Kept). n.fault) (option_copied node.entry) None) }
 {
     match node {
         Some(node) => match node.fault {
@@ -232,16 +233,17 @@ impl Core {
     }
 
     // The node with this key.
-    pub(crate) fn node(&self, key: NodeKey) -> Option<Node>
-        ensures { result ≡ node_at self.now.forest key }
+    pub(crate) fn node(&self, key: NodeKey) -> Option<&Node>
+        ensures { option_copied result ≡ node_at self.now.forest key }
     {
         self.forest.node(key)
     }
 
     // The node with this key, unless its end is spent.
-    pub(crate) fn node_with_end(&self, key: NodeKey) -> Option<Node>
-        ensures value { end_in self.now key ≡ option_map (open_end_of self.now) result }
-        ensures unspent { IfSome result (λ n. is_spent n.end ≡ false) }
+    pub(crate) fn node_with_end(&self, key: NodeKey) -> Option<&Node>
+        ensures value { end_in self.now key
+            ≡ option_map (open_end_of self.now) (option_copied result) }
+        ensures unspent { IfSome result (λ n. is_spent n.now.end ≡ false) }
     {
         let node = self.forest.node(key)?;
         match node.end {

@@ -257,9 +257,9 @@ fn answer_of_end(core: &Core, client: ClientId, call: &Call) -> Option<Reply>
     anothers_end(client, node.end)
         .or(in_transit(node.end))
         .or(closing(call))
-        .or(peer_closed(&node))
-        .or(wrong_kind(&node, call))
-        .or(misuse(&node, call))
+        .or(peer_closed(node))
+        .or(wrong_kind(node, call))
+        .or(misuse(node, call))
 }
 
 // The caller has no such handle open.

@@ -1,5 +1,5 @@
 //! Trackers: those that an event attaches, and those that it fires.
-ghost use Rattle.std.specs.Prelude.{◌≡◌, ◌<◌, OnOk, OnErr, IfSome, Some, false, length};
+ghost use Rattle.std.specs.Prelude.{◌≡◌, ◌<◌, OnOk, OnErr, IfSome, Some, false, length, option_copied};
 ghost use Rattle.std.specs.List.{All};
 ghost use Rattle.trackers.specs.Table.{Cell, Table, Waiting, is_due};
 ghost use Rattle.alloc_event.specs.declared.node.Node.{Node as Kept};
@@ -26,8 +26,8 @@ pub(crate) struct Tracking {
 }
 
 // The collection of the node, if it is there.
-fn collection_of(node: Option<Node>) -> Option<CollectionId>
-    ensures { result ≡ option_map (λ (n : Kept). n.collection) node }
+fn collection_of(node: Option<&Node>) -> Option<CollectionId>
+    ensures { result ≡ option_map (λ (n : Kept). n.collection) (option_copied node.entry) }
 {
     match node {
         Some(node) => Some(node.collection),

@@ -67,7 +67,7 @@ fn collect(core: &Core, client: ClientId) -> Reply
         Some(Parcel::End(key)) => match core.node_with_end(key) {
             Some(node) => Reply::Collected {
                 key,
-                kind: kind_of(&node),
+                kind: kind_of(node),
                 collection: node.collection,
             },
             None => Reply::Empty,

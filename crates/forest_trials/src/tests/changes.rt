@@ -134,9 +134,9 @@ fn comes_to(alloc: Global, steps: &[Step], wanted: &Outcome) -> Result<bool, Fai
 fn is_as_born(forest: &Forest, keys: &[NodeKey; 3]) -> bool {
     let first = new_root(keys[0], HERE, 0, 3);
     let second = new_child(true, keys[1], 1, 3, &first);
-    forest.node(keys[0]) == Some(first)
-        && forest.node(keys[1]) == Some(second)
-        && forest.node(keys[2]) == Some(new_child(true, keys[2], 2, 3, &second))
+    forest.node(keys[0]).copied() == Some(first)
+        && forest.node(keys[1]).copied() == Some(second)
+        && forest.node(keys[2]).copied() == Some(new_child(true, keys[2], 2, 3, &second))
         && (forest.len(), forest.collections()) == (3, 1)
         && forest.strong_live(HERE)
         && !forest.strong_live(HERE + 1)
@@ -238,7 +238,7 @@ fn spend(forest: &mut Forest, key: NodeKey) {
 }
 
 fn forget(forest: &mut Forest, key: NodeKey) -> bool {
-    match forest.node(key) {
+    match forest.node(key).copied() {
         Some(node) if node.gone && matches!(node.end, End::Spent) => {
             forest.forget(key);
             true

@@ -78,10 +78,12 @@ impl Ground {
     }
 
     fn first_of(&self, slot: u32) -> Option<Node> {
-        self.forest.node(NodeKey {
-            slot,
-            generation: 0,
-        })
+        self.forest
+            .node(NodeKey {
+                slot,
+                generation: 0,
+            })
+            .copied()
     }
 
     fn is_kept(&self) -> bool

@@ -7,4 +7,4 @@ use Rattle.alloc_event.proofs.forest.Forest.node.Goals as goal
 pub returns : goal.returns
 returns c =
     rw (← c.self.view_is)
-    (c.copied.ensures ∙ c.get.ensures ∙ sym (node_is c.self.inside.table (shelves_of c.self.inside.entries.items) c.self.invariant.kept c.args.key))
+    (c.get.ensures ∙ sym (node_is c.self.inside.table (shelves_of c.self.inside.entries.items) c.self.invariant.kept c.args.key))
