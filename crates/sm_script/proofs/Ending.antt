@@ -6,11 +6,13 @@ use Rattle.std.specs.Io.KnownBytes.{Appends}
 use Rattle.sm_script.specs.declared.fault.ScriptFault.{ScriptFault}
 use Rattle.sm_script.specs.Endings.{Ends, ending_status, fault_line}
 use Rattle.sm_script.specs.Faults.{fault_status}
-use Rattle.sm_script.specs.Runs.{Runs, WritesPart}
+use Rattle.sm_script.specs.Runs.{Runs}
+use Rattle.script_runs.specs.declared.writing.WriteFault.{WriteFault}
+use Rattle.script_runs.specs.Written.{WritesPart}
 use Rattle.sm_script.specs.Scenes.{Setting}
 
 -- where a line was written or a part of it, a part was
-pub tells : (old new : Option (List ℕ)) (line : List ℕ) (result : Result (Unit {0}) ScriptFault) →
+pub tells : (old new : Option (List ℕ)) (line : List ℕ) (result : Result (Unit {0}) WriteFault) →
     OnOk result (Appends old new line) → OnErr result (WritesPart old new line) → WritesPart old new line
 tells old new line (Ok done) ok err = record { done = line; rest = []; split = sym (append-nil line); written = ok }
 tells old new line (Err fault) ok err = err

@@ -4,7 +4,8 @@ use Rattle.std.specs.Io.KnownBytes.{Appends}
 use Rattle.sm_script.specs.declared.fault.ScriptFault.{ScriptFault}
 use Rattle.sm_script.specs.declared.player.Player.{Player}
 use Rattle.sm_script.specs.declared.stop.Stop.{Stop}
-use Rattle.sm_script.specs.Runs.{WritesPart, IsTold, Stopped}
+use Rattle.sm_script.specs.Runs.{IsTold, Stopped}
+use Rattle.script_runs.specs.Written.{WritesPart}
 use Rattle.sm_script.specs.Scenes.{Scene, Setting, Plays, first_scene}
 use Rattle.sm_script.specs.Sessions.{IsAt}
 

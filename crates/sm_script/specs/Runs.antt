@@ -9,15 +9,9 @@ use Rattle.sm_script.specs.declared.act.Binds.{Binds}
 use Rattle.sm_script.specs.declared.fault.ScriptFault.{ScriptFault}
 use Rattle.script_lines.specs.declared.TheConstants.{MOST_BYTES}
 use Rattle.sm_script.specs.Names.{act_in}
+use Rattle.script_runs.specs.Written.{WritesPart}
 use Rattle.script_lines.specs.Pieces.{whole_lines, last_part}
 use Rattle.sm_script.specs.Scenes.{Scene, Setting, LeadsTo}
-
--- a first part of the text was written
-pub record WritesPart (old new : Option (List ℕ)) (text : List ℕ) : Type 0 where
-  pub done : List ℕ
-  pub rest : List ℕ
-  pub split : text ≡ done ++ rest
-  pub written : Appends old new done
 
 -- what was written is the text of exactly these lines, all of them good
 pub record IsTold (setting : Setting) (old new : Option (List ℕ)) (lines : List (List ℕ)) : Type 0 where

@@ -3,7 +3,6 @@
 
 mod act;
 mod fault;
-mod pages;
 mod player;
 mod program;
 mod reading;
@@ -16,7 +15,6 @@ mod views;
 mod writing;
 
 pub use fault::ScriptFault;
-pub use pages::Pages;
 pub use program::run_to_exit;
 pub use run::run_script;
 pub use script_lines::MOST_BYTES;

@@ -7,7 +7,8 @@ ghost use Rattle.sm_script.specs.Scenes.{Setting};
 use crate::fault::ScriptFault;
 use crate::session::Session;
 use crate::stop::Stop;
-use crate::writing::{give_up, write_out};
+use crate::writing::give_up;
+use script_runs::write_out;
 use sm_names::{Limits, NoMemory};
 use std::alloc::Global;
 use std::io::Write;
@@ -59,7 +60,7 @@ impl Player {
                 self.out.clear();
                 Ok(())
             }
-            Err(fault) => Err(fault),
+            Err(_) => Err(ScriptFault::WriteFault),
         }
     }
 

@@ -1,23 +1,14 @@
 //! A script as a program runs it: to an exit status.
-ghost use Rattle.std.specs.Prelude.{◌≡◌, OnOk, OnErr};
-ghost use Rattle.std.specs.Io.KnownBytes.{Appends};
 ghost use Rattle.std.specs.Process.{exit_status};
-ghost use Rattle.sm_script.specs.Endings.{Ends, fault_line};
-ghost use Rattle.sm_script.specs.Runs.{WritesPart};
+ghost use Rattle.sm_script.specs.Endings.{Ends};
 
 use crate::fault::ScriptFault;
-use crate::pages::Pages;
 use crate::run::run_script;
-use crate::writing::write_out;
-use arrayvec::ArrayString;
+use script_runs::{Pages, write_line};
 use sm_names::Limits;
 use std::alloc::Global;
-use std::fmt::Write as _;
 use std::io::{Read, Write};
 use std::process::ExitCode;
-
-// The longest line that tells a fault has 29 bytes and its end: that of the greatest line number.
-const LONGEST: usize = 32;
 
 /// Runs the script that the reader holds, with these pages and the greatest limits, as `run_script`
 /// does, and answers the status that a program is to end with: 0 where the script came to its end,
@@ -46,22 +37,8 @@ pub fn run_to_exit<R: Read, W: Write, F: Write>(
     match run_script(alloc, reader, writer, pages.count, Limits::full()) {
         Ok(()) => ExitCode::SUCCESS,
         Err(fault) => {
-            let _ = tell(faults, fault);
+            let _ = write_line(faults, fault);
             ExitCode::from(fault.status())
         }
-    }
-}
-
-// Tells the fault in one line. It takes no memory.
-fn tell<F: Write>(faults: &mut F, fault: ScriptFault) -> Result<(), ScriptFault>
-    ensures ok { OnOk result
-        (Appends (F.contents faults.old) (F.contents faults.new) (fault_line fault)) }
-    ensures part { OnErr result
-        (WritesPart (F.contents faults.old) (F.contents faults.new) (fault_line fault)) }
-{
-    let mut line = ArrayString::<LONGEST>::new();
-    match line.writeln(fault) {
-        Ok(()) => write_out(faults, line.as_str().as_bytes()),
-        Err(_) => Err(ScriptFault::WriteFault),
     }
 }

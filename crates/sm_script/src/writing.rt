@@ -1,30 +1,10 @@
-//! Text goes out.
-ghost use Rattle.std.specs.Prelude.{IfErr, OnErr, OnOk, ◌≡◌};
-ghost use Rattle.std.specs.Io.KnownBytes.{Appends};
+//! Text goes out before a run stops.
 ghost use Rattle.sm_script.specs.Players.{GivesUp};
-ghost use Rattle.sm_script.specs.Runs.{WritesPart};
 
 use crate::fault::ScriptFault;
 use crate::stop::Stop;
+use script_runs::write_out;
 use std::io::Write;
-
-// Writes all of the text, or a part and the fault.
-pub(crate) fn write_out<W: Write>(writer: &mut W, text: &[u8]) -> Result<(), ScriptFault>
-    ensures ok { OnOk result (Appends (W.contents writer.old) (W.contents writer.new) text.now) }
-    ensures err { IfErr result (λ fault. fault ≡ ScriptFault.WriteFault) }
-    ensures part { OnErr result
-        (WritesPart (W.contents writer.old) (W.contents writer.new) text.now) }
-{
-    let mut rest = text;
-    while !rest.is_empty() {
-        match writer.write(rest) {
-            Ok(0) => return Err(ScriptFault::WriteFault),
-            Ok(n) => rest = &rest[n..],
-            Err(_) => return Err(ScriptFault::WriteFault),
-        }
-    }
-    Ok(())
-}
 
 // Writes the text of the lines before the one of this number, which was not answered, and gives
 // the fault to tell.
@@ -37,6 +17,6 @@ pub(crate) fn give_up<W: Write>(writer: &mut W, text: &[u8], number: u64, stop: 
             Stop::HistoryFull => ScriptFault::HistoryFull,
             Stop::NoMemory => ScriptFault::NoMemory,
         },
-        Err(fault) => fault,
+        Err(_) => ScriptFault::WriteFault,
     }
 }

@@ -3,7 +3,7 @@ ghost use Rattle.std.specs.Prelude.{option_map};
 ghost use Rattle.sysmem_main.specs.Asked.{AreAsked, pages_text};
 
 use clap::{Arg, ArgAction, ArgMatches, Command, value_parser};
-use sm_script::Pages;
+use script_runs::Pages;
 use std::alloc::{AllocError, Global};
 
 const ABOUT: &str = "\

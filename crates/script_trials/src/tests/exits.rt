@@ -1,6 +1,7 @@
 //! The status that a program ends with, and what it tells.
 use crate::tests::fixture::{Drip, open_sink};
-use sm_script::{Pages, run_to_exit};
+use script_runs::Pages;
+use sm_script::run_to_exit;
 use std::alloc::Global;
 use std::process::{Abort, ExitCode};
 use std::test::Fail;

@@ -16,7 +16,7 @@ pub returns-in-Err : goal.returns-in-Err
 returns-in-Err g c =
     subst
     (λ (limits : Bound). Ends (record { pool = c.args.pages.count; limits = limits }) (g.R.Read.remaining c.args.reader.now) (g.R.Read.remaining c.run_script.new.reader)
-    (g.W.Write.contents c.args.writer.now) (g.W.Write.contents c.run_script.new.writer) (g.F.Write.contents c.args.faults.now) (g.F.Write.contents c.tell.new.faults) (exit_status c.from.result))
+    (g.W.Write.contents c.args.writer.now) (g.W.Write.contents c.run_script.new.writer) (g.F.Write.contents c.args.faults.now) (g.F.Write.contents c.write_line.new.writer) (exit_status c.from.result))
     c.full.ensures
     (ends_by _ _ _ _ _ c.run_script.result c.run_script.ensures _ _ c.in-Err.fault _ c.in-Err.is (c.from.ensures ∙ c.status.ensures)
-    (tells _ _ _ c.tell.result c.tell.ensures.ok c.tell.ensures.part))
+    (tells _ _ _ c.write_line.result c.write_line.ensures.ok c.write_line.ensures.part))
