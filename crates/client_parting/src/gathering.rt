@@ -64,8 +64,8 @@ fn count<E: Ledger, S: Ledger, W: Ledger>(held: &Held<E, S, W>, strength: Streng
 }
 
 impl<E: Ledger, S: Ledger, W: Ledger> Holding<E, S, W> {
-    // The client's id.
-    fn id(&self) -> ClientId
+    /// The client's id. Takes a constant time.
+    pub fn id(&self) -> ClientId
         ensures { result ≡ id_of self.now }
     {
         match self {

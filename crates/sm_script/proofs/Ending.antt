@@ -1,25 +1,13 @@
 -- What a program that runs a script leaves.
-use Rattle.std.proofs.Common.{◌≡◌, ℕ, List, [], append-nil, refl, sym, ap, ◌∙◌, Option}
-use Rattle.std.proofs.KnownBytes.{Appends-nil}
-use Rattle.std.specs.Prelude.{Ok, Err, Result, OnErr, OnOk}
-use Rattle.std.specs.Io.KnownBytes.{Appends}
+use Rattle.std.proofs.Common.{◌≡◌, ℕ, List, sym, ap, ◌∙◌, Option}
+use Rattle.std.specs.Prelude.{Ok, Err, Result}
 use Rattle.sm_script.specs.declared.fault.ScriptFault.{ScriptFault}
 use Rattle.sm_script.specs.Endings.{Ends, ending_status, fault_line}
 use Rattle.sm_script.specs.Faults.{fault_status}
 use Rattle.sm_script.specs.Runs.{Runs}
-use Rattle.script_runs.specs.declared.writing.WriteFault.{WriteFault}
+use Rattle.script_runs.proofs.Telling.{tells_nothing}
 use Rattle.script_runs.specs.Written.{WritesPart}
 use Rattle.sm_script.specs.Scenes.{Setting}
-
--- where a line was written or a part of it, a part was
-pub tells : (old new : Option (List ℕ)) (line : List ℕ) (result : Result (Unit {0}) WriteFault) →
-    OnOk result (Appends old new line) → OnErr result (WritesPart old new line) → WritesPart old new line
-tells old new line (Ok done) ok err = record { done = line; rest = []; split = sym (append-nil line); written = ok }
-tells old new line (Err fault) ok err = err
-
--- nothing was written
-pub tells_nothing : (old : Option (List ℕ)) → WritesPart old old []
-tells_nothing old = record { done = []; rest = []; split = refl; written = Appends-nil old }
 
 module _ (setting : Setting) (left_before left old new : Option (List ℕ)) (outcome : Result (Unit {0}) ScriptFault) (runs : Runs setting left_before left old new outcome) where
   -- a run that came to the end

@@ -1,1 +1,4 @@
+pub mod Endings
 pub mod Faults
+pub mod Gathered
+pub mod Runs

@@ -2,5 +2,11 @@
 #![tactic(auto)]
 
 mod fault;
+mod parting;
+mod program;
+mod run;
+mod telling;
 
 pub use fault::ThreadsFault;
+pub use program::run_threads_to_exit;
+pub use run::run_threads;

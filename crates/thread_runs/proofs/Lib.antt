@@ -1,0 +1,4 @@
+pub mod EndLaws
+pub mod Ending
+pub mod Failing
+pub mod ReportLaws

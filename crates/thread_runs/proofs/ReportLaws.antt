@@ -1,0 +1,94 @@
+-- What was gathered of actors that all vanished is their report.
+use Rattle.std.proofs.Common.{◌≡◌, ℕ, List, [], ◌∷◌, None, refl, sym, ap, ◌∙◌, subst, map, length}
+use Rattle.std.specs.Prelude.{Ok, Err, Result, IfOk, OnOk}
+use Rattle.std.specs.List.{AllZip, AllByRecursion}
+use Rattle.std.proofs.lemmas.List.Elements.{recursion_from_All}
+use Rattle.sm_names.specs.Marks.{Entry}
+use Rattle.record_parts.specs.Lines.{line_of}
+use Rattle.record_parts.specs.Members.{joined}
+use Rattle.record_parts.specs.Parts.{part}
+use Rattle.service_lock.specs.States.{View}
+use Rattle.client_parting.specs.declared.gathering.Holding.{Holding}
+use Rattle.client_parting.specs.declared.gathering.Report.{Report}
+use Rattle.client_parting.specs.Gatherings.{IsGathered, Matches, ids_of}
+use Rattle.client_parting.specs.Partings.{Remains}
+use Rattle.actor_steps.specs.declared.step.ActorScript.{ActorScript}
+use Rattle.actor_scripts.specs.declared.cast.Cast.{Cast}
+use Rattle.actor_scripts.specs.Casts.{company_of, steps_of}
+use Rattle.actor_reports.specs.Reports.{report_text}
+use Rattle.script_lines.specs.declared.label.Label.{Label}
+use Rattle.client_actors.specs.declared.gate.ActorEnd.{ActorEnd}
+use Rattle.client_actors.specs.Acting.{HasPlayed}
+use Rattle.client_actors.specs.Running.{HaveRun, IsEndOf, end_id}
+use Rattle.thread_runs.specs.Gathered.{IsLeft, Tells, client_of, first_fault}
+use Rattle.thread_runs.specs.Runs.{IsPlayed, IsReport}
+use Rattle.thread_runs.proofs.EndLaws.{ids-left}
+
+-- each line is that of its client
+clients-of : (history : List Entry) (clients : List ℕ) → map client_of (map (line_of history) clients) ≡ clients
+clients-of history [] = refl
+clients-of history (client ∷ clients) = ap (λ (l : List ℕ). client ∷ l) (clients-of history clients)
+
+-- an actor that vanished, whose own list is its part of the record
+was-played : (history : List Entry) (clients : List ℕ) (script : ActorScript) (wreck remains : Remains) → HasPlayed clients script.steps.items wreck →
+    remains ≡ wreck → remains.client.own ≡ part remains.client.id history → IsPlayed history clients (steps_of script) remains.client.id
+was-played history clients script wreck remains played is own = record {
+  left = remains;
+  its_id = refl;
+  its_part = own;
+  played = subst (HasPlayed clients script.steps.items) (sym is) played;
+}
+
+module _ {E S W : Type 0} where
+  -- what was gathered is told
+  pub tells : (s : View) (labels : List Label) (parts : List (Holding E S W)) (report : Report) (text : List ℕ) → IsGathered s parts report →
+      map client_of report.lines.items ≡ ids_of parts → text ≡ report_text labels report.events report.lines.items → Tells s labels parts text
+  tells s labels parts report text so ordered told = record {
+    legal = so.legal;
+    ordered = sym (clients-of s.history (joined s.history)) ∙ ap (map client_of) (sym so.lines) ∙ ordered;
+    own_lists = so.own_lists;
+    told =
+        told ∙ ap (λ (n : ℕ). report_text labels n report.lines.items) so.events
+        ∙ ap (report_text labels (length s.history)) so.lines;
+  }
+
+  pub told-ok : {T F : Type 0} (items : T → List ℕ) (result : Result T F) (labels : List Label) (parts : List (Holding E S W)) (report : Report) →
+      OnOk result (map client_of report.lines.items ≡ ids_of parts) →
+      IfOk result (λ text. items text ≡ report_text labels report.events report.lines.items) → ((s : View) × IsGathered s parts report) →
+      IfOk result (λ text. (s : View) × Tells s labels parts (items text))
+  told-ok items (Err fault) labels parts report ordered told so = tt
+  told-ok items (Ok text) labels parts report ordered told (s, so) = (s, tells s labels parts report (items text) so ordered told)
+
+  module _ (history : List Entry) (clients : List ℕ) where
+    -- each of the actors is such a one
+    were-played : (scripts : List ActorScript) (ends : List (ActorEnd E S W)) (parts : List (Holding E S W)) → AllZip (IsEndOf clients) scripts ends →
+        AllZip IsLeft ends parts → first_fault ends ≡ None → AllByRecursion (Matches history) parts →
+        AllZip (IsPlayed history clients) (map steps_of scripts) (ids_of parts)
+    were-played [] [] [] ran left well own = tt
+    were-played [] [] (part ∷ parts) ran left well own = absurd left
+    were-played [] (end ∷ ends) parts ran left well own = absurd ran
+    were-played (script ∷ scripts) [] parts ran left well own = absurd ran
+    were-played (script ∷ scripts) (end ∷ ends) [] ran left well own = absurd left
+    were-played (script ∷ scripts) (ActorEnd.Wrecked wreck ∷ ends) (Holding.Wrecked remains ∷ parts) ran left well own =
+        (was-played history clients script wreck remains ran.0 left.0 own.0, were-played scripts ends parts ran.1 left.1 well own.1)
+    were-played (script ∷ scripts) (ActorEnd.Wrecked wreck ∷ ends) (Holding.Present one its ∷ parts) ran left well own = absurd left.0
+    were-played (script ∷ scripts) (ActorEnd.Stopped client held fault ∷ ends) (part ∷ parts) ran left well own = cc
+    were-played (script ∷ scripts) (ActorEnd.NotStarted client ∷ ends) (part ∷ parts) ran left well own = cc
+
+  -- it is the report of the cast
+  pub is-report : (cast : Cast) (ends : List (ActorEnd E S W)) (parts : List (Holding E S W)) → HaveRun cast.scripts.items ends →
+      AllZip IsLeft ends parts → first_fault ends ≡ None → (text : List ℕ) → ((s : View) × Tells s cast.labels.items parts text) →
+      IsReport (company_of cast) text
+  is-report cast ends parts ran left well text (s, so) = record {
+    pool = s.pool;
+    limits = s.limits;
+    history = s.history;
+    legal = so.legal;
+    played =
+        let their : map end_id ends ≡ joined s.history = ids-left ends parts left ∙ sym so.ordered in
+        let played = were-played s.history (joined s.history) cast.scripts.items ends parts
+        (subst (λ (ids : List ℕ). AllZip (IsEndOf ids) cast.scripts.items ends) their ran) left well
+        (recursion_from_All (Matches s.history) parts so.own_lists) in
+        subst (AllZip (IsPlayed s.history (joined s.history)) (map steps_of cast.scripts.items)) (sym so.ordered) played;
+    told = so.told;
+  }

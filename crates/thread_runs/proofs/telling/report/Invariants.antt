@@ -1,0 +1,11 @@
+use Rattle.thread_runs.proofs.telling.report.Given as goal
+
+-- each ledger is that of its blank
+abbrev pub ghosts-run_on-E-Ledger : goal.ghosts-run_on-E-Ledger
+ghosts-run_on-E-Ledger g a = record { name = a.blanks.events.name; parts = a.blanks.events.parts }
+
+abbrev pub ghosts-run_on-S-Ledger : goal.ghosts-run_on-S-Ledger
+ghosts-run_on-S-Ledger g a = record { name = a.blanks.strong.name; parts = a.blanks.strong.parts }
+
+abbrev pub ghosts-run_on-W-Ledger : goal.ghosts-run_on-W-Ledger
+ghosts-run_on-W-Ledger g a = record { name = a.blanks.weak.name; parts = a.blanks.weak.parts }

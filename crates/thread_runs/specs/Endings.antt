@@ -1,0 +1,23 @@
+-- What a program that runs actors leaves.
+use Rattle.std.specs.Prelude.{◌≡◌, ℕ, List, [], ◌∷◌, ◌++◌, Option, Ok, Err, Result}
+use Rattle.script_runs.specs.Written.{WritesPart}
+use Rattle.thread_runs.specs.declared.fault.ThreadsFault.{ThreadsFault}
+use Rattle.thread_runs.specs.Faults.{fault_status, fault_text}
+use Rattle.thread_runs.specs.Runs.{Runs}
+
+-- the status that the program ends with: 0 where the report was written
+abbrev pub ending_status : Result (Unit {0}) ThreadsFault → ℕ
+ending_status (Ok done) = 0
+ending_status (Err fault) = fault_status fault
+
+-- what is told of the outcome: of a fault its text, in one line, else nothing
+abbrev pub ending_line : Result (Unit {0}) ThreadsFault → List ℕ
+ending_line (Ok done) = []
+ending_line (Err fault) = fault_text fault ++ 10 ∷ []
+
+-- actors were run: the outcome is that of the status, and was told as far as it could be
+pub record Ends (left_before left old new faults_before faults : Option (List ℕ)) (status : ℕ) : Type 0 where
+  pub outcome : Result (Unit {0}) ThreadsFault
+  pub runs : Runs left_before left old new outcome
+  pub status_is : status ≡ ending_status outcome
+  pub told : WritesPart faults_before faults (ending_line outcome)

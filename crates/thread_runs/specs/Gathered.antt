@@ -1,0 +1,68 @@
+-- From the ends of actors to what is gathered. No public clause cites this module.
+use Rattle.std.specs.Prelude.{◌≡◌, ℕ, List, [], ◌∷◌, ◌++◌, length, reverse, Option, Some, None, ⊤}
+use Rattle.std.specs.List.{All, AllZip}
+use Rattle.std.specs.Option.{option_or}
+use Rattle.sm_names.specs.declared.outcomes.StepFault.{StepFault}
+use Rattle.sm_names.specs.Legality.{IsLegal}
+use Rattle.record_parts.specs.declared.line.ClientLine.{ClientLine}
+use Rattle.record_parts.specs.Lines.{lines_of}
+use Rattle.record_parts.specs.Members.{joined}
+use Rattle.service_lock.specs.States.{View}
+use Rattle.script_lines.specs.declared.label.Label.{Label}
+use Rattle.actor_reports.specs.Reports.{report_text}
+use Rattle.client_parting.specs.declared.gathering.GatherFault.{GatherFault}
+use Rattle.client_parting.specs.declared.gathering.Holding.{Holding}
+use Rattle.client_parting.specs.Gatherings.{Matches, ids_of}
+use Rattle.client_parting.specs.Partings.{held_in, sorted}
+use Rattle.client_actors.specs.declared.gate.ActorEnd.{ActorEnd}
+use Rattle.thread_runs.specs.declared.fault.ThreadsFault.{ThreadsFault}
+
+-- why a call was not made, as a fault of the run
+abbrev pub step_fault : StepFault → ThreadsFault
+step_fault StepFault.HistoryFull = ThreadsFault.HistoryFull
+step_fault StepFault.NoMemory = ThreadsFault.NoMemory
+
+-- why the actor did not vanish, if it did not
+abbrev pub end_fault : {E S W : Type 0} → ActorEnd E S W → Option ThreadsFault
+end_fault (ActorEnd.Wrecked wreck) = None
+end_fault (ActorEnd.Stopped client held fault) = Some (step_fault fault)
+end_fault (ActorEnd.NotStarted client) = Some ThreadsFault.NoThread
+
+-- the fault of the first of the actors that did not vanish
+abbrev pub first_fault : {E S W : Type 0} → List (ActorEnd E S W) → Option ThreadsFault
+first_fault [] = None
+first_fault (end ∷ ends) = option_or (end_fault end) (first_fault ends)
+
+-- what is left of the actor: gone, or there with what it holds
+abbrev pub IsLeft : {E S W : Type 0} → ActorEnd E S W → Holding E S W → Type 0
+IsLeft (ActorEnd.Wrecked wreck) (Holding.Wrecked remains) = remains ≡ wreck
+IsLeft (ActorEnd.Stopped client held fault) (Holding.Present one its) = (one ≡ client) × (held_in its ≡ held_in held)
+IsLeft (ActorEnd.NotStarted client) (Holding.Present one its) = (one ≡ client) × (held_in its ≡ sorted [])
+IsLeft _ _ = ⊥
+
+-- some of the actors are parted, and these are the others, the last first
+pub record PartedTo {E S W : Type 0} (all rest : List (ActorEnd E S W)) (parts : List (Holding E S W)) (found : Option ThreadsFault) : Type 0 where
+  pub done : List (ActorEnd E S W)
+  pub split : all ≡ done ++ reverse rest
+  pub left : AllZip IsLeft done parts
+  pub first : found ≡ first_fault done
+
+-- the client of a line
+abbrev pub client_of : ClientLine → ℕ
+client_of line = line.client
+
+-- the record is a legal history, those who joined are just those of the parts, in order, each own list is its client's part, and
+-- the text is the report
+pub record Tells {E S W : Type 0} (s : View) (labels : List Label) (parts : List (Holding E S W)) (text : List ℕ) : Type 0 where
+  pub legal : IsLegal s.pool s.limits s.history
+  pub ordered : joined s.history ≡ ids_of parts
+  pub own_lists : All (Matches s.history) parts
+  pub told : text ≡ report_text labels (length s.history) (lines_of s.history)
+
+-- a fault of a run whose script was read
+abbrev pub IsLate : ThreadsFault → Type 0
+IsLate ThreadsFault.ReadFault = ⊥
+IsLate ThreadsFault.WriteFault = ⊥
+IsLate (ThreadsFault.BadLine number) = ⊥
+IsLate (ThreadsFault.Gather GatherFault.NoMemory) = ⊥
+IsLate _ = ⊤

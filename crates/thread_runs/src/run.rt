@@ -1,0 +1,77 @@
+//! A script of actors from its first byte to the last of its report.
+ghost use Rattle.std.specs.Prelude.{◌≡◌, ◌≤◌, IfErr, OnErr, OnOk};
+ghost use Rattle.std.specs.Io.KnownBytes.{Appends};
+ghost use Rattle.script_runs.specs.Written.{WritesPart};
+ghost use Rattle.thread_runs.specs.Runs.{Runs};
+
+use crate::fault::ThreadsFault;
+use crate::telling::report;
+use actor_scripts::read_actors;
+use script_runs::write_out;
+use sm_names::Limits;
+use std::alloc::Global;
+use std::io::{Read, Write};
+use std::sync::Wait;
+use std::thread::Threads;
+use std::time::Clock;
+
+/// Runs the script of actors that the reader holds, each actor in a thread of its own, against a new
+/// service with a pool of `pages` pages, and writes the report of what they leave.
+///
+/// The whole script is read before any line is judged, and all lines are judged before any actor
+/// starts. Nothing is written before all actors have ended and all that they left was gathered. The
+/// writer is flushed at the end. In every case the service is ended with all that is left.
+///
+/// Answered Ok, what was written is the report of a legal history in which the clients of the script
+/// joined in their order, and nobody else, and in which each of them played its script. Else, where
+/// nothing was written but for `WriteFault`:
+/// - `ReadFault`: the reader failed, or the script has more than `MOST_BYTES` bytes.
+/// - `BadLine`: this line is the first bad one.
+/// - `NoMemory`: memory was refused, at any time.
+/// - `HistoryFull`, `NoThread`: a client could not join or an actor could not make a call, since as
+///   many events were made as may be; or the system gave an actor no thread. It is the fault of the
+///   first of the actors that did not come to their end, in the order of the joins.
+/// - `Gather`: what the actors left is not all that there is, or not what is on record; or those who
+///   joined are not just the actors in their order, told as the first client that is elsewhere.
+/// - `WriteFault`: the writer failed, or took nothing, or could not be flushed. What went out is a
+///   first part of the report.
+///
+/// Costs what `read_actors`, `run_actors`, `gather` and `push_report` do.
+pub fn run_threads<I: Read, O: Write, R: Threads + Wait + Clock + Sync>(
+    rt: &R,
+    alloc: Global,
+    reader: &mut I,
+    writer: &mut O,
+    pages: u32,
+    limits: Limits,
+) -> Result<(), ThreadsFault>
+    requires { (1 ≤ pages) × (pages ≤ 1048576) }
+    ensures { Runs (I.remaining reader.old) (I.remaining reader.new)
+        (O.contents writer.old) (O.contents writer.new) result }
+{
+    let cast = match read_actors(alloc, reader) {
+        Ok(cast) => cast,
+        Err(fault) => return Err(ThreadsFault::from(fault)),
+    };
+    match report(rt, alloc, &cast, pages, limits) {
+        Ok(text) => put_out(writer, text.as_slice()),
+        Err(fault) => Err(fault),
+    }
+}
+
+// Writes the text, and flushes the writer.
+fn put_out<O: Write>(writer: &mut O, text: &[u8]) -> Result<(), ThreadsFault>
+    ensures ok { OnOk result (Appends (O.contents writer.old) (O.contents writer.new) text.now) }
+    ensures err { IfErr result (λ fault. fault ≡ ThreadsFault.WriteFault) }
+    ensures part { OnErr result
+        (WritesPart (O.contents writer.old) (O.contents writer.new) text.now) }
+{
+    match write_out(writer, text) {
+        Ok(()) => {}
+        Err(_) => return Err(ThreadsFault::WriteFault),
+    }
+    match writer.flush() {
+        Ok(()) => Ok(()),
+        Err(_) => Err(ThreadsFault::WriteFault),
+    }
+}
