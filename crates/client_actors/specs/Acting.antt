@@ -101,6 +101,7 @@ pub record HasMade {E S W : Type 0} (step : Step) (asked : Asked) (reply : Reply
 abbrev pub EndsSo : {E S W : Type 0} → List ℕ → List Step → ℕ → ActorEnd E S W → Type 0
 EndsSo clients steps id (ActorEnd.Wrecked wreck) = (wreck.client.id ≡ id) × HasPlayed clients steps wreck
 EndsSo clients steps id (ActorEnd.Stopped client held fault) = (client.id ≡ id) × AreTheirs client.id (held_in held)
+EndsSo clients steps id (ActorEnd.NotStarted client) = ⊥
 
 -- it has played all steps but these, which are the last ones
 pub record HasPlayedTo {E S W : Type 0} (clients : List ℕ) (steps rest : List Step) (actor : Actor E S W) : Type 0 where

@@ -20,4 +20,6 @@ pub enum ActorEnd<E: Ledger, S: Ledger, W: Ledger> {
     Wrecked(Wreck<E, S, W>),
     /// It was stopped by a fault, and what it has comes back.
     Stopped(Client<E, S, W>, Held<E, S, W>, StepFault),
+    /// The system gave it no thread: its client joined, and made no event since.
+    NotStarted(Client<E, S, W>),
 }

@@ -1,5 +1,5 @@
 //! Actors: clients that make the steps of their scripts through the typed calls, and vanish at the
-//! end.
+//! end, each in a thread of its own.
 #![tactic(auto)]
 
 mod acting;
@@ -7,9 +7,12 @@ mod asking;
 mod brought;
 mod gate;
 mod playing;
+mod running;
 mod slots;
 mod spending;
+mod start;
 mod storing;
 
 pub use gate::{ActorEnd, Gate};
 pub use playing::play;
+pub use running::run_actors;

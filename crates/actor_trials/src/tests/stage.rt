@@ -90,6 +90,7 @@ fn run<E: Ledger, S: Ledger, W: Ledger, R: Wait + Abort>(
     let wreck = match play(rt, alloc, &service, &Silent, &ids, client, &script) {
         ActorEnd::Wrecked(wreck) => wreck,
         ActorEnd::Stopped(_client, _held, _fault) => panic!(rt; "stopped"),
+        ActorEnd::NotStarted(_client) => panic!(rt; "not started"),
     };
     assert!(rt; is_played(&wreck));
     let mut parts = Vec::new(alloc);

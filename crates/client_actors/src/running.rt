@@ -1,0 +1,230 @@
+//! A thread for each actor.
+ghost use Rattle.std.specs.Prelude.{◌≡◌, ◌≤◌, [], Some, map, length, IfOk, IfErr, IsSome, vec_len, vec_capacity};
+ghost use Rattle.std.specs.List.{All, AllZip};
+ghost use Rattle.client_actors.specs.Running.{HaveRun, IsEndThere, IsIdle, IsReady, end_id, id_there};
+
+use crate::gate::{ActorEnd, Gate};
+use crate::playing::play;
+use crate::start::Start;
+use actor_steps::ActorScript;
+use client_ends::{Client, Held, join};
+use client_parting::Holding;
+use service_lock::Service;
+use sm_names::{ClientId, StepFault};
+use std::alloc::Global;
+use std::sync::Wait;
+use std::sync::ledger::Ledger;
+use std::thread::Threads;
+use std::time::Clock;
+use std::{mem, thread};
+
+// Plays the script with the client that lies there, if its thread comes to the start in time.
+fn run_there<E: Ledger, S: Ledger, W: Ledger, G: Gate, R: Wait + Clock>(
+    rt: &R,
+    alloc: Global,
+    service: &Service<E, S, W>,
+    gate: &G,
+    clients: &[ClientId],
+    start: &Start,
+    script: &ActorScript,
+    on: &mut Option<ActorEnd<E, S, W>>,
+)
+    requires { IsReady on.old }
+    ensures end { IsEndThere clients.now script.now on.new }
+    ensures id { id_there on.new ≡ id_there on.old }
+{
+    if !start.come(rt) {
+        return;
+    }
+    match mem::replace(on, None) {
+        Some(ActorEnd::NotStarted(client)) => {
+            let end = play(rt, alloc, service, gate, clients, client, script);
+            match mem::replace(on, Some(end)) {
+                None => {}
+                Some(_) => unreachable!(),
+            }
+        }
+        _ => unreachable!(),
+    }
+}
+
+// Plays each script in a thread of its own.
+fn run_all<
+    E: Ledger + Send + Sync,
+    S: Ledger + Send + Sync,
+    W: Ledger + Send + Sync,
+    G: Gate + Sync,
+    R: Threads + Wait + Clock + Sync,
+>(
+    rt: &R,
+    alloc: Global,
+    service: &Service<E, S, W>,
+    gate: &G,
+    clients: &[ClientId],
+    scripts: &[ActorScript],
+    actors: &mut [Option<ActorEnd<E, S, W>>],
+)
+    requires ready { All IsReady actors.old }
+    requires len { length scripts.now ≡ length actors.old }
+    ensures ends { AllZip (IsEndThere clients.now) scripts.now actors.new }
+    ensures ids { map id_there actors.new ≡ map id_there actors.old }
+{
+    let count = actors.len();
+    if count == 0 {
+        return;
+    }
+    let start = Start::new(count);
+    thread::for_each_mut(
+        rt,
+        actors,
+        count,
+        &|i, on| run_there(rt, alloc, service, gate, clients, &start, &scripts[i], on),
+    );
+}
+
+// Joins so many clients, in order.
+fn join_all<E: Ledger, S: Ledger, W: Ledger, R: Wait>(
+    rt: &R,
+    alloc: Global,
+    service: &Service<E, S, W>,
+    count: usize,
+    clients: &mut Vec<ClientId>,
+    actors: &mut Vec<Option<ActorEnd<E, S, W>>>,
+) -> Result<(), StepFault>
+    requires none { (clients.old.items ≡ []) × (actors.old.items ≡ []) }
+    requires clients { count ≤ vec_capacity clients.old }
+    requires actors { count ≤ vec_capacity actors.old }
+    ensures all { IfOk result (λ _. vec_len actors.new ≡ count) }
+    ensures few { vec_len actors.new ≤ count }
+    ensures ready { All IsReady actors.new.items }
+    ensures ids { clients.new.items ≡ map id_there actors.new.items }
+{
+    for _ in 0..count {
+        let client = join(rt, alloc, service)?;
+        clients.push_reserved(client.id());
+        actors.push_reserved(Some(ActorEnd::NotStarted(client)));
+    }
+    Ok(())
+}
+
+// Takes the ends out of their places, in order.
+fn ends_of<E: Ledger, S: Ledger, W: Ledger>(
+    actors: Vec<Option<ActorEnd<E, S, W>>>,
+    ends: Vec<ActorEnd<E, S, W>>,
+) -> Vec<ActorEnd<E, S, W>>
+    requires none { ends.items ≡ [] }
+    requires room { vec_len actors ≤ vec_capacity ends }
+    requires some { All (λ a. IsSome a) actors.items }
+    ensures { map Some result.items ≡ actors.items }
+{
+    let mut actors = actors;
+    let mut ends = ends;
+    actors.reverse();
+    while let Some(actor) = actors.pop() {
+        match actor {
+            Some(end) => ends.push_reserved(end),
+            None => unreachable!(),
+        }
+    }
+    actors.destroy_empty();
+    ends
+}
+
+// The clients that joined, none of which started.
+fn clients_of<E: Ledger, S: Ledger, W: Ledger>(
+    alloc: Global,
+    actors: Vec<Option<ActorEnd<E, S, W>>>,
+    parts: Vec<Holding<E, S, W>>,
+) -> Vec<Holding<E, S, W>>
+    requires none { parts.items ≡ [] }
+    requires room { vec_len actors ≤ vec_capacity parts }
+    requires ready { All IsReady actors.items }
+    ensures { All IsIdle result.items }
+{
+    let mut actors = actors;
+    let mut parts = parts;
+    actors.reverse();
+    while let Some(actor) = actors.pop() {
+        match actor {
+            Some(ActorEnd::NotStarted(client)) => {
+                let held = Held {
+                    tokens: Vec::new(alloc),
+                    collections: Vec::new(alloc),
+                    handles: Vec::new(alloc),
+                };
+                parts.push_reserved(Holding::Present(client, held));
+            }
+            _ => unreachable!(),
+        }
+    }
+    actors.destroy_empty();
+    parts
+}
+
+/// Runs all scripts side by side: a client for each joins, in order, and then each plays its script,
+/// as by `play`, in a thread of its own. All threads wait until all are there, so that each actor
+/// may wait for any other; all have ended when it returns. The gate is told of each step of each
+/// actor, outside the lock.
+///
+/// One end for each script, in order; labels of clients stand for the clients of these ends. An
+/// actor that is stopped by a fault leaves the others as they are. Where the system gives no more
+/// threads, those who have one begin after ten to twenty seconds in which none was added, and the
+/// others end `NotStarted`.
+///
+/// Where a client can't join, or memory for the lists is refused before the first does, nobody
+/// starts: the fault, `HistoryFull` or `NoMemory`, and the clients that joined, who hold nothing.
+///
+/// Costs an event for each client, a thread for each but one, a constant number of words for each
+/// script, and what `play` does.
+pub fn run_actors<
+    E: Ledger + Send + Sync,
+    S: Ledger + Send + Sync,
+    W: Ledger + Send + Sync,
+    G: Gate + Sync,
+    R: Threads + Wait + Clock + Sync,
+>(
+    rt: &R,
+    alloc: Global,
+    service: &Service<E, S, W>,
+    gate: &G,
+    scripts: &[ActorScript],
+) -> Result<Vec<ActorEnd<E, S, W>>, (Vec<Holding<E, S, W>>, StepFault)>
+    ensures ran { IfOk result (λ ends. HaveRun scripts.now ends.items) }
+    ensures idle { IfErr result (λ e. All IsIdle e.0.items) }
+    ensures few { IfErr result (λ e. vec_len e.0 ≤ length scripts.now) }
+{
+    let count = scripts.len();
+    let mut clients = Vec::new(alloc);
+    let mut actors = Vec::new(alloc);
+    let mut ends = Vec::new(alloc);
+    let mut parts = Vec::new(alloc);
+    if clients.reserve(count).is_err()
+        || actors.reserve(count).is_err()
+        || ends.reserve(count).is_err()
+        || parts.reserve(count).is_err()
+    {
+        actors.destroy_empty();
+        ends.destroy_empty();
+        return Err((parts, StepFault::NoMemory));
+    }
+    match join_all(rt, alloc, service, count, &mut clients, &mut actors) {
+        Ok(()) => {
+            parts.destroy_empty();
+            let ids = clients.as_slice();
+            run_all(
+                rt,
+                alloc,
+                service,
+                gate,
+                ids,
+                scripts,
+                actors.as_mut_slice(),
+            );
+            Ok(ends_of(actors, ends))
+        }
+        Err(fault) => {
+            ends.destroy_empty();
+            Err((clients_of(alloc, actors, parts), fault))
+        }
+    }
+}

@@ -1,0 +1,51 @@
+//! Where threads wait for one another before they start.
+use std::sync::{Condvar, Mutex, Wait};
+use std::time::{Clock, Duration};
+
+// For how many seconds those who are there wait for the next one.
+const PATIENCE: u64 = 10;
+
+// A thread that the system refuses never comes. So those who are there begin without the others
+// once nobody came for a while.
+#[derive(Drop)]
+pub(crate) struct Start {
+    // How many are still to come, or `None` once those who were there have begun.
+    awaited: Mutex<Option<usize>>,
+    begun: Condvar,
+}
+
+impl Start {
+    // Where so many are to come.
+    pub(crate) fn new(count: usize) -> Start {
+        Start {
+            awaited: Mutex::new(Some(count)),
+            begun: Condvar::new(),
+        }
+    }
+
+    // Waits until all have come, or nobody came for a while: whether the caller came before that.
+    pub(crate) fn come<R: Wait + Clock>(&self, rt: &R) -> bool {
+        let mut awaited = self.awaited.lock(rt);
+        let Some(count) = *awaited else {
+            return false;
+        };
+        let patience = Duration::from_secs(PATIENCE);
+        let mut left = count.saturating_sub(1);
+        *awaited = Some(left);
+        for _ in rt.forever() {
+            if left == 0 {
+                *awaited = None;
+                self.begun.notify_all();
+                return true;
+            }
+            let (guard, waited) = self.begun.wait_timeout(rt, awaited, patience);
+            awaited = guard;
+            match *awaited {
+                None => return true,
+                Some(now) if now == left && waited.timed_out() => left = 0,
+                Some(now) => left = now,
+            }
+        }
+        unreachable!()
+    }
+}
