@@ -1,12 +1,12 @@
 -- Actors that run side by side.
-use Rattle.std.specs.Prelude.{ℕ, ◌≡◌, List, [], map, Option, Some, None}
+use Rattle.std.specs.Prelude.{ℕ, ◌≡◌, List, [], map, Option, Some, None, slice_index_or}
 use Rattle.std.specs.List.{AllZip}
 use Rattle.client_ends.specs.Clients.{Seen}
 use Rattle.client_parting.specs.declared.gathering.Holding.{Holding}
 use Rattle.client_parting.specs.Partings.{AreOf, held_in, sorted}
 use Rattle.actor_steps.specs.declared.step.ActorScript.{ActorScript}
 use Rattle.client_actors.specs.declared.gate.ActorEnd.{ActorEnd}
-use Rattle.client_actors.specs.Acting.{EndsSo, HasPlayed}
+use Rattle.client_actors.specs.Acting.{HasPlayed}
 
 -- the client joined, and made no event since
 pub record HasJoined (client : Seen) : Type 0 where
@@ -55,3 +55,7 @@ id_there (Some end) = end_id end
 abbrev pub IsEndThere : {E S W : Type 0} → List ℕ → ActorScript → Option (ActorEnd E S W) → Type 0
 IsEndThere clients script None = ⊥
 IsEndThere clients script (Some end) = IsEndOf clients script end
+
+-- the end of the script of this number lies there
+pub record IsEndAt {E S W : Type 0} (clients : List ℕ) (scripts : List ActorScript) (number : ℕ) (there : Option (ActorEnd E S W)) : Type 0 where
+  pub end : (d : ActorScript) → IsEndThere clients (slice_index_or scripts number d) there

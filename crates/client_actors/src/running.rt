@@ -1,7 +1,7 @@
 //! A thread for each actor.
-ghost use Rattle.std.specs.Prelude.{◌≡◌, ◌≤◌, [], Some, map, length, IfOk, IfErr, IsSome, vec_len, vec_capacity};
+ghost use Rattle.std.specs.Prelude.{◌≡◌, ◌<◌, ◌≤◌, [], Some, map, length, IfOk, IfErr, IsSome, vec_len, vec_capacity};
 ghost use Rattle.std.specs.List.{All, AllZip};
-ghost use Rattle.client_actors.specs.Running.{HaveRun, IsEndThere, IsIdle, IsReady, end_id, id_there};
+ghost use Rattle.client_actors.specs.Running.{HaveRun, IsEndAt, IsEndThere, IsIdle, IsReady, end_id, id_there};
 
 use crate::gate::{ActorEnd, Gate};
 use crate::playing::play;
@@ -18,7 +18,8 @@ use std::thread::Threads;
 use std::time::Clock;
 use std::{mem, thread};
 
-// Plays the script with the client that lies there, if its thread comes to the start in time.
+// Plays the script of that number with the client that lies there, if its thread comes to the start
+// in time.
 fn run_there<E: Ledger, S: Ledger, W: Ledger, G: Gate, R: Wait + Clock>(
     rt: &R,
     alloc: Global,
@@ -26,11 +27,13 @@ fn run_there<E: Ledger, S: Ledger, W: Ledger, G: Gate, R: Wait + Clock>(
     gate: &G,
     clients: &[ClientId],
     start: &Start,
-    script: &ActorScript,
+    scripts: &[ActorScript],
+    number: usize,
     on: &mut Option<ActorEnd<E, S, W>>,
 )
-    requires { IsReady on.old }
-    ensures end { IsEndThere clients.now script.now on.new }
+    requires ready { IsReady on.old }
+    requires number { number < length scripts.now }
+    ensures end { IsEndAt clients.now scripts.now number on.new }
     ensures id { id_there on.new ≡ id_there on.old }
 {
     if !start.come(rt) {
@@ -38,7 +41,7 @@ fn run_there<E: Ledger, S: Ledger, W: Ledger, G: Gate, R: Wait + Clock>(
     }
     match mem::replace(on, None) {
         Some(ActorEnd::NotStarted(client)) => {
-            let end = play(rt, alloc, service, gate, clients, client, script);
+            let end = play(rt, alloc, service, gate, clients, client, &scripts[number]);
             match mem::replace(on, Some(end)) {
                 None => {}
                 Some(_) => unreachable!(),
@@ -78,7 +81,7 @@ fn run_all<
         rt,
         actors,
         count,
-        &|i, on| run_there(rt, alloc, service, gate, clients, &start, &scripts[i], on),
+        &|i, on| run_there(rt, alloc, service, gate, clients, &start, scripts, i, on),
     );
 }
 
@@ -139,7 +142,8 @@ fn clients_of<E: Ledger, S: Ledger, W: Ledger>(
     requires none { parts.items ≡ [] }
     requires room { vec_len actors ≤ vec_capacity parts }
     requires ready { All IsReady actors.items }
-    ensures { All IsIdle result.items }
+    ensures idle { All IsIdle result.items }
+    ensures len { vec_len result ≡ vec_len actors }
 {
     let mut actors = actors;
     let mut parts = parts;

@@ -1,7 +1,7 @@
 use Rattle.std.proofs.Common.{◌∙◌, ap, subst, sym}
 use Rattle.client_parting.specs.Partings.{AreOf, sorted}
 use Rattle.client_parting.specs.Stacks.{both}
-use Rattle.client_actors.specs.Acting.{left_in, left_of}
+use Rattle.client_actors.specs.Acting.{left_in}
 use Rattle.client_actors.proofs.ActingLaws.{left_owned, left_turned}
 use Rattle.client_actors.proofs.playing.leave.Goals as goal
 
