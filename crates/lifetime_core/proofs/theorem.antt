@@ -5,5 +5,6 @@ pub mod EventParts
 pub mod Fields
 pub mod Follows
 pub mod GoesOn
+pub mod Idle
 pub mod Leads
 pub mod Runs

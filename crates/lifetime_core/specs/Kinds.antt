@@ -51,6 +51,16 @@ tells_nothing (Call.TrackLifetime key most) = false
 tells_nothing (Call.TrackWeak buffer) = false
 tells_nothing _ = true
 
+-- the call only asks whether its node is well
+abbrev pub is_sync : Call → Bool
+is_sync (Call.Sync key) = true
+is_sync _ = false
+
+-- the call releases its node
+abbrev pub is_releasing : Call → Bool
+is_releasing (Call.Release key) = true
+is_releasing _ = false
+
 -- the call can have the reply: a Join alone is answered Joined, a Take alone Taken, and so on; a call on no node is neither a
 -- misuse nor told of a failure, and any call may be refused
 abbrev pub fits_call : Call → Reply → Bool

@@ -1,5 +1,5 @@
 -- What an event does to a collection, and to the forest.
-use Rattle.std.specs.Prelude.{◌≡◌, ℕ, Bool, true, false, List, ◌||◌, Option, Some, None, is_some, IfSome}
+use Rattle.std.specs.Prelude.{◌≡◌, ℕ, Bool, true, false, not, List, ◌||◌, Option, Some, None, is_some, IfSome}
 use Rattle.std.specs.Option.{option_map, option_and_then, option_or}
 use Rattle.sm_names.specs.declared.keys.NodeKey.{NodeKey}
 use Rattle.sm_names.specs.declared.messages.Call.{Call}
@@ -16,6 +16,7 @@ use Rattle.lifetime_core.specs.declared.sweeping.Tracking.{Tracking}
 use Rattle.lifetime_core.specs.declared.task.Carried.{Carried}
 use Rattle.lifetime_core.specs.declared.task.Task.{Task}
 use Rattle.lifetime_core.specs.Hands.{Moves}
+use Rattle.lifetime_core.specs.Kinds.{is_releasing, is_sync}
 use Rattle.lifetime_core.specs.State.{Client}
 use Rattle.lifetime_core.specs.Steps.{Gains, Place, Work, clients_by}
 
@@ -97,6 +98,23 @@ abbrev pub carried_by : ℕ → Call → Reply → Option Place
 carried_by client (Call.Give key to) Reply.Done = Some (record { key = key; end = End.InTransit client })
 carried_by client Call.Collect (Reply.Collected key kind collection) = Some (record { key = key; end = End.Held client })
 carried_by client _ _ = None
+
+-- the call, answered so, changes nothing, but that it is one event more: a refusal, and what only asks or tells
+abbrev pub changes_nothing : Call → Reply → Bool
+changes_nothing call Reply.Done = is_sync call
+changes_nothing call Reply.Empty = true
+changes_nothing call Reply.Pending = true
+changes_nothing call (Reply.Allocated count size) = true
+changes_nothing call (Reply.Refused refusal) = true
+changes_nothing call (Reply.PeerClosed cause origin) = not (is_releasing call)
+changes_nothing call (Reply.Joined made) = false
+changes_nothing call (Reply.Shut waiting) = false
+changes_nothing call (Reply.Token key collection) = false
+changes_nothing call (Reply.Collected key kind collection) = false
+changes_nothing call (Reply.CollectedHandle buffer strength) = false
+changes_nothing call (Reply.Taken collection strength set) = false
+changes_nothing call (Reply.Tracker id) = false
+changes_nothing call (Reply.Misused misuse) = false
 
 -- what a core keeps that an event changes
 pub record Parts : Type 0 where

@@ -6,6 +6,7 @@ ghost use Rattle.alloc_event.specs.Forest.{IsPoolOf};
 ghost use Rattle.lifetime_core.specs.Hands.{MayMove};
 ghost use Rattle.lifetime_core.specs.State.{Client as Row, counts_of};
 ghost use Rattle.lifetime_core.specs.Tasks.{MayDo, TakesEffect, takes_room};
+ghost use Rattle.lifetime_core.specs.Tasks.{changes_nothing as is_idle};
 ghost use Rattle.lifetime_core.specs.Whole.{Rise};
 
 use crate::clients::{Client, note};
@@ -18,6 +19,25 @@ use buffer_holds::Holds;
 use buffer_pool::Pool;
 use sm_names::{Call, ClientId, NoMemory, Reply};
 use trackers::Trackers;
+
+/// Whether the call, answered so, changes nothing: it was refused, or only asks.
+pub(crate) fn changes_nothing(call: &Call, reply: &Reply) -> bool
+    ensures { result ≡ is_idle call.now reply.now }
+{
+    match *reply {
+        Reply::Done => matches!(*call, Call::Sync(_)),
+        Reply::Empty | Reply::Pending | Reply::Allocated { .. } | Reply::Refused(_) => true,
+        Reply::PeerClosed { .. } => !matches!(*call, Call::Release(_)),
+        Reply::Joined(_)
+        | Reply::Shut(_)
+        | Reply::Token { .. }
+        | Reply::Collected { .. }
+        | Reply::CollectedHandle { .. }
+        | Reply::Taken { .. }
+        | Reply::Tracker(_)
+        | Reply::Misused(_) => false,
+    }
+}
 
 /// Makes of the fields what the call makes of them that was answered so, but for the trackers that
 /// fire and for what is forgotten, and answers the reply, with the key of a new node.

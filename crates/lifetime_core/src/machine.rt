@@ -34,7 +34,7 @@ ghost use Rattle.lifetime_core.specs.Theorem.{GoesOn, Leads, Stops, entries};
 ghost use Rattle.lifetime_core.specs.Theorem.{tracker_told, trackers_told};
 
 use crate::clients::{Client, count_waiting, first_waiting, has_joined, is_shut};
-use crate::event::take_effect;
+use crate::event::{changes_nothing, take_effect};
 use crate::sweeping::{sweep, tracking_of};
 use crate::table::answer;
 use crate::task::{carried_end, concerned_by, finish, task_of};
@@ -327,6 +327,10 @@ impl Core {
             return Err(StepFault::HistoryFull);
         }
         let asked = answer(self, client, NO_KEY, &call);
+        if changes_nothing(&call, &asked) {
+            self.events = self.next_event();
+            return Ok(asked);
+        }
         let task = task_of(self, client, &call, &asked);
         let tracking = tracking_of(self, &call, &asked);
         let Ok(reply) = take_effect(

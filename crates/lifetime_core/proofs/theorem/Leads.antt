@@ -1,5 +1,5 @@
 -- What several events lead to, one after another.
-use Rattle.std.proofs.Common.{ℕ, ◌≡◌, ◌<◌, ◌≤◌, ◌+◌, ◌↔◌, refl, ap, sym, ◌∙◌, subst, Bool, true, false, nat_le, List, [], ◌∷◌, ◌++◌, length, get_or, append_assoc, Option, Some, None, Result, Ok, Err}
+use Rattle.std.proofs.Common.{ℕ, ◌≡◌, ◌<◌, ◌≤◌, ◌↔◌, refl, ap, sym, ◌∙◌, subst, Bool, true, false, nat_le, List, [], ◌∷◌, ◌++◌, length, get_or, append_assoc, Option, Some, None, Result, Ok, Err}
 use Rattle.std.proofs.lemmas.Bool.{leb-false, leb-true}
 use Rattle.std.proofs.lemmas.List.{append-nil}
 use Rattle.std.specs.List.{cons_option}

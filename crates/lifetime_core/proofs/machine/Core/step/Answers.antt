@@ -1,4 +1,4 @@
-use Rattle.std.proofs.Common.{◌<◌, arith, rules}
+use Rattle.std.proofs.Common.{◌≡◌, ◌<◌, ◌+◌, ap, sym, ◌∙◌, None, arith, rules}
 use Rattle.sm_names.specs.Answers.{key_told}
 use Rattle.lifetime_core.specs.Reads.{readings_of}
 use Rattle.lifetime_core.specs.State.{State}
@@ -6,6 +6,7 @@ use Rattle.lifetime_core.specs.Tasks.{Parts, placed}
 use Rattle.lifetime_core.proofs.theorem.EventParts.{Begins, after, alone, begins, can_carry, finishes, one, step_answers, step_follows}
 use Rattle.lifetime_core.proofs.answers.Kinds.{reply-fits}
 use Rattle.lifetime_core.proofs.theorem.GoesOn.{goes_on}
+use Rattle.lifetime_core.proofs.theorem.Idle.{Idles, further, idle_follows, idle_whole, idles, parts_of}
 use Rattle.lifetime_core.proofs.theorem.Leads.{untaken_after}
 use Rattle.lifetime_core.proofs.theorem.Fields.{above, fits, moves, none_elsewhere, whole_same, whole_then}
 use Rattle.lifetime_core.proofs.machine.Core.step.Goals as goal
@@ -27,9 +28,40 @@ take_effect-requires c =
       alone = alone s c.args.client c.args.call c.answer-asked.result c.answer-asked.result c.task_of-task.result c.tracking_of-tracking.result b;
     }
 
--- memory was refused, and the fields are as they were
+-- the call changes nothing, and the fields are still whole
 pub invariant_of-self : goal.invariant_of-self
 invariant_of-self c =
+    let s : State = record { pool = c.self.inside.pool.size; limits = c.self.inside.limits; events = c.self.inside.events; clients = c.self.inside.clients.items; forest = c.self.inside.forest; holds = c.self.inside.holds; trackers = c.self.inside.trackers } in
+    let i : Idles s c.args.client c.args.call c.answer-asked.result =
+    idles c.self.inside.pool s c.args.self.now c.args.client c.args.call c.answer-asked.result c.self.view_is c.self.invariant c.answer-asked.ensures (sym c.changes_nothing.ensures ∙ c.if-changes_nothing.true) in
+    let next : c.next_event-self-inside.result ≡ s.events + 1 = c.next_event-self-inside.ensures ∙ ap (λ (x : State). x.events + 1) (sym c.self.view_is) in
+    rw next (idle_whole s c.args.client c.args.call c.answer-asked.result i c.self.inside.pool c.self.invariant (omega arith) (omega arith))
+
+-- and the new state follows
+pub returns-then-changes_nothing : goal.returns-then-changes_nothing
+returns-then-changes_nothing c =
+    let s : State = record { pool = c.self.inside.pool.size; limits = c.self.inside.limits; events = c.self.inside.events; clients = c.self.inside.clients.items; forest = c.self.inside.forest; holds = c.self.inside.holds; trackers = c.self.inside.trackers } in
+    let i : Idles s c.args.client c.args.call c.answer-asked.result =
+    idles c.self.inside.pool s c.args.self.now c.args.client c.args.call c.answer-asked.result c.self.view_is c.self.invariant c.answer-asked.ensures (sym c.changes_nothing.ensures ∙ c.if-changes_nothing.true) in
+    let next : c.next_event-self-inside.result ≡ s.events + 1 = c.next_event-self-inside.ensures ∙ ap (λ (x : State). x.events + 1) (sym c.self.view_is) in
+    let answers = step_answers s c.args.client c.args.call c.answer-asked.result c.answer-asked.result None None i.begins (parts_of s) i.takes in
+    let follows = idle_follows s c.args.client c.args.call c.answer-asked.result i in
+    let room : s.events < s.limits.events = omega arith in
+    rw (next, ← c.self.view_is) (record {
+      answer = answers;
+      kind = reply-fits s.limits (readings_of s) c.args.client (key_told c.answer-asked.result) c.args.call c.answer-asked.result answers.told;
+      after = follows;
+      goes_on = goes_on s (further s c.args.client c.args.call c.answer-asked.result i) c.args.client c.args.call c.answer-asked.result answers follows room;
+      untaken = untaken_after s (further s c.args.client c.args.call c.answer-asked.result i) c.args.client c.args.call c.answer-asked.result answers follows;
+      kept = search rules;
+      equal = search rules;
+      stays = search rules;
+      full = search rules;
+    })
+
+-- memory was refused, and the fields are as they were
+pub invariant_of-self-in_default : goal.invariant_of-self-in_default
+invariant_of-self-in_default c =
     let kept = c.in_default.ensures.err in
     whole_same c.self.inside.pool c.take_effect.new.pool c.self.inside.limits c.self.inside.events c.self.inside.clients.items c.take_effect.new.clients.items c.self.inside.forest c.take_effect.new.forest
     c.self.inside.holds c.take_effect.new.holds c.self.inside.trackers c.take_effect.new.trackers kept.0 kept.1 kept.2 kept.3 kept.4 c.take_effect.ensures.limit c.self.invariant
