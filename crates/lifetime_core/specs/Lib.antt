@@ -8,4 +8,5 @@ pub mod State
 pub mod Steps
 pub mod Tasks
 pub mod Theorem
+pub mod Traits
 pub mod Whole

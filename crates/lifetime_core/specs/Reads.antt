@@ -61,9 +61,13 @@ open_end_of s n = record {
   to_open = if n.allocated then to_open_in s n.collection else [];
 }
 
+-- the end of the node, unless it is spent
+abbrev pub open_end_in : State → Node → Option OpenEnd
+open_end_in s n = if is_spent n.end then None else Some (open_end_of s n)
+
 -- the end of the node with this key, unless it is spent
 abbrev pub end_in : State → NodeKey → Option OpenEnd
-end_in s key = option_and_then (λ (n : Node). if is_spent n.end then None else Some (open_end_of s n)) (node_at s.forest key)
+end_in s key = option_and_then (open_end_in s) (node_at s.forest key)
 
 -- the client with this number, if it joined
 abbrev pub client_in : State → ℕ → Option Client

@@ -12,6 +12,7 @@ mod sight;
 mod sweeping;
 mod table;
 mod task;
+mod traits;
 
 pub use alloc_event::HeldBuffer;
 pub use machine::Core;

@@ -15,7 +15,7 @@ ghost use Rattle.sm_names.specs.Trackers.{Tracked, tracked, fired as fired_after
 ghost use Rattle.sm_names.specs.Views.{live_nodes, held_by_page as held_after};
 ghost use Rattle.sm_names.specs.Views.{free_pages as free_after};
 ghost use Rattle.std.specs.List.{cons_option, list_any};
-ghost use Rattle.std.specs.Option.{option_map_or};
+ghost use Rattle.std.specs.Option.{option_and_then, option_map_or};
 ghost use Rattle.trackers.specs.Table.{empty, is_untaken, reader_of, cell_of, without};
 ghost use Rattle.alloc_event.specs.declared.held.HeldBuffer.{HeldBuffer as Held};
 ghost use Rattle.alloc_event.specs.declared.node.Node.{Node as Kept};
@@ -25,19 +25,22 @@ ghost use Rattle.alloc_event.specs.Forest.{Collection as Shelved, collection_at}
 ghost use Rattle.alloc_event.specs.Nodes.{is_spent, members_of};
 ghost use Rattle.buffer_holds.specs.Counts.{total};
 ghost use Rattle.lifetime_core.specs.Kinds.{fits_call};
-ghost use Rattle.lifetime_core.specs.Reads.{buffers_in, end_in, open_end_of, readings_of};
+ghost use Rattle.lifetime_core.specs.Reads.{buffers_in, end_in, open_end_in, open_end_of};
+ghost use Rattle.lifetime_core.specs.Reads.{readings_of};
 ghost use Rattle.lifetime_core.specs.Reads.{is_live_in, fault_in, views_of};
 ghost use Rattle.lifetime_core.specs.Shown.{Shows};
 ghost use Rattle.lifetime_core.specs.Steps.{Follows};
-ghost use Rattle.lifetime_core.specs.State.{IsSame};
+ghost use Rattle.lifetime_core.specs.State.{IsSame, State};
 ghost use Rattle.lifetime_core.specs.Theorem.{GoesOn, Leads, Stops, entries};
 ghost use Rattle.lifetime_core.specs.Theorem.{tracker_told, trackers_told};
+ghost use Rattle.lifetime_core.specs.Traits.{key_in};
 
 use crate::clients::{Client, count_waiting, first_waiting, has_joined, is_shut};
 use crate::event::{changes_nothing, take_effect};
 use crate::sweeping::{sweep, tracking_of};
 use crate::table::answer;
 use crate::task::{carried_end, concerned_by, finish, task_of};
+use crate::traits::{Named, traits_of};
 use alloc_event::{End, Forest, HeldBuffer, Node};
 use buffer_holds::Holds;
 use buffer_pool::Pool;
@@ -95,6 +98,19 @@ fn is_live(node: Option<&Node>) -> bool
     match node {
         Some(node) => !node.gone && !node.released,
         None => false,
+    }
+}
+
+// The node, unless its end is spent.
+fn with_end(node: Option<&Node>) -> Option<&Node>
+    ensures value { (s : State) → option_map (open_end_of s) (option_copied result)
+        ≡ option_and_then (open_end_in s) (option_copied node.entry) }
+    ensures unspent { IfSome result (λ n. is_spent n.now.end ≡ false) }
+{
+    let node = node?;
+    match node.end {
+        End::Spent => None,
+        _ => Some(node),
     }
 }
 
@@ -245,10 +261,16 @@ impl Core {
             ≡ option_map (open_end_of self.now) (option_copied result) }
         ensures unspent { IfSome result (λ n. is_spent n.now.end ≡ false) }
     {
-        let node = self.forest.node(key)?;
-        match node.end {
-            End::Spent => None,
-            _ => Some(node),
+        with_end(self.forest.node(key))
+    }
+
+    // The node that is named, if it is there.
+    fn named(&self, on: Named) -> Option<&Node>
+        ensures { option_copied result ≡ option_and_then (node_at self.now.forest) (key_in on) }
+    {
+        match on {
+            Named::End(key) => self.forest.node(key),
+            Named::Nothing | Named::Handle(_, _) => None,
         }
     }
 
@@ -326,7 +348,9 @@ impl Core {
         if self.events >= self.limits.events() as u64 {
             return Err(StepFault::HistoryFull);
         }
-        let asked = answer(self, client, NO_KEY, &call);
+        let traits = traits_of(&call);
+        let node = self.named(traits.on);
+        let asked = answer(self, client, NO_KEY, &call, &traits, with_end(node));
         if changes_nothing(&call, &asked) {
             self.events = self.next_event();
             return Ok(asked);

@@ -1,91 +1,28 @@
 //! The order of answers: a call is answered by the first line that has an answer, and takes effect
 //! where none has.
-ghost use Rattle.std.specs.Prelude.{◌≡◌, ◌∷◌, [], false, if◌then◌else◌};
-ghost use Rattle.sm_names.specs.Answers.{answers_first, closing as closing_of, misuse_of};
-ghost use Rattle.sm_names.specs.Answers.{unknown_client as unknown_client_of, no_end};
-ghost use Rattle.sm_names.specs.Answers.{shut_client as shut_client_of, acquires as acquires_by};
-ghost use Rattle.sm_names.specs.Answers.{end_in_transit, peer_closed as peer_closed_of};
-ghost use Rattle.sm_names.specs.Answers.{wrong_kind as wrong_kind_of, misuse as misuse_in};
-ghost use Rattle.sm_names.specs.Answers.{no_handle as no_handle_of, limits_met};
-ghost use Rattle.sm_names.specs.Answers.{too_many_handles, receiver_of as receiver_in};
-ghost use Rattle.sm_names.specs.Answers.{kind_for as kind_asked, makes_node as is_node_made};
-ghost use Rattle.sm_names.specs.Answers.{makes_collection as is_collection_made};
-ghost use Rattle.sm_names.specs.Answers.{makes_tracker as is_tracker_made};
-ghost use Rattle.sm_names.specs.Timelines.{key_of as key_in};
+ghost use Rattle.std.specs.Prelude.{◌≡◌, ◌∷◌, ◌&&◌, ◌||◌, [], false, not, if◌then◌else◌};
+ghost use Rattle.std.specs.Prelude.{IfSome, option_copied};
+ghost use Rattle.std.specs.Option.{option_and_then, option_map, option_map_or, option_or};
+ghost use Rattle.sm_names.specs.declared.outcomes.Refusal.{Refusal as Refused};
+ghost use Rattle.sm_names.specs.Answers.{answers_first, closing, misuse_of, refused_if};
+ghost use Rattle.sm_names.specs.Answers.{unknown_client, shut_client, no_end, end_named};
+ghost use Rattle.sm_names.specs.Answers.{end_in_transit, peer_closed, wrong_kind};
+ghost use Rattle.sm_names.specs.Answers.{misuse as misuse_in, no_handle};
+ghost use Rattle.sm_names.specs.Sameness.{same_kind};
 ghost use Rattle.sm_names.specs.Words.{first_some};
 ghost use Rattle.alloc_event.specs.Nodes.{is_spent};
 ghost use Rattle.lifetime_core.specs.Lines.{another_of, transit_of, peer_of, kind_line};
-ghost use Rattle.lifetime_core.specs.Reads.{open_end_of, readings_of};
+ghost use Rattle.lifetime_core.specs.Lines.{limits_of};
+ghost use Rattle.lifetime_core.specs.Reads.{end_in, open_end_of, readings_of};
 ghost use Rattle.lifetime_core.specs.State.{State};
+ghost use Rattle.lifetime_core.specs.Traits.{Describes, is_acquired as is_acquired_in};
+ghost use Rattle.lifetime_core.specs.Traits.{key_in, too_many_on};
 
 use crate::machine::Core;
 use crate::opening::{is_one_full, strength_of};
+use crate::traits::{Made, Named, Traits, is_acquired};
 use alloc_event::{End, Node};
-use sm_names::{Call, ClientId, Kind, Misuse, NodeKey, Refusal, Reply, Strength};
-
-/// The node that the call names.
-pub(crate) fn key_of(call: &Call) -> Option<NodeKey>
-    ensures { result ≡ key_in call.now }
-{
-    match *call {
-        Call::Duplicate(key)
-        | Call::AttachToken(key)
-        | Call::Sync(key)
-        | Call::Give(key, _)
-        | Call::Bind(key)
-        | Call::SetDispensable(key)
-        | Call::SetWeak(key)
-        | Call::SetWeakOk(key, _)
-        | Call::SetConstraints(key, _)
-        | Call::Check(key)
-        | Call::Take(key)
-        | Call::Release(key)
-        | Call::Close(key)
-        | Call::TrackNode(key)
-        | Call::TrackLifetime(key, _) => Some(key),
-        _ => None,
-    }
-}
-
-// The other client that the call names.
-fn receiver_of(call: &Call) -> Option<ClientId>
-    ensures { result ≡ receiver_in call.now }
-{
-    match *call {
-        Call::Give(_, to) | Call::GiveHandle(_, _, to) => Some(to),
-        _ => None,
-    }
-}
-
-// Whether the call makes an end or a tracker for its caller.
-fn acquires(call: &Call) -> bool
-    ensures { result ≡ acquires_by call.now }
-{
-    match *call {
-        Call::OpenRoot
-        | Call::Duplicate(_)
-        | Call::AttachToken(_)
-        | Call::TrackNode(_)
-        | Call::TrackLifetime(_, _)
-        | Call::TrackWeak(_) => true,
-        _ => false,
-    }
-}
-
-// The only kind of end on which the call is made, if there is one.
-fn kind_for(call: &Call) -> Option<Kind>
-    ensures { result ≡ kind_asked call.now }
-{
-    match *call {
-        Call::Duplicate(_) | Call::Bind(_) | Call::SetDispensable(_) => Some(Kind::Token),
-        Call::AttachToken(_)
-        | Call::SetConstraints(_, _)
-        | Call::Check(_)
-        | Call::Take(_)
-        | Call::TrackLifetime(_, _) => Some(Kind::Collection),
-        _ => None,
-    }
-}
+use sm_names::{Call, ClientId, Kind, Misuse, Refusal, Reply};
 
 /// The kind of the node's end.
 pub(crate) fn kind_of(node: &Node) -> Kind
@@ -98,125 +35,83 @@ pub(crate) fn kind_of(node: &Node) -> Kind
     }
 }
 
-// Whether the call makes a node.
-fn makes_node(call: &Call) -> bool
-    ensures { result ≡ is_node_made call.now }
-{
-    match *call {
-        Call::OpenRoot | Call::Duplicate(_) | Call::AttachToken(_) => true,
-        _ => false,
-    }
-}
-
-// Whether the call makes a collection.
-fn makes_collection(call: &Call) -> bool
-    ensures { result ≡ is_collection_made call.now }
-{
-    match *call {
-        Call::OpenRoot => true,
-        _ => false,
-    }
-}
-
-// Whether the call makes a tracker.
-fn makes_tracker(call: &Call) -> bool
-    ensures { result ≡ is_tracker_made call.now }
-{
-    match *call {
-        Call::TrackNode(_) | Call::TrackLifetime(_, _) | Call::TrackWeak(_) => true,
-        _ => false,
-    }
-}
-
-// ---- the lines
+// ---- the clients
 
 // Join is made as nobody, and any other call by a client that joined; so is the receiver.
-fn unknown_client(core: &Core, client: ClientId, call: &Call) -> Option<Reply>
-    ensures { result ≡ unknown_client_of (readings_of core.now) client call.now }
+fn is_unknown(core: &Core, client: ClientId, call: &Call, traits: &Traits) -> bool
+    requires { Describes call.now traits.now }
+    ensures { unknown_client (readings_of core.now) client call.now
+        ≡ refused_if result Refused.NoSuchClient }
 {
-    let known = match *call {
-        Call::Join => client == 0,
+    match *call {
+        Call::Join => client != 0,
         _ => {
-            core.has_joined(client)
-                && match receiver_of(call) {
-                    Some(to) => core.has_joined(to),
-                    None => true,
+            !core.has_joined(client)
+                || match traits.to {
+                    Some(to) => !core.has_joined(to),
+                    None => false,
                 }
         }
-    };
-    if known {
-        None
-    } else {
-        Some(Reply::Refused(Refusal::NoSuchClient))
     }
 }
 
 // Nothing is given to a shut client, and it acquires nothing.
-fn shut_client(core: &Core, client: ClientId, call: &Call) -> Option<Reply>
-    ensures { result ≡ shut_client_of (readings_of core.now) client call.now }
+fn is_shut_out(core: &Core, client: ClientId, traits: &Traits) -> bool
+    ensures { result ≡ ((is_acquired_in traits.now.makes && (readings_of core.now).is_shut client)
+        || option_map_or (readings_of core.now).is_shut traits.now.to false) }
 {
-    let is_receiver_shut = match receiver_of(call) {
+    let is_receiver_shut = match traits.to {
         Some(to) => core.is_shut(to),
         None => false,
     };
-    if acquires(call) && core.is_shut(client) || is_receiver_shut {
-        Some(Reply::Refused(Refusal::ClientShut))
+    is_acquired(traits.makes) && core.is_shut(client) || is_receiver_shut
+}
+
+// Why the call is refused for the sake of the clients, if it is.
+fn refusal_of_clients(
+    core: &Core,
+    client: ClientId,
+    call: &Call,
+    traits: &Traits,
+) -> Option<Refusal>
+    requires { Describes call.now traits.now }
+    ensures { option_map (λ (r : Refused). Reply.Refused r) result
+        ≡ option_or (unknown_client (readings_of core.now) client call.now)
+        (shut_client (readings_of core.now) client call.now) }
+{
+    if is_unknown(core, client, call, traits) {
+        Some(Refusal::NoSuchClient)
+    } else if is_shut_out(core, client, traits) {
+        Some(Refusal::ClientShut)
     } else {
         None
     }
 }
 
-// Another client holds the end, and it is in no parcel.
-fn anothers_end(client: ClientId, end: End) -> Option<Reply>
+// ---- the end
+
+// Why a call on the end is refused, if it is: another client holds it, or it is in a parcel.
+fn refusal_of_end(client: ClientId, end: End) -> Option<Refusal>
     requires { is_spent end ≡ false }
-    ensures { result ≡ another_of client end }
+    ensures { option_map (λ (r : Refused). Reply.Refused r) result
+        ≡ option_or (another_of client end) (transit_of end) }
 {
     match end {
-        End::Held(holder) if holder != client => Some(Reply::Refused(Refusal::NoSuchEnd)),
-        _ => None,
+        End::InTransit(_) => Some(Refusal::InTransit),
+        End::Held(holder) if holder == client => None,
+        _ => Some(Refusal::NoSuchEnd),
     }
 }
 
-// The end is in a parcel, whoever asks.
-fn in_transit(end: End) -> Option<Reply>
-    ensures { result ≡ transit_of end }
+// Whether the call is for an end of the other kind.
+fn is_wrong_kind(node: &Node, kind: Option<Kind>) -> bool
+    ensures { result ≡ option_map_or
+        (λ k. not (same_kind (if node.now.bound then Kind.Collection else Kind.Token) k))
+        kind false }
 {
-    match end {
-        End::InTransit(_) => Some(Reply::Refused(Refusal::InTransit)),
-        _ => None,
-    }
-}
-
-// Close is answered Done, whether the node is gone or not.
-fn closing(call: &Call) -> Option<Reply>
-    ensures { result ≡ closing_of call.now }
-{
-    match *call {
-        Call::Close(_) => Some(Reply::Done),
-        _ => None,
-    }
-}
-
-// The node is gone, and the caller is told why and where it failed.
-fn peer_closed(node: &Node) -> Option<Reply>
-    ensures { result ≡ peer_of node.now.fault }
-{
-    match node.fault {
-        Some(fault) => Some(Reply::PeerClosed {
-            cause: fault.cause,
-            origin: fault.origin,
-        }),
-        None => None,
-    }
-}
-
-// The call is for an end of the other kind.
-fn wrong_kind(node: &Node, call: &Call) -> Option<Reply>
-    ensures { result ≡ kind_line node.now.bound call.now }
-{
-    match kind_for(call) {
-        Some(asked) if asked != kind_of(node) => Some(Reply::Refused(Refusal::WrongKind)),
-        _ => None,
+    match kind {
+        Some(asked) => asked != kind_of(node),
+        None => false,
     }
 }
 
@@ -237,97 +132,138 @@ fn misuse(node: &Node, call: &Call) -> Option<Reply>
     Some(Reply::Misused(misuse))
 }
 
-// What is answered for the sake of the end that the call names.
-fn answer_of_end(core: &Core, client: ClientId, call: &Call) -> Option<Reply>
+// What is answered for the sake of an end that is there, if anything is: whose it is, then Done to
+// each Close, then why and where the node failed, then the other kind, then the misuse.
+fn answer_of_end(client: ClientId, node: &Node, call: &Call, traits: &Traits) -> Option<Reply>
+    requires law { Describes call.now traits.now }
+    requires unspent { is_spent node.now.end ≡ false }
+    ensures { (s : State) → result ≡ first_some (
+        another_of client node.now.end
+        ∷ transit_of node.now.end
+        ∷ closing call.now
+        ∷ peer_of node.now.fault
+        ∷ kind_line node.now.bound call.now
+        ∷ misuse_of (open_end_of s node.now) call.now
+        ∷ []) }
+{
+    if let Some(refusal) = refusal_of_end(client, node.end) {
+        return Some(Reply::Refused(refusal));
+    }
+    if let Call::Close(_) = *call {
+        return Some(Reply::Done);
+    }
+    if let Some(fault) = node.fault {
+        return Some(Reply::PeerClosed {
+            cause: fault.cause,
+            origin: fault.origin,
+        });
+    }
+    if is_wrong_kind(node, traits.kind) {
+        return Some(Reply::Refused(Refusal::WrongKind));
+    }
+    misuse(node, call)
+}
+
+// ---- what is named
+
+// What is answered for the sake of the end or the handle that the call names, if anything is.
+fn answer_of_named(
+    core: &Core,
+    client: ClientId,
+    call: &Call,
+    traits: &Traits,
+    node: Option<&Node>,
+) -> Option<Reply>
+    requires law { Describes call.now traits.now }
+    requires end { end_named (readings_of core.now) call.now
+        ≡ option_map (open_end_of core.now) (option_copied node) }
+    requires unspent { IfSome node (λ n. is_spent n.now.end ≡ false) }
     ensures { let r = readings_of core.now in result ≡ first_some (
         no_end r client call.now
         ∷ end_in_transit r call.now
-        ∷ closing_of call.now
-        ∷ peer_closed_of r call.now
-        ∷ wrong_kind_of r call.now
+        ∷ closing call.now
+        ∷ peer_closed r call.now
+        ∷ wrong_kind r call.now
         ∷ misuse_in r call.now
+        ∷ no_handle r client call.now
         ∷ []) }
 {
-    let Some(key) = key_of(call) else {
-        return None;
-    };
-    let Some(node) = core.node_with_end(key) else {
-        return Some(Reply::Refused(Refusal::NoSuchEnd));
-    };
-    anothers_end(client, node.end)
-        .or(in_transit(node.end))
-        .or(closing(call))
-        .or(peer_closed(node))
-        .or(wrong_kind(node, call))
-        .or(misuse(node, call))
-}
-
-// The caller has no such handle open.
-fn no_handle(core: &Core, client: ClientId, call: &Call) -> Option<Reply>
-    ensures { result ≡ no_handle_of (readings_of core.now) client call.now }
-{
-    let (buffer, strength) = match *call {
-        Call::DupHandle(buffer, strength)
-        | Call::DropHandle(buffer, strength)
-        | Call::GiveHandle(buffer, strength, _) => (buffer, strength),
-        Call::TrackWeak(buffer) => (buffer, Strength::Weak),
-        _ => {
-            return None;
+    match traits.on {
+        Named::Nothing => None,
+        Named::End(_) => match node {
+            Some(node) => answer_of_end(client, node, call, traits),
+            None => Some(Reply::Refused(Refusal::NoSuchEnd)),
+        },
+        Named::Handle(buffer, strength) => {
+            if core.open_of(client, buffer, strength) == 0 {
+                Some(Reply::Refused(Refusal::NoSuchHandle))
+            } else {
+                None
+            }
         }
-    };
-    if core.open_of(client, buffer, strength) == 0 {
-        Some(Reply::Refused(Refusal::NoSuchHandle))
-    } else {
-        None
     }
 }
 
-// Whether the handles that the call would open are too many.
-fn opens_too_many(core: &Core, call: &Call) -> bool
-    ensures { result ≡ too_many_handles core.now.limits (readings_of core.now) call.now }
+// ---- the limits
+
+// Whether the handles that would be opened on what is named are too many.
+fn opens_too_many(core: &Core, on: Named, node: Option<&Node>) -> bool
+    requires { option_and_then (end_in core.now) (key_in on)
+        ≡ option_map (open_end_of core.now) (option_copied node) }
+    ensures { result ≡ too_many_on core.now.limits (readings_of core.now) on }
 {
-    match *call {
-        Call::DupHandle(buffer, strength) => core.has_all_handles(buffer, strength),
-        Call::Take(key) => match core.node_with_end(key) {
+    match on {
+        Named::Nothing => false,
+        Named::End(_) => match node {
             Some(node) => {
                 node.allocated && is_one_full(core, node.collection, strength_of(node.weak))
             }
             None => false,
         },
-        _ => false,
+        Named::Handle(buffer, strength) => core.has_all_handles(buffer, strength),
     }
 }
 
 // As many nodes or collections are kept, trackers wait or handles are open as may be.
-fn limit_met(core: &Core, call: &Call) -> Option<Reply>
-    ensures { result ≡ first_some (limits_met core.now.limits (readings_of core.now) call.now) }
+fn limit_met(core: &Core, traits: &Traits, node: Option<&Node>) -> Option<Reply>
+    requires { option_and_then (end_in core.now) (key_in traits.now.on)
+        ≡ option_map (open_end_of core.now) (option_copied node) }
+    ensures { result
+        ≡ first_some (limits_of core.now.limits (readings_of core.now) traits.now) }
 {
-    let refusal = if makes_node(call) && core.has_all_nodes() {
-        Refusal::TooManyNodes
-    } else if makes_collection(call) && core.has_all_collections() {
-        Refusal::TooManyCollections
-    } else if makes_tracker(call) && core.has_all_trackers() {
-        Refusal::TrackersFull
-    } else if opens_too_many(core, call) {
-        Refusal::TooManyHandles
-    } else {
-        return None;
+    let refusal = match traits.makes {
+        Made::Collection | Made::Node if core.has_all_nodes() => Refusal::TooManyNodes,
+        Made::Collection if core.has_all_collections() => Refusal::TooManyCollections,
+        Made::Tracker if core.has_all_trackers() => Refusal::TrackersFull,
+        Made::Handles if opens_too_many(core, traits.on, node) => Refusal::TooManyHandles,
+        _ => {
+            return None;
+        }
     };
     Some(Reply::Refused(refusal))
 }
 
 /// The first answer that stands before the effect, if there is one. Only a call that meets none of
 /// the other lines is looked at for its limits, since a Take costs a walk over its buffers there.
-pub(crate) fn first_answer(core: &Core, client: ClientId, call: &Call) -> Option<Reply>
+pub(crate) fn first_answer(
+    core: &Core,
+    client: ClientId,
+    call: &Call,
+    traits: &Traits,
+    node: Option<&Node>,
+) -> Option<Reply>
+    requires law { Describes call.now traits.now }
+    requires end { end_named (readings_of core.now) call.now
+        ≡ option_map (open_end_of core.now) (option_copied node) }
+    requires unspent { IfSome node (λ n. is_spent n.now.end ≡ false) }
     ensures { result ≡ first_some (
         answers_first core.now.limits (readings_of core.now) client call.now) }
 {
-    let sooner = unknown_client(core, client, call)
-        .or(shut_client(core, client, call))
-        .or(answer_of_end(core, client, call))
-        .or(no_handle(core, client, call));
-    match sooner {
-        Some(_) => sooner,
-        None => limit_met(core, call),
+    if let Some(refusal) = refusal_of_clients(core, client, call, traits) {
+        return Some(Reply::Refused(refusal));
+    }
+    match answer_of_named(core, client, call, traits, node) {
+        Some(reply) => Some(reply),
+        None => limit_met(core, traits, node),
     }
 }

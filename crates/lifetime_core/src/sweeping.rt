@@ -10,8 +10,8 @@ ghost use Rattle.lifetime_core.specs.Tasks.{waiting_as};
 ghost use Rattle.buffer_holds.specs.Counts.{total};
 
 use crate::machine::Core;
-use crate::order::key_of;
 use crate::sight::Sight;
+use crate::traits::key_of;
 use alloc_event::{Forest, Node};
 use buffer_holds::Holds;
 use sm_names::{Call, CollectionId, Condition, NoMemory, Reply, TrackerId};

@@ -1,20 +1,26 @@
 //! The answer table: what is answered to a call that takes effect.
-ghost use Rattle.std.specs.Prelude.{◌≡◌};
+ghost use Rattle.std.specs.Prelude.{◌≡◌, IfSome, false, option_copied};
+ghost use Rattle.std.specs.Option.{option_map};
 ghost use Rattle.sm_names.specs.Answers.{answer as answer_of, effect as effect_of, of_end};
-ghost use Rattle.sm_names.specs.Answers.{collected};
-ghost use Rattle.lifetime_core.specs.Reads.{readings_of};
+ghost use Rattle.sm_names.specs.Answers.{collected, end_named};
+ghost use Rattle.alloc_event.specs.Nodes.{is_spent};
+ghost use Rattle.lifetime_core.specs.Reads.{end_in, open_end_of, readings_of};
 ghost use Rattle.lifetime_core.specs.Tasks.{keyed as keyed_by};
+ghost use Rattle.lifetime_core.specs.Traits.{Describes};
 
 use crate::machine::Core;
 use crate::opening::{set_to_open, strength_of};
 use crate::order::{first_answer, kind_of};
+use crate::traits::Traits;
+use alloc_event::Node;
 use sm_names::{Call, ClientId, NodeKey, Parcel, Refusal, Reply};
 
-// The new token below a node.
-fn token_below(core: &Core, key: NodeKey, new: NodeKey) -> Reply
+// The new token below a node, if its end is there.
+fn token_below(core: &Core, key: NodeKey, node: Option<&Node>, new: NodeKey) -> Reply
+    requires { end_in core.now key ≡ option_map (open_end_of core.now) (option_copied node) }
     ensures { result ≡ of_end (readings_of core.now) key (λ e. Reply.Token new e.collection) }
 {
-    match core.node_with_end(key) {
+    match node {
         Some(node) => Reply::Token {
             key: new,
             collection: node.collection,
@@ -24,10 +30,11 @@ fn token_below(core: &Core, key: NodeKey, new: NodeKey) -> Reply
 }
 
 // What the node's unit was given.
-fn check(core: &Core, client: ClientId, key: NodeKey, new: NodeKey) -> Reply
+fn check(core: &Core, client: ClientId, key: NodeKey, node: Option<&Node>, new: NodeKey) -> Reply
+    requires { end_in core.now key ≡ option_map (open_end_of core.now) (option_copied node) }
     ensures { result ≡ effect_of (readings_of core.now) client new (Call.Check key) }
 {
-    let Some(node) = core.node_with_end(key) else {
+    let Some(node) = node else {
         return Reply::Refused(Refusal::NoSuchEnd);
     };
     if !node.allocated {
@@ -43,10 +50,11 @@ fn check(core: &Core, client: ClientId, key: NodeKey, new: NodeKey) -> Reply
 }
 
 // What a Take gives: nothing until the node's unit is allocated.
-fn take(core: &Core, client: ClientId, key: NodeKey, new: NodeKey) -> Reply
+fn take(core: &Core, client: ClientId, key: NodeKey, node: Option<&Node>, new: NodeKey) -> Reply
+    requires { end_in core.now key ≡ option_map (open_end_of core.now) (option_copied node) }
     ensures { result ≡ effect_of (readings_of core.now) client new (Call.Take key) }
 {
-    let Some(node) = core.node_with_end(key) else {
+    let Some(node) = node else {
         return Reply::Refused(Refusal::NoSuchEnd);
     };
     if !node.allocated || core.buffers_of(node.collection).is_none() {
@@ -78,7 +86,9 @@ fn collect(core: &Core, client: ClientId) -> Reply
 }
 
 // The answer of a call that takes effect; a new node gets this key.
-fn effect(core: &Core, client: ClientId, new: NodeKey, call: &Call) -> Reply
+fn effect(core: &Core, client: ClientId, new: NodeKey, call: &Call, node: Option<&Node>) -> Reply
+    requires { end_named (readings_of core.now) call.now
+        ≡ option_map (open_end_of core.now) (option_copied node) }
     ensures { result ≡ effect_of (readings_of core.now) client new call.now }
 {
     match *call {
@@ -88,10 +98,10 @@ fn effect(core: &Core, client: ClientId, new: NodeKey, call: &Call) -> Reply
             key: new,
             collection: core.next_event(),
         },
-        Call::Duplicate(key) | Call::AttachToken(key) => token_below(core, key, new),
+        Call::Duplicate(key) | Call::AttachToken(key) => token_below(core, key, node, new),
         Call::Collect => collect(core, client),
-        Call::Check(key) => check(core, client, key, new),
-        Call::Take(key) => take(core, client, key, new),
+        Call::Check(key) => check(core, client, key, node, new),
+        Call::Take(key) => take(core, client, key, node, new),
         Call::TrackNode(_) | Call::TrackLifetime(_, _) | Call::TrackWeak(_) => {
             Reply::Tracker(core.next_event())
         }
@@ -99,14 +109,26 @@ fn effect(core: &Core, client: ClientId, new: NodeKey, call: &Call) -> Reply
     }
 }
 
-/// What is answered, if a new node gets this key.
-pub(crate) fn answer(core: &Core, client: ClientId, new: NodeKey, call: &Call) -> Reply
+/// What is answered to a call with these traits, whose end is that of this node, if a new node gets
+/// this key.
+pub(crate) fn answer(
+    core: &Core,
+    client: ClientId,
+    new: NodeKey,
+    call: &Call,
+    traits: &Traits,
+    node: Option<&Node>,
+) -> Reply
+    requires law { Describes call.now traits.now }
+    requires end { end_named (readings_of core.now) call.now
+        ≡ option_map (open_end_of core.now) (option_copied node) }
+    requires unspent { IfSome node (λ n. is_spent n.now.end ≡ false) }
     ensures { result
         ≡ answer_of core.now.limits (readings_of core.now) client new call.now }
 {
-    match first_answer(core, client, call) {
+    match first_answer(core, client, call, traits, node) {
         Some(reply) => reply,
-        None => effect(core, client, new, call),
+        None => effect(core, client, new, call, node),
     }
 }
 

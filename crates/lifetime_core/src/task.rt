@@ -18,8 +18,8 @@ ghost use Rattle.lifetime_core.specs.Tasks.{place_as, placed, spent_by, spent_in
 ghost use Rattle.lifetime_core.specs.Whole.{AreUpTo, CanCarry, CanFinish, IsSound};
 
 use crate::machine::Core;
-use crate::order::key_of;
 use crate::sweeping::Tracking;
+use crate::traits::key_of;
 use alloc_event::{Change, End, Forest};
 use buffer_holds::Holds;
 use buffer_pool::Pool;

@@ -1,27 +1,21 @@
 -- The order of answers, line by line.
-use Rattle.std.proofs.Common.{ℕ, ◌≡◌, refl, ◌∙◌, List, [], ◌∷◌, ◌++◌, Option, Some, None}
-use Rattle.std.specs.Option.{option_map_or, option_or}
+use Rattle.std.proofs.Common.{ℕ, ◌≡◌, refl, List, [], ◌∷◌, ◌++◌, Option, Some, None}
+use Rattle.std.specs.Option.{option_and_then, option_or}
 use Rattle.sm_names.specs.declared.keys.NodeKey.{NodeKey}
 use Rattle.sm_names.specs.declared.messages.Call.{Call}
 use Rattle.sm_names.specs.declared.messages.Reply.{Reply}
-use Rattle.sm_names.specs.Answers.{Readings, answers_first, unknown_client, shut_client, no_end, end_in_transit, closing, peer_closed, wrong_kind, misuse, misuse_of, no_handle, limits_met}
+use Rattle.sm_names.specs.Answers.{Readings, answers_first, end_named, unknown_client, shut_client, no_end, end_in_transit, closing, peer_closed, wrong_kind, misuse, no_handle, limits_met}
 use Rattle.sm_names.specs.Bounds.{Bound}
 use Rattle.sm_names.specs.Timelines.{key_of}
 use Rattle.sm_names.specs.Words.{first_some}
 use Rattle.alloc_event.specs.declared.node.Node.{Node}
-use Rattle.lifetime_core.specs.Lines.{another_of, transit_of, peer_of, kind_line}
-use Rattle.lifetime_core.specs.Reads.{end_in, open_end_of, readings_of}
+use Rattle.alloc_event.specs.Forest.{node_at}
+use Rattle.lifetime_core.specs.declared.traits.Named.{Named}
+use Rattle.lifetime_core.specs.declared.traits.Traits.{Traits}
+use Rattle.lifetime_core.specs.Lines.{limits_of}
+use Rattle.lifetime_core.specs.Reads.{end_in, open_end_in, readings_of}
 use Rattle.lifetime_core.specs.State.{State}
-
--- the first of six answers, as code asks for them
-pub or_six : {A : Type 0} (a b c d e f : Option A) → first_some (a ∷ b ∷ c ∷ d ∷ e ∷ f ∷ []) ≡ option_or (option_or (option_or (option_or (option_or a b) c) d) e) f
-or_six (Some x) b c d e f = refl
-or_six None (Some x) c d e f = refl
-or_six None None (Some x) d e f = refl
-or_six None None None (Some x) e f = refl
-or_six None None None None (Some x) f = refl
-or_six None None None None None (Some x) = refl
-or_six None None None None None None = refl
+use Rattle.lifetime_core.specs.Traits.{Describes, key_in}
 
 -- the first of two lists of answers, one behind the other
 first_some-append : {A : Type 0} (os ps : List (Option A)) → first_some (os ++ ps) ≡ option_or (first_some os) (first_some ps)
@@ -29,35 +23,32 @@ first_some-append [] ps = refl
 first_some-append (Some x ∷ os) ps = refl
 first_some-append (None ∷ os) ps = first_some-append os ps
 
--- the lines of the end, where it is there
-pub end_there : (s : State) (client : ℕ) (call : Call) (key : NodeKey) (n : Node) → key_of call ≡ Some key → end_in s key ≡ Some (open_end_of s n) →
-    first_some (no_end (readings_of s) client call ∷ end_in_transit (readings_of s) call ∷ closing call ∷ peer_closed (readings_of s) call ∷ wrong_kind (readings_of s) call ∷ misuse (readings_of s) call ∷ [])
-    ≡ first_some (another_of client n.end ∷ transit_of n.end ∷ closing call ∷ peer_of n.fault ∷ kind_line n.bound call ∷ misuse_of (open_end_of s n) call ∷ [])
-end_there s client call key n is there = rw (is, there) refl
+-- the lines of what the call names
+abbrev pub of_named : Readings → ℕ → Call → List (Option Reply)
+of_named r client call =
+    no_end r client call ∷ end_in_transit r call ∷ closing call ∷ peer_closed r call ∷ wrong_kind r call ∷ misuse r call ∷ no_handle r client call ∷ []
 
--- the lines before the limits, as code asks for them
-abbrev pub sooner_of : Readings → ℕ → Call → Option Reply
-sooner_of r client call =
-    let of_end : Option Reply = first_some (no_end r client call ∷ end_in_transit r call ∷ closing call ∷ peer_closed r call ∷ wrong_kind r call ∷ misuse r call ∷ []) in
-    option_or (option_or (option_or (unknown_client r client call) (shut_client r client call)) of_end) (no_handle r client call)
-
--- the lines of the end come behind two others and before one, and the limits are last
+-- the lines stand in this order
 pub lines_in_order : (limits : Bound) (r : Readings) (client : ℕ) (call : Call) →
-    first_some (answers_first limits r client call) ≡ option_or (sooner_of r client call) (first_some (limits_met limits r call))
+    first_some (answers_first limits r client call)
+    ≡ option_or (option_or (option_or (unknown_client r client call) (shut_client r client call)) (first_some (of_named r client call))) (first_some (limits_met limits r call))
 lines_in_order limits r client call = by (unknown_client r client call) (shut_client r client call)
   where
-    of_end : List (Option Reply)
-    of_end = no_end r client call ∷ end_in_transit r call ∷ closing call ∷ peer_closed r call ∷ wrong_kind r call ∷ misuse r call ∷ []
-
-    ors : (a b c : Option Reply) → option_or a (option_map_or (λ x. Some x) b c) ≡ option_or (option_or a b) c
-    ors (Some x) b c = refl
-    ors None (Some x) c = refl
-    ors None None c = refl
-
-    by : (a b : Option Reply) → first_some (a ∷ b ∷ (of_end ++ no_handle r client call ∷ limits_met limits r call))
-        ≡ option_or (option_or (option_or (option_or a b) (first_some of_end)) (no_handle r client call)) (first_some (limits_met limits r call))
+    by : (a b : Option Reply) → first_some (a ∷ b ∷ (of_named r client call ++ limits_met limits r call))
+        ≡ option_or (option_or (option_or a b) (first_some (of_named r client call))) (first_some (limits_met limits r call))
     by (Some x) b = refl
     by None (Some x) = refl
-    by None None =
-        first_some-append of_end (no_handle r client call ∷ limits_met limits r call)
-        ∙ ors (first_some of_end) (no_handle r client call) (first_some (limits_met limits r call))
+    by None None = first_some-append (of_named r client call) (limits_met limits r call)
+
+-- the limits that a call meets are those that its traits say
+pub same_limits : (limits : Bound) (r : Readings) (call : Call) (t : Traits) → Describes call t → limits_met limits r call ≡ limits_of limits r t
+same_limits limits r call t law = rw (law.node, law.collection, law.tracker, law.handles limits r) refl
+
+-- the end that the call names is that of the node that its traits name
+pub end_of_named : (s : State) (call : Call) (on : Named) (there : Option Node) → key_of call ≡ key_in on → there ≡ option_and_then (node_at s.forest) (key_in on) →
+    end_named (readings_of s) call ≡ option_and_then (open_end_in s) there
+end_of_named s call on there key is = rw (key, is) (by (key_in on))
+  where
+    by : (o : Option NodeKey) → option_and_then (end_in s) o ≡ option_and_then (open_end_in s) (option_and_then (node_at s.forest) o)
+    by None = refl
+    by (Some k) = refl

@@ -1,18 +1,44 @@
-use Rattle.std.proofs.Common.{◌≡◌, refl, ap, sym, ◌∙◌, Option}
-use Rattle.std.specs.Option.{option_or}
+use Rattle.std.proofs.Common.{◌≡◌, ap, sym, ◌∙◌, Option, Some, None}
+use Rattle.std.specs.Option.{option_map, option_or}
 use Rattle.sm_names.specs.declared.messages.Reply.{Reply}
-use Rattle.sm_names.specs.Answers.{limits_met}
+use Rattle.sm_names.specs.declared.outcomes.Refusal.{Refusal}
+use Rattle.sm_names.specs.Answers.{limits_met, shut_client, unknown_client}
 use Rattle.sm_names.specs.Words.{first_some}
 use Rattle.lifetime_core.specs.Reads.{readings_of}
-use Rattle.lifetime_core.proofs.answers.Order.{lines_in_order, sooner_of}
+use Rattle.lifetime_core.proofs.answers.Order.{lines_in_order, of_named, same_limits}
 use Rattle.lifetime_core.proofs.order.first_answer.Goals as goal
 
--- a line before the limits has an answer
+-- the clients are not known, or shut
 pub returns-in-Some : goal.returns-in-Some
 returns-in-Some c =
-    let sooner : c.or-sooner.result ≡ sooner_of (readings_of c.args.core.now) c.args.client c.args.call.now =
-    rw (c.or-sooner.ensures, c.or-2.ensures, c.or.ensures, c.unknown_client.ensures, c.shut_client.ensures, c.answer_of_end.ensures, c.no_handle.ensures) refl in
-    let limits : Option Reply = first_some (limits_met c.args.core.now.limits (readings_of c.args.core.now) c.args.call.now) in
-    c.in-Some.is
-    ∙ sym (lines_in_order c.args.core.now.limits (readings_of c.args.core.now) c.args.client c.args.call.now
-    ∙ ap (λ (o : Option Reply). option_or o limits) (sym sooner ∙ c.in-Some.is))
+    let r = readings_of c.args.core.now in
+    let call = c.args.call.now in
+    let clients : option_or (unknown_client r c.args.client call) (shut_client r c.args.client call) ≡ Some (Reply.Refused c.in-Some.refusal) =
+    sym c.refusal_of_clients.ensures ∙ ap (option_map (λ (x : Refusal). Reply.Refused x)) c.in-Some.is in
+    sym (lines_in_order c.args.core.now.limits r c.args.client call
+    ∙ ap (λ (o : Option Reply). option_or (option_or o (first_some (of_named r c.args.client call))) (first_some (limits_met c.args.core.now.limits r call))) clients)
+
+-- what is named has an answer
+pub returns-in-Some-answer_of_named : goal.returns-in-Some-answer_of_named
+returns-in-Some-answer_of_named c =
+    let r = readings_of c.args.core.now in
+    let call = c.args.call.now in
+    let clients : option_or (unknown_client r c.args.client call) (shut_client r c.args.client call) ≡ None =
+    sym c.refusal_of_clients.ensures ∙ ap (option_map (λ (x : Refusal). Reply.Refused x)) c.in_default.is in
+    let named : first_some (of_named r c.args.client call) ≡ Some c.in-Some-answer_of_named.reply = sym c.answer_of_named.ensures ∙ c.in-Some-answer_of_named.is in
+    sym (lines_in_order c.args.core.now.limits r c.args.client call
+    ∙ (λ i. option_or (option_or (clients i) (named i)) (first_some (limits_met c.args.core.now.limits r call))))
+
+-- none has, but a limit may be met
+pub returns-in-None : goal.returns-in-None
+returns-in-None c =
+    let r = readings_of c.args.core.now in
+    let call = c.args.call.now in
+    let clients : option_or (unknown_client r c.args.client call) (shut_client r c.args.client call) ≡ None =
+    sym c.refusal_of_clients.ensures ∙ ap (option_map (λ (x : Refusal). Reply.Refused x)) c.in_default.is in
+    let named : first_some (of_named r c.args.client call) ≡ None = sym c.answer_of_named.ensures ∙ c.in-None.is in
+    let limits : c.limit_met.result ≡ first_some (limits_met c.args.core.now.limits r call) =
+    c.limit_met.ensures ∙ ap first_some (sym (same_limits c.args.core.now.limits r call c.args.traits.now c.requires.law)) in
+    limits
+    ∙ sym (lines_in_order c.args.core.now.limits r c.args.client call
+    ∙ (λ i. option_or (option_or (clients i) (named i)) (first_some (limits_met c.args.core.now.limits r call))))

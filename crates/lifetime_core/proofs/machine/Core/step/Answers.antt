@@ -1,15 +1,24 @@
-use Rattle.std.proofs.Common.{◌≡◌, ◌<◌, ◌+◌, ap, sym, ◌∙◌, None, arith, rules}
+use Rattle.std.proofs.Common.{◌≡◌, ◌<◌, ◌+◌, ap, sym, ◌∙◌, None, option_copied, arith, rules}
 use Rattle.sm_names.specs.Answers.{key_told}
 use Rattle.lifetime_core.specs.Reads.{readings_of}
 use Rattle.lifetime_core.specs.State.{State}
 use Rattle.lifetime_core.specs.Tasks.{Parts, placed}
 use Rattle.lifetime_core.proofs.theorem.EventParts.{Begins, after, alone, begins, can_carry, finishes, one, step_answers, step_follows}
 use Rattle.lifetime_core.proofs.answers.Kinds.{reply-fits}
+use Rattle.lifetime_core.proofs.answers.Order.{end_of_named}
 use Rattle.lifetime_core.proofs.theorem.GoesOn.{goes_on}
 use Rattle.lifetime_core.proofs.theorem.Idle.{Idles, further, idle_follows, idle_whole, idles, parts_of}
 use Rattle.lifetime_core.proofs.theorem.Leads.{untaken_after}
 use Rattle.lifetime_core.proofs.theorem.Fields.{above, fits, moves, none_elsewhere, whole_same, whole_then}
 use Rattle.lifetime_core.proofs.machine.Core.step.Goals as goal
+
+-- the end that is asked about is that of the node that the call names
+pub answer-asked-requires : goal.answer-asked-requires
+answer-asked-requires c = record {
+  law = c.traits_of-traits.ensures.law;
+  end = end_of_named c.args.self.now c.args.call c.traits_of-traits.result.on (option_copied c.named-node.result) c.traits_of-traits.ensures.law.key c.named-node.ensures ∙ sym (c.with_end.ensures.value c.args.self.now);
+  unspent = c.with_end.ensures.unspent;
+}
 
 -- what the call does may be done
 pub take_effect-requires : goal.take_effect-requires
