@@ -1,7 +1,7 @@
 -- What the groups of a collection hold once one of them changes.
 use Rattle.std.proofs.Common.{◌≡◌, ℕ, zero, suc, ◌+◌, ◌<◌, ◌≤◌, true, false, not, ◌==◌, nat_le, List, [], ◌∷◌, ◌++◌, map, length, get_or, set, take, drop, cond, if◌then◌else◌, refl, sym, ap, ◌∙◌, arith, append_assoc, append-nil}
 use Rattle.std.specs.BinaryHeap.{heap_items, heap_len}
-use Rattle.std.specs.List.{filter, AllByRecursion}
+use Rattle.std.specs.List.{filter, insert, AllByRecursion}
 use Rattle.std.specs.List.Sorted.{IsPermutation}
 use Rattle.std.proofs.lemmas.Bool.Decides.{nat_tests}
 use Rattle.std.proofs.lemmas.List.{drop_more, nil_from_length, take_more, take-append-drop}
@@ -99,6 +99,14 @@ entries_append (x ∷ xs) ys = ap (λ l. asking x ++ l) (entries_append xs ys) �
 pub weigh_push : (f : Wish → ℕ) (qs : List Group) (q : Group) → weigh f (entries_in (qs ++ q ∷ [])) ≡ weigh f (entries_in qs) + weigh f (asking q)
 weigh_push f qs q = ap (weigh f) (entries_append qs (q ∷ []) ∙ ap (λ l. entries_in qs ++ l) (append-nil (asking q))) ∙ weigh_append f (entries_in qs) (asking q)
 
+-- one group more between others
+weigh_between : (f : Wish → ℕ) (xs : List Group) (q : Group) (ys : List Group) → weigh f (entries_in (xs ++ q ∷ ys)) ≡ weigh f (asking q) + (weigh f (entries_in xs) + weigh f (entries_in ys))
+weigh_between f xs q ys = omega (arith, ap (weigh f) (entries_append xs (q ∷ ys)), weigh_append f (entries_in xs) (asking q ++ entries_in ys), weigh_append f (asking q) (entries_in ys))
+
+-- those up to a place and those from it on are all
+weigh_halves : (f : Wish → ℕ) (qs : List Group) (at : ℕ) → weigh f (entries_in qs) ≡ weigh f (entries_in (take at qs)) + weigh f (entries_in (drop at qs))
+weigh_halves f qs at = ap (λ l. weigh f (entries_in l)) (sym (take-append-drop at qs)) ∙ (ap (weigh f) (entries_append (take at qs) (drop at qs)) ∙ weigh_append f (entries_in (take at qs)) (entries_in (drop at qs)))
+
 -- one group changes
 weigh_set : (f : Wish → ℕ) (qs : List Group) (at : ℕ) (q d : Group) → at < length qs → weigh f (entries_in (set qs at q)) + weigh f (asking (get_or qs at d)) ≡ weigh f (entries_in qs) + weigh f (asking q)
 weigh_set f [] at q d within = absurd (omega arith)
@@ -121,11 +129,11 @@ put_same f qs at was now within here same =
     omega (arith, changed, old, ap (weigh f) same)
 
 -- a new group
-pub join_step : (f : Wish → ℕ) (old now after : List Group) (q : Group) (condition : Condition) (place : ℕ) (empty : List (ℕ × ℕ)) → now ≡ old → after ≡ now ++ q ∷ [] → empty ≡ [] → weigh f (asking q) ≡ f (condition, place) + weigh f (map (wish_at condition) empty) →
-    weigh f (entries_in after) ≡ f (condition, place) + weigh f (entries_in old)
-join_step f old now after q condition place empty same pushed none more =
+pub join_step : (f : Wish → ℕ) (qs : List Group) (at : ℕ) (q : Group) (condition : Condition) (place : ℕ) (empty : List (ℕ × ℕ)) → empty ≡ [] → weigh f (asking q) ≡ f (condition, place) + weigh f (map (wish_at condition) empty) →
+    weigh f (entries_in (insert qs at q)) ≡ f (condition, place) + weigh f (entries_in qs)
+join_step f qs at q condition place empty none more =
     let nothing : weigh f (map (wish_at condition) empty) ≡ 0 = ap (λ (l : List (ℕ × ℕ)). weigh f (map (wish_at condition) l)) none in
-    omega (arith, ap (λ l. weigh f (entries_in l)) pushed, weigh_push f now q, ap (λ l. weigh f (entries_in l)) same, more, nothing)
+    omega (arith, more, nothing, weigh_between f (take at qs) q (drop at qs), weigh_halves f qs at)
 
 -- ---- a part of what each group asks goes
 
@@ -155,10 +163,7 @@ part_step f g qs start at was now within there others here left so_far =
 
 -- the groups so far ask no more than all
 asks_fewer : (g : Wish → ℕ) (qs : List Group) (at : ℕ) → weigh g (entries_in (take at qs)) ≤ weigh g (entries_in qs)
-asks_fewer g qs at =
-    let whole : weigh g (entries_in qs) ≡ weigh g (entries_in (take at qs)) + weigh g (entries_in (drop at qs)) =
-    ap (λ l. weigh g (entries_in l)) (sym (take-append-drop at qs)) ∙ (ap (weigh g) (entries_append (take at qs) (drop at qs)) ∙ weigh_append g (entries_in (take at qs)) (entries_in (drop at qs))) in
-    omega (arith, whole)
+asks_fewer g qs at = omega (arith, weigh_halves g qs at)
 
 -- ---- what is due
 

@@ -1,5 +1,5 @@
 -- How the rows that wait are filed, by collection and then by the node or the buffer that they wait for. No public clause cites this module.
-use Rattle.std.specs.Prelude.{◌≡◌, ℕ, ◌+◌, Bool, true, not, nat_eq, ◌==◌, if◌then◌else◌, List, [], ◌∷◌, ◌++◌, map, Vec}
+use Rattle.std.specs.Prelude.{◌≡◌, ℕ, ◌+◌, ◌*◌, Bool, true, not, nat_eq, ◌==◌, if◌then◌else◌, List, [], ◌∷◌, ◌++◌, map, Vec}
 use Rattle.std.specs.BinaryHeap.{heap_items, heap_len}
 use Rattle.std.specs.List.{filter}
 use Rattle.std.specs.Option.{option_map_or}
@@ -30,6 +30,12 @@ abbrev pub number_of : Condition → ℕ
 number_of (Condition.Node key) = 0
 number_of (Condition.Lifetime key collection most) = most
 number_of (Condition.Weak buffer) = 0
+
+-- the number by which a group of such conditions stands among the others
+abbrev pub rank : Condition → ℕ
+rank (Condition.Node key) = 4 * key.slot
+rank (Condition.Lifetime key collection most) = 4 * key.slot + 1
+rank (Condition.Weak buffer) = 4 * buffer.index + 2
 
 -- what one row of a group waits for, where this is the condition of another
 abbrev pub wish_at : Condition → ℕ × ℕ → Wish

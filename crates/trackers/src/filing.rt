@@ -1,8 +1,7 @@
 //! The rows that wait, filed by collection and then by the node or the buffer that they wait for.
 ghost use Rattle.std.specs.Prelude.{◌≡◌, ℕ, ◌+◌, ◌<◌, ◌≤◌, ◌==◌, [], true, length, vec_len, vec_capacity, slice_index_or, if◌then◌else◌, ⊤, OnOk, OnErr, OnSome, IfSome, MatchOption};
 ghost use Rattle.std.specs.BinaryHeap.{heap_len};
-ghost use Rattle.trackers.specs.declared.group.Group.{Group as Filed};
-ghost use Rattle.trackers.specs.Filing.{Wish, TakesDue, asking, at_most as narrowed, due_in, entries_in, entries_of, number_of as number_in, undue_in, weigh, weigh_at};
+ghost use Rattle.trackers.specs.Filing.{Wish, TakesDue, asking, at_most as narrowed, due_in, entries_in, entries_of, number_of as number_in, rank as rank_of, undue_in, weigh, weigh_at};
 
 use crate::group::Group;
 use crate::world::{World, holds_in};
@@ -40,18 +39,25 @@ fn is_of(group: &Group, condition: Condition) -> bool
     at_most(group.condition, number_of(condition)) == condition
 }
 
-/// Where the group of the condition stands.
-fn find(groups: &[Group], condition: Condition) -> Option<usize>
-    ensures within { IfSome result (λ at. at < length groups.now) }
-    ensures named { IfSome result (λ at. (d : Filed) →
-        narrowed (slice_index_or groups.now at d).condition (number_in condition) ≡ condition) }
+/// A number by which groups stand in order: the same for all conditions of one group.
+fn rank(condition: Condition) -> u64
+    ensures { result ≡ rank_of condition }
 {
-    for at in 0..groups.len() {
-        if is_of(&groups[at], condition) {
-            return Some(at);
-        }
+    match condition {
+        Condition::Node(key) => 4 * key.slot as u64,
+        Condition::Lifetime(key, _, _) => 4 * key.slot as u64 + 1,
+        Condition::Weak(buffer) => 4 * buffer.index as u64 + 2,
     }
-    None
+}
+
+/// Where the group of the condition stands, or is to stand: groups before it have smaller numbers.
+/// No proof rests on their order, but what a search costs: a second group of a condition would be
+/// asked too.
+fn place_for(groups: &[Group], condition: Condition) -> usize
+    ensures { result ≤ length groups.now }
+{
+    let number = rank(condition);
+    groups.partition_point(|group| rank(group.condition) < number)
 }
 
 /// Puts the place into the group, of which the condition is one.
@@ -77,16 +83,16 @@ fn join(
     ensures err { OnErr result ((f : Wish → ℕ) → weigh f (entries_in groups.new.items)
         ≡ weigh f (entries_in groups.old.items)) }
 {
-    if let Some(at) = find(groups, condition) {
+    let at = place_for(groups, condition);
+    if at < groups.len() && is_of(&groups[at], condition) {
         return put(&mut groups[at], condition, place);
     }
-    groups.reserve(1)?;
     let mut group = Group {
         condition,
         waiting: BinaryHeap::new(alloc),
     };
     put(&mut group, condition, place)?;
-    groups.push_reserved(group);
+    groups.insert(at, group)?;
     Ok(())
 }
 
