@@ -1,9 +1,24 @@
-//! What no contract says: that calls succeed where there is memory, and that a script is played.
-use stage::stage;
+//! What no contract says: that calls succeed where there is memory, that scripts are played, and that
+//! actors run side by side.
+use stage::{Scene, stage};
 
+mod alone;
+mod asking;
+mod meeting;
 mod stage;
+mod together;
 
 #[test]
 fn a_script_is_played_to_its_end(rt: HostRuntime) {
-    stage(&rt, rt.alloc())
+    stage(&rt, rt.alloc(), Scene::Alone)
+}
+
+#[test]
+fn two_actors_end_with_nothing(rt: HostRuntime) {
+    stage(&rt, rt.alloc(), Scene::Together)
+}
+
+#[test]
+fn actors_wait_for_one_another_outside_the_lock(rt: HostRuntime) {
+    stage(&rt, rt.alloc(), Scene::Meeting)
 }
