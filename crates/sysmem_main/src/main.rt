@@ -1,4 +1,4 @@
-//! The program: `sysmem run` answers a script.
+//! The program: `sysmem run` answers a script, `sysmem threads` runs its clients side by side.
 #![tactic(auto)]
 
 ghost use Rattle.std.specs.Prelude.{◌≡◌};
@@ -13,7 +13,8 @@ use clap::error::ErrorKind;
 use sm_script::run_to_exit;
 use std::process::ExitCode;
 use std::{env, io};
-use words::{command, pages_of};
+use thread_runs::run_threads_to_exit;
+use words::{asks_for_threads, command, pages_of};
 
 // The status of what clap says of the words.
 fn status_of(kind: ErrorKind) -> u8
@@ -76,6 +77,16 @@ fn main(rt: HostRuntime) -> ExitCode {
         let _ = rt.eprintln("the pool has from 1 to 1048576 pages");
         return ExitCode::from(2);
     };
+    if asks_for_threads(&matches) {
+        return run_threads_to_exit(
+            &rt,
+            alloc,
+            &mut rt.reader(),
+            &mut io::writer(&rt),
+            &mut io::writer(&rt.stderr()),
+            pages,
+        );
+    }
     run_to_exit(
         alloc,
         &mut rt.reader(),

@@ -1,5 +1,6 @@
 //! The words of the command line.
-ghost use Rattle.std.specs.Prelude.{option_map};
+ghost use Rattle.std.specs.Prelude.{◌≡◌, ◌↔◌, true, Some, codes, option_map};
+ghost use Rattle.clap.specs.Matches.{subcommand_name_of};
 ghost use Rattle.sysmem_main.specs.Asked.{AreAsked, pages_text};
 
 use clap::{Arg, ArgAction, ArgMatches, Command, value_parser};
@@ -14,9 +15,55 @@ const VERSION: &str = "0.1.0";
 
 const RUN_ABOUT: &str = "Answers the script on standard input, on standard output";
 
+const THREADS_ABOUT: &str = "\
+Runs the clients of the script on standard input side by side, and reports on them";
+
+// It stands in the help of each command.
+const LINES: &str = "\
+Each line of a script says what a client asks. C and D are clients, N and M
+nodes, T is a tracker, B a buffer such as r.0, S is strong or weak.
+
+    C join                  makes the client C
+    C shut                  C is given nothing more
+    C open N                makes a collection, whose root token is N
+    C dup N M               makes a child token M of the token N
+    C attach N M            makes a token M attached to the collection N
+    C bind N                turns the token N into a collection
+    C sync N                asks whether N is well
+    C dispensable N         once there are buffers, the token N fails alone
+    C weak N                N keeps no buffers alive
+    C weakok N              N copes with weak handles
+    C weakok N children     so do all nodes below its later children
+    C constrain N CAMPING AT_LEAST SIZE
+                            on how many buffers N camps, how many there are to
+                            be at least, and of how many bytes
+    C check N               asks whether the buffers are there
+    C take N                opens a handle on each buffer
+    C release N             leaves in good order, and spends the end
+    C close N               closes the end; without a release, N fails
+    C give N D              puts the end of N into a parcel for D
+    C collect M             takes what waits first for C
+    C duph B S              opens one more handle
+    C droph B S             drops a handle
+    C giveh B S D           puts a handle into a parcel for D
+    C tracknode N T         makes a tracker that fires once N is gone
+    C tracklife N NUMBER T  one that fires once at most so many buffers are left
+    C trackweak B T         one that fires once nothing strong keeps B
+    C poll T                asks whether T fired
+    show live               the live nodes
+    show held               the held buffers with their pages
+    show fired              the trackers that fired
+    show free               how many pages are free
+
+Empty lines and lines that begin with # are skipped. A line is bad that is
+longer than 256 bytes, or is the last one and has no end; with two spaces
+between words, or one before the first or after the last; with a byte 13 before
+its end; with a remark behind a call; of no form that there is; with a label of
+more than 16 letters and digits, a number out of its range or an index of 64.
+docs/SCRIPT.md has the whole language, examples/ has scripts.";
+
 const RUN_HELP: &str = "\
-A script has one call a line: the label of a client, the call, and labels of
-nodes. Each call is answered by one line. So
+Each line is answered by one line. So
 
     a join
     a open r
@@ -34,22 +81,44 @@ is answered
 
 Client a joins and makes a collection, whose root token is r. It binds the
 token, says that it camps on 2 buffers of at least 8192 bytes each, and asks
-whether the buffers are there. Empty lines and lines that begin with # are
-skipped. `show live`, `show held`, `show fired` and `show free` tell the live
-nodes, the held buffers with their pages, the trackers that fired, and how many
-pages are free; `a poll t` tells what is read of the tracker t.
-
-docs/SCRIPT.md has the whole language, examples/ has scripts with answers.
+whether the buffers are there. A line that uses an unbound label, or binds a
+bound one, is bad.
 
 Status: 0 all lines were answered; 1 read or write fault; 2 the command line was
 refused; 3 a bad line; 4 no memory, or history full. A fault is told in one line
-on standard error, once the lines before it are answered.
+on standard error, once the lines before it are answered.";
 
-A line is bad that is longer than 256 bytes, or is the last one and has no end;
-with two spaces between words, or one before the first or after the last; with
-a byte 13 before its end; with a remark behind a call; of no form that there is;
-with a label of more than 16 letters and digits, a number out of its range or an
-index of 64; that uses an unbound label, or binds a bound one.";
+const THREADS_HELP: &str = "\
+Each client is an actor in a thread of its own, and the lines that it begins are
+its steps, in their order; how the steps of different actors fall between each
+other is open. So
+
+    a join
+    b join
+    a open r
+    a bind r
+    b open s
+
+is reported
+
+    events 9
+    a events 4 strong 0 weak 0
+    b events 3 strong 0 weak 0
+    gather ok
+
+All clients join first, and there is no show. Labels of nodes and trackers are an
+actor's own. A step is left out if a label that it uses stands for nothing that
+the actor has, or one that it binds stands for something. At its end each actor
+is shut, collects what waits for it, closes its tokens and its collections, and
+drops its handles. Then all is gathered, and the report tells how many events
+there were, and for each actor how many it made after its join and how many
+handles of each strength it has open.
+
+Status: 0 the report was written; 1 read or write fault; 2 the command line was
+refused; 3 a bad line: a show, a join behind a step or of a client that joined,
+a step of one that did not or for one, or no client at all; 4 no memory, no
+thread, or history full; 5 what the actors had at the end does not fit the
+record. A fault is told in one line on standard error, and nothing is reported.";
 
 // The option `--pages N`.
 fn pages_word<'a>(alloc: Global) -> Arg<'a> {
@@ -62,11 +131,20 @@ fn pages_word<'a>(alloc: Global) -> Arg<'a> {
         .help("How many pages of 4096 bytes the pool has, from 1 to 1048576")
 }
 
+// The second command.
+const THREADS: &str = "threads";
+
 /// The commands with their options and help.
 pub fn command<'a>(alloc: Global) -> Result<Command<'a>, AllocError> {
     let run = Command::new(alloc, "run")
         .about(RUN_ABOUT)
+        .long_about(LINES)
         .after_help(RUN_HELP)
+        .arg(pages_word(alloc))?;
+    let threads = Command::new(alloc, THREADS)
+        .about(THREADS_ABOUT)
+        .long_about(LINES)
+        .after_help(THREADS_HELP)
         .arg(pages_word(alloc))?;
     Command::new(alloc, "sysmem")
         .bin_name("sysmem")?
@@ -74,7 +152,8 @@ pub fn command<'a>(alloc: Global) -> Result<Command<'a>, AllocError> {
         .about(ABOUT)
         .after_help("'sysmem run --help' tells what a script is.")
         .subcommand_required(true)
-        .subcommand(run)
+        .subcommand(run)?
+        .subcommand(threads)
 }
 
 /// The pages that the matches of a parse ask for: the number that stands behind the subcommand's
@@ -86,4 +165,14 @@ pub fn pages_of(matches: &ArgMatches<'_>) -> Option<Pages>
 {
     let (_, inner) = matches.subcommand()?;
     Pages::new(inner.get_one::<u32>("pages")?)
+}
+
+/// Whether the matches of a parse ask for a run of actors. Takes a constant time.
+pub fn asks_for_threads(matches: &ArgMatches<'_>) -> bool
+    ensures { (result ≡ true) ↔ (subcommand_name_of matches.now ≡ Some (codes "threads")) }
+{
+    match matches.subcommand_name() {
+        Some(name) => name == THREADS,
+        None => false,
+    }
 }

@@ -1,10 +1,10 @@
 //! The status that a program ends with, and what it tells.
-use crate::tests::fixture::{Drip, open_sink};
 use script_runs::Pages;
 use sm_script::run_to_exit;
 use std::alloc::Global;
 use std::process::{Abort, ExitCode};
 use std::test::Fail;
+use trial_streams::{Drip, Sink};
 
 // Asserts the replies to a script, what is told of its fault, and the status.
 fn check_exit(
@@ -55,9 +55,9 @@ fn streams_that_fail_end_with_1(rt: HostRuntime) -> Result<(), Fail> {
             reads: 0,
             fails: read_fails,
         };
-        let mut writer = open_sink(alloc);
+        let mut writer = Sink::new(alloc);
         writer.fails = write_fails;
-        let mut faults = open_sink(alloc);
+        let mut faults = Sink::new(alloc);
         let ended = run_to_exit(alloc, &mut reader, &mut writer, &mut faults, pages);
         assert!(rt; ended == ExitCode::from(1), "{told}");
         assert_eq!(rt; faults.bytes.as_slice(), told.as_bytes());
@@ -74,7 +74,7 @@ fn a_fault_that_nobody_hears_keeps_its_status(rt: HostRuntime) -> Result<(), Fai
     };
     let mut reader = b"a fly\n".as_slice();
     let mut out = Vec::new(alloc);
-    let mut faults = open_sink(alloc);
+    let mut faults = Sink::new(alloc);
     faults.fails = 4;
     let ended = run_to_exit(alloc, &mut reader, &mut out, &mut faults, pages);
     assert!(rt; ended == ExitCode::from(3));

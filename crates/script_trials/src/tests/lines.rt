@@ -1,10 +1,11 @@
 //! Which lines are good, and what they ask.
-use crate::tests::fixture::{check, open_sink, play};
+use crate::tests::fixture::{check, play};
 use sm_names::Limits;
 use sm_script::ScriptFault;
 use std::alloc::Global;
 use std::process::Abort;
 use std::test::Fail;
+use trial_streams::Sink;
 
 // Asserts what a line is answered after two clients joined and the first made a collection.
 fn check_line(rt: &impl Abort, alloc: Global, line: &str, reply: &str) -> Result<(), Fail> {
@@ -213,7 +214,7 @@ fn remark_of(alloc: Global, count: usize) -> Result<Vec<u8>, Fail> {
 fn a_line_of_more_than_256_bytes_is_bad(rt: HostRuntime) -> Result<(), Fail> {
     for (count, outcome) in [(255, Ok(())), (256, Err(ScriptFault::BadLine(2)))] {
         let script = remark_of(rt.alloc(), count)?;
-        let mut out = open_sink(rt.alloc());
+        let mut out = Sink::new(rt.alloc());
         assert_eq!(rt;
             play(rt.alloc(), script.as_slice(), 64, 0, &mut out),
             outcome
