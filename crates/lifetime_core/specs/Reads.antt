@@ -6,12 +6,13 @@ use Rattle.sm_names.specs.declared.keys.BufferName.{BufferName}
 use Rattle.sm_names.specs.declared.keys.Kind.{Kind}
 use Rattle.sm_names.specs.declared.keys.NodeKey.{NodeKey}
 use Rattle.sm_names.specs.declared.keys.Strength.{Strength}
+use Rattle.sm_names.specs.declared.messages.Call.{Call}
 use Rattle.sm_names.specs.declared.outcomes.Buffers.{Buffers}
 use Rattle.sm_names.specs.declared.outcomes.Fault.{Fault}
 use Rattle.sm_names.specs.Answers.{OpenEnd, Readings}
 use Rattle.sm_names.specs.Handles.{is_doomed}
 use Rattle.sm_names.specs.Members.{some_strong_live}
-use Rattle.sm_names.specs.Timelines.{HeldPages}
+use Rattle.sm_names.specs.Timelines.{HeldPages, key_of}
 use Rattle.sm_names.specs.Trackers.{World}
 use Rattle.sm_names.specs.Views.{Views}
 use Rattle.buffer_holds.specs.Counts.{of, total}
@@ -68,6 +69,10 @@ open_end_in s n = if is_spent n.end then None else Some (open_end_of s n)
 -- the end of the node with this key, unless it is spent
 abbrev pub end_in : State → NodeKey → Option OpenEnd
 end_in s key = option_and_then (open_end_in s) (node_at s.forest key)
+
+-- the node that the call names, if it is kept
+abbrev pub node_named : State → Call → Option Node
+node_named s call = option_and_then (node_at s.forest) (key_of call)
 
 -- the client with this number, if it joined
 abbrev pub client_in : State → ℕ → Option Client

@@ -248,13 +248,6 @@ impl Core {
         has_joined(&self.clients, client)
     }
 
-    // The node with this key.
-    pub(crate) fn node(&self, key: NodeKey) -> Option<&Node>
-        ensures { option_copied result ≡ node_at self.now.forest key }
-    {
-        self.forest.node(key)
-    }
-
     // The node with this key, unless its end is spent.
     pub(crate) fn node_with_end(&self, key: NodeKey) -> Option<&Node>
         ensures value { end_in self.now key
@@ -355,8 +348,8 @@ impl Core {
             self.events = self.next_event();
             return Ok(asked);
         }
-        let task = task_of(self, client, &call, &asked);
-        let tracking = tracking_of(self, &call, &asked);
+        let task = task_of(self, client, &call, &asked, traits.on, node);
+        let tracking = tracking_of(self, &call, &asked, node);
         let Ok(reply) = take_effect(
             &mut self.clients,
             &mut self.forest,

@@ -2,16 +2,14 @@
 ghost use Rattle.std.specs.Prelude.{◌≡◌, ◌<◌, OnOk, OnErr, IfSome, Some, false, length, option_copied};
 ghost use Rattle.std.specs.List.{All};
 ghost use Rattle.trackers.specs.Table.{Cell, Table, Waiting, is_due};
-ghost use Rattle.alloc_event.specs.declared.node.Node.{Node as Kept};
 ghost use Rattle.std.specs.Option.{option_map};
-ghost use Rattle.lifetime_core.specs.Reads.{world_in};
+ghost use Rattle.lifetime_core.specs.Reads.{node_named, world_in};
 ghost use Rattle.lifetime_core.specs.Steps.{Gains, swept, tracker_by};
 ghost use Rattle.lifetime_core.specs.Tasks.{waiting_as};
 ghost use Rattle.buffer_holds.specs.Counts.{total};
 
 use crate::machine::Core;
 use crate::sight::Sight;
-use crate::traits::key_of;
 use alloc_event::{Forest, Node};
 use buffer_holds::Holds;
 use sm_names::{Call, CollectionId, Condition, NoMemory, Reply, TrackerId};
@@ -25,35 +23,27 @@ pub(crate) struct Tracking {
     pub(crate) condition: Condition,
 }
 
-// The collection of the node, if it is there.
-fn collection_of(node: Option<&Node>) -> Option<CollectionId>
-    ensures { result ≡ option_map (λ (n : Kept). n.collection) (option_copied node.entry) }
-{
-    match node {
-        Some(node) => Some(node.collection),
-        None => None,
-    }
-}
-
-/// The tracker that the call, answered so, attaches, if it attaches one. One look-up.
-pub(crate) fn tracking_of(core: &Core, call: &Call, reply: &Reply) -> Option<Tracking>
+/// The tracker that the call, answered so, attaches, if it attaches one. The node is the one that the
+/// call names.
+pub(crate) fn tracking_of(
+    core: &Core,
+    call: &Call,
+    reply: &Reply,
+    node: Option<&Node>,
+) -> Option<Tracking>
+    requires { option_copied node ≡ node_named core.now call.now }
     ensures { option_map waiting_as result ≡ tracker_by core.now.forest call.now reply.now }
 {
     let Reply::Tracker(id) = *reply else {
         return None;
     };
-    if let Call::TrackWeak(buffer) = *call {
-        return Some(Tracking {
-            id,
-            collection: buffer.collection,
-            condition: Condition::Weak(buffer),
-        });
-    }
-    let key = key_of(call)?;
-    let collection = collection_of(core.node(key))?;
-    let condition = match *call {
-        Call::TrackNode(_) => Condition::Node(key),
-        Call::TrackLifetime(_, most) => Condition::Lifetime(key, collection, most),
+    let (collection, condition) = match *call {
+        Call::TrackNode(key) => (node?.collection, Condition::Node(key)),
+        Call::TrackLifetime(key, most) => {
+            let collection = node?.collection;
+            (collection, Condition::Lifetime(key, collection, most))
+        }
+        Call::TrackWeak(buffer) => (buffer.collection, Condition::Weak(buffer)),
         _ => {
             return None;
         }

@@ -1,5 +1,5 @@
 //! What an event does to a collection.
-ghost use Rattle.std.specs.Prelude.{◌≡◌, ℕ, IfOk, IfSome, OnErr, is_some, true, None};
+ghost use Rattle.std.specs.Prelude.{◌≡◌, ℕ, IfOk, IfSome, OnErr, is_some, true, None, option_copied};
 ghost use Rattle.std.specs.Option.{option_map, option_or};
 ghost use Rattle.sm_names.specs.declared.keys.NodeKey.{NodeKey as Key};
 ghost use Rattle.sm_names.specs.Answers.{answer as answer_of};
@@ -10,17 +10,18 @@ ghost use Rattle.alloc_event.specs.Forest.{IsPoolOf, SameKeys, all_held, node_at
 ghost use Rattle.alloc_event.specs.Settling.{no_key};
 ghost use Rattle.lifetime_core.specs.declared.sweeping.Tracking.{Tracking as Tracked};
 ghost use Rattle.lifetime_core.specs.declared.task.Task.{Task as Done};
-ghost use Rattle.lifetime_core.specs.Reads.{readings_of};
+ghost use Rattle.lifetime_core.specs.Reads.{node_named, readings_of};
 ghost use Rattle.lifetime_core.specs.Steps.{at_collection, at_node as change_at, birth_by, done_to};
 ghost use Rattle.lifetime_core.specs.Steps.{work_of, with_place, without_over};
 ghost use Rattle.lifetime_core.specs.Tasks.{DoesSome, MayDo, Reworked, SpendsThere, carried_by};
 ghost use Rattle.lifetime_core.specs.Tasks.{place_as, placed, spent_by, spent_in, spent_place, work_in};
+ghost use Rattle.lifetime_core.specs.Traits.{key_in as key_on};
 ghost use Rattle.lifetime_core.specs.Whole.{AreUpTo, CanCarry, CanFinish, IsSound};
 
 use crate::machine::Core;
 use crate::sweeping::Tracking;
-use crate::traits::key_of;
-use alloc_event::{Change, End, Forest};
+use crate::traits::Named;
+use alloc_event::{Change, End, Forest, Node};
 use buffer_holds::Holds;
 use buffer_pool::Pool;
 use sm_names::{Call, Cause, ClientId, CollectionId, NoMemory, NodeKey, Reply};
@@ -80,7 +81,8 @@ fn dropped(core: &Core, collection: CollectionId) -> Option<Task>
 }
 
 // A call on a node that was answered Done.
-fn done(core: &Core, call: &Call) -> Option<Task>
+fn done(core: &Core, call: &Call, node: Option<&Node>) -> Option<Task>
+    requires node { option_copied node ≡ node_named core.now call.now }
     requires there { IfSome (key_in call.now) (λ key.
         is_some (node_at core.now.forest key) ≡ true) }
     ensures work { work_in result ≡ done_to core.now.forest call.now }
@@ -91,18 +93,16 @@ fn done(core: &Core, call: &Call) -> Option<Task>
     if let Call::DropHandle(buffer, _) = *call {
         return dropped(core, buffer.collection);
     }
-    let key = key_of(call)?;
-    let node = core.node(key)?;
-    let lost = Change::Loss(key, Cause::Lost);
+    let node = node?;
     let (change, spends) = match *call {
         Call::Bind(_)
         | Call::SetDispensable(_)
         | Call::SetWeak(_)
         | Call::SetWeakOk(_, _)
         | Call::SetConstraints(_, _) => (Change::Effect(*call), None),
-        Call::Release(_) => (Change::Effect(*call), Some(key)),
-        Call::Close(_) if node.gone => (Change::Nothing, Some(key)),
-        Call::Close(_) => (lost, Some(key)),
+        Call::Release(key) => (Change::Effect(*call), Some(key)),
+        Call::Close(key) if node.gone => (Change::Nothing, Some(key)),
+        Call::Close(key) => (Change::Loss(key, Cause::Lost), Some(key)),
         _ => {
             return None;
         }
@@ -115,13 +115,14 @@ fn done(core: &Core, call: &Call) -> Option<Task>
 }
 
 // The change to the node's collection, if the node is there.
-fn at_node(core: &Core, key: NodeKey, change: Change) -> Option<Task>
+fn at_node(core: &Core, key: NodeKey, node: Option<&Node>, change: Change) -> Option<Task>
+    requires { option_copied node ≡ node_at core.now.forest key }
     ensures work { work_in result ≡ change_at core.now.forest key (λ n. change) }
     ensures spends { spent_in result ≡ None }
     ensures there { IfSome result (SpendsThere core.now.forest) }
     ensures some { IfSome result DoesSome }
 {
-    let node = core.node(key)?;
+    let node = node?;
     Some(Task {
         collection: node.collection,
         change: Some(change),
@@ -129,8 +130,18 @@ fn at_node(core: &Core, key: NodeKey, change: Change) -> Option<Task>
     })
 }
 
-/// What the call, answered so, does to a collection, if it does anything there.
-pub(crate) fn task_of(core: &Core, client: ClientId, call: &Call, reply: &Reply) -> Option<Task>
+/// What the call, answered so, does to a collection, if it does anything there. The call is on this,
+/// and the node is the one that it names.
+pub(crate) fn task_of(
+    core: &Core,
+    client: ClientId,
+    call: &Call,
+    reply: &Reply,
+    on: Named,
+    node: Option<&Node>,
+) -> Option<Task>
+    requires key { key_in call.now ≡ key_on on }
+    requires node { option_copied node ≡ node_named core.now call.now }
     requires answered { reply.now
         ≡ answer_of core.now.limits (readings_of core.now) client no_key call.now }
     ensures work { work_in result ≡ work_of core.now client call.now reply.now }
@@ -140,19 +151,21 @@ pub(crate) fn task_of(core: &Core, client: ClientId, call: &Call, reply: &Reply)
 {
     match (*call, *reply) {
         (_, Reply::Token { collection, .. }) => birth(core, client, call, collection),
-        (_, Reply::Done) => done(core, call),
-        (_, Reply::Misused(misuse)) => {
-            let key = key_of(call)?;
-            at_node(core, key, Change::Loss(key, Cause::Misused(misuse)))
-        }
+        (_, Reply::Done) => done(core, call, node),
+        (_, Reply::Misused(misuse)) => match on {
+            Named::End(key) => {
+                at_node(core, key, node, Change::Loss(key, Cause::Misused(misuse)))
+            }
+            Named::Nothing | Named::Handle(_, _) => None,
+        },
         (Call::Take(key), Reply::Taken { .. }) => {
-            at_node(core, key, Change::Effect(Call::Take(key)))
+            at_node(core, key, node, Change::Effect(Call::Take(key)))
         }
         (Call::TrackNode(key), Reply::Tracker(_)) => {
-            at_node(core, key, Change::Effect(Call::TrackNode(key)))
+            at_node(core, key, node, Change::Effect(Call::TrackNode(key)))
         }
         (Call::Release(key), Reply::PeerClosed { .. }) => {
-            let node = core.node(key)?;
+            let node = node?;
             Some(Task {
                 collection: node.collection,
                 change: None,

@@ -1,6 +1,5 @@
 //! What each call names and makes, said once.
 ghost use Rattle.std.specs.Prelude.{◌≡◌};
-ghost use Rattle.sm_names.specs.Timelines.{key_of as key_of_call};
 ghost use Rattle.lifetime_core.specs.Traits.{Describes, is_acquired as is_acquired_in};
 ghost use Rattle.lifetime_core.specs.Traits.{of_end as at_end, of_handle as at_handle};
 ghost use Rattle.lifetime_core.specs.Traits.{of_nothing as at_nothing, traits_of as traits_in};
@@ -115,15 +114,5 @@ pub(crate) fn traits_of(call: &Call) -> Traits
             ..of_handle(buffer, strength, Made::Nothing)
         },
         Call::TrackWeak(buffer) => of_handle(buffer, Strength::Weak, Made::Tracker),
-    }
-}
-
-/// The node that the call names.
-pub(crate) fn key_of(call: &Call) -> Option<NodeKey>
-    ensures { result ≡ key_of_call call.now }
-{
-    match traits_of(call).on {
-        Named::End(key) => Some(key),
-        Named::Nothing | Named::Handle(_, _) => None,
     }
 }

@@ -1,8 +1,15 @@
-use Rattle.std.proofs.Common.{◌≡◌, ◌<◌, ◌+◌, ap, sym, ◌∙◌, None, option_copied, arith, rules}
+use Rattle.std.proofs.Common.{◌≡◌, ◌<◌, ◌+◌, ap, sym, ◌∙◌, Option, None, option_copied, arith, rules}
+use Rattle.std.specs.Option.{option_and_then}
+use Rattle.sm_names.specs.declared.messages.Call.{Call}
 use Rattle.sm_names.specs.Answers.{key_told}
-use Rattle.lifetime_core.specs.Reads.{readings_of}
+use Rattle.sm_names.specs.Timelines.{key_of}
+use Rattle.alloc_event.specs.declared.node.Node.{Node}
+use Rattle.alloc_event.specs.Forest.{node_at}
+use Rattle.lifetime_core.specs.declared.traits.Named.{Named}
+use Rattle.lifetime_core.specs.Reads.{node_named, readings_of}
 use Rattle.lifetime_core.specs.State.{State}
 use Rattle.lifetime_core.specs.Tasks.{Parts, placed}
+use Rattle.lifetime_core.specs.Traits.{key_in}
 use Rattle.lifetime_core.proofs.theorem.EventParts.{Begins, after, alone, begins, can_carry, finishes, one, step_answers, step_follows}
 use Rattle.lifetime_core.proofs.answers.Kinds.{reply-fits}
 use Rattle.lifetime_core.proofs.answers.Order.{end_of_named}
@@ -36,6 +43,21 @@ take_effect-requires c =
       room = fits s c.args.client c.args.call c.answer-asked.result c.answer-asked.result c.task_of-task.result c.tracking_of-tracking.result b;
       alone = alone s c.args.client c.args.call c.answer-asked.result c.answer-asked.result c.task_of-task.result c.tracking_of-tracking.result b;
     }
+
+-- the node is the one that the call names
+names_it : (s : State) (call : Call) (on : Named) (there : Option Node) → key_of call ≡ key_in on → there ≡ option_and_then (node_at s.forest) (key_in on) → there ≡ node_named s call
+names_it s call on there key is = is ∙ ap (option_and_then (node_at s.forest)) (sym key)
+
+pub task_of-task-requires : goal.task_of-task-requires
+task_of-task-requires c = record {
+  key = c.traits_of-traits.ensures.law.key;
+  node = names_it c.args.self.now c.args.call c.traits_of-traits.result.on (option_copied c.named-node.result) c.traits_of-traits.ensures.law.key c.named-node.ensures;
+  answered = c.answer-asked.ensures;
+}
+
+pub tracking_of-tracking-requires : goal.tracking_of-tracking-requires
+tracking_of-tracking-requires c =
+    names_it c.args.self.now c.args.call c.traits_of-traits.result.on (option_copied c.named-node.result) c.traits_of-traits.ensures.law.key c.named-node.ensures
 
 -- the call changes nothing, and the fields are still whole
 pub invariant_of-self : goal.invariant_of-self
