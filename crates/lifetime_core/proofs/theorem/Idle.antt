@@ -20,7 +20,8 @@ use Rattle.lifetime_core.specs.Steps.{Follows, client_by, clients_by, swept, tra
 use Rattle.lifetime_core.specs.Tasks.{Parts, TakesEffect, carried_by, changes_nothing, keyed, spent_by}
 use Rattle.lifetime_core.specs.Whole.{IsWhole, StillWaits}
 use Rattle.lifetime_core.proofs.collections.ById.{all_tidy}
-use Rattle.lifetime_core.proofs.firing.Sweeps.{each_of, none_swept}
+use Rattle.event_laws.proofs.NumberLaws.{In-all}
+use Rattle.lifetime_core.proofs.firing.Sweeps.{none_swept}
 use Rattle.lifetime_core.proofs.theorem.EventParts.{Begins, begins, step_follows}
 use Rattle.lifetime_core.proofs.theorem.Fields.{whole_then}
 
@@ -143,7 +144,7 @@ idles pool s now client call asked same whole told idle = record {
   };
   carries = no_carry client call asked idle;
   tidy = sym (all_tidy s.forest.collections whole.sound.tidy);
-  still = sym (none_swept (world_in s.forest (total s.holds)) (s.events + 1) s.trackers (λ t on. (each_of (StillWaits s.forest (total s.holds)) s.trackers.unfired whole.waiting t on).undue));
+  still = sym (none_swept (world_in s.forest (total s.holds)) (s.events + 1) s.trackers (λ t on. (In-all (StillWaits s.forest (total s.holds)) s.trackers.unfired whole.waiting t on).undue));
 }
 
 module _ (s : State) (client : ℕ) (call : Call) (asked : Reply) (i : Idles s client call asked) where
