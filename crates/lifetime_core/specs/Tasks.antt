@@ -1,5 +1,5 @@
 -- What an event does to a collection, and to the forest.
-use Rattle.std.specs.Prelude.{◌≡◌, ℕ, Bool, true, false, not, List, ◌||◌, Option, Some, None, is_some, IfSome}
+use Rattle.std.specs.Prelude.{◌≡◌, ℕ, Bool, true, false, not, if◌then◌else◌, List, ◌||◌, Option, Some, None, is_some, IfSome}
 use Rattle.std.specs.Option.{option_map, option_and_then, option_or}
 use Rattle.sm_names.specs.declared.keys.NodeKey.{NodeKey}
 use Rattle.sm_names.specs.declared.messages.Call.{Call}
@@ -8,6 +8,7 @@ use Rattle.alloc_event.specs.declared.change.Change.{Change}
 use Rattle.alloc_event.specs.declared.node.End.{End}
 use Rattle.alloc_event.specs.declared.node.Node.{Node}
 use Rattle.sm_names.specs.Marks.{Called}
+use Rattle.sm_names.specs.Trackers.{World, holds}
 use Rattle.alloc_event.specs.Forest.{Forest, node_at}
 use Rattle.alloc_event.specs.Settling.{Handles, MayChange, Settled}
 use Rattle.buffer_holds.specs.Counts.{Counts, total}
@@ -92,6 +93,12 @@ takes_room _ _ = false
 -- the tracker that is to be attached, as the table of trackers sees it
 abbrev pub waiting_as : Tracking → Waiting
 waiting_as t = record { id = t.id; place = t.collection; condition = t.condition }
+
+-- where trackers may be due: in the collection that is changed, and where none is, in that of the new tracker, if it is due
+abbrev pub looked_in : World → Option ℕ → Option Tracking → Option ℕ
+looked_in world (Some id) tracking = Some id
+looked_in world None None = None
+looked_in world None (Some t) = if holds world t.condition then Some t.collection else None
 
 -- the end that the event carries: a Give puts one into a parcel, and a Collect gets one out
 abbrev pub carried_by : ℕ → Call → Reply → Option Place

@@ -37,9 +37,9 @@ ghost use Rattle.lifetime_core.specs.Traits.{key_in};
 
 use crate::clients::{Client, count_waiting, first_waiting, has_joined, is_shut};
 use crate::event::{changes_nothing, take_effect};
-use crate::sweeping::{sweep, tracking_of};
+use crate::sweeping::{place_to_sweep, sweep, tracking_of};
 use crate::table::answer;
-use crate::task::{carried_end, concerned_by, finish, task_of};
+use crate::task::{carried_end, changed_by, finish, task_of};
 use crate::traits::{Named, traits_of};
 use alloc_event::{End, Forest, HeldBuffer, Node};
 use buffer_holds::Holds;
@@ -320,8 +320,10 @@ impl Core {
     /// It costs a binary search among the clients, a few look-ups of a node, of a collection and of
     /// handles, and the work on one collection: that of the node or the buffer that the call names,
     /// or the new one. A call that changes nothing there costs only the look-ups. A Take costs at
-    /// most five look-ups more for each buffer, and an event that changes something in a collection
-    /// one test for each condition that trackers wait for there, however many wait for the same.
+    /// most five look-ups more for each buffer. An event that changes something in a collection costs
+    /// one test for each node and each buffer that trackers wait for there, two for a node of which
+    /// lifetimes are waited for too, however many wait for the same; and one that only attaches a
+    /// tracker costs a test of that one, unless it fires.
     pub fn step(&mut self, client: ClientId, call: Call) -> Result<Reply, StepFault>
         ensures answer { IfOk result (λ reply.
             IsAnswer self.old.limits (readings_of self.old) client call reply) }
@@ -365,10 +367,11 @@ impl Core {
             return Err(StepFault::NoMemory);
         };
         self.events += 1;
+        let place = place_to_sweep(changed_by(&task), tracking, &self.forest, &self.holds);
         sweep(
             &mut self.trackers,
             self.events,
-            concerned_by(&task, tracking),
+            place,
             &self.forest,
             &self.holds,
         );

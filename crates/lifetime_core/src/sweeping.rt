@@ -5,7 +5,7 @@ ghost use Rattle.trackers.specs.Table.{Cell, Table, Waiting, is_due};
 ghost use Rattle.std.specs.Option.{option_map};
 ghost use Rattle.lifetime_core.specs.Reads.{node_named, world_in};
 ghost use Rattle.lifetime_core.specs.Steps.{Gains, swept, tracker_by};
-ghost use Rattle.lifetime_core.specs.Tasks.{waiting_as};
+ghost use Rattle.lifetime_core.specs.Tasks.{looked_in, waiting_as};
 ghost use Rattle.buffer_holds.specs.Counts.{total};
 
 use crate::machine::Core;
@@ -13,7 +13,7 @@ use crate::sight::Sight;
 use alloc_event::{Forest, Node};
 use buffer_holds::Holds;
 use sm_names::{Call, CollectionId, Condition, NoMemory, Reply, TrackerId};
-use trackers::Trackers;
+use trackers::{Trackers, holds_in};
 
 /// A tracker that an event attaches, and the collection that it concerns.
 #[derive(Clone, Copy, Debug)]
@@ -91,9 +91,35 @@ pub(crate) fn detach(trackers: &mut Trackers, tracking: Option<Tracking>)
     }
 }
 
-/// Fires the trackers that are due at this event, which concerned this collection, if any: under
-/// another none is due. It takes no memory. It costs one test for each condition that is waited for
-/// under the collection, and a sort of the trackers that fire.
+/// Where trackers may be due: in the collection that was changed, and where none was, in that of the
+/// new tracker, if it is due at once: one test.
+pub(crate) fn place_to_sweep(
+    changed: Option<CollectionId>,
+    tracking: Option<Tracking>,
+    forest: &Forest,
+    holds: &Holds,
+) -> Option<CollectionId>
+    ensures { result
+        ≡ looked_in (world_in forest.now (total holds.now)) changed tracking }
+{
+    if changed.is_some() {
+        return changed;
+    }
+    let Tracking {
+        collection,
+        condition,
+        ..
+    } = tracking?;
+    if holds_in(condition, &Sight { forest, holds }) {
+        Some(collection)
+    } else {
+        None
+    }
+}
+
+/// Fires the trackers that are due at this event, all of which are filed under this collection: where
+/// there is none, none is due. It takes no memory, and costs what the trackers' own sweep of one
+/// collection costs.
 pub(crate) fn sweep(
     trackers: &mut Trackers,
     event: u64,

@@ -1,6 +1,6 @@
 //! What an event does to a collection.
 ghost use Rattle.std.specs.Prelude.{◌≡◌, ℕ, IfOk, IfSome, OnErr, is_some, true, None, option_copied};
-ghost use Rattle.std.specs.Option.{option_map, option_or};
+ghost use Rattle.std.specs.Option.{option_map};
 ghost use Rattle.sm_names.specs.declared.keys.NodeKey.{NodeKey as Key};
 ghost use Rattle.sm_names.specs.Answers.{answer as answer_of};
 ghost use Rattle.sm_names.specs.Timelines.{key_of as key_in};
@@ -8,10 +8,8 @@ ghost use Rattle.buffer_holds.specs.Counts.{total};
 ghost use Rattle.alloc_event.specs.declared.change.Change.{Change as Changed};
 ghost use Rattle.alloc_event.specs.Forest.{IsPoolOf, SameKeys, all_held, node_at};
 ghost use Rattle.alloc_event.specs.Settling.{no_key};
-ghost use Rattle.lifetime_core.specs.declared.sweeping.Tracking.{Tracking as Tracked};
-ghost use Rattle.lifetime_core.specs.declared.task.Task.{Task as Done};
 ghost use Rattle.lifetime_core.specs.Reads.{node_named, readings_of};
-ghost use Rattle.lifetime_core.specs.Steps.{at_collection, at_node as change_at, birth_by, done_to};
+ghost use Rattle.lifetime_core.specs.Steps.{Work, at_collection, at_node as change_at, birth_by, done_to};
 ghost use Rattle.lifetime_core.specs.Steps.{work_of, with_place, without_over};
 ghost use Rattle.lifetime_core.specs.Tasks.{DoesSome, MayDo, Reworked, SpendsThere, carried_by};
 ghost use Rattle.lifetime_core.specs.Tasks.{place_as, placed, spent_by, spent_in, spent_place, work_in};
@@ -19,7 +17,6 @@ ghost use Rattle.lifetime_core.specs.Traits.{key_in as key_on};
 ghost use Rattle.lifetime_core.specs.Whole.{AreUpTo, CanCarry, CanFinish, IsSound};
 
 use crate::machine::Core;
-use crate::sweeping::Tracking;
 use crate::traits::Named;
 use alloc_event::{Change, End, Forest, Node};
 use buffer_holds::Holds;
@@ -227,15 +224,19 @@ pub(crate) fn carried_end(client: ClientId, call: &Call, reply: &Reply) -> Optio
     }
 }
 
-/// The collection that the event concerns, if it changes anything that a tracker may wait for.
-pub(crate) fn concerned_by(task: &Option<Task>, tracking: Option<Tracking>) -> Option<CollectionId>
-    ensures { result ≡ option_or (option_map (λ (t : Done). t.collection) task.now)
-        (option_map (λ (t : Tracked). t.collection) tracking) }
+/// The collection to which the task makes a change, if it makes one.
+pub(crate) fn changed_by(task: &Option<Task>) -> Option<CollectionId>
+    ensures { result ≡ option_map (λ (w : Work). w.collection) (work_in task.now) }
 {
-    match (*task, tracking) {
-        (Some(task), _) => Some(task.collection),
-        (None, Some(tracking)) => Some(tracking.collection),
-        (None, None) => None,
+    match *task {
+        Some(
+            Task {
+                collection,
+                change: Some(_),
+                ..
+            },
+        ) => Some(collection),
+        _ => None,
     }
 }
 

@@ -1,8 +1,8 @@
 -- What an event keeps of the trackers.
-use Rattle.std.proofs.Common.{ℕ, ◌≡◌, ◌<◌, ◌≤◌, ◌+◌, refl, ap, sym, ◌∙◌, subst, true, false, nat_le, length, not, ◌⊎◌, inl, inr, [], ◌∷◌, Option, Some, None, is_some, IfSome, arith}
+use Rattle.std.proofs.Common.{ℕ, ◌≡◌, ◌<◌, ◌≤◌, ◌+◌, refl, ap, sym, ◌∙◌, subst, Bool, true, false, nat_le, if◌then◌else◌, length, not, ◌⊎◌, inl, inr, [], ◌∷◌, Option, Some, None, is_some, IfSome, arith}
 use Rattle.std.proofs.lemmas.Bool.{eqb-true, eq-eqb, leb-false}
 use Rattle.std.specs.List.{All}
-use Rattle.std.specs.Option.{option_map, option_or}
+use Rattle.std.specs.Option.{option_map}
 use Rattle.sm_names.specs.declared.keys.BufferName.{BufferName}
 use Rattle.sm_names.specs.declared.keys.NodeKey.{NodeKey}
 use Rattle.sm_names.specs.declared.keys.Strength.{Strength}
@@ -15,6 +15,7 @@ use Rattle.sm_names.specs.Bounds.{Bound}
 use Rattle.sm_names.specs.Handles.{drops, opens}
 use Rattle.sm_names.specs.Marks.{Called}
 use Rattle.sm_names.specs.Sameness.{same_buffer}
+use Rattle.sm_names.specs.Trackers.{World, holds}
 use Rattle.sm_names.proofs.AnswerLaws.{took_effect_all}
 use Rattle.sm_names.proofs.HandleLaws.{same_buffer-true}
 use Rattle.sm_names.proofs.ListLaws.{In, In-append, In-filter}
@@ -35,7 +36,7 @@ use Rattle.lifetime_core.specs.Hands.{Moves}
 use Rattle.lifetime_core.specs.Reads.{readings_of, world_in}
 use Rattle.lifetime_core.specs.State.{State}
 use Rattle.lifetime_core.specs.Steps.{Gains, Place, Work, swept, tracker_by, with_place, without_over, work_of}
-use Rattle.lifetime_core.specs.Tasks.{MayDo, Reworked, spent_by, waiting_as, work_in}
+use Rattle.lifetime_core.specs.Tasks.{MayDo, Reworked, looked_in, waiting_as, work_in}
 use Rattle.lifetime_core.specs.Whole.{CanFinish, Concerns, IsNodeOf, IsSound, StillWaits}
 use Rattle.lifetime_core.proofs.forced.Forest.{node_with_key}
 use Rattle.lifetime_core.proofs.firing.Sweeps.{all_of}
@@ -47,13 +48,8 @@ pub record Starts (s : State) (client : ℕ) (call : Call) (asked : Reply) (task
   pub sound : IsSound s.forest
   pub waiting : All (StillWaits s.forest (total s.holds)) s.trackers.unfired
   pub work : work_in task ≡ work_of s client call asked
-  pub idle : work_of s client call asked ≡ None → spent_by call asked ≡ None → task ≡ None
   pub may : IfSome task (MayDo s.forest)
   pub tracks : option_map waiting_as tracking ≡ tracker_by s.forest call asked
-
--- the collection that the event concerns
-abbrev pub concerned : Option Task → Option Tracking → Option ℕ
-concerned task tracking = option_or (option_map (λ (t : Task). t.collection) task) (option_map (λ (t : Tracking). t.collection) tracking)
 
 -- ---- the tracker that is attached
 
@@ -171,36 +167,25 @@ attached_from old new (Some w) gains t on = elim (In-append old.unfired (w ∷ [
   | inr (inr none) ↦ absurd none
 ]
 
--- ---- the collection that is concerned
-
--- a task that changes a collection concerns it
-task_concerned : (task : Option Task) (tracking : Option Tracking) (id : ℕ) → changed_by task ≡ Some id → concerned task tracking ≡ Some id
-task_concerned None tracking id is = cc
-task_concerned (Some t) tracking id is = by t.change is
-  where
-    by : (o : Option Change) → option_map (λ (w : Work). w.collection) (option_map (λ c. record { collection = t.collection; change = c }) o) ≡ Some id → Some t.collection ≡ Some id
-    by None h = cc
-    by (Some change) h = h
+-- ---- the collection that is changed
 
 module _ (s : State) (client : ℕ) (call : Call) (asked : Reply) (task : Option Task) (tracking : Option Tracking) (starts : Starts s client call asked task tracking) where
-  -- where there is no task, the tracker tells
-  tracker_tells : task ≡ None → (t : Waiting) → option_map waiting_as tracking ≡ Some t → concerned task tracking ≡ Some t.place
-  tracker_tells none t is = let tracking_is = map-Some waiting_as tracking t is in rw (none, tracking_is.1) (ap (λ (w : Waiting). Some w.place) tracking_is.2)
-
-  -- the tracker that is made concerns the collection under which it is filed
-  made_concerned : (t : Waiting) → option_map waiting_as tracking ≡ Some t → concerned task tracking ≡ Some t.place
-  made_concerned t is = by call asked starts.work starts.idle (sym starts.tracks ∙ is)
+  -- the tracker that is made is filed under it, if one is
+  made_here : (t : Waiting) → option_map waiting_as tracking ≡ Some t → (id : ℕ) → changed_by task ≡ Some id → t.place ≡ id
+  made_here t is id changed = by call asked (sym (ap (option_map (λ (w : Work). w.collection)) starts.work) ∙ changed) (sym starts.tracks ∙ is)
     where
-      by : (call : Call) (asked : Reply) → work_in task ≡ work_of s client call asked → (work_of s client call asked ≡ None → spent_by call asked ≡ None → task ≡ None) →
-          tracker_by s.forest call asked ≡ Some t → concerned task tracking ≡ Some t.place
-      by (Call.TrackNode key) (Reply.Tracker id) work idle made =
-          let n = map-Some (λ (n : Node). record { id = id; place = n.collection; condition = Condition.Node key }) (node_at s.forest key) t made in
-          let change : changed_by task ≡ Some n.0.collection =
-          ap (option_map (λ (w : Work). w.collection)) (work ∙ ap (option_map (λ (m : Node). record { collection = m.collection; change = Change.Effect (Call.TrackNode key) })) n.1) in
-          task_concerned task tracking n.0.collection change ∙ ap (λ (w : Waiting). Some w.place) n.2
-      by (Call.TrackLifetime key most) (Reply.Tracker id) work idle made = tracker_tells (idle refl refl) t is
-      by (Call.TrackWeak buffer) (Reply.Tracker id) work idle made = tracker_tells (idle refl refl) t is
-      by _ _ work idle made = cc
+      same : (m n : ℕ) → Some m ≡ Some n → m ≡ n
+      same m n h = cc
+
+      by : (call : Call) (asked : Reply) → option_map (λ (w : Work). w.collection) (work_of s client call asked) ≡ Some id → tracker_by s.forest call asked ≡ Some t → t.place ≡ id
+      by (Call.TrackNode key) (Reply.Tracker number) there made =
+          let n = map-Some (λ (n : Node). record { id = number; place = n.collection; condition = Condition.Node key }) (node_at s.forest key) t made in
+          let here : Some n.0.collection ≡ Some id =
+          sym (ap (λ (o : Option Node). option_map (λ (w : Work). w.collection) (option_map (λ (m : Node). record { collection = m.collection; change = Change.Effect (Call.TrackNode key) }) o)) n.1) ∙ there in
+          ap (λ (w : Waiting). w.place) (sym n.2) ∙ same n.0.collection id here
+      by (Call.TrackLifetime key most) (Reply.Tracker number) there made = let no : None ≡ Some id = there in cc
+      by (Call.TrackWeak buffer) (Reply.Tracker number) there made = let no : None ≡ Some id = there in cc
+      by _ _ there made = cc
 
   -- a handle that is dropped is one of the collection that is changed, if it is there
   drops_there : (buffer : BufferName) (strength : Strength) → drops anyone buffer strength (Called client asked call) ≡ true → is_some (collection_at s.forest buffer.collection) ≡ true →
@@ -218,6 +203,22 @@ module _ (s : State) (client : ℕ) (call : Call) (asked : Reply) (task : Option
       by _ _ h = cc
 
 -- ---- after the event
+
+-- a new tracker that is not looked for is not due
+new_elsewhere : (w : World) (changed : Option ℕ) (tracking : Option Tracking) (t : Waiting) → option_map waiting_as tracking ≡ Some t → ((id : ℕ) → changed ≡ Some id → t.place ≡ id) → (looked_in w changed tracking ≡ Some t.place → ⊥) → is_due w t ≡ false
+new_elsewhere w (Some id) tracking t is here other = absurd (other (ap Some (sym (here id refl))))
+new_elsewhere w None None t is here other = cc
+new_elsewhere w None (Some n) t is here other =
+    let same : waiting_as n ≡ t = one is in
+    subst (λ (x : Waiting). is_due w x ≡ false) same
+    (not_looked (holds w n.condition) (λ h. other (h ∙ ap (λ (x : Waiting). Some x.place) same)))
+  where
+    one : {x : Waiting} → Some x ≡ Some t → x ≡ t
+    one h = cc
+
+    not_looked : (b : Bool) → ((if b then Some n.collection else None) ≡ Some n.collection → ⊥) → b ≡ false
+    not_looked true other = absurd (other refl)
+    not_looked false other = refl
 
 module _ (s : State) (client : ℕ) (call : Call) (asked : Reply) (task : Option Task) (tracking : Option Tracking) (starts : Starts s client call asked task tracking)
     (holds : Counts) (moves : Moves s.holds holds (Called client asked call)) (worked : Forest) (key : Option NodeKey) (work : Reworked s.pool (total holds) s.forest (work_in task) key worked)
@@ -239,15 +240,15 @@ module _ (s : State) (client : ℕ) (call : Call) (asked : Reply) (task : Option
   ]
 
   -- no tracker is due elsewhere
-  pub elsewhere : All (λ (t : Waiting). (concerned task tracking ≡ Some t.place → ⊥) → is_due (world_in worked (total holds)) t ≡ false) attached.unfired
-  elsewhere = all_of (λ (t : Waiting). (concerned task tracking ≡ Some t.place → ⊥) → is_due (world_in worked (total holds)) t ≡ false) attached.unfired (λ t on other.
+  pub elsewhere : All (λ (t : Waiting). (looked_in (world_in worked (total holds)) (changed_by task) tracking ≡ Some t.place → ⊥) → is_due (world_in worked (total holds)) t ≡ false) attached.unfired
+  elsewhere = all_of (λ (t : Waiting). (looked_in (world_in worked (total holds)) (changed_by task) tracking ≡ Some t.place → ⊥) → is_due (world_in worked (total holds)) t ≡ false) attached.unfired (λ t on other.
       elim (attached_from s.trackers attached (option_map waiting_as tracking) gains t on) [
         | inl old ↦
             let waits : StillWaits s.forest (total s.holds) t = In-all (StillWaits s.forest (total s.holds)) s.trackers.unfired starts.waiting t old in
-            let apart : changed_by task ≡ Some t.place → ⊥ = λ h. other (task_concerned task tracking t.place h) in
+            let apart : changed_by task ≡ Some t.place → ⊥ = λ h. other (ap (λ (o : Option ℕ). looked_in (world_in worked (total holds)) o tracking) h) in
             undue_elsewhere s.forest worked (changed_by task) starts.sound (amid_named worked task amid) rest (total s.holds) (total holds) t apart waits.filed
             (λ buffer its. kept_elsewhere buffer (λ h. apart (h ∙ ap Some its))) waits.undue
-        | inr new ↦ absurd (other (made_concerned s client call asked task tracking starts t new))
+        | inr new ↦ new_elsewhere (world_in worked (total holds)) (changed_by task) tracking t new (made_here s client call asked task tracking starts t new) other
       ])
 
   -- each tracker is filed under the collection that it concerns

@@ -23,12 +23,13 @@ use Rattle.lifetime_core.specs.Hands.{MayMove}
 use Rattle.lifetime_core.specs.Reads.{readings_of, world_in}
 use Rattle.lifetime_core.specs.State.{Client, HandleCounts, State, counts_of}
 use Rattle.lifetime_core.specs.Steps.{Gains, Place, Work, clients_by, handles_by, new_client, swept, with_place, without_over}
-use Rattle.lifetime_core.specs.Tasks.{Parts, Reworked, TakesEffect, waiting_as, work_in}
+use Rattle.lifetime_core.specs.Tasks.{Parts, Reworked, TakesEffect, looked_in, waiting_as, work_in}
 use Rattle.lifetime_core.specs.Whole.{AreSent, AreUpTo, IsSound, IsWhole, Rise, StillWaits}
-use Rattle.lifetime_core.proofs.theorem.EventParts.{Begins, finishes, no_task}
+use Rattle.lifetime_core.proofs.theorem.EventParts.{Begins, finishes}
 use Rattle.lifetime_core.proofs.handles.Movable.{may_move}
 use Rattle.lifetime_core.proofs.handles.Parcels.{still_sent}
-use Rattle.lifetime_core.proofs.firing.Fields.{Starts, attached_above, attached_fits, concerned, elsewhere, still_numbered, waiting_after}
+use Rattle.lifetime_core.proofs.firing.Fields.{Starts, attached_above, attached_fits, elsewhere, still_numbered, waiting_after}
+use Rattle.lifetime_core.proofs.firing.WorldsApart.{changed_by}
 use Rattle.lifetime_core.proofs.forced.Change.{up_to_worked}
 use Rattle.lifetime_core.proofs.handles.Moves.{moved}
 use Rattle.lifetime_core.proofs.collections.ById.{weaken}
@@ -154,14 +155,13 @@ module _ (s : State) (client : ℕ) (call : Call) (asked reply : Reply) (task : 
     sound = b.known.whole.sound;
     waiting = b.known.whole.waiting;
     work = b.work;
-    idle = λ work spends. no_task task b.some (b.work ∙ work) (b.spends ∙ spends);
     may = b.may;
     tracks = b.tracks;
   }
 
   module _ (parts : Parts) (takes : TakesEffect s.pool (record { clients = s.clients; forest = s.forest; holds = s.holds; trackers = s.trackers }) parts client call asked task tracking reply) where
     -- no tracker elsewhere is due
-    pub none_elsewhere : All (λ (t : Waiting). (concerned task tracking ≡ Some t.place → ⊥) → is_due (world_in parts.forest (total parts.holds)) t ≡ false) parts.trackers.unfired
+    pub none_elsewhere : All (λ (t : Waiting). (looked_in (world_in parts.forest (total parts.holds)) (changed_by task) tracking ≡ Some t.place → ⊥) → is_due (world_in parts.forest (total parts.holds)) t ≡ false) parts.trackers.unfired
     none_elsewhere = elsewhere s client call asked task tracking starts parts.holds takes.handles parts.forest takes.key takes.work
         (finishes s client call asked reply task tracking b parts takes) parts.trackers takes.trackers
 

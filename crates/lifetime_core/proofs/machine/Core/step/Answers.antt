@@ -105,7 +105,7 @@ sweep-requires c =
     begins c.self.inside.pool s c.args.self.now c.args.client c.args.call c.answer-asked.result c.task_of-task.result c.tracking_of-tracking.result c.self.view_is c.self.invariant c.answer-asked.ensures
     c.task_of-task.ensures.work c.task_of-task.ensures.spends c.task_of-task.ensures.there c.task_of-task.ensures.some c.tracking_of-tracking.ensures in
     let parts : Parts = record { clients = c.take_effect.new.clients.items; forest = c.take_effect.new.forest; holds = c.take_effect.new.holds; trackers = c.take_effect.new.trackers } in
-    record { elsewhere = rw c.concerned_by.ensures (none_elsewhere s c.args.client c.args.call c.answer-asked.result c.in-Ok.reply c.task_of-task.result c.tracking_of-tracking.result b parts c.in-Ok.ensures.ok) }
+    record { elsewhere = rw (c.place_to_sweep-place.ensures, c.changed_by.ensures) (none_elsewhere s c.args.client c.args.call c.answer-asked.result c.in-Ok.reply c.task_of-task.result c.tracking_of-tracking.result b parts c.in-Ok.ensures.ok) }
 
 -- what is over can be forgotten
 pub finish-requires : goal.finish-requires
