@@ -46,6 +46,9 @@ pub const ALL: &[(&str, Make)] = &[
     ("g1 no tracker", || unrelated(0)),
     ("g2 4,096 on others", || unrelated(4096)),
     ("g3 4,096 lifetimes, same", lifetimes),
+    ("g4 4,096 numbers on 64 nodes", || lifetimes_of(64, 64)),
+    ("g5 4,000 numbers on 1,000", || lifetimes_of(1000, 4)),
+    ("g6 lifetimes among 4,000", || lifetimes_more(1000, 4)),
     ("h1 place 64 in small holes", || holes(64, 4, 4, 100)),
     ("h2 place 64 past all holes", || holes(64, 5, 4, 100)),
     ("h3 place 1 past all holes", || holes(1, 5, 4, 400)),
@@ -366,6 +369,49 @@ fn lifetimes() -> Stream {
             let b = BufferName { collection, index: i as u8 % 4 };
             d.call(Call::DupHandle(b, Strength::Strong));
             d.call(Call::DropHandle(b, Strength::Strong));
+        }
+    });
+    d.end()
+}
+
+/// A collection of 64 buffers, so many nodes of it, and for each node lifetimes with so many numbers
+/// of buffers, none of which has ended.
+fn tracked(nodes: u32, numbers: u32) -> (Driver, NodeKey, CollectionId) {
+    let mut d = Driver::new(64, FULL);
+    let (r, collection) = d.token(Call::OpenRoot);
+    let all: Vec<NodeKey> = (1..nodes).map(|_| d.token(Call::Duplicate(r)).0).collect();
+    for &n in &all {
+        d.done(Call::Bind(n));
+        d.done(Call::SetConstraints(n, k(0, 0, 4096)));
+    }
+    d.done(Call::Bind(r));
+    d.done(Call::SetConstraints(r, k(64, 0, 4096)));
+    d.call(Call::Take(r));
+    for n in all.into_iter().chain([r]) {
+        for most in 0..numbers {
+            assert!(matches!(d.call(Call::TrackLifetime(n, most)), Reply::Tracker(_)));
+        }
+    }
+    (d, r, collection)
+}
+
+fn lifetimes_of(nodes: u32, numbers: u32) -> Stream {
+    let (mut d, _, collection) = tracked(nodes, numbers);
+    d.timed(|d| {
+        for i in 0..500 {
+            let b = BufferName { collection, index: i as u8 % 64 };
+            d.call(Call::DupHandle(b, Strength::Strong));
+            d.call(Call::DropHandle(b, Strength::Strong));
+        }
+    });
+    d.end()
+}
+
+fn lifetimes_more(nodes: u32, numbers: u32) -> Stream {
+    let (mut d, r, _) = tracked(nodes, numbers);
+    d.timed(|d| {
+        for most in 0..64 {
+            assert!(matches!(d.call(Call::TrackLifetime(r, most % 64)), Reply::Tracker(_)));
         }
     });
     d.end()
