@@ -1,7 +1,8 @@
 -- A change that was made in its place and forces nothing: the forest then, and the entry of its collection.
-use Rattle.std.proofs.Common.{◌≡◌, ℕ, ◌==◌, nat_lt, true, false, List, map, get_or, set, Some, option_map, refl, sym, ap, subst, ◌∙◌}
+use Rattle.std.proofs.Common.{◌≡◌, ℕ, ◌==◌, nat_lt, true, false, List, map, get_or, set, Some, None, option_map, refl, sym, ap, subst, ◌∙◌}
 use Rattle.std.proofs.lemmas.List.{get_or_default}
 use Rattle.std.specs.List.{find, list_all, list_any}
+use Rattle.sm_names.specs.declared.keys.Interval.{Interval}
 use Rattle.sm_names.specs.Forced.{forced}
 use Rattle.node_table.specs.Table.{Table}
 use Rattle.alloc_event.specs.declared.change.Change.{Change}
@@ -15,7 +16,7 @@ use Rattle.alloc_event.specs.Forest.{Collection, beside}
 use Rattle.alloc_event.specs.InPlace.{IsDone, IsOpen}
 use Rattle.alloc_event.specs.Kept.{Finishes, IsKept, Shelf, Stores, are_filed, collection_in, forest_of, is_filed, nodes_with, place_in, put_shelf, shelf_of, shelves_of}
 use Rattle.alloc_event.specs.Nodes.{is_over}
-use Rattle.alloc_event.specs.Settling.{Handles, MayChange, Rests, changed, collection_or_new, given_back, no_key, put, standing}
+use Rattle.alloc_event.specs.Settling.{Handles, MayChange, Rests, Settles, changed, collection_or_new, given_back, no_key, put, standing}
 use Rattle.alloc_event.proofs.Altering.{found_put}
 use Rattle.alloc_event.proofs.Calming.{rests_strong}
 use Rattle.alloc_event.proofs.Counted.{counted_but, counted_put, filed_every, moved_but, set_shelves}
@@ -35,10 +36,13 @@ module _ (t now : Table Node) (ss : List Shelf) (s : Shelf) (kept : IsKept t ss)
       ∙ collections-put t now s.id ns stores kept.named filed s s ss refl refl kept.rising
       (ap (are_filed t) placed ∙ kept.filed)
 
-  pub done_by : IsKept now ss → changed change no_key (collection_or_new (forest_of t ss) s.id) ≡ collection_in now s →
+  -- the change leads to these nodes, and from them to those that are there now
+  pub done_led : IsKept now ss → (between : List Node) → changed change no_key (collection_or_new (forest_of t ss) s.id) ≡ record (collection_in t s) { nodes = between } →
+      ((pool : ℕ) (handles : Handles) (others : List Interval) → forced pool (standing handles others (collection_in now s)) ≡ None →
+      Settles pool handles others (record (collection_in t s) { nodes = between }) (collection_in now s)) →
       (after : List Unit) (lives : ℕ) → nat_lt 0 lives ≡ true → lives ≡ strong_count (nodes_with now s.keys) → IsCalm (collection_in now s) →
       AreUnits after (map (collection_in now) ss) → IsDone t now after ss s change lives
-  done_by kept_now change_is after lives some count_now calm_now units_now =
+  done_led kept_now between change_is leads after lives some count_now calm_now units_now =
       let strong_now : has_strong (collection_in now s).nodes ≡ true = strong_lives (nodes_with now s.keys) lives some count_now in
       record {
         kept = kept_now;
@@ -48,7 +52,7 @@ module _ (t now : Table Node) (ss : List Shelf) (s : Shelf) (kept : IsKept t ss)
             subst (λ (c : Collection). Finishes pool handles t ss now ss c) (sym change_is)
             (record {
               after = collection_in now s;
-              settles = Rests (collection_in now s) (rests (beside (forest_of t ss) s.id));
+              settles = leads pool handles (beside (forest_of t ss) s.id) (rests (beside (forest_of t ss) s.id));
               collections = put_is ∙ ap (λ (c : Collection). put c (map (collection_in t) ss)) (sym back);
               rests = ap (λ (c : Collection). forced pool (standing handles (beside (forest_of now ss) s.id) c)) back ∙ rests (beside (forest_of now ss) s.id);
             });
@@ -58,6 +62,11 @@ module _ (t now : Table Node) (ss : List Shelf) (s : Shelf) (kept : IsKept t ss)
         units = units_now;
         same = stores.same;
       }
+
+  pub done_by : IsKept now ss → changed change no_key (collection_or_new (forest_of t ss) s.id) ≡ collection_in now s →
+      (after : List Unit) (lives : ℕ) → nat_lt 0 lives ≡ true → lives ≡ strong_count (nodes_with now s.keys) → IsCalm (collection_in now s) →
+      AreUnits after (map (collection_in now) ss) → IsDone t now after ss s change lives
+  done_by kept_now change_is = done_led kept_now (nodes_with now s.keys) change_is (λ pool handles others rest. Rests (collection_in now s) rest)
 
 -- ---- the entry at its place
 

@@ -1,5 +1,5 @@
 -- What a failure takes of a table of nodes is what a loss takes of their collection.
-use Rattle.std.proofs.Common.{◌≡◌, refl, ap, sym, ◌∙◌, subst, Bool, true, false, cond, ◌||◌, ◌&&◌, not, inl, inr, List, ◌∷◌, map, reverse, filter, Option, Some, None, is_some, ◌↔◌}
+use Rattle.std.proofs.Common.{◌≡◌, refl, ap, sym, ◌∙◌, subst, Bool, true, false, cond, ◌||◌, ◌&&◌, not, inl, inr, List, [], ◌∷◌, map, reverse, filter, Option, Some, None, is_some, ◌↔◌}
 use Rattle.std.proofs.lemmas.Bool.{not_from_false}
 use Rattle.std.proofs.lemmas.Map.Views.{Contains-from_any, list_any-from_Contains}
 use Rattle.std.specs.Cmp.{IsEquivalence}
@@ -21,6 +21,7 @@ use Rattle.alloc_event.specs.Decisions.{is_left_of}
 use Rattle.alloc_event.specs.Nodes.{above_among, after_loss, is_of, is_taken, lost, member_of, members_of, node_of}
 use Rattle.alloc_event.proofs.Chains.{reached_by_line, top-along}
 use Rattle.alloc_event.specs.Ties.{IsFall, IsTied, is_blocking}
+use Rattle.alloc_event.specs.Questions.{is_below}
 use Rattle.alloc_event.proofs.Hanging.{in_all}
 use Rattle.alloc_event.proofs.Rooted.{AreOne, HasLine, IsLeft, left_in, left_node, line_of}
 
@@ -103,21 +104,36 @@ module _ (t : Table Node) (nodes : List Node) (tied : IsTied t nodes) where
       each k (inl is) = blocks_same k (subst (λ (j : NodeKey). is_left_of nodes j ≡ true) (sym is) left)
       each k (inr on) = blocks_same k ((line_at origin left).left k on)
 
-  -- a failure takes of the nodes that are not gone those that a loss takes
-  pub fall_takes : (origin : NodeKey) → is_left_of nodes origin ≡ true → (keys : List NodeKey) → IsFall t origin keys →
-      (n : Node) → In n nodes → n.gone ≡ false → list_any (same_key n.key) keys ≡ is_taken nodes origin n
-  fall_takes origin left keys fall n on here = from (node_of nodes origin) refl
+  -- a failure takes what lies at or below the highest node that it goes to
+  fall_line : (origin : NodeKey) → is_left_of nodes origin ≡ true → (keys : List NodeKey) → IsFall t origin keys →
+      (n : Node) → In n nodes → n.gone ≡ false → list_any (same_key n.key) keys ≡ is_below nodes (highest_at origin) n.key
+  fall_line origin left keys fall n on here =
+      both_tests _ _
+      (λ h. reached.1 ((fall n.key).0 (Contains-from_any same_key-true n.key keys h)))
+      (λ h. list_any-from_Contains key_equivalence n.key keys ((fall n.key).1 (reached.0 h)))
     where
       reached : (list_any (same_key (highest_at origin)) (n.key ∷ line n.key) ≡ true) ↔ Reach (parent_at t) (blocked_at is_blocking t) origin n.key
       reached =
           reached_by_line (parent_at t) (blocked_at is_blocking t) origin (line origin) (line_at origin left).chain
           n.key (line n.key) (line_at n.key (left_in nodes n on here)).chain
 
+  -- which is the origin, if it blocks
+  pub fall_below : (origin : NodeKey) → is_left_of nodes origin ≡ true → blocked_at is_blocking t origin ≡ true → (keys : List NodeKey) → IsFall t origin keys →
+      (n : Node) → In n nodes → n.gone ≡ false → list_any (same_key n.key) keys ≡ is_below nodes origin n.key
+  fall_below origin left blocks keys fall n on here =
+      fall_line origin left keys fall n on here ∙ ap (λ (k : NodeKey). is_below nodes k n.key) (from (line origin))
+    where
+      from : (ks : List NodeKey) → top (blocked_at is_blocking t) origin ks ≡ origin
+      from [] = refl
+      from (p ∷ ks) = rw blocks refl
+
+  -- a failure takes of the nodes that are not gone those that a loss takes
+  pub fall_takes : (origin : NodeKey) → is_left_of nodes origin ≡ true → (keys : List NodeKey) → IsFall t origin keys →
+      (n : Node) → In n nodes → n.gone ≡ false → list_any (same_key n.key) keys ≡ is_taken nodes origin n
+  fall_takes origin left keys fall n on here = from (node_of nodes origin) refl
+    where
       by_table : list_any (same_key n.key) keys ≡ list_any (same_key (highest_at origin)) (n.key ∷ line n.key)
-      by_table =
-          both_tests _ _
-          (λ h. reached.1 ((fall n.key).0 (Contains-from_any same_key-true n.key keys h)))
-          (λ h. list_any-from_Contains key_equivalence n.key keys ((fall n.key).1 (reached.0 h)))
+      by_table = fall_line origin left keys fall n on here
 
       from : (o : Option Node) → node_of nodes origin ≡ o →
           list_any (same_key n.key) keys ≡ option_map_or (λ x. is_under (highest (members_of nodes) (member_of nodes x)) (member_of nodes n)) o false

@@ -52,6 +52,7 @@ pub mod Dropping
 mod Done
 pub mod Crossing
 mod Fallen
+mod Goings
 mod Untold
 mod Effecting
 pub mod Forgotten
@@ -60,6 +61,8 @@ mod Hanging
 mod LeftParents
 pub mod United
 pub mod Holding
+pub mod Topmost
+pub mod Deserting
 pub mod Amounts
 pub mod Keeping
 pub mod Reckoning

@@ -102,7 +102,7 @@ module _ (nodes : List Node) (parent : NodeKey → Option NodeKey) (one : AreOne
       ap (λ (m : Node). m.gone) (one n x.node on (within x.node x.on) (sym x.is)) ∙ x.here
 
   -- so each node that is left has its line, of those before it
-  line_among : (ns : List Node) → ((n : Node) → In n ns → In n nodes) → are_rooted ns ≡ true →
+  pub line_among : (ns : List Node) → ((n : Node) → In n ns → In n nodes) → are_rooted ns ≡ true →
       (key : NodeKey) → is_left_of ns key ≡ true → HasLine nodes parent key (above_among ns key)
   line_among [] within rooted key left = cc
   line_among (n ∷ older) within rooted key left =

@@ -1,21 +1,23 @@
--- Nodes that fall in their places. No public clause cites this module.
-use Rattle.std.specs.Prelude.{◌≡◌, ◌≢◌, ℕ, ◌-◌, Bool, false, ◌||◌, ◌&&◌, ◌==◌, nat_lt, if◌then◌else◌, List, [], ◌∷◌, set, Some}
+-- Nodes that go in their places. No public clause cites this module.
+use Rattle.std.specs.Prelude.{◌≡◌, ◌≢◌, ℕ, ◌-◌, Bool, true, false, ◌||◌, ◌&&◌, not, ◌==◌, nat_lt, if◌then◌else◌, List, [], ◌∷◌, set, Some}
 use Rattle.std.specs.List.{AllPairs, list_any}
 use Rattle.std.specs.Option.{option_map_or}
 use Rattle.std.specs.Ordering.{nat_cmp, ordering_then}
 use Rattle.std.specs.declared.cmp.Ordering.{Ordering}
 use Rattle.sm_names.specs.declared.keys.NodeKey.{NodeKey}
-use Rattle.sm_names.specs.declared.outcomes.Fault.{Fault}
+use Rattle.sm_names.specs.declared.messages.Call.{Call}
+use Rattle.sm_names.specs.Sameness.{same_key}
 use Rattle.node_table.specs.Table.{Table, children_at, node_at, parent_at}
 use Rattle.node_table.specs.Forest.{IsForest}
 use Rattle.failure_domains.specs.Falls.{IsByLayers}
 use Rattle.alloc_event.specs.declared.change.Change.{Change}
+use Rattle.alloc_event.specs.declared.falling.Going.{Going}
 use Rattle.alloc_event.specs.declared.node.Node.{Node}
 use Rattle.alloc_event.specs.declared.units.Unit.{Unit}
 use Rattle.alloc_event.specs.Counts.{is_unready, unit_at}
 use Rattle.alloc_event.specs.InPlace.{IsDone}
 use Rattle.alloc_event.specs.Kept.{Shelf, nodes_with}
-use Rattle.alloc_event.specs.Nodes.{is_over}
+use Rattle.alloc_event.specs.Nodes.{is_over, lost}
 use Rattle.alloc_event.specs.Questions.{is_live_node}
 use Rattle.alloc_event.specs.Ties.{IsFall}
 
@@ -61,13 +63,41 @@ pub record IsTop (t : Table Node) (keys : List NodeKey) (head : NodeKey) (attach
   pub attached_is : attached ≡ node.attached
   pub forest : IsForest t
 
+-- ---- how nodes go
+
+-- the change by which nodes go so
+abbrev pub change_of : Going → Change
+change_of (Going.Fails fault) = Change.Loss fault.origin fault.cause
+change_of (Going.Leaves key) = Change.Effect (Call.Release key)
+
+-- the node, gone so
+abbrev pub gone_by : Going → Node → Node
+gone_by (Going.Fails fault) n = lost (λ _. true) fault n
+gone_by (Going.Leaves key) n = record n { released = same_key key n.key || n.released; gone = true }
+
+-- the node is live, and stays so where the one with this key is released
+abbrev pub stays_live : NodeKey → Node → Bool
+stays_live key n = is_live_node n && not (same_key key n.key)
+
+-- the key stands first
+abbrev pub is_first : NodeKey → List NodeKey → Bool
+is_first key [] = false
+is_first key (k ∷ ks) = same_key k key
+
+-- nodes that a failure at this key takes, of which the highest is attached or not, may go so: they fail by it, or the
+-- highest is attached, and none is live once one of them is released
+abbrev pub may_go : Going → NodeKey → Bool → List NodeKey → List Node → Bool
+may_go (Going.Fails fault) origin attached keys nodes = same_key origin fault.origin
+may_go (Going.Leaves key) origin attached keys nodes =
+    attached && (is_first origin keys && (list_any (same_key key) keys && not (list_any (stays_live key) nodes)))
+
 -- a node of the unit lives, and the unit does not become ready by what falls, or has its buffers
 abbrev pub is_kept_up : Table Node → Unit → Unit → NodeKey → Bool → Bool
 is_kept_up t before after head attached =
     nat_lt 0 after.live && (attached || (before.unready == 0
     || (nat_lt 0 after.unready || option_map_or (λ n. n.allocated) (node_at t head) false)))
 
--- the loss was made in its place, of these nodes as they are then
-pub record IsLost (t now : Table Node) (us : List Unit) (ss : List Shelf) (s : Shelf) (fault : Fault) (lives : ℕ) (fallen : List Node) : Type 0 where
-  pub done : IsDone t now us ss s (Change.Loss fault.origin fault.cause) lives
+-- the change was made in its place, by which these nodes went, as they are then
+pub record IsLost (t now : Table Node) (us : List Unit) (ss : List Shelf) (s : Shelf) (change : Change) (lives : ℕ) (fallen : List Node) : Type 0 where
+  pub done : IsDone t now us ss s change lives
   pub over : list_any is_over fallen ≡ false → list_any is_over (nodes_with t s.keys) ≡ false → list_any is_over (nodes_with now s.keys) ≡ false

@@ -1,16 +1,18 @@
-//! A loss in its place: what falls is found first, and then each node fails.
+//! Losses and ends in their places: what goes is found first, and then each node goes.
 ghost use Rattle.std.specs.Prelude.{◌≡◌, ◌&&◌, not, ◌≢◌, ℕ, List, Some, None, true, false, IfOk, IfSome, IsSome, OnErr, map};
 ghost use Rattle.std.specs.List.{find, list_all, list_any};
 ghost use Rattle.sm_names.specs.declared.keys.NodeKey.{NodeKey as Key};
+ghost use Rattle.sm_names.specs.declared.messages.Call.{Call as Asked};
+ghost use Rattle.sm_names.specs.Sameness.{same_key};
 ghost use Rattle.node_table.specs.Table.{node_at, row_at};
 ghost use Rattle.alloc_event.specs.declared.change.Change.{Change as Changed};
 ghost use Rattle.alloc_event.specs.declared.node.Node.{Node as Kept};
 ghost use Rattle.alloc_event.specs.Calm.{AreCounted};
 ghost use Rattle.alloc_event.specs.Counts.{AreUnitsBut, HaveUnits, unit_at};
-ghost use Rattle.alloc_event.specs.Falling.{IsLost, IsTaken, IsTop, is_kept_up, lowered, untallied, without_node};
+ghost use Rattle.alloc_event.specs.Falling.{IsLost, IsTaken, IsTop, change_of, gone_by, is_first, is_kept_up, lowered, may_go, stays_live, untallied, without_node};
 ghost use Rattle.alloc_event.specs.InPlace.{IsOpen};
 ghost use Rattle.alloc_event.specs.Kept.{Finishes, IsKept, SameTable, Shelf, all_of, collection_in, forest_of, nodes_with, shelves_of};
-ghost use Rattle.alloc_event.specs.Nodes.{is_over, lost};
+ghost use Rattle.alloc_event.specs.Nodes.{is_over};
 ghost use Rattle.alloc_event.specs.Settling.{Handles, MayChange, changed, collection_or_new, no_key};
 
 use crate::entry::{Entry, place_of};
@@ -58,12 +60,74 @@ fn untally(units: &mut Vec<Unit>, nodes: &[Node])
     }
 }
 
-/// Each node fails, if it is not gone.
-fn fail_each(nodes: &mut [Node], fault: Fault)
-    ensures { nodes.new ≡ map (lost (λ n. true) fault) nodes.old }
+/// How nodes go.
+#[derive(Clone, Copy)]
+pub(crate) enum Going {
+    /// They fail.
+    Fails(Fault),
+    /// They leave with the unit that is left without a live node by the release of this one.
+    Leaves(NodeKey),
+}
+
+/// The node goes. One that is gone keeps its fault.
+fn go(node: &mut Node, going: &Going)
+    ensures { node.new ≡ gone_by going.now node.old }
+{
+    match *going {
+        Going::Fails(fault) => fail(node, true, fault),
+        Going::Leaves(key) => {
+            node.released = key == node.key || node.released;
+            node.gone = true;
+        }
+    }
+}
+
+/// Each node goes.
+fn go_each(nodes: &mut [Node], going: &Going)
+    ensures { nodes.new ≡ map (gone_by going.now) nodes.old }
 {
     for node in nodes.iter_mut() {
-        fail(node, true, fault);
+        go(node, going);
+    }
+}
+
+/// Whether the key stands first.
+fn is_first(keys: &[NodeKey], key: NodeKey) -> bool
+    ensures { result ≡ is_first key keys.now }
+{
+    match keys.split_first() {
+        Some((first, _)) => *first == key,
+        None => false,
+    }
+}
+
+/// Whether the key is one of these.
+fn is_listed(keys: &[NodeKey], key: NodeKey) -> bool
+    ensures { result ≡ list_any (same_key key) keys.now }
+{
+    keys.iter().any(|other| key == *other)
+}
+
+/// Whether a node of these is live, and stays so where the one with this key is released.
+fn is_some_staying(nodes: &[Node], key: NodeKey) -> bool
+    ensures { result ≡ list_any (stays_live key) nodes.now }
+{
+    nodes.iter().any(|node| is_live(node) && key != node.key)
+}
+
+/// Whether nodes that a failure at this key takes, of which the highest is attached or not, may go
+/// so: they fail by it, or the highest is attached, and none is live once one of them is released.
+fn may_go(going: &Going, origin: NodeKey, attached: bool, keys: &[NodeKey], nodes: &[Node]) -> bool
+    ensures { result ≡ may_go going.now origin attached keys.now nodes.now }
+{
+    match *going {
+        Going::Fails(fault) => origin == fault.origin,
+        Going::Leaves(key) => {
+            attached
+                && is_first(keys, origin)
+                && is_listed(keys, key)
+                && !is_some_staying(nodes, key)
+        }
     }
 }
 
@@ -124,30 +188,32 @@ fn lower(
     is_kept_up(table, &before, &after, head, attached)
 }
 
-/// Makes the loss of these nodes in its place, if the counts tell that nothing is forced by it: a
-/// strong node of the collection is live after it, and one of the unit above, which does not become
-/// ready by it, or has its buffers. Answers how many strong nodes are live then, and the nodes are
-/// as they are then. With `None` the table is as it was, and the units of the collection are to be
-/// counted anew. It costs the number of the nodes.
+/// Makes these nodes go in their places, which a failure at `origin` takes, if they may go so and
+/// the counts tell that nothing more is forced by it: a strong node of the collection is live after
+/// it, and one of the unit above, which does not become ready by it, or has its buffers. Answers
+/// how many strong nodes are live then, and the nodes are as they are then. With `None` the table is
+/// as it was, and the units of the collection are to be counted anew. It costs the number of the
+/// nodes.
 fn fell(
     table: &mut NodeTable<Node>,
     units: &mut Vec<Unit>,
     strong: usize,
     id: CollectionId,
+    origin: NodeKey,
     keys: &[NodeKey],
     nodes: &mut [Node],
-    fault: Fault,
+    going: &Going,
 ) -> Option<usize>
     requires named { (key : Key) (n : Kept) → node_at table.old key ≡ Some n → n.key ≡ key }
-    requires taken { IsTaken table.old fault.origin keys.now }
+    requires taken { IsTaken table.old origin keys.now }
     requires nodes { nodes.old ≡ nodes_with table.old keys.now }
     ensures none { result ≡ None → table.new ≡ table.old }
     ensures none_units { result ≡ None → (ss : List Shelf) (s : Shelf) →
-        IsOpen table.old units.old.items ss s (Changed.Loss fault.origin fault.cause) strong → s.id ≡ id →
+        IsOpen table.old units.old.items ss s (change_of going.now) strong → s.id ≡ id →
         AreUnitsBut units.new.items s.id (map (collection_in table.old) ss) }
     ensures some { IfSome result (λ left. (ss : List Shelf) (s : Shelf) →
-        IsOpen table.old units.old.items ss s (Changed.Loss fault.origin fault.cause) strong → s.id ≡ id →
-        IsLost table.old table.new units.new.items ss s fault left nodes.new) }
+        IsOpen table.old units.old.items ss s (change_of going.now) strong → s.id ≡ id →
+        IsLost table.old table.new units.new.items ss s (change_of going.now) left nodes.new) }
 {
     let lost = count_strong(nodes);
     if strong <= lost || !are_of(nodes, id) {
@@ -159,10 +225,13 @@ fn fell(
     if head.slot as usize >= units.len() {
         return None;
     }
+    if !may_go(going, origin, attached, keys, nodes) {
+        return None;
+    }
     if !lower(table, units, nodes, head, attached) {
         return None;
     }
-    fail_each(nodes, fault);
+    go_each(nodes, going);
     store(table, nodes);
     Some(strong - lost)
 }
@@ -174,29 +243,30 @@ fn is_tidy_still(tidy: bool, nodes: &[Node]) -> bool
     tidy && !is_some_over(nodes)
 }
 
-/// Makes the loss of these nodes in its place so, and answers whether it did; if not, the table and
-/// the entries are as they were. A binary search besides, and a count of the units of the
-/// collection where it did not.
+/// Makes these nodes go in their places so, and answers whether it did; if not, the table and the
+/// entries are as they were. A binary search besides, and a count of the units of the collection
+/// where it did not.
 fn lose_nodes(
     table: &mut NodeTable<Node>,
     entries: &mut Vec<Entry>,
     units: &mut Vec<Unit>,
     id: CollectionId,
+    origin: NodeKey,
     keys: &[NodeKey],
     nodes: &mut [Node],
-    fault: Fault,
+    going: &Going,
 ) -> bool
     requires kept { IsKept table.old (shelves_of entries.old.items) }
     requires counted { AreCounted table.old entries.old.items }
     requires units { HaveUnits units.old.items table.old entries.old.items }
-    requires change { MayChange (forest_of table.old (shelves_of entries.old.items)) id (Changed.Loss fault.origin fault.cause) }
-    requires taken { IsTaken table.old fault.origin keys.now }
+    requires change { MayChange (forest_of table.old (shelves_of entries.old.items)) id (change_of going.now) }
+    requires taken { IsTaken table.old origin keys.now }
     requires nodes { nodes.old ≡ nodes_with table.old keys.now }
     ensures no_table { result ≡ false → table.new ≡ table.old }
     ensures no_entries { result ≡ false → entries.new.items ≡ entries.old.items }
     ensures ok { result ≡ true → (pool : ℕ) (handles : Handles) →
         Finishes pool handles table.old (shelves_of entries.old.items) table.new (shelves_of entries.new.items)
-        (changed (Changed.Loss fault.origin fault.cause) no_key (collection_or_new (forest_of table.old (shelves_of entries.old.items)) id)) }
+        (changed (change_of going.now) no_key (collection_or_new (forest_of table.old (shelves_of entries.old.items)) id)) }
     ensures shelves { shelves_of entries.new.items ≡ shelves_of entries.old.items }
     ensures kept { result ≡ true → IsKept table.new (shelves_of entries.old.items) }
     ensures counted { result ≡ true → AreCounted table.new entries.new.items }
@@ -207,7 +277,7 @@ fn lose_nodes(
         return false;
     };
     let strong = entries[at].strong;
-    let Some(left) = fell(table, units, strong, id, keys, nodes, fault) else {
+    let Some(left) = fell(table, units, strong, id, origin, keys, nodes, going) else {
         recount(units, table, entries, id);
         return false;
     };
@@ -218,15 +288,60 @@ fn lose_nodes(
     true
 }
 
-/// Makes a loss in its place, if the counts tell that nothing is forced by it: a strong node of the
-/// collection is live after it, and one of the unit above what falls, which does not become ready
-/// by it, or has its buffers. Answers whether it did; if not, the table and the entries are as they
-/// were.
+/// Makes the nodes go in their places that a failure at `origin` takes, if they may go so and the
+/// counts tell that nothing more is forced by it: a strong node of the collection is live after it,
+/// and one of the unit above what goes, which does not become ready by it, or has its buffers.
+/// Answers whether it did; if not, the table and the entries are as they were.
 ///
-/// `NoMemory` where the lists of what falls are refused room; then nothing changed but room. It
-/// costs what `fall` costs, and the number of what falls; where it was not made, a count of the
+/// `NoMemory` where the lists of what goes are refused room; then nothing changed but room. It
+/// costs what `fall` costs, and the number of what it takes; where it was not made, a count of the
 /// units of the collection besides.
 pub(crate) fn lose_in_place(
+    table: &mut NodeTable<Node>,
+    entries: &mut Vec<Entry>,
+    units: &mut Vec<Unit>,
+    id: CollectionId,
+    origin: NodeKey,
+    going: &Going,
+) -> Result<bool, NoMemory>
+    requires kept { IsKept table.old (shelves_of entries.old.items) }
+    requires counted { AreCounted table.old entries.old.items }
+    requires units { HaveUnits units.old.items table.old entries.old.items }
+    requires change { MayChange (forest_of table.old (shelves_of entries.old.items)) id (change_of going.now) }
+    requires there { IsSome (row_at table.old origin) }
+    ensures err_table { OnErr result (table.new ≡ table.old) }
+    ensures err_entries { OnErr result (entries.new.items ≡ entries.old.items) }
+    ensures no_table { IfOk result (λ made. made ≡ false → table.new ≡ table.old) }
+    ensures no_entries { IfOk result (λ made. made ≡ false → entries.new.items ≡ entries.old.items) }
+    ensures ok { IfOk result (λ made. made ≡ true → (pool : ℕ) (handles : Handles) →
+        Finishes pool handles table.old (shelves_of entries.old.items) table.new (shelves_of entries.new.items)
+        (changed (change_of going.now) no_key (collection_or_new (forest_of table.old (shelves_of entries.old.items)) id))) }
+    ensures shelves { shelves_of entries.new.items ≡ shelves_of entries.old.items }
+    ensures kept { IfOk result (λ made. made ≡ true → IsKept table.new (shelves_of entries.old.items)) }
+    ensures counted { IfOk result (λ made. made ≡ true → AreCounted table.new entries.new.items) }
+    ensures units { HaveUnits units.new.items table.new entries.new.items }
+    ensures same { SameTable table.old table.new }
+{
+    let alloc = *entries.allocator();
+    let fallen = fall(alloc, table, origin)?;
+    let Ok(mut nodes) = load_nodes(alloc, table, &fallen.keys) else {
+        return Err(NoMemory);
+    };
+    Ok(lose_nodes(
+        table,
+        entries,
+        units,
+        id,
+        origin,
+        &fallen.keys,
+        &mut nodes,
+        going,
+    ))
+}
+
+/// Makes a loss in its place, if the counts tell that nothing is forced by it, as `lose_in_place`
+/// does.
+pub(crate) fn fail_in_place(
     table: &mut NodeTable<Node>,
     entries: &mut Vec<Entry>,
     units: &mut Vec<Unit>,
@@ -250,10 +365,60 @@ pub(crate) fn lose_in_place(
     ensures units { HaveUnits units.new.items table.new entries.new.items }
     ensures same { SameTable table.old table.new }
 {
-    let alloc = *entries.allocator();
-    let fallen = fall(alloc, table, fault.origin)?;
-    let Ok(mut nodes) = load_nodes(alloc, table, &fallen.keys) else {
-        return Err(NoMemory);
+    lose_in_place(
+        table,
+        entries,
+        units,
+        id,
+        fault.origin,
+        &Going::Fails(fault),
+    )
+}
+
+/// The head of the unit that the release of the node with this key leaves without a live node, if
+/// the counts tell that it does and the head is attached.
+fn unit_left(table: &NodeTable<Node>, units: &[Unit], key: NodeKey) -> Option<NodeKey>
+    ensures { IfSome result (λ head. IsSome (row_at table.now head)) }
+{
+    let node = table.get(key)?;
+    let head = table.get(node.head)?;
+    let unit = unit_in(units, node.head.slot as usize);
+    if head.attached && is_live(node) && unit.live == 1 {
+        Some(node.head)
+    } else {
+        None
+    }
+}
+
+/// Makes a release in its place that leaves a unit without a live node, and the end of the unit and
+/// of all below it, if none is live there and the counts tell that nothing more is forced, as
+/// `lose_in_place` does.
+pub(crate) fn leave_in_place(
+    table: &mut NodeTable<Node>,
+    entries: &mut Vec<Entry>,
+    units: &mut Vec<Unit>,
+    id: CollectionId,
+    key: NodeKey,
+) -> Result<bool, NoMemory>
+    requires kept { IsKept table.old (shelves_of entries.old.items) }
+    requires counted { AreCounted table.old entries.old.items }
+    requires units { HaveUnits units.old.items table.old entries.old.items }
+    requires change { MayChange (forest_of table.old (shelves_of entries.old.items)) id (Changed.Effect (Asked.Release key)) }
+    ensures err_table { OnErr result (table.new ≡ table.old) }
+    ensures err_entries { OnErr result (entries.new.items ≡ entries.old.items) }
+    ensures no_table { IfOk result (λ made. made ≡ false → table.new ≡ table.old) }
+    ensures no_entries { IfOk result (λ made. made ≡ false → entries.new.items ≡ entries.old.items) }
+    ensures ok { IfOk result (λ made. made ≡ true → (pool : ℕ) (handles : Handles) →
+        Finishes pool handles table.old (shelves_of entries.old.items) table.new (shelves_of entries.new.items)
+        (changed (Changed.Effect (Asked.Release key)) no_key (collection_or_new (forest_of table.old (shelves_of entries.old.items)) id))) }
+    ensures shelves { shelves_of entries.new.items ≡ shelves_of entries.old.items }
+    ensures kept { IfOk result (λ made. made ≡ true → IsKept table.new (shelves_of entries.old.items)) }
+    ensures counted { IfOk result (λ made. made ≡ true → AreCounted table.new entries.new.items) }
+    ensures units { HaveUnits units.new.items table.new entries.new.items }
+    ensures same { SameTable table.old table.new }
+{
+    let Some(head) = unit_left(table, units, key) else {
+        return Ok(false);
     };
-    Ok(lose_nodes(table, entries, units, id, &fallen.keys, &mut nodes, fault))
+    lose_in_place(table, entries, units, id, head, &Going::Leaves(key))
 }

@@ -186,13 +186,13 @@ fn the_last_release_of_many_ends_the_collection(rt: HostRuntime) -> Result<(), F
     Ok(())
 }
 
-// So many units, each below the one before.
-fn chain(alloc: Global, units: usize) -> Result<(Ground, Vec<NodeKey>), Fail> {
+// So many nodes, each below the one before, of one unit or each of a unit of its own.
+fn chain(alloc: Global, nodes: usize, attached: bool) -> Result<(Ground, Vec<NodeKey>), Fail> {
     let mut ground = Ground::new(alloc)?;
     let mut keys = Vec::new(alloc);
     let mut above = None;
-    for _ in 0..units {
-        let key = ground.bear(above, above.is_some())?;
+    for _ in 0..nodes {
+        let key = ground.bear(above, attached && above.is_some())?;
         keys.push(key)?;
         above = Some(key);
     }
@@ -219,7 +219,39 @@ fn end_from_below(ground: &mut Ground, keys: &[NodeKey]) -> Result<bool, Fail> {
 
 #[test]
 fn a_chain_of_units_ends_from_below(rt: HostRuntime) -> Result<(), Fail> {
-    let (mut ground, keys) = chain(rt.alloc(), 100)?;
+    let (mut ground, keys) = chain(rt.alloc(), 500, true)?;
     assert!(rt; end_from_below(&mut ground, &keys)?);
+    Ok(())
+}
+
+// Whether all of them fail with the first.
+fn fall_together(ground: &mut Ground, keys: &[NodeKey]) -> Result<bool, Fail> {
+    let Some((root, others)) = keys.split_first() else {
+        return Ok(false);
+    };
+    ground.lose(*root)?;
+    Ok(failed(ground, *root) && have_failed(ground, others))
+}
+
+fn have_failed(ground: &Ground, keys: &[NodeKey]) -> bool {
+    for key in keys {
+        if !failed(ground, *key) {
+            return false;
+        }
+    }
+    true
+}
+
+#[test]
+fn many_siblings_fall_with_the_root(rt: HostRuntime) -> Result<(), Fail> {
+    let (mut ground, keys) = family(rt.alloc(), 999, false)?;
+    assert!(rt; fall_together(&mut ground, &keys)?);
+    Ok(())
+}
+
+#[test]
+fn a_long_chain_falls(rt: HostRuntime) -> Result<(), Fail> {
+    let (mut ground, keys) = chain(rt.alloc(), 1000, false)?;
+    assert!(rt; fall_together(&mut ground, &keys)?);
     Ok(())
 }

@@ -5,12 +5,12 @@ use Rattle.alloc_event.specs.Kept.{Finishes, forest_of, shelves_of}
 use Rattle.alloc_event.specs.Settling.{Handles, MayChange, changed, collection_or_new, no_key}
 use Rattle.alloc_event.proofs.by_counts.settle_counted.Goals as goal
 
-pub lose_in_place-requires-clause-change : goal.lose_in_place-requires-clause-change
-lose_in_place-requires-clause-change c =
+pub fail_in_place-requires-clause-change : goal.fail_in_place-requires-clause-change
+fail_in_place-requires-clause-change c =
     subst (λ (change : Change). MayChange (forest_of c.args.table.now (shelves_of c.args.entries.now.items)) c.args.id change) c.in-Loss.is c.requires.change
 
 pub returns-in-Loss-clause-ok : goal.returns-in-Loss-clause-ok
 returns-in-Loss-clause-ok c =
-    subst (λ (change : Change). IfOk c.lose_in_place.result (λ (made : Bool). made ≡ true → (pool : ℕ) (handles : Handles) →
-    Finishes pool handles c.args.table.now (shelves_of c.args.entries.now.items) c.lose_in_place.new.table (shelves_of c.lose_in_place.new.entries.items)
-    (changed change no_key (collection_or_new (forest_of c.args.table.now (shelves_of c.args.entries.now.items)) c.args.id)))) (sym c.in-Loss.is) c.lose_in_place.ensures.ok
+    subst (λ (change : Change). IfOk c.fail_in_place.result (λ (made : Bool). made ≡ true → (pool : ℕ) (handles : Handles) →
+    Finishes pool handles c.args.table.now (shelves_of c.args.entries.now.items) c.fail_in_place.new.table (shelves_of c.fail_in_place.new.entries.items)
+    (changed change no_key (collection_or_new (forest_of c.args.table.now (shelves_of c.args.entries.now.items)) c.args.id)))) (sym c.in-Loss.is) c.fail_in_place.ensures.ok

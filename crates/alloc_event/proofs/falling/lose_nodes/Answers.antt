@@ -1,4 +1,4 @@
--- The loss is made in its place, and the entry of the collection has the count.
+-- The change is made in its place, and the entry of the collection has the count.
 use Rattle.std.proofs.Common.{◌≡◌, true, false, List, Some, map, get_or, set, refl, sym, ◌∙◌, ap, subst, arith}
 use Rattle.std.proofs.lemmas.Bool.{not-true}
 use Rattle.std.proofs.lemmas.List.{get_or_default}
@@ -8,7 +8,7 @@ use Rattle.alloc_event.specs.declared.change.Change.{Change}
 use Rattle.alloc_event.specs.declared.entry.Entry.{Entry}
 use Rattle.alloc_event.specs.declared.units.Unit.{Unit}
 use Rattle.alloc_event.specs.Counts.{AreUnits}
-use Rattle.alloc_event.specs.Falling.{IsLost}
+use Rattle.alloc_event.specs.Falling.{IsLost, change_of}
 use Rattle.alloc_event.specs.InPlace.{IsOpen}
 use Rattle.alloc_event.specs.Kept.{Finishes, Shelf, collection_in, nodes_with, place_in, shelf_of, shelves_of, forest_of}
 use Rattle.alloc_event.specs.Nodes.{is_over}
@@ -37,7 +37,7 @@ recount-requires-clause-others c =
     let es = c.args.entries.now.items in
     let us = c.args.units.now.items in
     let old : Entry = c.index.result.now in
-    let loss = Change.Loss c.args.fault.origin c.args.fault.cause in
+    let loss = change_of c.args.going.now in
     let told : place_in c.args.id es ≡ Some c.in-Some.at = sym (rw c.deref.ensures.value at c.place_of.ensures) ∙ c.in-Some.is in
     let place : IsPlace c.args.id es c.in-Some.at = place_is c.args.id es c.in-Some.at told in
     let opens : IsOpen c.args.table.now us (shelves_of es) (shelf_of old) loss old.strong =
@@ -59,7 +59,7 @@ module _ (c : goal.After-entries-1) where
   old = c.index.result.now
 
   abbrev loss : Change
-  loss = Change.Loss c.args.fault.origin c.args.fault.cause
+  loss = change_of c.args.going.now
 
   abbrev new : Entry
   new = record {
@@ -92,7 +92,7 @@ module _ (c : goal.After-entries-1) where
   own : old.id ≡ c.args.id
   own = own_id c.args.table.now es c.args.id c.in-Some.at old place is c.requires.kept c.requires.counted us c.requires.units loss c.requires.change
 
-  lost : IsLost c.args.table.now c.fell.new.table c.fell.new.units.items (shelves_of es) (shelf_of old) c.args.fault c.in-Some-fell.left c.fell.new.nodes
+  lost : IsLost c.args.table.now c.fell.new.table c.fell.new.units.items (shelves_of es) (shelf_of old) loss c.in-Some-fell.left c.fell.new.nodes
   lost = c.in-Some-fell.ensures.some (shelves_of es) (shelf_of old) opens own
 
   tidies : new.tidy ≡ true → list_any is_over (nodes_with c.fell.new.table old.keys.items) ≡ false
