@@ -1,10 +1,15 @@
 -- What a change of one entry of a map does to its entries.
-use Rattle.std.proofs.Common.{◌≡◌, ◌+◌, ◌≤◌, refl, sym, ap, subst, ◌∙◌, ℕ, Bool, true, false, cond, List, [], ◌∷◌, Option, Some, None, arith, sum_by, IsSome}
-use Rattle.std.proofs.lemmas.List.Sums.{sum_by-cons}
-use Rattle.std.proofs.lemmas.List.Sorted.{sum_by-IsPermutation}
-use Rattle.std.specs.List.Sorted.{IsPermutation}
+use Rattle.std.proofs.Common.{◌≡◌, ◌+◌, ◌≤◌, ◌<◌, refl, sym, ap, subst, ◌∙◌, ℕ, zero, suc, Bool, true, false, cond, List, [], ◌∷◌, Option, Some, None, arith, sum_by, IsSome, length, get_or, slice_get, MutBor, IfSome}
+use Rattle.std.proofs.lemmas.List.Sums.{sum_by-cons, sum_by-append, sum_by-swap_remove}
+use Rattle.std.proofs.lemmas.Map.Entries.{lookup_from_place}
+use Rattle.std.proofs.lemmas.Option.{get_or_from_slice_get, slice_get_within, slice_get-map}
+use Rattle.std.specs.Cmp.{IsEquivalence}
+use Rattle.std.specs.List.{IsDistinct, swap_remove}
+use Rattle.std.specs.Option.{option_copied_mut, option_map}
 use Rattle.std.specs.Map.{lookup, set_value, remove_entry}
-use Rattle.std.specs.HashMap.{HashMap, get, IsUnique, Updates, UpdatesBy, PutsEntry, WritesThrough}
+use Rattle.std.specs.HashMap.{HashMap, get, values, IsUnique, Updates, UpdatesBy, WritesThrough}
+use Rattle.indexmap.specs.IndexMap.{insert_entry, set_value_at, with_value_at}
+use Rattle.indexmap.proofs.CallerLemmas.{insert_entry-new, keys-with_value_at, updates-with_value_at}
 use Rattle.buffer_holds.specs.Rows.{weight_at, Resets}
 
 -- ---- sums over the entries
@@ -82,29 +87,110 @@ module _ {K X S : Type 0} (eq same : K → K → Bool) (is : eq ≡ same) (one :
         distinct = written.4;
       })
 
-  -- `insert`, and a value given to an `Entry`
-  pub resets_put : (w : X) → Updates eq m n key (Some w) → PutsEntry eq m n key w (get eq m key) → IsUnique eq n
-      → Resets same m.entries n.entries key (lookup (same key) m.entries) (Some w)
-  resets_put w updates puts unique = told (get eq m key) (Some w) (record {
-    had = refl;
-    finds = updates.0;
-    weighs = λ weight.
-        elim (get eq m key) as (λ o. get eq m key ≡ o → PutsEntry eq m n key w o → sum_by weight n.entries + weight_at weight key o ≡ sum_by weight m.entries + weight (key, w)) [
-          | None ↦ λ found added. omega (arith, sum_by-IsPermutation weight ((key, w) ∷ m.entries) n.entries added, sum_by-cons weight (key, w) m.entries)
-          | Some v ↦ λ found set. subst (λ es. sum_by weight es + weight (key, v) ≡ sum_by weight m.entries + weight (key, w)) (sym set) (sum_by-set_value-key weight (eq key) key key_one m.entries v w found)
-        ] refl puts;
-    distinct = unique;
-  })
+-- ---- calls of a map by place
+module _ {K X : Type 0} where
+  -- a value at a place
+  sum_by-set_value_at : (weight : K × X → ℕ) (es : List (K × X)) (place : ℕ) (w : X) (d : K × X) → place < length es
+      → sum_by weight (set_value_at es place w) + weight (get_or es place d) ≡ sum_by weight es + weight ((get_or es place d).0, w)
+  sum_by-set_value_at weight [] place w d within = absurd (omega (arith, within))
+  sum_by-set_value_at weight (e ∷ es) zero w d within = omega (arith, sum_by-cons weight (e.0, w) es, sum_by-cons weight e es)
+  sum_by-set_value_at weight (e ∷ es) (suc place) w d within =
+      omega (arith, sum_by-set_value_at weight es place w d (omega (arith, within)), sum_by-cons weight e (set_value_at es place w), sum_by-cons weight e es)
 
-  -- `remove`
-  pub resets_removed : UpdatesBy eq (eq key) m n None → IsPermutation (remove_entry (eq key) m.entries) n.entries → IsUnique eq n
-      → Resets same m.entries n.entries key (lookup (same key) m.entries) None
-  resets_removed updates left unique = told (get eq m key) None (record {
-    had = refl;
-    finds = updates.0;
-    weighs = λ weight.
-        let taken : sum_by weight n.entries + weight_at weight key (get eq m key) ≡ sum_by weight m.entries =
-        rw (sum_by-IsPermutation weight (remove_entry (eq key) m.entries) n.entries left) (sum_by-remove_entry-key weight (eq key) key key_one m.entries) in
-        omega (arith, taken);
-    distinct = unique;
+  -- a value that is written back
+  set_value_at-get_or : (es : List (K × X)) (place : ℕ) (d : K × X) → set_value_at es place (get_or es place d).1 ≡ es
+  set_value_at-get_or [] place d = refl
+  set_value_at-get_or (e ∷ es) zero d = refl
+  set_value_at-get_or (e ∷ es) (suc place) d = ap (λ rest. e ∷ rest) (set_value_at-get_or es place d)
+
+  pub set_value_at-same : (es : List (K × X)) (place : ℕ) (key : K) (v : X) → slice_get es place ≡ Some (key, v) → set_value_at es place v ≡ es
+  set_value_at-same es place key v stands =
+      subst (λ (e : K × X). set_value_at es place e.1 ≡ es) (get_or_from_slice_get es place (key, v) (key, v) stands) (set_value_at-get_or es place (key, v))
+
+-- what is lent at a place
+module _ {K X S : Type 0} (m : HashMap K X S) (place : ℕ) (key : K) (v : X) (stands : slice_get m.entries place ≡ Some (key, v)) (lent : Option (MutBor X))
+    (value : option_copied_mut lent ≡ slice_get (values m) place) where
+  is_value : option_copied_mut lent ≡ Some v
+  is_value = value ∙ slice_get-map (λ (e : K × X). e.1) m.entries place ∙ ap (option_map (λ (e : K × X). e.1)) stands
+
+  pub IsSome-lent_at : IsSome lent
+  IsSome-lent_at = some lent is_value
+    where
+      some : (o : Option (MutBor X)) → option_copied_mut o ≡ Some v → IsSome o
+      some None e = cc
+      some (Some r) e = refl
+
+  pub value_lent_at : (r : MutBor X) → lent ≡ Some r → r.now ≡ v
+  value_lent_at r is = injected (sym (ap option_copied_mut is) ∙ is_value)
+    where
+      injected : Some r.now ≡ Some v → r.now ≡ v
+      injected e = cc
+
+module _ {K X S : Type 0} (eq same : K → K → Bool) (is : eq ≡ same) (one : (a b : K) → same a b ≡ true → a ≡ b) (itself : (a : K) → same a a ≡ true) (m n : HashMap K X S) (key : K) where
+  laws : IsEquivalence eq
+  laws = subst IsEquivalence (sym is) (record {
+    refl = itself;
+    symm = λ a b. alike (same a b) (same b a) (λ e. subst (λ x. same x a ≡ true) (one a b e) (itself a)) (λ e. subst (λ x. same x b ≡ true) (one b a e) (itself b));
+    congr = λ a b c e. ap (λ x. same x c) (one a b e);
   })
+    where
+      alike : (p q : Bool) → (p ≡ true → q ≡ true) → (q ≡ true → p ≡ true) → p ≡ q
+      alike true q there back = sym (there refl)
+      alike false true there back = back refl
+      alike false false there back = refl
+
+  -- the entry of the key stands at a place
+  module _ (place : ℕ) (v : X) (stands : slice_get m.entries place ≡ Some (key, v)) where
+    within : place < length m.entries
+    within = slice_get_within m.entries place (key, v) stands
+
+    here : get_or m.entries place (key, v) ≡ (key, v)
+    here = get_or_from_slice_get m.entries place (key, v) (key, v) stands
+
+    module _ (unique : IsUnique eq m) where
+      found : lookup (eq key) m.entries ≡ Some v
+      found = lookup_from_place laws m.entries place key v unique stands
+
+      -- a look-up finds it
+      pub lookup_placed : lookup (same key) m.entries ≡ Some v
+      lookup_placed = subst (λ s. lookup (s key) m.entries ≡ Some v) is found
+
+      -- a value written there
+      pub resets_placed : (w : X) → Resets same m.entries (set_value_at m.entries place w) key (lookup (same key) m.entries) (Some w)
+      resets_placed w =
+          let written = with_value_at m place w in
+          told eq same is one m written key (Some v) (Some w) (record {
+            had = found;
+            finds = (updates-with_value_at m place w laws unique key v stands).0;
+            weighs = λ weight. subst (λ (e : K × X). sum_by weight (set_value_at m.entries place w) + weight e ≡ sum_by weight m.entries + weight (e.0, w)) here (sum_by-set_value_at weight m.entries place w (key, v) within);
+            distinct = subst (IsDistinct eq) (sym (keys-with_value_at m place w)) unique;
+          })
+
+    -- the entry taken out
+    pub resets_taken : lookup (eq key) m.entries ≡ Some v → (taken : Option (K × X)) → taken ≡ slice_get m.entries place
+        → IfSome taken (λ e. n.entries ≡ swap_remove m.entries place e) → IfSome taken (λ e. Updates eq m n e.0 None) → IsUnique eq n
+        → Resets same m.entries n.entries key (lookup (same key) m.entries) None
+    resets_taken had taken entry left updates distinct =
+        let entry' : taken ≡ Some (key, v) = entry ∙ stands in
+        let left' = subst (λ o. IfSome o (λ e. n.entries ≡ swap_remove m.entries place e)) entry' left in
+        let updates' = subst (λ o. IfSome o (λ e. Updates eq m n e.0 None)) entry' updates in
+        told eq same is one m n key (Some v) None (record {
+          had = had;
+          finds = updates'.0;
+          weighs = λ weight. subst (λ (e : K × X). sum_by weight n.entries + weight e ≡ sum_by weight m.entries + 0) here
+              (omega (arith, ap (sum_by weight) left', sum_by-swap_remove weight m.entries place (key, v) within));
+          distinct = distinct;
+        })
+
+  -- a new entry
+  pub resets_added : (w : X) → lookup (same key) m.entries ≡ None → n.entries ≡ insert_entry eq m.entries key w → Updates eq m n key (Some w) → IsUnique eq n
+      → Resets same m.entries n.entries key (lookup (same key) m.entries) (Some w)
+  resets_added w absent added updates distinct =
+      let none : lookup (eq key) m.entries ≡ None = subst (λ s. lookup (s key) m.entries ≡ None) (sym is) absent in
+      let last = added ∙ insert_entry-new eq m key w none in
+      told eq same is one m n key None (Some w) (record {
+        had = none;
+        finds = updates.0;
+        weighs = λ weight. omega (arith, ap (sum_by weight) last, sum_by-append weight m.entries ((key, w) ∷ []), sum_by-cons weight (key, w) []);
+        distinct = distinct;
+      })

@@ -1,26 +1,23 @@
 -- What the calls of the map of tallies find and write, by the specs' own test of kinds.
-use Rattle.std.proofs.Common.{◌≡◌, ◌<◌, ◌+◌, refl, ap, subst, Option, None, Some, IsSome, unwrap_or, MutBor}
-use Rattle.std.specs.Option.{option_copied_mut}
-use Rattle.std.specs.HashMap.{HashMap, get, WritesThrough}
+use Rattle.std.proofs.Common.{◌≡◌, ◌<◌, ◌+◌, ◌∙◌, ℕ, refl, sym, ap, subst, Option, None, Some, IfSome, IsSome, slice_get, unwrap_or, Bor, MutBor}
+use Rattle.std.specs.Map.{lookup}
+use Rattle.std.specs.Map.Iter.{deref_pair}
+use Rattle.std.specs.Option.{option_copied_mut, option_map}
+use Rattle.std.specs.HashMap.{HashMap, get, values, IsUnique, WritesThrough}
 use Rattle.buffer_holds.specs.declared.kinds.HandleKind.{HandleKind}
 use Rattle.buffer_holds.specs.declared.tally.Tally.{Tally}
 use Rattle.buffer_holds.specs.contracts.kinds.HandleKindPartialEq.TheImpl.{eq-value as derived}
 use Rattle.buffer_holds.specs.Kinds.{same_kind}
-use Rattle.buffer_holds.specs.Rows.{Resets}
+use Rattle.buffer_holds.specs.Rows.{Resets, StandsAt}
 use Rattle.buffer_holds.specs.Sound.{tally_row, tally_at, no_tally}
-use Rattle.buffer_holds.specs.Stored.{stored_tally}
 use Rattle.buffer_holds.proofs.SoundLemmas.{kept_from_something}
-use Rattle.buffer_holds.proofs.KindLemmas.{derived_kind, same_kind-one}
-use Rattle.buffer_holds.proofs.RowLemmas.{lookup_found, resets_written}
+use Rattle.buffer_holds.proofs.KindLemmas.{derived_kind, same_kind-one, same_kind-refl}
+use Rattle.buffer_holds.proofs.RowLemmas.{lookup_found, lookup_placed, resets_written, value_lent_at}
 
 module _ {S : Type 0} (tallies : HashMap HandleKind Tally S) (kind : HandleKind) where
   -- the tally that a look-up found
-  pub row_found : (found : Option Tally) → found ≡ get derived.it tallies kind → tally_row tallies.entries kind ≡ found
+  row_found : (found : Option Tally) → found ≡ get derived.it tallies kind → tally_row tallies.entries kind ≡ found
   row_found found is = lookup_found derived.it same_kind derived_kind same_kind-one tallies tallies kind found is
-
-  -- the tally of the specs is the one that is stored
-  pub tally_at-stored : tally_at tallies.entries kind ≡ stored_tally tallies kind
-  tally_at-stored = ap (λ o. unwrap_or o no_tally) (row_found (get derived.it tallies kind) refl)
 
   -- a tally that says something is lent
   pub lent_from_something : (lent : Option (MutBor Tally)) → option_copied_mut lent ≡ get derived.it tallies kind
@@ -47,3 +44,33 @@ module _ {S : Type 0} (tallies : HashMap HandleKind Tally S) (kind : HandleKind)
     pub row_written : (new : HashMap HandleKind Tally S) (after : Tally) → WritesThrough derived.it (derived.it kind) tallies after new
         → Resets same_kind tallies.entries new.entries kind (tally_row tallies.entries kind) (Some after)
     row_written new after written = resets_written derived.it same_kind derived_kind same_kind-one tallies new kind tally.now after kept written
+
+  -- a tally that is read at its place
+  module _ (searched : Option ℕ) (found : IfSome searched (λ place. StandsAt tallies.entries place kind)) (place : ℕ) (is_place : searched ≡ Some place)
+      (lent : Option (Bor HandleKind × Bor Tally)) (entry : option_map deref_pair lent ≡ slice_get tallies.entries place)
+      (value : IfSome lent (λ p. get derived.it tallies p.0.now ≡ Some p.1.now)) (read : Bor HandleKind × Bor Tally) (is_read : lent ≡ Some read) where
+    there : StandsAt tallies.entries place kind
+    there = subst (λ o. IfSome o (λ place. StandsAt tallies.entries place kind)) is_place found
+
+    pair : slice_get tallies.entries place ≡ Some (read.0.now, read.1.now)
+    pair = sym entry ∙ ap (option_map deref_pair) is_read
+
+    this : read.0.now ≡ kind
+    this = ap (λ (o : Option (HandleKind × Tally)). (unwrap_or o (kind, no_tally)).0) (sym pair ∙ there.1)
+
+    pub stands_read : slice_get tallies.entries place ≡ Some (kind, read.1.now)
+    stands_read = pair ∙ ap (λ k. Some (k, read.1.now)) this
+
+    pub found_read : lookup (derived.it kind) tallies.entries ≡ Some read.1.now
+    found_read =
+        subst (λ k. lookup (derived.it k) tallies.entries ≡ Some read.1.now) this (subst (λ o. IfSome o (λ p. get derived.it tallies p.0.now ≡ Some p.1.now)) is_read value)
+
+    pub row_read : tally_row tallies.entries kind ≡ Some read.1.now
+    row_read = row_found (Some read.1.now) (sym found_read)
+
+  -- the tally that was lent at its place is the one that is kept
+  pub tally_lent_at : (place : ℕ) (there : StandsAt tallies.entries place kind) (lent : Option (MutBor Tally)) → option_copied_mut lent ≡ slice_get (values tallies) place
+      → IsUnique derived.it tallies → (tally : MutBor Tally) → lent ≡ Some tally → tally_at tallies.entries kind ≡ tally.now
+  tally_lent_at place there lent value unique tally is =
+      ap (λ o. unwrap_or o no_tally) (lookup_placed derived.it same_kind derived_kind same_kind-one same_kind-refl tallies tallies kind place there.0 there.1 unique)
+      ∙ sym (value_lent_at tallies place kind there.0 there.1 lent value tally is)

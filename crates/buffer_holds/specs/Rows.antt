@@ -1,5 +1,5 @@
 -- The entries of a map from keys to counts, and what becomes of them when one changes.
-use Rattle.std.specs.Prelude.{◌≡◌, ℕ, ◌+◌, Bool, if◌then◌else◌, List, Option, Some, None, sum_by, unwrap_or, is_some, length}
+use Rattle.std.specs.Prelude.{◌≡◌, ℕ, ◌+◌, Bool, if◌then◌else◌, List, Option, Some, None, sum_by, unwrap_or, is_some, slice_get, length}
 use Rattle.std.specs.List.{IsDistinct}
 use Rattle.std.specs.Map.{lookup, keys_of}
 use Rattle.buffer_holds.specs.declared.kinds.Hold.{Hold}
@@ -18,6 +18,10 @@ module _ {K X : Type 0} where
   abbrev pub weight_at : (K × X → ℕ) → K → Option X → ℕ
   weight_at weight key None = 0
   weight_at weight key (Some value) = weight (key, value)
+
+  -- the entry of this key stands at this place
+  abbrev pub StandsAt : List (K × X) → ℕ → K → Type 0
+  StandsAt entries place key = (value : X) × (slice_get entries place ≡ Some (key, value))
 
   -- the entry at this key was this and is that now, and all others are as they were
   pub record Resets (same : K → K → Bool) (old new : List (K × X)) (key : K) (was now : Option X) : Type 0 where

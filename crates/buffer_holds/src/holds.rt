@@ -10,11 +10,12 @@ ghost use Rattle.buffer_holds.specs.Changes.{Sets, Tidies};
 
 use crate::fault::HoldFault;
 use crate::kinds::{HandleKind, Hold};
-use crate::rows::{forget, lower, raise};
-use crate::tally::{Tally, leave, open, tally_of};
+use crate::rows::{Rows, forget, lower, raise};
+use crate::spot::Spot;
+use crate::tally::{Tallies, leave, open, tally_of};
+use indexmap::IndexMap;
 use sm_names::{BufferName, ClientId, NoMemory, Strength};
 use std::alloc::Global;
-use std::collections::HashMap;
 use std::marker::Model;
 
 /// How many handles are open, by client, buffer and strength, and how many are in parcels.
@@ -28,12 +29,14 @@ use std::marker::Model;
 ///
 /// Each call looks for one client's row, for the tally of one kind of handle, or for both, in a
 /// hash table each, and never goes over all clients. A new row is amortised: where a table grows,
-/// its entries are moved.
+/// its entries are moved. `total_near` and `add_near` look behind the last entry that was found
+/// first: handles that are opened one after the other lie so, until others that were opened before
+/// them are tidied away and leave their places to the last ones.
 #[derive(Drop)]
 pub struct Holds {
     limit: u32,
-    rows: HashMap<Hold, u32>,
-    tallies: HashMap<HandleKind, Tally>,
+    rows: Rows,
+    tallies: Tallies,
 }
 
 impl Model for Holds {
@@ -61,8 +64,8 @@ impl Holds {
     {
         Holds {
             limit,
-            rows: HashMap::new(alloc),
-            tallies: HashMap::new(alloc),
+            rows: IndexMap::new(alloc),
+            tallies: IndexMap::new(alloc),
         }
     }
 
@@ -80,7 +83,7 @@ impl Holds {
         ensures { result ≡ moving self.now buffer strength }
     {
         let kind = HandleKind { buffer, strength };
-        tally_of(&self.tallies, kind).moving
+        tally_of(&self.tallies, kind, &mut 0).moving
     }
 
     /// How many of these handles are open, in parcels and out of them: what was opened, less what
@@ -91,8 +94,18 @@ impl Holds {
         ensures within { result ≤ self.now.limit }
         ensures one_row_each { IsDistinct same_hold (keys_of self.now.rows) }
     {
+        self.total_near(buffer, strength, &mut Spot::new())
+    }
+
+    /// What `total` says. It looks at the spot first, which goes on behind what it finds, and takes
+    /// a look-up only where the tally stands elsewhere.
+    pub fn total_near(&self, buffer: BufferName, strength: Strength, near: &mut Spot) -> u32
+        ensures value { result ≡ total self.now buffer strength }
+        ensures within { result ≤ self.now.limit }
+        ensures one_row_each { IsDistinct same_hold (keys_of self.now.rows) }
+    {
         let kind = HandleKind { buffer, strength };
-        tally_of(&self.tallies, kind).total
+        tally_of(&self.tallies, kind, &mut near.tally).total
     }
 
     /// Whether nothing strong keeps this buffer of an allocated collection any longer: neither an
@@ -129,9 +142,27 @@ impl Holds {
         ensures room { IsTrue (has_room self.old client buffer strength) → IsOkUnless result HoldFault.TooMany }
         ensures err { OnErr result (self.new ≡ self.old) }
     {
+        self.add_near(client, buffer, strength, &mut Spot::new())
+    }
+
+    /// Does what `add` does. It looks at the spot first, which goes on behind what it finds, and
+    /// takes look-ups only where the row or the tally stands elsewhere or is new.
+    pub fn add_near(
+        &mut self,
+        client: ClientId,
+        buffer: BufferName,
+        strength: Strength,
+        near: &mut Spot,
+    ) -> Result<(), HoldFault>
+        ensures opened { OnOk result (Sets self.old self.new client buffer strength
+            (of self.old client buffer strength + 1) (moving self.old buffer strength) (total self.old buffer strength + 1)) }
+        ensures too_many { IsErrOf result HoldFault.TooMany ↔ (total self.old buffer strength ≡ self.old.limit) }
+        ensures room { IsTrue (has_room self.old client buffer strength) → IsOkUnless result HoldFault.TooMany }
+        ensures err { OnErr result (self.new ≡ self.old) }
+    {
         let kind = HandleKind { buffer, strength };
         let hold = Hold { client, kind };
-        open(&mut self.rows, &mut self.tallies, hold, self.limit)
+        open(&mut self.rows, &mut self.tallies, hold, self.limit, near)
     }
 
     /// Closes one of the client's handles, and answers whether it had one. Without one nothing
@@ -198,7 +229,7 @@ impl Holds {
     {
         let kind = HandleKind { buffer, strength };
         let before = self.rows.len();
-        let Ok(()) = raise(&mut self.rows, Hold { client, kind }) else {
+        let Ok(()) = raise(&mut self.rows, Hold { client, kind }, &mut 0) else {
             return Err(NoMemory);
         };
         let tally = self.tallies.get_mut(&kind).unwrap();

@@ -6,8 +6,10 @@ mod fault;
 mod holds;
 mod kinds;
 mod rows;
+mod spot;
 mod tally;
 
 pub use fault::HoldFault;
 pub use holds::Holds;
 pub use kinds::{HandleKind, Hold};
+pub use spot::Spot;

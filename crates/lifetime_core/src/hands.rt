@@ -6,13 +6,13 @@ ghost use Rattle.buffer_holds.specs.Counts.{Counts, of, total};
 ghost use Rattle.lifetime_core.specs.Hands.{MayMove, Moves, CanUndo, Opens, CanOpen, is_the, is_below};
 ghost use Rattle.lifetime_core.specs.State.{counts_of};
 
-use buffer_holds::{HoldFault, Holds};
+use buffer_holds::{HoldFault, Holds, Spot};
 use sm_names::{BufferName, Call, ClientId, CollectionId, NoMemory, Reply, Strength, has_buffer};
 
 /// Opens, drops or moves the handles of the call that was answered so.
 ///
 /// `NoMemory` where there is no room for a handle more; then no count changed. It costs two look-ups
-/// for each handle.
+/// for each handle at most.
 pub(crate) fn hand_over(
     holds: &mut Holds,
     client: ClientId,
@@ -38,7 +38,7 @@ pub(crate) fn hand_over(
         }
         Call::DupHandle(buffer, strength) => {
             if let Reply::Done = *reply {
-                return open(holds, client, buffer, strength);
+                return open(holds, client, buffer, strength, &mut Spot::new());
             }
         }
         Call::DropHandle(buffer, strength) => {
@@ -134,9 +134,10 @@ fn open_all(
     ensures err { OnErr result (counts_of holds.new ≡ counts_of holds.old) }
     ensures limit { holds.new.limit ≡ holds.old.limit }
 {
+    let mut near = Spot::new();
     let mut end = 0;
     while end < 64 {
-        if let Err(NoMemory) = open_at(holds, client, collection, strength, set, end) {
+        if let Err(NoMemory) = open_at(holds, client, collection, strength, set, end, &mut near) {
             close_below(holds, client, collection, strength, set, end);
             return Err(NoMemory);
         }
@@ -174,6 +175,7 @@ fn open_at(
     strength: Strength,
     set: u64,
     index: u8,
+    near: &mut Spot,
 ) -> Result<(), NoMemory>
     requires in_range { index < 64 }
     requires room { bit_at set index ≡ 1 →
@@ -188,7 +190,13 @@ fn open_at(
     if !has_buffer(set, index) {
         return Ok(());
     }
-    open(holds, client, BufferName { collection, index }, strength)
+    open(
+        holds,
+        client,
+        BufferName { collection, index },
+        strength,
+        near,
+    )
 }
 
 // Closes a handle on the buffer with this index, if the set has it.
@@ -217,13 +225,14 @@ fn open(
     client: ClientId,
     buffer: BufferName,
     strength: Strength,
+    near: &mut Spot,
 ) -> Result<(), NoMemory>
     requires { total holds.old buffer strength < holds.old.limit }
     ensures ok { OnOk result (Opens holds.old holds.new client (is_the buffer strength)) }
     ensures err { OnErr result (holds.new ≡ holds.old) }
     ensures limit { holds.new.limit ≡ holds.old.limit }
 {
-    match holds.add(client, buffer, strength) {
+    match holds.add_near(client, buffer, strength, near) {
         Ok(()) => Ok(()),
         Err(HoldFault::NoMemory) => Err(NoMemory),
         Err(HoldFault::TooMany) => unreachable!(),

@@ -42,7 +42,7 @@ use crate::table::answer;
 use crate::task::{carried_end, changed_by, finish, task_of};
 use crate::traits::{Named, traits_of};
 use alloc_event::{End, Forest, HeldBuffer, Node};
-use buffer_holds::Holds;
+use buffer_holds::{Holds, Spot};
 use buffer_pool::Pool;
 use sm_names::{
     BufferName, Buffers, Call, Cause, ClientId, CollectionId, Fired, Limits, NoMemory, NodeKey,
@@ -210,11 +210,16 @@ impl Core {
         self.holds.of(client, buffer, strength)
     }
 
-    // Whether as many of these handles are open as may be.
-    pub(crate) fn has_all_handles(&self, buffer: BufferName, strength: Strength) -> bool
+    // Whether as many of these handles are open as may be. They are looked for near the spot.
+    pub(crate) fn has_all_handles(
+        &self,
+        buffer: BufferName,
+        strength: Strength,
+        near: &mut Spot,
+    ) -> bool
         ensures { result ≡ is_at_limit self.now.limits (readings_of self.now) strength buffer }
     {
-        self.limits.handles() <= self.holds.total(buffer, strength)
+        self.limits.handles() <= self.holds.total_near(buffer, strength, near)
     }
 
     // Whether as many trackers wait as may.
@@ -320,10 +325,11 @@ impl Core {
     /// It costs a binary search among the clients, a few look-ups of a node, of a collection and of
     /// handles, and the work on one collection: that of the node or the buffer that the call names,
     /// or the new one. A call that changes nothing there costs only the look-ups. A Take costs at
-    /// most five look-ups more for each buffer. An event that changes something in a collection costs
-    /// one test for each node and each buffer that trackers wait for there, two for a node of which
-    /// lifetimes are waited for too, however many wait for the same; and one that only attaches a
-    /// tracker costs a test of that one, unless it fires.
+    /// most five look-ups more for each buffer, and fewer where the counts of the buffers stand one
+    /// after the other, as the first Take left them. An event that changes something in a collection
+    /// costs one test for each node and each buffer that trackers wait for there, two for a node of
+    /// which lifetimes are waited for too, however many wait for the same; and one that only attaches
+    /// a tracker costs a test of that one, unless it fires.
     pub fn step(&mut self, client: ClientId, call: Call) -> Result<Reply, StepFault>
         ensures answer { IfOk result (λ reply.
             IsAnswer self.old.limits (readings_of self.old) client call reply) }

@@ -5,6 +5,7 @@ ghost use Rattle.sm_names.specs.Answers.{is_at_limit, set_of, strength_of as str
 ghost use Rattle.lifetime_core.specs.Reads.{readings_of, to_open_in};
 
 use crate::machine::Core;
+use buffer_holds::Spot;
 use sm_names::{BufferName, CollectionId, Strength};
 
 /// The strength of handles taken through a node that is weak or not.
@@ -19,7 +20,7 @@ pub(crate) fn strength_of(weak: bool) -> Strength
 }
 
 /// Whether as many handles of this strength as may be are open on one of the buffers that would be
-/// opened. It costs two look-ups for each buffer.
+/// opened. It costs two look-ups for each buffer at most.
 pub(crate) fn is_one_full(core: &Core, collection: CollectionId, strength: Strength) -> bool
     ensures { result ≡ list_any (is_at_limit core.now.limits (readings_of core.now) strength)
         (to_open_in core.now collection) }
@@ -28,9 +29,12 @@ pub(crate) fn is_one_full(core: &Core, collection: CollectionId, strength: Stren
         return false;
     };
     let strong_live = core.strong_live(collection);
+    let mut near = Spot::new();
     for index in 0..buffers.count as u8 {
         let buffer = BufferName { collection, index };
-        if !core.is_doomed(buffer, strong_live) && core.has_all_handles(buffer, strength) {
+        if !core.is_doomed(buffer, strong_live)
+            && core.has_all_handles(buffer, strength, &mut near)
+        {
             return true;
         }
     }
@@ -38,7 +42,7 @@ pub(crate) fn is_one_full(core: &Core, collection: CollectionId, strength: Stren
 }
 
 /// The buffers that are opened, as a set: bit i stands for buffer i. It costs a look-up for each
-/// buffer.
+/// buffer, or none where a strong node is live.
 pub(crate) fn set_to_open(core: &Core, collection: CollectionId) -> u64
     ensures { result ≡ set_of (to_open_in core.now collection) }
 {

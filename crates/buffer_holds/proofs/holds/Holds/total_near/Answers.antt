@@ -1,7 +1,7 @@
 use Rattle.std.proofs.Common.{sym, ap, ◌∙◌}
 use Rattle.buffer_holds.specs.Counts.{total}
 use Rattle.buffer_holds.proofs.SoundLemmas.{total_is}
-use Rattle.buffer_holds.proofs.holds.Holds.total.Goals as goal
+use Rattle.buffer_holds.proofs.holds.Holds.total_near.Goals as goal
 
 -- the tally has it
 pub returns-clause-value : goal.returns-clause-value

@@ -1,8 +1,5 @@
-use Rattle.std.proofs.Common.{◌≡◌, ◌+◌, refl, sym, ap, subst, ◌∙◌, arith, IsSome, IsTrue}
-use Rattle.std.specs.HashMap.{get}
+use Rattle.std.proofs.Common.{◌≡◌, ◌+◌, refl, sym, ap, subst, ◌∙◌, arith, IsTrue}
 use Rattle.buffer_holds.specs.declared.fault.HoldFault.TheVariants.{TooMany}
-use Rattle.buffer_holds.specs.declared.tally.Tally.{Tally}
-use Rattle.buffer_holds.specs.contracts.kinds.HandleKindPartialEq.TheImpl.{eq-value as derived}
 use Rattle.buffer_holds.specs.Counts.{total, has_room}
 use Rattle.buffer_holds.specs.Kinds.{kind_of, hold_of}
 use Rattle.buffer_holds.specs.Rows.{Raises, row_at}
@@ -12,25 +9,24 @@ use Rattle.buffer_holds.proofs.Opening.{Step-opened}
 use Rattle.buffer_holds.proofs.Outcomes.{by_outcome, at_ok, at_err, on_ok, ok-not-err}
 use Rattle.buffer_holds.proofs.SoundLemmas.{total_is, count_at-le-total, clients-le-length, one_row-le-clients, one_row-IsSome, kept_from_something}
 use Rattle.buffer_holds.proofs.Steps.{sound_after, sets_by}
-use Rattle.buffer_holds.proofs.TallyRows.{tally_at-stored, row_found}
-use Rattle.buffer_holds.proofs.holds.Holds.add.Goals as goal
+use Rattle.buffer_holds.proofs.holds.Holds.add_near.Goals as goal
 
 pub open-requires-clause-within : goal.open-requires-clause-within
 open-requires-clause-within c =
     let kind = kind_of c.args.buffer c.args.strength in
-    omega (arith, (c.self.invariant.tallied kind).within, ap (λ (t : Tally). t.total) (tally_at-stored c.self.inside.tallies kind))
+    omega (arith, (c.self.invariant.tallied kind).within)
 
 pub open-requires-clause-counted : goal.open-requires-clause-counted
 open-requires-clause-counted c =
     let inside = c.self.inside in
     let hold = hold_of c.args.client c.args.buffer c.args.strength in
-    omega (arith, count_at-le-total inside.limit inside.rows.entries inside.tallies.entries c.self.invariant hold, ap (λ (t : Tally). t.total) (tally_at-stored inside.tallies hold.kind))
+    omega (arith, count_at-le-total inside.limit inside.rows.entries inside.tallies.entries c.self.invariant hold)
 
 pub open-requires-clause-listed : goal.open-requires-clause-listed
 open-requires-clause-listed c =
     let inside = c.self.inside in
     let hold = hold_of c.args.client c.args.buffer c.args.strength in
-    omega (arith, clients-le-length inside.limit inside.rows.entries inside.tallies.entries c.self.invariant hold, ap (λ (t : Tally). t.clients) (tally_at-stored inside.tallies hold.kind))
+    omega (arith, clients-le-length inside.limit inside.rows.entries inside.tallies.entries c.self.invariant hold)
 
 pub invariant_of-self : goal.invariant_of-self
 invariant_of-self c =
@@ -38,9 +34,9 @@ invariant_of-self c =
     let hold = hold_of c.args.client c.args.buffer c.args.strength in
     let rows' = c.open.new.rows.entries in
     by_outcome c.open.result
-    (λ ok. sound_after (Step-opened inside.limit inside.rows.entries rows' inside.tallies c.open.new.tallies c.self.invariant hold
+    (λ ok. sound_after (Step-opened inside.limit inside.rows.entries rows' inside.tallies.entries c.open.new.tallies.entries c.self.invariant hold
     (at_ok (Raises inside.rows.entries rows' hold) c.open.result ok c.open.ensures.raised)
-    (at_ok (Opens inside.rows.entries rows' inside.tallies c.open.new.tallies hold.kind) c.open.result ok c.open.ensures.tallied)
+    (at_ok (Opens inside.rows.entries rows' inside.tallies.entries c.open.new.tallies.entries hold.kind) c.open.result ok c.open.ensures.tallied)
     (λ full. ok-not-err c.open.result TooMany ok (c.open.ensures.too_many.1 full))))
     (λ err. subst (λ rows. IsSound inside.limit rows c.open.new.tallies.entries) (sym (at_err (rows' ≡ inside.rows.entries) c.open.result err c.open.ensures.err_rows))
     (subst (IsSound inside.limit inside.rows.entries) (sym (at_err (c.open.new.tallies.entries ≡ inside.tallies.entries) c.open.result err c.open.ensures.err_tallies)) c.self.invariant))
@@ -50,14 +46,13 @@ returns-clause-opened c =
     let inside = c.self.inside in
     let hold = hold_of c.args.client c.args.buffer c.args.strength in
     let rows' = c.open.new.rows.entries in
-    let kept = tally_at-stored inside.tallies hold.kind in
     on_ok _ c.open.result (λ ok. sets_by c.args.client c.args.buffer c.args.strength
-    (Step-opened inside.limit inside.rows.entries rows' inside.tallies c.open.new.tallies c.self.invariant hold
+    (Step-opened inside.limit inside.rows.entries rows' inside.tallies.entries c.open.new.tallies.entries c.self.invariant hold
     (at_ok (Raises inside.rows.entries rows' hold) c.open.result ok c.open.ensures.raised)
-    (at_ok (Opens inside.rows.entries rows' inside.tallies c.open.new.tallies hold.kind) c.open.result ok c.open.ensures.tallied)
+    (at_ok (Opens inside.rows.entries rows' inside.tallies.entries c.open.new.tallies.entries hold.kind) c.open.result ok c.open.ensures.tallied)
     (λ full. ok-not-err c.open.result TooMany ok (c.open.ensures.too_many.1 full)))
     c.args.self.now c.self.view_is (λ n. n + 1) (λ n. n) (λ n. n + 1)
-    refl (ap (λ (t : Tally). t.moving) (sym kept)) (ap (λ (t : Tally). t.total + 1) (sym kept)))
+    refl refl refl)
 
 -- the tally has what is open
 pub returns-clause-too_many : goal.returns-clause-too_many
@@ -65,8 +60,7 @@ returns-clause-too_many c =
     let inside = c.self.inside in
     let kind = kind_of c.args.buffer c.args.strength in
     let all = ap (λ counts. total counts c.args.buffer c.args.strength) (sym c.self.view_is)
-    ∙ total_is inside.limit inside.rows.entries inside.tallies.entries c.self.invariant c.args.buffer c.args.strength
-    ∙ ap (λ (t : Tally). t.total) (tally_at-stored inside.tallies kind) in
+    ∙ total_is inside.limit inside.rows.entries inside.tallies.entries c.self.invariant c.args.buffer c.args.strength in
     let most = ap (λ counts. counts.limit) c.self.view_is in
     (λ refused. all ∙ c.open.ensures.too_many.0 refused ∙ most, λ full. c.open.ensures.too_many.1 (sym all ∙ full ∙ sym most))
 
@@ -78,4 +72,4 @@ returns-clause-room c = λ room.
     let row = subst (λ counts. IsTrue (has_room counts c.args.client c.args.buffer c.args.strength)) (sym c.self.view_is) room in
     let kept = kept_from_something (tally_row inside.tallies.entries hold.kind)
     (omega (arith, one_row-IsSome (row_at inside.rows.entries hold) row, one_row-le-clients inside.limit inside.rows.entries inside.tallies.entries c.self.invariant hold)) in
-    c.open.ensures.room row (subst IsSome (row_found inside.tallies hold.kind (get derived.it inside.tallies hold.kind) refl) kept)
+    c.open.ensures.room row kept
