@@ -22,6 +22,13 @@ marks-set marks holes at new all = λ k d lt.
     let m : Mark = get_or marks k d in
     All-set (Suits m) holes at new (All-head (Suits m) new holes (all k d lt)) (All-tail (Suits m) new holes (all k d lt))
 
+-- what is left of a hole in its place
+pub marks-shortened : (marks : List Mark) (holes : List Interval) (at : ℕ) (rest : Interval) → at < length holes → (get_or holes at rest).start ≤ rest.start → rest.pages ≤ (get_or holes at rest).pages
+    → AreMarks marks holes → AreMarks marks (set holes at rest)
+marks-shortened marks holes at rest within later less all = λ k d lt.
+    let m : Mark = get_or marks k d in
+    All-set (Suits m) holes at rest (λ before. omega (arith, all k d lt at rest within (omega (arith, before, later)), less)) (all k d lt)
+
 -- a hole more
 pub marks-insert : (marks : List Mark) (holes : List Interval) (at : ℕ) (new : Interval) → AreMarks marks (new ∷ holes) → AreMarks marks (insert holes at new)
 marks-insert marks holes at new all = λ k d lt.

@@ -8,19 +8,44 @@ use crate::pages::MAX_PAGES;
 use crate::row::Row;
 use sm_names::Interval;
 
-/// How many intervals begin before this page.
+// A place from `low` up to `high`: the guess, or the middle.
+fn place_to_look(low: usize, high: usize, guess: usize) -> usize
+    requires { low < high }
+    ensures { (low ≤ result) × (result < high) }
+{
+    if low <= guess && guess < high {
+        guess
+    } else {
+        low + (high - low) / 2
+    }
+}
+
+// Which place to look at after this one: the one before the last change, and then none.
+fn next_guess(guess: usize, near: usize) -> usize {
+    if guess == near {
+        near.wrapping_sub(1)
+    } else {
+        usize::MAX
+    }
+}
+
+/// How many intervals begin before this page. It looks close to the last change first, and then
+/// goes by halves.
 pub(crate) fn starts_before(held: &Row, page: u32) -> usize
     requires { IsNonDecreasingBy (λ i. i.start) held.now.items }
     ensures { result ≡ prefix_len (λ i. nat_lt i.start page) held.now.items }
 {
     let mut low = 0;
     let mut high = held.len();
+    let near = held.near();
+    let mut guess = near;
     while low < high {
-        let middle = low + (high - low) / 2;
-        if held.get(middle).start < page {
-            low = middle + 1;
+        let at = place_to_look(low, high, guess);
+        guess = next_guess(guess, near);
+        if held.get(at).start < page {
+            low = at + 1;
         } else {
-            high = middle;
+            high = at;
         }
     }
     low

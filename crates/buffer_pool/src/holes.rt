@@ -100,7 +100,7 @@ pub(crate) fn take_front(holes: &mut HoleRow, at: usize, pages_each: u32) -> u32
             start: hole.start + pages_each,
             pages: hole.pages - pages_each,
         };
-        holes.set(at, rest);
+        holes.shorten(at, rest);
     }
     hole.start
 }

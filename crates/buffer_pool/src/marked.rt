@@ -89,6 +89,17 @@ impl HoleRow {
         self.row.set(at, new);
     }
 
+    /// Puts what is left of a hole in its place: it begins no earlier, and has no more pages.
+    pub(crate) fn shorten(&mut self, at: usize, rest: Interval)
+        requires there { at < length self.old.items }
+        requires later { (slice_index_or self.old.items at rest).start ≤ rest.start }
+        requires less { rest.pages ≤ (slice_index_or self.old.items at rest).pages }
+        ensures items { self.new.items ≡ set self.old.items at rest }
+        ensures capacity { self.new.capacity ≡ self.old.capacity }
+    {
+        self.row.set(at, rest);
+    }
+
     /// Puts a hole in before the one at this place.
     pub(crate) fn insert(&mut self, at: usize, new: Interval)
         requires within { at ≤ length self.old.items }

@@ -70,10 +70,11 @@ impl Pool {
     ///
     /// It costs one walk over the holes up to the first start, but for those that an earlier search
     /// for as many pages or fewer passed, two walks from there up to the last start, or to the end
-    /// where the pool is full, and for each buffer a binary search. What searches passed is kept
-    /// for sixteen numbers of pages, which are apart by their remainder. In either list a change
-    /// moves what lies between it and the change before it, so that the buffers of one call move
-    /// all that they pass once.
+    /// where the pool is full, and for each buffer two looks at the held intervals where it lies
+    /// next to the one before, and else a binary search. What searches passed is kept for sixteen
+    /// numbers of pages, which are apart by their remainder. In either list a change moves what lies
+    /// between it and the change before it, so that the buffers of one call move all that they pass
+    /// once.
     pub fn place(&mut self, count: u32, pages_each: u32) -> Result<Placed, PoolFault>
         requires { (1 ≤ count) × (1 ≤ pages_each) }
 

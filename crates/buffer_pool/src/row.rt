@@ -69,6 +69,13 @@ impl Row {
         self.cells.len() - (self.back - self.front)
     }
 
+    /// A place close to the last change.
+    pub(crate) fn near(&self) -> usize
+        ensures { result ≤ length self.now.items }
+    {
+        self.front
+    }
+
     /// The interval at a place.
     pub(crate) fn get(&self, at: usize) -> Interval
         requires { at < length self.now.items }
@@ -171,7 +178,7 @@ fn move_gap(cells: &mut Vec<Interval>, front: usize, back: usize, at: usize) -> 
     let to = at + (back - front);
     if at < front {
         cells.copy_within(at..front, to);
-    } else {
+    } else if at > front {
         cells.copy_within(back..to, front);
     }
     to

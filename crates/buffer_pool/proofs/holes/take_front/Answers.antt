@@ -34,5 +34,5 @@ returns-else-hole-pages_each-clause-start c = sym (the_fit (goal.at.returns-else
 
 pub returns-else-hole-pages_each-clause-holes : goal.returns-else-hole-pages_each-clause-holes
 returns-else-hole-pages_each-clause-holes c =
-    c.set.ensures.items
+    c.shorten.ensures.items
     ∙ taken_part c.args.pages_each c.args.holes.now.items c.args.at c.get-hole.result (the_fit (goal.at.returns-else-hole-pages_each-clause-holes c).After-get-hole) c.if-hole-pages_each.false c.requires.some
