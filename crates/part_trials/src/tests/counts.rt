@@ -1,5 +1,5 @@
 //! What no contract says: that calls succeed, and that the counts are those of a plain tally.
-use buffer_holds::{HoldFault, Holds};
+use buffer_holds::{HoldFault, Holds, Spot};
 use sm_names::{BufferName, ClientId, Strength};
 
 const FIRST: BufferName = BufferName {
@@ -104,10 +104,13 @@ fn acts_alike(
     open: &mut Tally,
     act: Act,
     handle: (ClientId, BufferName, Strength),
+    near: &mut Spot,
 ) -> bool {
     let (client, buffer, strength) = handle;
     match act {
-        Act::Add => open.push(handle).is_ok() && holds.add(client, buffer, strength).is_ok(),
+        Act::Add => {
+            open.push(handle).is_ok() && holds.add_near(client, buffer, strength, near).is_ok()
+        }
         Act::Sub => holds.sub(client, buffer, strength) == strike(open, handle),
         Act::Lift => {
             let is_there = strike(open, handle);
@@ -133,7 +136,13 @@ fn times(open: &Tally, handle: (ClientId, BufferName, Strength)) -> usize {
 }
 
 // Whether all counts of this buffer are those of the tally.
-fn counts_alike(holds: &Holds, open: &Tally, buffer: BufferName, strength: Strength) -> bool {
+fn counts_alike(
+    holds: &Holds,
+    open: &Tally,
+    buffer: BufferName,
+    strength: Strength,
+    near: &mut Spot,
+) -> bool {
     let mut total = times(open, (0, buffer, strength));
     if holds.moving(buffer, strength) as usize != total {
         return false;
@@ -146,6 +155,7 @@ fn counts_alike(holds: &Holds, open: &Tally, buffer: BufferName, strength: Stren
         total = total.saturating_add(own);
     }
     holds.total(buffer, strength) as usize == total
+        && holds.total_near(buffer, strength, near) as usize == total
 }
 
 #[test]
@@ -172,11 +182,65 @@ fn counts_are_those_of_a_plain_tally(rt: HostRuntime) {
     ];
     let mut open = Vec::new(rt.alloc());
     let mut holds = Holds::new(rt.alloc(), 9);
+    let mut near = Spot::new();
     for (act, client, buffer, strength) in acts.iter().copied() {
-        assert!(rt; acts_alike(&mut holds, &mut open, act, (client, buffer, strength)));
+        assert!(rt;
+            acts_alike(
+                &mut holds,
+                &mut open,
+                act,
+                (client, buffer, strength),
+                &mut near
+            )
+        );
         for buffer in [FIRST, SECOND] {
-            assert!(rt; counts_alike(&holds, &open, buffer, Strength::Strong));
-            assert!(rt; counts_alike(&holds, &open, buffer, Strength::Weak));
+            assert!(rt; counts_alike(&holds, &open, buffer, Strength::Strong, &mut near));
+            assert!(rt; counts_alike(&holds, &open, buffer, Strength::Weak, &mut near));
         }
+    }
+}
+
+// Opens a handle for the client on each of eight buffers, and whether all were opened.
+fn takes_eight(holds: &mut Holds, client: ClientId) -> bool {
+    let mut near = Spot::new();
+    (0..8).all(|index| {
+        let buffer = BufferName {
+            collection: 7,
+            index,
+        };
+        holds
+            .add_near(client, buffer, Strength::Strong, &mut near)
+            .is_ok()
+    })
+}
+
+#[test]
+fn counts_are_found_wherever_they_went(rt: HostRuntime) {
+    let mut holds = Holds::new(rt.alloc(), 9);
+    assert!(rt; takes_eight(&mut holds, 1) && takes_eight(&mut holds, 2));
+    for index in [3, 0, 6] {
+        let buffer = BufferName {
+            collection: 7,
+            index,
+        };
+        for client in 1..=2 {
+            assert!(rt; holds.sub(client, buffer, Strength::Strong));
+            holds.tidy(client, buffer, Strength::Strong);
+        }
+    }
+    assert!(rt; takes_eight(&mut holds, 2) && takes_eight(&mut holds, 1));
+    let mut near = Spot::new();
+    for index in 0..8 {
+        let buffer = BufferName {
+            collection: 7,
+            index,
+        };
+        let all = if index == 3 || index == 0 || index == 6 {
+            2
+        } else {
+            4
+        };
+        assert_eq!(rt; holds.total_near(buffer, Strength::Strong, &mut near), all);
+        assert_eq!(rt; holds.of(1, buffer, Strength::Strong) * 2, all);
     }
 }
