@@ -51,7 +51,7 @@ fn is_live_at(nodes: &[Node], key: NodeKey) -> bool
 
 /// Whether some live node is at the top one or below it. One walk where the top one is live, and
 /// else a walk for each node.
-#[tactic(auto, using(crate::proofs::Alive::live_besides))]
+#[tactic(auto, using(crate::proofs::calm::Alive::live_besides))]
 pub fn some_live_under(nodes: &[Node], top: NodeKey) -> bool
     ensures { result ≡ list_any (lives_below nodes.now top) nodes.now }
 {

@@ -8,7 +8,7 @@ use Rattle.sm_names.specs.Words.{times}
 use Rattle.sm_names.proofs.ListLaws.{In}
 use Rattle.sm_names.proofs.SamenessLaws.{either_way, both_ways, or_right}
 use mathlib.Core.List.{reverse_aux}
-use Rattle.alloc_event.proofs.Links.{map-reverse_aux}
+use Rattle.alloc_event.proofs.tables.Links.{map-reverse_aux}
 
 -- ---- filters
 

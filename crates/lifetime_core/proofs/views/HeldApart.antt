@@ -19,7 +19,7 @@ use Rattle.buffer_pool.specs.Holdings.{Holdings, IsSound, in_order}
 use Rattle.buffer_pool.specs.Holes.{end_of}
 use Rattle.alloc_event.specs.declared.held.HeldBuffer.{HeldBuffer}
 use Rattle.alloc_event.specs.Forest.{Forest, IsPoolOf, all_held, held_buffer, held_by_page}
-use Rattle.alloc_event.proofs.Ordered.{sorted_by-map}
+use Rattle.alloc_event.proofs.shelves.Ordered.{sorted_by-map}
 use Rattle.lifetime_core.specs.Shown.{IsAfter}
 use Rattle.lifetime_core.specs.State.{State}
 use Rattle.lifetime_core.proofs.lists.Reorderings.{Adds, First, Later, Mixed, Nothing, Puts, mixed_map}

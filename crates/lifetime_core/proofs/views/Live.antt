@@ -23,7 +23,7 @@ use Rattle.sm_names.proofs.SamenessLaws.{both_ways, none_or_some}
 use Rattle.sm_names.proofs.SettledLaws.{In-was_born}
 use Rattle.alloc_event.specs.declared.node.Node.{Node}
 use Rattle.alloc_event.specs.Forest.{node_at, live_keys}
-use Rattle.alloc_event.proofs.Ordered.{sorted_by-map}
+use Rattle.alloc_event.proofs.shelves.Ordered.{sorted_by-map}
 use Rattle.lifetime_core.specs.Reads.{is_live_in, fault_in}
 use Rattle.lifetime_core.specs.Shown.{IsAfter, node_after}
 use Rattle.lifetime_core.specs.State.{State}

@@ -1,6 +1,6 @@
 use Rattle.std.proofs.Common.{arith}
 use Rattle.alloc_event.specs.Nodes.{given_buffers}
-use Rattle.alloc_event.proofs.InPlace.{map_step}
+use Rattle.alloc_event.proofs.lists.Loops.{map_step}
 use Rattle.alloc_event.proofs.allocating.allocate.Goals as goal
 
 pub loop-node-preserved : goal.loop-node-preserved

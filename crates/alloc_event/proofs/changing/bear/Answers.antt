@@ -3,7 +3,7 @@ use Rattle.std.proofs.Common.{◌≡◌, sym, ◌∙◌, ap, subst}
 use Rattle.node_table.specs.Changes.{Births}
 use Rattle.alloc_event.specs.declared.node.Node.{Node}
 use Rattle.alloc_event.specs.Kept.{Bears}
-use Rattle.alloc_event.proofs.Bearing.{bears_node, born_key, born_parent}
+use Rattle.alloc_event.proofs.newborns.Bearing.{bears_node, born_key, born_parent}
 use Rattle.alloc_event.proofs.changing.bear.Goals as goal
 
 pub returns-clause-ok : goal.returns-clause-ok

@@ -1,7 +1,7 @@
 -- The node is born, and counted for its unit.
 use Rattle.alloc_event.specs.Kept.{shelves_of}
-use Rattle.alloc_event.proofs.BornUnits.{newborn_units}
-use Rattle.alloc_event.proofs.Newborn.{above_is}
+use Rattle.alloc_event.proofs.newborns.Units.{newborn_units}
+use Rattle.alloc_event.proofs.newborns.Newborn.{above_is}
 use Rattle.alloc_event.proofs.changing.bear_counted.Goals as goal
 
 pub returns-clause-units : goal.returns-clause-units

@@ -6,12 +6,12 @@ use Rattle.node_table.specs.Table.{node_at}
 use Rattle.alloc_event.specs.declared.entry.Entry.{Entry}
 use Rattle.alloc_event.specs.declared.node.Node.{Node}
 use Rattle.alloc_event.specs.Kept.{Bears, born, place_in, shelf_of, shelves_of}
-use Rattle.alloc_event.proofs.BornEntries.{among_counted, among_shelves, by_two, first_counted, first_shelves, on_three, on_two, refused_counted, refused_shelves, refused_two}
-use Rattle.alloc_event.proofs.Counted.{count_few}
-use Rattle.alloc_event.proofs.Entries.{IsPlace, none_in, place_is}
-use Rattle.alloc_event.proofs.Newborn.{above_is, above_key, above_there}
-use Rattle.alloc_event.proofs.Showing.{filed_found, shelf_found}
-use Rattle.alloc_event.proofs.Watched.{found_counted}
+use Rattle.alloc_event.proofs.newborns.Entries.{among_counted, among_shelves, by_two, first_counted, first_shelves, on_three, on_two, refused_counted, refused_shelves, refused_two}
+use Rattle.alloc_event.proofs.shelves.Counted.{count_few}
+use Rattle.alloc_event.proofs.shelves.Entries.{IsPlace, none_in, place_is}
+use Rattle.alloc_event.proofs.newborns.Newborn.{above_is, above_key, above_there}
+use Rattle.alloc_event.proofs.shelves.Showing.{filed_found, shelf_found}
+use Rattle.alloc_event.proofs.calm.Watched.{found_counted}
 use Rattle.alloc_event.proofs.changing.bear_still.Goals as goal
 
 pub index_mut-requires : goal.index_mut-requires

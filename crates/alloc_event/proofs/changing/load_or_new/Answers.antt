@@ -2,7 +2,7 @@
 use Rattle.std.proofs.Common.{None, map, option_map, sym, ◌∙◌, ap}
 use Rattle.alloc_event.specs.Kept.{collection_in, shelf_of, shelves_of}
 use Rattle.alloc_event.specs.Scenes.{held_pages}
-use Rattle.alloc_event.proofs.Showing.{shelf_found, collection_is, collection_none}
+use Rattle.alloc_event.proofs.shelves.Showing.{shelf_found, collection_is, collection_none}
 use Rattle.alloc_event.proofs.changing.load_or_new.Goals as goal
 
 pub returns-in-Some : goal.returns-in-Some

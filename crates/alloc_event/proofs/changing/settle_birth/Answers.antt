@@ -5,12 +5,12 @@ use Rattle.sm_names.specs.Words.{sorted_by}
 use Rattle.buffer_holds.specs.Counts.{total}
 use Rattle.alloc_event.specs.Kept.{forest_of, shelves_of}
 use Rattle.alloc_event.specs.Settling.{collection_or_new}
-use Rattle.alloc_event.proofs.Alike.{start_of}
-use Rattle.alloc_event.proofs.BornEntries.{on_two}
-use Rattle.alloc_event.proofs.Newborn.{above_is}
-use Rattle.alloc_event.proofs.Quiet.{quiet_held, quiet_kept, quiet_ok}
-use Rattle.alloc_event.proofs.Slots.{birth_id, but_started, or_new_id}
-use Rattle.alloc_event.proofs.Watched.{watched_still}
+use Rattle.alloc_event.proofs.lists.SameIntervals.{start_of}
+use Rattle.alloc_event.proofs.newborns.Entries.{on_two}
+use Rattle.alloc_event.proofs.newborns.Newborn.{above_is}
+use Rattle.alloc_event.proofs.newborns.Quiet.{quiet_held, quiet_kept, quiet_ok}
+use Rattle.alloc_event.proofs.tallies.Slots.{birth_id, but_started, or_new_id}
+use Rattle.alloc_event.proofs.calm.Watched.{watched_still}
 use Rattle.alloc_event.proofs.changing.settle_birth.Goals as goal
 
 -- what two facts of an answer make true of it

@@ -4,10 +4,10 @@ use Rattle.sm_names.specs.Timelines.{HeldPages}
 use Rattle.sm_names.specs.Words.{sorted_by}
 use Rattle.alloc_event.specs.Forest.{all_held}
 use Rattle.alloc_event.specs.Kept.{Shelf, forest_of, shelves_of}
-use Rattle.alloc_event.proofs.Alike.{start_of}
+use Rattle.alloc_event.proofs.lists.SameIntervals.{start_of}
 use Rattle.alloc_event.specs.Settling.{collection_or_new, no_key}
-use Rattle.alloc_event.proofs.Birthing.{helds_in}
-use Rattle.alloc_event.proofs.Slots.{but_finished, changed_id, or_new_id}
+use Rattle.alloc_event.proofs.newborns.Forest.{helds_in}
+use Rattle.alloc_event.proofs.tallies.Slots.{but_finished, changed_id, or_new_id}
 use Rattle.alloc_event.proofs.changing.settle_change.Goals as goal
 
 pub returns-then-branch-clause-pool : goal.returns-then-branch-clause-pool

@@ -9,12 +9,12 @@ use Rattle.alloc_event.specs.Forest.{Collection, all_held}
 use Rattle.alloc_event.specs.Kept.{Gives, shelf_of, shelves_of, IsHung, IsKept, put_shelf, forest_of, all_of}
 use Rattle.alloc_event.specs.Scenes.{held_pages, IsSound}
 use Rattle.alloc_event.specs.Units.{are_united}
-use Rattle.alloc_event.proofs.Alike.{start_of}
-use Rattle.alloc_event.proofs.Altering.{shelf_by}
-use Rattle.alloc_event.proofs.Bearing.{born_key}
-use Rattle.alloc_event.proofs.Birthing.{still_collection, still_collections}
-use Rattle.alloc_event.proofs.Counted.{counted_but, moved_all}
-use Rattle.alloc_event.proofs.Newborn.{above_is, above_key, above_there, born_hung, born_kept, born_sound, born_united, born_all_of, born_held, born_is, grown_scene, Gives-same, Finishes-before}
+use Rattle.alloc_event.proofs.lists.SameIntervals.{start_of}
+use Rattle.alloc_event.proofs.changes.Altering.{shelf_by}
+use Rattle.alloc_event.proofs.newborns.Bearing.{born_key}
+use Rattle.alloc_event.proofs.newborns.Forest.{still_collection, still_collections}
+use Rattle.alloc_event.proofs.shelves.Counted.{counted_but, moved_all}
+use Rattle.alloc_event.proofs.newborns.Newborn.{above_is, above_key, above_there, born_hung, born_kept, born_sound, born_united, born_all_of, born_held, born_is, grown_scene, Gives-same, Finishes-before}
 use Rattle.alloc_event.proofs.changing.settle_newborn.Goals as goal
 
 pub bear-requires-clause-parent : goal.bear-requires-clause-parent

@@ -4,10 +4,10 @@ use Rattle.std.proofs.lemmas.Bool.{false≢true}
 use Rattle.alloc_event.specs.Forest.{Collection, IsPoolOf}
 use Rattle.alloc_event.specs.Kept.{shelf_of, shelves_of, nodes_with}
 use Rattle.alloc_event.specs.Scenes.{collection_of}
-use Rattle.alloc_event.proofs.Altering.{change_kept, change_room, altered-kept, altered-forest, altered-hung, altered-sound, altered-tied, altered-united, altered-of, altered-is}
-use Rattle.alloc_event.proofs.Counted.{counted_but}
-use Rattle.alloc_event.proofs.LeftParents.{loss_left}
-use Rattle.alloc_event.proofs.Showing.{shelf_found}
+use Rattle.alloc_event.proofs.changes.Altering.{change_kept, change_room, altered-kept, altered-forest, altered-hung, altered-sound, altered-tied, altered-united, altered-of, altered-is}
+use Rattle.alloc_event.proofs.shelves.Counted.{counted_but}
+use Rattle.alloc_event.proofs.tables.LeftParents.{loss_left}
+use Rattle.alloc_event.proofs.shelves.Showing.{shelf_found}
 use Rattle.alloc_event.proofs.changing.settle_scene_change.Goals as goal
 
 pub unreachable-requires : goal.unreachable-requires

@@ -6,10 +6,10 @@ use Rattle.buffer_holds.specs.Counts.{total}
 use Rattle.alloc_event.specs.Kept.{shelves_of}
 use Rattle.alloc_event.specs.Scenes.{IsSound}
 use Rattle.alloc_event.specs.Still.{IsStill}
-use Rattle.alloc_event.proofs.Alike.{start_of}
-use Rattle.alloc_event.proofs.BornEntries.{on_two}
-use Rattle.alloc_event.proofs.Newborn.{above_is, before_is}
-use Rattle.alloc_event.proofs.Quiet.{quiet_held, quiet_kept, quiet_ok}
+use Rattle.alloc_event.proofs.lists.SameIntervals.{start_of}
+use Rattle.alloc_event.proofs.newborns.Entries.{on_two}
+use Rattle.alloc_event.proofs.newborns.Newborn.{above_is, before_is}
+use Rattle.alloc_event.proofs.newborns.Quiet.{quiet_held, quiet_kept, quiet_ok}
 use Rattle.alloc_event.proofs.changing.settle_unwatched.Goals as goal
 
 -- what two facts of an answer make true of it

@@ -6,8 +6,8 @@ use Rattle.alloc_event.specs.Decisions.{decided, mark_of, IsStep}
 use Rattle.alloc_event.specs.Forest.{Collection, pages_in}
 use Rattle.alloc_event.specs.Scenes.{collection_of, is_held_strongly}
 use Rattle.alloc_event.specs.Settling.{standing}
-use Rattle.alloc_event.proofs.Forcing.{forced_made}
-use Rattle.alloc_event.proofs.Steps.{decided_steps}
+use Rattle.alloc_event.proofs.calm.Forcing.{forced_made}
+use Rattle.alloc_event.proofs.calm.Steps.{decided_steps}
 use Rattle.alloc_event.proofs.deciding.decide.Goals as goal
 
 pub returns-clause-forced : goal.returns-clause-forced

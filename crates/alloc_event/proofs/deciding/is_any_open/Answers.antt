@@ -3,7 +3,7 @@ use Rattle.std.specs.List.{list_any, range_with_len}
 use Rattle.sm_names.specs.declared.keys.BufferName.{BufferName}
 use Rattle.sm_names.specs.declared.keys.Strength.{Strength}
 use Rattle.buffer_holds.specs.Counts.{total}
-use Rattle.alloc_event.proofs.Ranges.{any_from}
+use Rattle.alloc_event.proofs.lists.Ranges.{any_from}
 use Rattle.alloc_event.proofs.deciding.is_any_open.Goals as goal
 
 -- this one is not open

@@ -1,6 +1,6 @@
 use Rattle.std.proofs.Common.{arith}
 use Rattle.alloc_event.specs.Nodes.{affected}
-use Rattle.alloc_event.proofs.InPlace.{map_step}
+use Rattle.alloc_event.proofs.lists.Loops.{map_step}
 use Rattle.alloc_event.proofs.effects.affect.Goals as goal
 
 pub loop-node-preserved : goal.loop-node-preserved

@@ -2,7 +2,7 @@
 use Rattle.std.proofs.Common.{sym, subst}
 use Rattle.sm_names.proofs.ListLaws.{In}
 use Rattle.alloc_event.specs.declared.node.Node.{Node}
-use Rattle.alloc_event.proofs.Alive.{at_place, lives_among}
+use Rattle.alloc_event.proofs.calm.Alive.{at_place, lives_among}
 use Rattle.alloc_event.proofs.ending.ending.Goals as goal
 
 pub is_deserted-requires : goal.is_deserted-requires

@@ -1,6 +1,6 @@
 -- A live node is not deserted.
 use Rattle.std.proofs.Common.{sym, ◌∙◌}
-use Rattle.alloc_event.proofs.Alive.{live_stays}
+use Rattle.alloc_event.proofs.calm.Alive.{live_stays}
 use Rattle.alloc_event.proofs.ending.is_deserted.Goals as goal
 
 pub returns-then-is_live : goal.returns-then-is_live

@@ -2,7 +2,7 @@
 use Rattle.std.proofs.lemmas.List.Sorted.{IsPartitionedBy-ltb, IsPartitionPoint-from_clause}
 use Rattle.std.proofs.Common.{rules, nat_lt}
 use Rattle.alloc_event.specs.declared.entry.Entry.{Entry}
-use Rattle.alloc_event.proofs.Entries.{rises, prefix_len-partition}
+use Rattle.alloc_event.proofs.shelves.Entries.{rises, prefix_len-partition}
 use Rattle.alloc_event.proofs.entry.entries_before.Goals as goal
 
 pub returns : goal.returns

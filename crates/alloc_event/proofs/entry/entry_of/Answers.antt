@@ -3,7 +3,7 @@ use Rattle.std.proofs.Common.{◌≡◌, sym, ◌∙◌, arith, option_copied}
 use Rattle.std.specs.List.{slice_get}
 use Rattle.std.proofs.lemmas.Grind.{common_steps}
 use Rattle.std.proofs.lemmas.Option.{gets}
-use Rattle.alloc_event.proofs.Entries.{none_in, placed}
+use Rattle.alloc_event.proofs.shelves.Entries.{none_in, placed}
 use Rattle.alloc_event.proofs.entry.entry_of.Goals as goal
 
 pub returns-in-Some : goal.returns-in-Some

@@ -4,8 +4,8 @@ use Rattle.std.specs.Option.{option_map_or}
 use Rattle.node_table.specs.Table.{node_at}
 use Rattle.alloc_event.specs.declared.node.Node.{Node}
 use Rattle.alloc_event.specs.Kept.{shelves_of}
-use Rattle.alloc_event.proofs.Showing.{node_is}
-use Rattle.alloc_event.proofs.Storing.{row_there}
+use Rattle.alloc_event.proofs.shelves.Showing.{node_is}
+use Rattle.alloc_event.proofs.tables.Storing.{row_there}
 use Rattle.alloc_event.proofs.falling.fail_in_place.Goals as goal
 
 some_if : (p : Node → Bool) (o : Option Node) → option_map_or p o false ≡ true → is_some o ≡ true

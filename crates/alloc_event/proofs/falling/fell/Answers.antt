@@ -7,9 +7,9 @@ use Rattle.alloc_event.specs.Calm.{strong_count}
 use Rattle.alloc_event.specs.Counts.{AreUnitsBut, unit_at}
 use Rattle.alloc_event.specs.Falling.{IsLost, change_of, gone_by, is_kept_up, may_go, untallied}
 use Rattle.alloc_event.specs.Kept.{Stores, all_of, collection_in, have_places, nodes_with}
-use Rattle.alloc_event.proofs.Fallen.{filed_fallen, units_but}
-use Rattle.alloc_event.proofs.Finishing.{places-filed}
-use Rattle.alloc_event.proofs.Goings.{lost_made}
+use Rattle.alloc_event.proofs.failures.Fallen.{filed_fallen, units_but}
+use Rattle.alloc_event.proofs.changes.Finishing.{places-filed}
+use Rattle.alloc_event.proofs.failures.Goings.{lost_made}
 use Rattle.alloc_event.proofs.falling.fell.Goals as goal
 
 pub returns-then-not-lower-clause-none_units : goal.returns-then-not-lower-clause-none_units

@@ -1,6 +1,6 @@
 use Rattle.std.proofs.Common.{arith}
 use Rattle.alloc_event.specs.Falling.{gone_by}
-use Rattle.alloc_event.proofs.InPlace.{map_step}
+use Rattle.alloc_event.proofs.lists.Loops.{map_step}
 use Rattle.alloc_event.proofs.falling.go_each.Goals as goal
 
 pub loop-node-preserved : goal.loop-node-preserved

@@ -13,8 +13,8 @@ use Rattle.alloc_event.specs.InPlace.{IsOpen}
 use Rattle.alloc_event.specs.Kept.{Finishes, Shelf, collection_in, nodes_with, place_in, shelf_of, shelves_of, forest_of}
 use Rattle.alloc_event.specs.Nodes.{is_over}
 use Rattle.alloc_event.specs.Settling.{changed, collection_or_new, no_key}
-use Rattle.alloc_event.proofs.Done.{counted_at, finishes_at, opens_at, own_id, shelves_at, tidy_at}
-use Rattle.alloc_event.proofs.Entries.{IsPlace, place_is}
+use Rattle.alloc_event.proofs.changes.Done.{counted_at, finishes_at, opens_at, own_id, shelves_at, tidy_at}
+use Rattle.alloc_event.proofs.shelves.Entries.{IsPlace, place_is}
 use Rattle.alloc_event.proofs.falling.lose_nodes.Goals as goal
 
 pub index-requires : goal.index-requires

@@ -6,9 +6,9 @@ use Rattle.alloc_event.specs.Calm.{put_in}
 use Rattle.alloc_event.specs.Forest.{beside}
 use Rattle.alloc_event.specs.Kept.{shelf_in, shelves_of, forest_of}
 use Rattle.alloc_event.specs.Scenes.{collection_of}
-use Rattle.alloc_event.proofs.Finished.{back_places, finished-collections, finished-counted, finished-kept, finished-pool}
-use Rattle.alloc_event.proofs.Hanging.{hung_settled}
-use Rattle.alloc_event.proofs.Pools.{pool_beside}
+use Rattle.alloc_event.proofs.changes.Finished.{back_places, finished-collections, finished-counted, finished-kept, finished-pool}
+use Rattle.alloc_event.proofs.tables.Hanging.{hung_settled}
+use Rattle.alloc_event.proofs.intervals.Pools.{pool_beside}
 use Rattle.alloc_event.proofs.finish.finish.Goals as goal
 
 pub give_back-requires : goal.give_back-requires

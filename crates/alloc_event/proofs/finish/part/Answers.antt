@@ -1,4 +1,4 @@
-use Rattle.alloc_event.proofs.Alike.{parted-in_order}
+use Rattle.alloc_event.proofs.lists.SameIntervals.{parted-in_order}
 use Rattle.alloc_event.proofs.finish.part.Goals as goal
 
 pub returns : goal.returns

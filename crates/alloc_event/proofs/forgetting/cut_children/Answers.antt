@@ -1,5 +1,5 @@
 -- Each cut leaves one child fewer.
-use Rattle.alloc_event.proofs.TakingOut.{CutsOff-more, cut_fewer}
+use Rattle.alloc_event.proofs.tables.TakingOut.{CutsOff-more, cut_fewer}
 use Rattle.alloc_event.proofs.forgetting.cut_children.Goals as goal
 
 pub cutting-smaller : goal.cutting-smaller

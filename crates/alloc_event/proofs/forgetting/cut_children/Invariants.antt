@@ -1,6 +1,6 @@
 use Rattle.std.proofs.Common.{length}
 use Rattle.node_table.specs.Table.{children_at}
-use Rattle.alloc_event.proofs.TakingOut.{CutsOff}
+use Rattle.alloc_event.proofs.tables.TakingOut.{CutsOff}
 use Rattle.alloc_event.proofs.forgetting.cut_children.Given as goal
 
 -- only links were cut so far

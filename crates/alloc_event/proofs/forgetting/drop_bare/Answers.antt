@@ -5,9 +5,9 @@ use Rattle.std.proofs.lemmas.List.{get_or_default}
 use Rattle.sm_names.proofs.SamenessLaws.{and_both}
 use Rattle.alloc_event.specs.Forgetting.{is_bare}
 use Rattle.alloc_event.specs.Kept.{place_in, shelf_of, shelves_of}
-use Rattle.alloc_event.proofs.Counted.{counted_removed}
-use Rattle.alloc_event.proofs.Dropping.{bare_entry, bare_none, keep_bare, no_left, no_right, remove_bare}
-use Rattle.alloc_event.proofs.Entries.{place_is}
+use Rattle.alloc_event.proofs.shelves.Counted.{counted_removed}
+use Rattle.alloc_event.proofs.shelves.Dropping.{bare_entry, bare_none, keep_bare, no_left, no_right, remove_bare}
+use Rattle.alloc_event.proofs.shelves.Entries.{place_is}
 use Rattle.alloc_event.proofs.forgetting.drop_bare.Goals.{else-is_empty-via-then-is_empty+else-is_empty-2, else-is_empty-via-else-is_empty}
 use Rattle.alloc_event.proofs.forgetting.drop_bare.Goals as goal
 

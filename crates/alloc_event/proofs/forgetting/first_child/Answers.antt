@@ -1,5 +1,5 @@
 -- The first of the children is one of them.
-use Rattle.alloc_event.proofs.TakingOut.{first_child_is}
+use Rattle.alloc_event.proofs.tables.TakingOut.{first_child_is}
 use Rattle.alloc_event.proofs.forgetting.first_child.Goals as goal
 
 pub returns : goal.returns

@@ -7,10 +7,10 @@ use Rattle.alloc_event.specs.declared.entry.Entry.{Entry}
 use Rattle.alloc_event.specs.Forgetting.{left_at}
 use Rattle.alloc_event.specs.Kept.{IsKept, Shelf, nodes_with, shelf_of, shelves_of}
 use Rattle.alloc_event.specs.Nodes.{is_over}
-use Rattle.alloc_event.proofs.Counted.{dropped_all, drops_over, none_left, own_key, tidy_one}
-use Rattle.alloc_event.proofs.Forgotten.{thin_filed, thinned_filed, tidy_left}
-use Rattle.alloc_event.proofs.Showing.{shelf_found}
-use Rattle.alloc_event.proofs.Watched.{found_counted}
+use Rattle.alloc_event.proofs.shelves.Counted.{dropped_all, drops_over, none_left, own_key, tidy_one}
+use Rattle.alloc_event.proofs.leaving.Forgotten.{thin_filed, thinned_filed, tidy_left}
+use Rattle.alloc_event.proofs.shelves.Showing.{shelf_found}
+use Rattle.alloc_event.proofs.calm.Watched.{found_counted}
 use Rattle.alloc_event.proofs.forgetting.forget_nodes.Goals as goal
 
 pub returns-in_default-clause-shelves : goal.returns-in_default-clause-shelves

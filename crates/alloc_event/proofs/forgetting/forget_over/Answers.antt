@@ -2,7 +2,7 @@
 use Rattle.std.proofs.Common.{map, sym, ◌∙◌, ap, subst}
 use Rattle.alloc_event.specs.Forgetting.{without_bare}
 use Rattle.alloc_event.specs.Kept.{AreRising, IsKept, collection_in, shelves_of}
-use Rattle.alloc_event.proofs.Forgotten.{forgotten_collections, forgotten_kept, forgotten_rising}
+use Rattle.alloc_event.proofs.leaving.Forgotten.{forgotten_collections, forgotten_kept, forgotten_rising}
 use Rattle.alloc_event.proofs.forgetting.forget_over.Goals as goal
 
 pub drop_bare-requires : goal.drop_bare-requires

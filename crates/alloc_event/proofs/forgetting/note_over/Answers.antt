@@ -3,8 +3,8 @@ use Rattle.std.proofs.Common.{◌≡◌, Some, None, false, refl, sym, ◌∙◌
 use Rattle.std.proofs.lemmas.List.{get_or_default}
 use Rattle.alloc_event.specs.declared.entry.Entry.{Entry}
 use Rattle.alloc_event.specs.Kept.{place_in, shelf_of}
-use Rattle.alloc_event.proofs.Counted.{noted, noted_none, noted_set, set_shelves}
-use Rattle.alloc_event.proofs.Entries.{place_is}
+use Rattle.alloc_event.proofs.shelves.Counted.{noted, noted_none, noted_set, set_shelves}
+use Rattle.alloc_event.proofs.shelves.Entries.{place_is}
 use Rattle.alloc_event.proofs.forgetting.note_over.Goals as goal
 
 pub index_mut-requires : goal.index_mut-requires

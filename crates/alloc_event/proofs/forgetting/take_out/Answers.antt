@@ -1,6 +1,6 @@
 -- The node is removed once its children are cut.
 use Rattle.std.proofs.Common.{sym, ◌∙◌}
-use Rattle.alloc_event.proofs.TakingOut.{takes_out}
+use Rattle.alloc_event.proofs.tables.TakingOut.{takes_out}
 use Rattle.alloc_event.proofs.forgetting.take_out.Goals as goal
 
 pub returns-clause-out : goal.returns-clause-out

@@ -1,5 +1,5 @@
 use Rattle.std.proofs.Common.{length}
-use Rattle.alloc_event.proofs.Walking.{Walks}
+use Rattle.alloc_event.proofs.tables.Walking.{Walks}
 use Rattle.alloc_event.proofs.forgetting.take_out_over.Given as goal
 
 -- the walk over the rest ends where the whole does

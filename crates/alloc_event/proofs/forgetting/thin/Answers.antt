@@ -7,9 +7,9 @@ use Rattle.alloc_event.specs.Forgetting.{thinned}
 use Rattle.alloc_event.specs.Calm.{IsCounted}
 use Rattle.alloc_event.specs.Kept.{collection_in, nodes_with, place_in, shelf_of}
 use Rattle.alloc_event.specs.Nodes.{is_over}
-use Rattle.alloc_event.proofs.Counted.{found_nodes, recounted, tidied_set}
-use Rattle.alloc_event.proofs.Dropping.{set_thin, thin_none}
-use Rattle.alloc_event.proofs.Entries.{place_is}
+use Rattle.alloc_event.proofs.shelves.Counted.{found_nodes, recounted, tidied_set}
+use Rattle.alloc_event.proofs.shelves.Dropping.{set_thin, thin_none}
+use Rattle.alloc_event.proofs.shelves.Entries.{place_is}
 use Rattle.alloc_event.proofs.forgetting.thin.Goals as goal
 
 pub index_mut-entry-requires : goal.index_mut-entry-requires

@@ -8,8 +8,8 @@ use Rattle.alloc_event.specs.declared.node.Node.{Node}
 use Rattle.alloc_event.specs.Calm.{strong_count}
 use Rattle.alloc_event.specs.Kept.{is_strong, nodes_with}
 use Rattle.alloc_event.specs.Nodes.{affected}
-use Rattle.alloc_event.proofs.Effecting.{less_is, plain_affected, plain_made, plain_named, strong_before, strong_is}
-use Rattle.alloc_event.proofs.Storing.{row_there}
+use Rattle.alloc_event.proofs.changes.Effecting.{less_is, plain_affected, plain_made, plain_named, strong_before, strong_is}
+use Rattle.alloc_event.proofs.tables.Storing.{row_there}
 use Rattle.alloc_event.proofs.in_place.affect_in_place.Goals as goal
 
 pub returns-clause-some : goal.returns-clause-some

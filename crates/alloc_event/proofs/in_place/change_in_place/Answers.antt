@@ -3,7 +3,7 @@ use Rattle.std.proofs.Common.{sym, subst}
 use Rattle.alloc_event.specs.declared.change.Change.{Change}
 use Rattle.alloc_event.specs.InPlace.{IsMade, IsOpen}
 use Rattle.std.proofs.lemmas.Bool.{lt-ltb}
-use Rattle.alloc_event.proofs.Effecting.{made_nothing}
+use Rattle.alloc_event.proofs.changes.Effecting.{made_nothing}
 use Rattle.alloc_event.proofs.in_place.change_in_place.Goals as goal
 
 pub returns-in-Nothing-clause-some : goal.returns-in-Nothing-clause-some

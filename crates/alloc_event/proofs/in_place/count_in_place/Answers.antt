@@ -16,9 +16,9 @@ use Rattle.alloc_event.specs.InPlace.{IsMade, bit}
 use Rattle.alloc_event.specs.Kept.{is_strong, nodes_with}
 use Rattle.alloc_event.specs.Nodes.{affected}
 use Rattle.alloc_event.specs.Questions.{is_live_node}
-use Rattle.alloc_event.proofs.Altering.{same_affected}
-use Rattle.alloc_event.proofs.Effecting.{counted_made, counted_named, less_is, live_before, live_is, strong_before, strong_is, unready_before, unready_is}
-use Rattle.alloc_event.proofs.Storing.{row_there}
+use Rattle.alloc_event.proofs.changes.Altering.{same_affected}
+use Rattle.alloc_event.proofs.changes.Effecting.{counted_made, counted_named, less_is, live_before, live_is, strong_before, strong_is, unready_before, unready_is}
+use Rattle.alloc_event.proofs.tables.Storing.{row_there}
 use Rattle.alloc_event.proofs.in_place.count_in_place.Goals.{else-is_unready-via-then-is_unready+then-unready-eq0+else-not-is_served, else-is_unready-via-then-is_unready+else-unready-eq0, else-is_unready-via-else-is_unready}
 use Rattle.alloc_event.proofs.in_place.count_in_place.Goals as goal
 

@@ -9,9 +9,9 @@ use Rattle.alloc_event.specs.InPlace.{IsMade, IsOpen}
 use Rattle.alloc_event.specs.Kept.{Finishes, Shelf, collection_in, nodes_with, place_in, shelf_of, shelves_of, forest_of}
 use Rattle.alloc_event.specs.Nodes.{is_over}
 use Rattle.alloc_event.specs.Settling.{changed, collection_or_new, no_key}
-use Rattle.alloc_event.proofs.Altering.{tracker_room}
-use Rattle.alloc_event.proofs.Done.{counted_at, finishes_at, opens_at, shelves_at, tidy_at}
-use Rattle.alloc_event.proofs.Entries.{IsPlace, place_is}
+use Rattle.alloc_event.proofs.changes.Altering.{tracker_room}
+use Rattle.alloc_event.proofs.changes.Done.{counted_at, finishes_at, opens_at, shelves_at, tidy_at}
+use Rattle.alloc_event.proofs.shelves.Entries.{IsPlace, place_is}
 use Rattle.alloc_event.proofs.in_place.settle_in_place.Goals as goal
 
 pub index-requires : goal.index-requires

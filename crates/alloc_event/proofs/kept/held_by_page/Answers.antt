@@ -7,7 +7,7 @@ use Rattle.std.proofs.lemmas.List.Sorted.{answers_always}
 use Rattle.sm_names.specs.Words.{sorted_by}
 use Rattle.alloc_event.specs.declared.entry.Entry.{Entry}
 use Rattle.alloc_event.specs.declared.held.HeldBuffer.{HeldBuffer}
-use Rattle.alloc_event.proofs.Stable.{stable_sorted}
+use Rattle.alloc_event.proofs.lists.StableSort.{stable_sorted}
 use Rattle.alloc_event.proofs.kept.held_by_page.Goals as goal
 
 pub loop-entry-preserved : goal.loop-entry-preserved

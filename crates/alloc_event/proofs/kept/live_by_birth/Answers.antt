@@ -9,7 +9,7 @@ use Rattle.sm_names.specs.Words.{sorted_by}
 use Rattle.alloc_event.specs.declared.entry.Entry.{Entry}
 use Rattle.alloc_event.specs.Kept.{all_keys, nodes_with, shelves_of, is_live}
 use Rattle.alloc_event.specs.declared.node.Node.{Node}
-use Rattle.alloc_event.proofs.Stable.{stable_sorted}
+use Rattle.alloc_event.proofs.lists.StableSort.{stable_sorted}
 use Rattle.alloc_event.proofs.kept.live_by_birth.Goals as goal
 
 pub loop-entry-preserved : goal.loop-entry-preserved

@@ -2,7 +2,7 @@ use Rattle.std.proofs.Common.{arith, get_or, ◌∙◌}
 use Rattle.std.specs.List.{list_any}
 use Rattle.sm_names.specs.Sameness.{same_key}
 use Rattle.alloc_event.specs.Nodes.{lost}
-use Rattle.alloc_event.proofs.InPlace.{map_step}
+use Rattle.alloc_event.proofs.lists.Loops.{map_step}
 use Rattle.alloc_event.proofs.losses.fail_all.Goals as goal
 
 pub loop-node-preserved : goal.loop-node-preserved

@@ -3,8 +3,8 @@ use Rattle.std.proofs.lemmas.List.{get_or_default}
 use Rattle.alloc_event.specs.declared.node.Node.{Node}
 use Rattle.alloc_event.specs.Nodes.{lost}
 use Rattle.alloc_event.specs.Questions.{is_below}
-use Rattle.alloc_event.proofs.InPlace.{map_step}
-use Rattle.alloc_event.proofs.Links.{below_by_links, link_of, map-kept_part}
+use Rattle.alloc_event.proofs.lists.Loops.{map_step}
+use Rattle.alloc_event.proofs.tables.Links.{below_by_links, link_of, map-kept_part}
 use Rattle.alloc_event.proofs.losses.fail_under.Goals as goal
 
 -- the nodes so far have the links that they had

@@ -1,6 +1,6 @@
 -- A key that is not found by the search is not there.
 use Rattle.std.proofs.Common.{sym, ◌∙◌}
-use Rattle.alloc_event.proofs.Ordering.{found}
+use Rattle.alloc_event.proofs.lists.ByKey.{found}
 use Rattle.alloc_event.proofs.losses.is_among.Goals as goal
 
 pub returns : goal.returns

@@ -2,7 +2,7 @@ use Rattle.std.proofs.Common.{◌∙◌, sym, ap, map}
 use Rattle.sm_names.specs.declared.keys.NodeKey.{NodeKey}
 use Rattle.alloc_event.specs.Nodes.{lost}
 use Rattle.alloc_event.specs.Questions.{is_below}
-use Rattle.alloc_event.proofs.Takings.{lost_there, lost_nowhere}
+use Rattle.alloc_event.proofs.failures.Takings.{lost_there, lost_nowhere}
 use Rattle.alloc_event.proofs.losses.lose.Goals as goal
 
 pub returns-then-has_node : goal.returns-then-has_node

@@ -3,10 +3,10 @@ use Rattle.std.proofs.Common.{◌≡◌, Some, is_some, map, ap, sym, ◌∙◌}
 use Rattle.node_table.specs.Table.{node_at}
 use Rattle.alloc_event.specs.declared.node.Node.{Node}
 use Rattle.alloc_event.specs.Nodes.{lost}
-use Rattle.alloc_event.proofs.FallTies.{losses_by_fall}
-use Rattle.alloc_event.proofs.Hanging.{in_all}
-use Rattle.alloc_event.proofs.Rooted.{left_node}
-use Rattle.alloc_event.proofs.Storing.{row_there}
+use Rattle.alloc_event.proofs.failures.Ties.{losses_by_fall}
+use Rattle.alloc_event.proofs.tables.Hanging.{in_all}
+use Rattle.alloc_event.proofs.tables.Rooted.{left_node}
+use Rattle.alloc_event.proofs.tables.Storing.{row_there}
 use Rattle.alloc_event.proofs.losses.lose_by_fall.Goals as goal
 
 pub fall-requires : goal.fall-requires

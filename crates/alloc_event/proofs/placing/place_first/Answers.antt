@@ -16,9 +16,9 @@ use Rattle.alloc_event.specs.Decisions.{is_unplaced}
 use Rattle.alloc_event.specs.Moves.{Moves, Given, Lost}
 use Rattle.alloc_event.specs.Nodes.{after_allocation, after_loss, given_buffers, is_taken, lost}
 use Rattle.alloc_event.specs.Scenes.{by_page, collection_of, held_pages, laid}
-use Rattle.alloc_event.proofs.InPlace.{written}
-use Rattle.alloc_event.proofs.Movings.{none_waits}
-use Rattle.alloc_event.proofs.Placings.{placed_made, full_made, places_sorted, pool_laid, scene_laid}
+use Rattle.alloc_event.proofs.lists.Loops.{written}
+use Rattle.alloc_event.proofs.calm.Movings.{none_waits}
+use Rattle.alloc_event.proofs.intervals.Placings.{placed_made, full_made, places_sorted, pool_laid, scene_laid}
 use Rattle.alloc_event.proofs.placing.place_first.Goals as goal
 
 -- there are as many starts as buffers

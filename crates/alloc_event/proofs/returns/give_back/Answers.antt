@@ -10,7 +10,7 @@ use Rattle.alloc_event.specs.Forest.{Collection}
 use Rattle.alloc_event.specs.Nodes.{members_of}
 use Rattle.alloc_event.specs.Scenes.{by_page, collection_of, held_pages, is_out, pages_held}
 use Rattle.alloc_event.specs.Settling.{is_home_in}
-use Rattle.alloc_event.proofs.Forcing.{strong_tie}
+use Rattle.alloc_event.proofs.calm.Forcing.{strong_tie}
 use Rattle.alloc_event.proofs.returns.give_back.Goals as goal
 
 -- a filter before a map or after it

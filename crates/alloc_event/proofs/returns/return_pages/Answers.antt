@@ -4,7 +4,7 @@ use Rattle.sm_names.specs.declared.keys.Interval.{Interval}
 use Rattle.buffer_holds.specs.Counts.{total}
 use Rattle.alloc_event.specs.declared.held.HeldBuffer.{HeldBuffer}
 use Rattle.alloc_event.specs.Scenes.{by_page, is_out, pages_held}
-use Rattle.alloc_event.proofs.Returned.{holds_one, kept_here, kept_past, one_returned}
+use Rattle.alloc_event.proofs.intervals.Returned.{holds_one, kept_here, kept_past, one_returned}
 use Rattle.alloc_event.proofs.returns.return_pages.Goals as goal
 
 pub return_one-requires-clause-there : goal.return_one-requires-clause-there

@@ -8,7 +8,7 @@ use Rattle.alloc_event.specs.Forest.{Collection}
 use Rattle.alloc_event.specs.Moves.{Moves, Left, Lost, Given}
 use Rattle.alloc_event.specs.Nodes.{after_allocation, after_end, after_loss, ended, given_buffers, is_taken, lost}
 use Rattle.alloc_event.specs.Scenes.{collection_of}
-use Rattle.alloc_event.proofs.InPlace.{written}
+use Rattle.alloc_event.proofs.lists.Loops.{written}
 use Rattle.alloc_event.proofs.settling.make.Goals as goal
 
 -- what holds anyway holds at an error

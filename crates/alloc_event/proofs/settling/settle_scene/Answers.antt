@@ -4,8 +4,8 @@ use Rattle.alloc_event.specs.Decisions.{mark_of}
 use Rattle.alloc_event.specs.Forest.{Collection, pages_in}
 use Rattle.alloc_event.specs.Scenes.{collection_of}
 use Rattle.alloc_event.specs.Settling.{Rests, made}
-use Rattle.alloc_event.proofs.Movings.{less_left, same_frames, sound_by_spines, spines_by_frames, unplaced_before}
-use Rattle.alloc_event.proofs.Settlings.{step_settles, rests_back}
+use Rattle.alloc_event.proofs.calm.Movings.{less_left, same_frames, sound_by_spines, spines_by_frames, unplaced_before}
+use Rattle.alloc_event.proofs.calm.Settlings.{step_settles, rests_back}
 use Rattle.alloc_event.proofs.settling.settle_scene.Goals as goal
 
 pub steps-smaller : goal.steps-smaller

@@ -10,7 +10,7 @@ use Rattle.alloc_event.specs.Forest.{Collection, pages_in}
 use Rattle.alloc_event.specs.Nodes.{members_of}
 use Rattle.alloc_event.specs.Scenes.{collection_of, held_pages, is_out}
 use Rattle.alloc_event.specs.Settling.{is_home_in}
-use Rattle.alloc_event.proofs.Forcing.{strong_tie}
+use Rattle.alloc_event.proofs.calm.Forcing.{strong_tie}
 use Rattle.alloc_event.proofs.still.is_still.Goals as goal
 
 -- a test of what a map makes

@@ -3,7 +3,7 @@ use Rattle.std.proofs.lemmas.List.{take_more, take_all}
 use Rattle.node_table.specs.Table.{node_at}
 use Rattle.alloc_event.specs.declared.node.Node.{Node}
 use Rattle.alloc_event.specs.Kept.{Stores}
-use Rattle.alloc_event.proofs.Storing.{Stores-none, Stores-more, place_at, place_stored}
+use Rattle.alloc_event.proofs.tables.Storing.{Stores-none, Stores-more, place_at, place_stored}
 use Rattle.alloc_event.proofs.store.store.Goals as goal
 
 pub loop-node-init : goal.loop-node-init

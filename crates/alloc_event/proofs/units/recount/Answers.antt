@@ -1,8 +1,8 @@
 -- The units of the collection are counted, and no other.
 use Rattle.std.proofs.Common.{◌≤◌, length, option_map, sym, ◌∙◌, ap, arith}
 use Rattle.alloc_event.specs.Kept.{shelf_of, shelves_of}
-use Rattle.alloc_event.proofs.Showing.{shelf_found}
-use Rattle.alloc_event.proofs.Slots.{recounted_all, recounted_none}
+use Rattle.alloc_event.proofs.shelves.Showing.{shelf_found}
+use Rattle.alloc_event.proofs.tallies.Slots.{recounted_all, recounted_none}
 use Rattle.alloc_event.proofs.units.recount.Goals as goal
 
 pub returns-in-Some : goal.returns-in-Some

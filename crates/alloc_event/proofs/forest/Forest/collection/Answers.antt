@@ -2,8 +2,8 @@
 use Rattle.std.proofs.Common.{◌≡◌, Some, length, sym, ◌∙◌, ap, option_map, arith}
 use Rattle.alloc_event.specs.Forest.{summary_of}
 use Rattle.alloc_event.specs.Kept.{shelf_of, shelves_of}
-use Rattle.alloc_event.proofs.Altering.{found_whole}
-use Rattle.alloc_event.proofs.Showing.{collection_some, collection_none, few_given, shelf_found}
+use Rattle.alloc_event.proofs.changes.Altering.{found_whole}
+use Rattle.alloc_event.proofs.shelves.Showing.{collection_some, collection_none, few_given, shelf_found}
 use Rattle.alloc_event.proofs.forest.Forest.collection.Goals as goal
 
 pub returns-in-Some-clause-value : goal.returns-in-Some-clause-value

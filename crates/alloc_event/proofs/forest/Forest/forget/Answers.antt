@@ -10,13 +10,13 @@ use Rattle.alloc_event.specs.Calm.{IsCounted}
 use Rattle.alloc_event.specs.Counts.{AreUnits}
 use Rattle.alloc_event.specs.Kept.{collection_in, nodes_with, place_in, shelf_of, shelves_of}
 use Rattle.alloc_event.specs.Nodes.{is_over}
-use Rattle.alloc_event.proofs.Counted.{counted_set, dropped_all, drops_one, recounted}
-use Rattle.alloc_event.proofs.Entries.{place_is}
-use Rattle.alloc_event.proofs.Leaving.{goes, kept-without, collections-without, set_without, shelf_without, never_none}
-use Rattle.alloc_event.proofs.Lookups.{looked-kept}
-use Rattle.alloc_event.proofs.Showing.{node_is}
-use Rattle.alloc_event.proofs.Slots.{units_without}
-use Rattle.alloc_event.proofs.TakingOut.{SameKeys-shown, taken}
+use Rattle.alloc_event.proofs.shelves.Counted.{counted_set, dropped_all, drops_one, recounted}
+use Rattle.alloc_event.proofs.shelves.Entries.{place_is}
+use Rattle.alloc_event.proofs.leaving.Leaving.{goes, kept-without, collections-without, set_without, shelf_without, never_none}
+use Rattle.alloc_event.proofs.lists.Lookups.{looked-kept}
+use Rattle.alloc_event.proofs.shelves.Showing.{node_is}
+use Rattle.alloc_event.proofs.tallies.Slots.{units_without}
+use Rattle.alloc_event.proofs.tables.TakingOut.{SameKeys-shown, taken}
 use Rattle.alloc_event.proofs.forest.Forest.forget.Goals as goal
 
 pub take_out-node-requires : goal.take_out-node-requires

@@ -5,11 +5,11 @@ use Rattle.std.proofs.lemmas.Bool.{false≢true}
 use Rattle.alloc_event.specs.Counts.{AreUnits}
 use Rattle.alloc_event.specs.Forest.{Collection, Forest, collection_at, is_left}
 use Rattle.alloc_event.specs.Kept.{collection_in, place_in, shelves_of}
-use Rattle.alloc_event.proofs.Counted.{counted_removed}
-use Rattle.alloc_event.proofs.Emptying.{remove_shelf, collections_beside, kept-beside, left_none}
-use Rattle.alloc_event.proofs.Entries.{place_is, none_in}
-use Rattle.alloc_event.proofs.Showing.{collection_none}
-use Rattle.alloc_event.proofs.Slots.{units_some}
+use Rattle.alloc_event.proofs.shelves.Counted.{counted_removed}
+use Rattle.alloc_event.proofs.leaving.Emptying.{remove_shelf, collections_beside, kept-beside, left_none}
+use Rattle.alloc_event.proofs.shelves.Entries.{place_is, none_in}
+use Rattle.alloc_event.proofs.shelves.Showing.{collection_none}
+use Rattle.alloc_event.proofs.tallies.Slots.{units_some}
 use Rattle.alloc_event.proofs.forest.Forest.forget_collection.Goals as goal
 
 pub remove-requires : goal.remove-requires

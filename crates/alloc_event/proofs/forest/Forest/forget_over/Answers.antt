@@ -2,8 +2,8 @@
 use Rattle.std.proofs.Common.{map, subst, sym}
 use Rattle.alloc_event.specs.Counts.{AreUnits}
 use Rattle.alloc_event.specs.Kept.{collection_in, shelves_of}
-use Rattle.alloc_event.proofs.Slots.{units_over}
-use Rattle.alloc_event.proofs.TakingOut.{SameKeys-shown}
+use Rattle.alloc_event.proofs.tallies.Slots.{units_over}
+use Rattle.alloc_event.proofs.tables.TakingOut.{SameKeys-shown}
 use Rattle.alloc_event.proofs.forest.Forest.forget_over.Goals as goal
 
 pub invariant_of-self : goal.invariant_of-self

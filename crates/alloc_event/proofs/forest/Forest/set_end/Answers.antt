@@ -6,10 +6,10 @@ use Rattle.alloc_event.specs.Counts.{AreUnits}
 use Rattle.alloc_event.specs.Forest.{Forest, node_at as forest_node, on_collections, with_nodes}
 use Rattle.alloc_event.specs.Kept.{IsKept, are_filed, collection_in, forest_of, shelves_of}
 use Rattle.alloc_event.specs.Nodes.{with_end}
-use Rattle.alloc_event.proofs.Counted.{ends_tidy, mapped_all}
-use Rattle.alloc_event.proofs.Ends.{ends-kept, ends-look, ends-shown}
-use Rattle.alloc_event.proofs.Showing.{node_is}
-use Rattle.alloc_event.proofs.Slots.{units_with}
+use Rattle.alloc_event.proofs.shelves.Counted.{ends_tidy, mapped_all}
+use Rattle.alloc_event.proofs.leaving.Ends.{ends-kept, ends-look, ends-shown}
+use Rattle.alloc_event.proofs.shelves.Showing.{node_is}
+use Rattle.alloc_event.proofs.tallies.Slots.{units_with}
 use Rattle.alloc_event.proofs.forest.Forest.set_end.Goals as goal
 
 -- the table has the node

@@ -5,7 +5,7 @@ use Rattle.alloc_event.specs.declared.change.Change.{Change}
 use Rattle.alloc_event.specs.Forest.{Forest}
 use Rattle.alloc_event.specs.Kept.{forest_of, shelves_of}
 use Rattle.alloc_event.specs.Settling.{Settled}
-use Rattle.alloc_event.proofs.Tellings.{settled_birth, settled_change, no_birth}
+use Rattle.alloc_event.proofs.changes.Tellings.{settled_birth, settled_change, no_birth}
 use Rattle.alloc_event.proofs.forest.Forest.settle.Goals as goal
 
 pub returns-in-Birth-clause-ok : goal.returns-in-Birth-clause-ok

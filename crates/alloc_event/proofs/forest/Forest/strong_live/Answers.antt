@@ -5,9 +5,9 @@ use Rattle.sm_names.specs.Members.{some_strong_live}
 use Rattle.alloc_event.specs.Forest.{Collection}
 use Rattle.alloc_event.specs.Kept.{nodes_with}
 use Rattle.alloc_event.specs.Nodes.{members_of}
-use Rattle.alloc_event.proofs.Showing.{collection_none}
-use Rattle.alloc_event.proofs.Strong.{strong_found}
-use Rattle.alloc_event.proofs.Watched.{found_counted, strong_told}
+use Rattle.alloc_event.proofs.shelves.Showing.{collection_none}
+use Rattle.alloc_event.proofs.tallies.Strong.{strong_found}
+use Rattle.alloc_event.proofs.calm.Watched.{found_counted, strong_told}
 use Rattle.alloc_event.proofs.forest.Forest.strong_live.Goals as goal
 
 pub returns-in-Some : goal.returns-in-Some

@@ -1,0 +1,12 @@
+-- The forced steps, and where none applies.
+pub mod Alive
+pub mod Calming
+pub mod Deserting
+pub mod Forcing
+pub mod Keeping
+pub mod Movings
+pub mod Settlings
+pub mod Steps
+pub mod Topmost
+pub mod United
+pub mod Watched

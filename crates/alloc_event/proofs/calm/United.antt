@@ -1,0 +1,79 @@
+-- The nodes of a unit are of one unit still, whatever is changed or forced.
+use Rattle.std.proofs.Common.{◌≡◌, refl, ap, sym, ◌∙◌, Bool, true, false, ◌||◌, ◌&&◌, not, inl, inr, List, [], ◌∷◌, ◌++◌, map, reverse, is_none}
+use Rattle.std.proofs.lemmas.List.{reverse-append}
+use Rattle.std.specs.List.{filter, list_all}
+use Rattle.std.specs.Option.{option_map_or}
+use Rattle.sm_names.specs.Sameness.{same_key}
+use Rattle.sm_names.proofs.ListLaws.{In, In-reverse}
+use Rattle.sm_names.proofs.SamenessLaws.{and_both, and_left, and_right, either_way}
+use Rattle.alloc_event.specs.declared.node.Node.{Node}
+use Rattle.alloc_event.specs.Scenes.{frame_of}
+use Rattle.alloc_event.specs.Units.{are_united, shares_unit}
+use Rattle.alloc_event.proofs.tables.KeptRoots.{filter-reverse_aux, map-reverse_aux}
+
+-- all pass where each does
+pub each_all : {A : Type 0} (p : A → Bool) (xs : List A) → ((x : A) → In x xs → p x ≡ true) → list_all p xs ≡ true
+each_all p [] each = refl
+each_all p (x ∷ xs) each = and_both (p x) (list_all p xs) (each x (inl refl)) (each_all p xs (λ y on. each y (inr on)))
+
+-- what is kept of a node that stays in its unit
+pub record KeepsUnit (f : Node → Node) : Type 0 where
+  pub key : (n : Node) → (f n).key ≡ n.key
+  pub parent : (n : Node) → (f n).parent ≡ n.parent
+  pub attached : (n : Node) → (f n).attached ≡ n.attached
+  pub head : (n : Node) → (f n).head ≡ n.head
+
+module _ (f : Node → Node) (keeps : KeepsUnit f) where
+  shares_same : (n q : Node) → shares_unit (f n) (f q) ≡ shares_unit n q
+  shares_same n q = λ i. (is_none (keeps.parent n i) || keeps.attached n i)
+      || (not (option_map_or (λ p. same_key (keeps.key q i) p) (keeps.parent n i) false) || same_key (keeps.head q i) (keeps.head n i))
+
+  shares_map : (n : Node) (qs : List Node) → list_all (shares_unit (f n)) (map f qs) ≡ list_all (shares_unit n) qs
+  shares_map n [] = refl
+  shares_map n (q ∷ qs) = λ i. shares_same n q i && shares_map n qs i
+
+  united_map : (ns : List Node) → are_united (map f ns) ≡ are_united ns
+  united_map [] = refl
+  united_map (n ∷ ns) = λ i. shares_map n ns i && united_map ns i
+
+  -- nodes that are changed so stay united
+  pub united_mapped : (ns : List Node) → are_united (reverse (map f ns)) ≡ are_united (reverse ns)
+  united_mapped ns = ap are_united (sym (map-reverse_aux f ns [])) ∙ united_map (reverse ns)
+
+-- nodes with the same frames are as united
+pub united_frames : (new old : List Node) → map frame_of new ≡ map frame_of old → are_united (reverse old) ≡ true → are_united (reverse new) ≡ true
+united_frames new old same united =
+    let keeps : KeepsUnit frame_of = record { key = λ n. refl; parent = λ n. refl; attached = λ n. refl; head = λ n. refl } in
+    sym (united_mapped frame_of keeps new) ∙ ap (λ (ns : List Node). are_united (reverse ns)) same ∙ united_mapped frame_of keeps old ∙ united
+
+-- ---- some of the nodes
+
+all_filter : {A : Type 0} (test p : A → Bool) (xs : List A) → list_all test xs ≡ true → list_all test (filter p xs) ≡ true
+all_filter test p [] all = refl
+all_filter test p (x ∷ xs) all =
+    let rest : list_all test (filter p xs) ≡ true = all_filter test p xs (and_right (test x) (list_all test xs) all) in
+    elim (either_way (p x)) [
+      | inl e ↦ rw e (and_both (test x) (list_all test (filter p xs)) (and_left (test x) (list_all test xs) all) rest)
+      | inr e ↦ rw e rest
+    ]
+
+united_some : (p : Node → Bool) (ns : List Node) → are_united ns ≡ true → are_united (filter p ns) ≡ true
+united_some p [] united = refl
+united_some p (n ∷ ns) united =
+    let here : list_all (shares_unit n) ns ≡ true = and_left (list_all (shares_unit n) ns) (are_united ns) united in
+    let rest : are_united (filter p ns) ≡ true = united_some p ns (and_right (list_all (shares_unit n) ns) (are_united ns) united) in
+    elim (either_way (p n)) [
+      | inl e ↦ rw e (and_both (list_all (shares_unit n) (filter p ns)) (are_united (filter p ns)) (all_filter (shares_unit n) p ns here) rest)
+      | inr e ↦ rw e rest
+    ]
+
+-- they are united still
+pub united_filter : (p : Node → Bool) (ns : List Node) → are_united (reverse ns) ≡ true → are_united (reverse (filter p ns)) ≡ true
+united_filter p ns united = ap are_united (sym (filter-reverse_aux p ns [])) ∙ united_some p (reverse ns) united
+
+-- ---- one more node
+
+pub united_born : (ns : List Node) (b : Node) → ((q : Node) → In q ns → shares_unit b q ≡ true) → are_united (reverse ns) ≡ true → are_united (reverse (ns ++ b ∷ [])) ≡ true
+united_born ns b shares united =
+    ap are_united (reverse-append ns (b ∷ []))
+    ∙ and_both (list_all (shares_unit b) (reverse ns)) (are_united (reverse ns)) (each_all (shares_unit b) (reverse ns) (λ q on. shares q (In-reverse ns q on))) united

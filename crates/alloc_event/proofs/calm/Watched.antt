@@ -1,0 +1,93 @@
+-- A collection with a strong live node: nothing is forced in it, and no buffer is home.
+use Rattle.std.proofs.Common.{◌≡◌, ℕ, zero, suc, Bool, true, false, ◌&&◌, ◌==◌, not, nat_lt, List, [], ◌∷◌, Option, Some, None, option_map, cond, refl, sym, ap, subst, ◌∙◌, arith}
+use Rattle.std.proofs.lemmas.Bool.{lt-ltb}
+use Rattle.std.specs.List.{find, filter, list_all, list_any}
+use Rattle.std.specs.Option.{option_map_or, unwrap_or}
+use Rattle.sm_names.specs.declared.keys.Strength.{Strength}
+use Rattle.sm_names.specs.Handles.{is_home}
+use Rattle.sm_names.specs.Members.{some_strong_live}
+use Rattle.sm_names.specs.Timelines.{HeldPages}
+use Rattle.node_table.specs.Table.{Table}
+use Rattle.alloc_event.specs.declared.entry.Entry.{Entry}
+use Rattle.alloc_event.specs.declared.node.Node.{Node}
+use Rattle.alloc_event.specs.Calm.{AreCounted, IsCounted, strong_count}
+use Rattle.alloc_event.specs.Decisions.{has_strong}
+use Rattle.alloc_event.specs.Forest.{Collection}
+use Rattle.alloc_event.specs.Kept.{collection_in, forest_of, is_strong, nodes_with, shelf_of, shelves_of}
+use Rattle.alloc_event.specs.Nodes.{members_of}
+use Rattle.alloc_event.specs.Settling.{Handles, collection_or_new, given_back, is_home_in}
+use Rattle.alloc_event.specs.Still.{IsStill}
+use Rattle.alloc_event.proofs.calm.Calming.{count_none, count_some, rests_strong}
+use Rattle.alloc_event.proofs.calm.Forcing.{strong_tie}
+use Rattle.alloc_event.proofs.shelves.Showing.{collection_is, shelf_found}
+
+-- the entry that is found is counted
+found_counted-by : (t : Table Node) (id : ℕ) (x : Entry) (xs : List Entry) (e : Entry) (here : Bool) → AreCounted t (x ∷ xs) →
+    cond here (Some x) (find (λ (y : Entry). y.id == id) xs) ≡ Some e → (find (λ (y : Entry). y.id == id) xs ≡ Some e → IsCounted t e) → IsCounted t e
+found_counted-by t id x xs e true all found on =
+    let same : x ≡ e = cc in
+    subst (IsCounted t) same all.0
+found_counted-by t id x xs e false all found on = on found
+
+pub found_counted : (t : Table Node) (id : ℕ) (es : List Entry) (e : Entry) → AreCounted t es → find (λ (x : Entry). x.id == id) es ≡ Some e → IsCounted t e
+found_counted t id [] e all found = absurd (cc)
+found_counted t id (x ∷ xs) e all found = found_counted-by t id x xs e (x.id == id) all found (found_counted t id xs e all.1)
+
+-- a count that is not 0 has a strong live node
+pub strong_lives : (nodes : List Node) (count : ℕ) → nat_lt 0 count ≡ true → count ≡ strong_count nodes → has_strong nodes ≡ true
+strong_lives nodes zero some is = cc
+strong_lives nodes (suc n) some is = count_some is_strong nodes (λ none. let no : suc n ≡ 0 = is ∙ none in absurd (omega arith))
+
+-- and the count tells whether there is one
+pub strong_told : (nodes : List Node) (count : ℕ) → count ≡ strong_count nodes → nat_lt 0 count ≡ list_any is_strong nodes
+strong_told nodes zero is = sym (count_none is_strong nodes (sym is))
+strong_told nodes (suc n) is =
+    let some : nat_lt 0 (suc n) ≡ true = lt-ltb 0 (suc n) (omega arith) in
+    some ∙ sym (strong_lives nodes (suc n) some is)
+
+-- no buffer is home while a strong node lives
+none_home : (strong weak : ℕ) (live : Bool) → live ≡ true → not (is_home strong weak live) ≡ true
+none_home strong weak live is = rw is (never (strong == 0) (weak == 0))
+  where
+    never : (a b : Bool) → not ((a && false) && b) ≡ true
+    never true b = refl
+    never false b = refl
+
+all_pass : {A : Type 0} (p : A → Bool) (xs : List A) → ((x : A) → p x ≡ true) → list_all p xs ≡ true
+all_pass p [] each = refl
+all_pass p (x ∷ xs) each = rw (each x) (all_pass p xs each)
+
+all_stay : {A : Type 0} (p : A → Bool) (xs : List A) → ((x : A) → p x ≡ true) → filter p xs ≡ xs
+all_stay p [] each = refl
+all_stay p (x ∷ xs) each = rw (each x) (ap (λ ys. x ∷ ys) (all_stay p xs each))
+
+module _ (handles : Handles) (c : Collection) (strong : has_strong c.nodes ≡ true) where
+  away : (h : HeldPages) → not (is_home_in handles c h.buffer) ≡ true
+  away h = none_home (handles h.buffer Strength.Strong) (handles h.buffer Strength.Weak) (some_strong_live (members_of c.nodes)) (strong_tie c.nodes ∙ strong)
+
+  -- so no pages go back
+  pub nothing_back : given_back handles c ≡ c
+  nothing_back = λ i. record c { held = all_stay (λ (h : HeldPages). not (is_home_in handles c h.buffer)) c.held away i }
+
+  pub all_out : list_all (λ (h : HeldPages). not (is_home_in handles c h.buffer)) c.held ≡ true
+  all_out = all_pass (λ (h : HeldPages). not (is_home_in handles c h.buffer)) c.held away
+
+-- a collection with a strong live node is still, and so is one that is not there yet
+pub watched_still : (t : Table Node) (es : List Entry) (id : ℕ) → AreCounted t es →
+    option_map_or (λ (e : Entry). nat_lt 0 e.strong) (find (λ (e : Entry). e.id == id) es) true ≡ true → (handles : Handles) →
+    IsStill handles (collection_or_new (forest_of t (shelves_of es)) id)
+watched_still t es id all watched handles =
+    subst (λ (o : Option Collection). IsStill handles (unwrap_or o (record { id = id; nodes = []; buffers = None; held = [] })))
+    (sym (collection_is t id (shelves_of es) ∙ ap (option_map (collection_in t)) (shelf_found id es)))
+    (from (find (λ (e : Entry). e.id == id) es) refl watched)
+  where
+    from : (o : Option Entry) → find (λ (e : Entry). e.id == id) es ≡ o → option_map_or (λ (e : Entry). nat_lt 0 e.strong) o true ≡ true →
+        IsStill handles (unwrap_or (option_map (collection_in t) (option_map shelf_of o)) (record { id = id; nodes = []; buffers = None; held = [] }))
+    from None found some = record { rest = λ pool others. refl; out = refl }
+    from (Some e) found some =
+        let counted = found_counted t id es e all found in
+        let strong = strong_lives (nodes_with t e.keys.items) e.strong some counted.strong in
+        record {
+          rest = λ pool others. rests_strong (collection_in t (shelf_of e)) counted.calm strong pool handles others;
+          out = all_out handles (collection_in t (shelf_of e)) strong;
+        }

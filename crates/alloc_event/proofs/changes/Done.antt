@@ -1,0 +1,124 @@
+-- A change that was made in its place and forces nothing: the forest then, and the entry of its collection.
+use Rattle.std.proofs.Common.{◌≡◌, ℕ, ◌==◌, nat_lt, true, false, List, map, get_or, set, Some, None, option_map, refl, sym, ap, subst, ◌∙◌}
+use Rattle.std.proofs.lemmas.List.{get_or_default}
+use Rattle.std.specs.List.{find, list_all, list_any}
+use Rattle.sm_names.specs.declared.keys.Interval.{Interval}
+use Rattle.sm_names.specs.Forced.{forced}
+use Rattle.node_table.specs.Table.{Table}
+use Rattle.alloc_event.specs.declared.change.Change.{Change}
+use Rattle.alloc_event.specs.declared.entry.Entry.{Entry}
+use Rattle.alloc_event.specs.declared.node.Node.{Node}
+use Rattle.alloc_event.specs.declared.units.Unit.{Unit}
+use Rattle.alloc_event.specs.Calm.{AreCounted, IsCalm, IsCounted, strong_count}
+use Rattle.alloc_event.specs.Counts.{AreUnits, HaveUnits}
+use Rattle.alloc_event.specs.Decisions.{has_strong}
+use Rattle.alloc_event.specs.Forest.{Collection, beside}
+use Rattle.alloc_event.specs.InPlace.{IsDone, IsOpen}
+use Rattle.alloc_event.specs.Kept.{Finishes, IsKept, Shelf, Stores, are_filed, collection_in, forest_of, is_filed, nodes_with, place_in, put_shelf, shelf_of, shelves_of}
+use Rattle.alloc_event.specs.Nodes.{is_over}
+use Rattle.alloc_event.specs.Settling.{Handles, MayChange, Rests, Settles, changed, collection_or_new, given_back, no_key, put, standing}
+use Rattle.alloc_event.proofs.changes.Altering.{found_put}
+use Rattle.alloc_event.proofs.calm.Calming.{rests_strong}
+use Rattle.alloc_event.proofs.shelves.Counted.{counted_but, counted_put, filed_every, moved_but, set_shelves}
+use Rattle.alloc_event.proofs.shelves.Entries.{IsPlace, set_put}
+use Rattle.alloc_event.proofs.changes.Finishing.{collection-beside, collections-put, keys_in}
+use Rattle.alloc_event.proofs.shelves.Showing.{shelf_found}
+use Rattle.alloc_event.proofs.calm.Watched.{found_counted, nothing_back, strong_lives}
+
+-- where nodes were written, and nothing is forced while a strong one lives
+module _ (t now : Table Node) (ss : List Shelf) (s : Shelf) (kept : IsKept t ss) (found : find (λ (x : Shelf). x.id == s.id) ss ≡ Some s)
+    (change : Change) (ns : List Node) (stores : Stores t now ns) (filed : list_all (is_filed t s.id) (keys_in ns) ≡ true) where
+  -- it is put among the others
+  put_is : map (collection_in now) ss ≡ put (collection_in now s) (map (collection_in t) ss)
+  put_is =
+      let placed : put_shelf s ss ≡ ss = found_put s ss kept.rising found in
+      ap (map (collection_in now)) (sym placed)
+      ∙ collections-put t now s.id ns stores kept.named filed s s ss refl refl kept.rising
+      (ap (are_filed t) placed ∙ kept.filed)
+
+  -- the change leads to these nodes, and from them to those that are there now
+  pub done_led : IsKept now ss → (between : List Node) → changed change no_key (collection_or_new (forest_of t ss) s.id) ≡ record (collection_in t s) { nodes = between } →
+      ((pool : ℕ) (handles : Handles) (others : List Interval) → forced pool (standing handles others (collection_in now s)) ≡ None →
+      Settles pool handles others (record (collection_in t s) { nodes = between }) (collection_in now s)) →
+      (after : List Unit) (lives : ℕ) → nat_lt 0 lives ≡ true → lives ≡ strong_count (nodes_with now s.keys) → IsCalm (collection_in now s) →
+      AreUnits after (map (collection_in now) ss) → IsDone t now after ss s change lives
+  done_led kept_now between change_is leads after lives some count_now calm_now units_now =
+      let strong_now : has_strong (collection_in now s).nodes ≡ true = strong_lives (nodes_with now s.keys) lives some count_now in
+      record {
+        kept = kept_now;
+        finishes = λ pool handles.
+            let rests = rests_strong (collection_in now s) calm_now strong_now pool handles in
+            let back : given_back handles (collection_in now s) ≡ collection_in now s = nothing_back handles (collection_in now s) strong_now in
+            subst (λ (c : Collection). Finishes pool handles t ss now ss c) (sym change_is)
+            (record {
+              after = collection_in now s;
+              settles = leads pool handles (beside (forest_of t ss) s.id) (rests (beside (forest_of t ss) s.id));
+              collections = put_is ∙ ap (λ (c : Collection). put c (map (collection_in t) ss)) (sym back);
+              rests = ap (λ (c : Collection). forced pool (standing handles (beside (forest_of now ss) s.id) c)) back ∙ rests (beside (forest_of now ss) s.id);
+            });
+        calm = calm_now;
+        strong = count_now;
+        others = λ x differ own_filed. collection-beside t now s.id ns stores kept.named filed x differ own_filed;
+        units = units_now;
+        same = stores.same;
+      }
+
+  pub done_by : IsKept now ss → changed change no_key (collection_or_new (forest_of t ss) s.id) ≡ collection_in now s →
+      (after : List Unit) (lives : ℕ) → nat_lt 0 lives ≡ true → lives ≡ strong_count (nodes_with now s.keys) → IsCalm (collection_in now s) →
+      AreUnits after (map (collection_in now) ss) → IsDone t now after ss s change lives
+  done_by kept_now change_is = done_led kept_now (nodes_with now s.keys) change_is (λ pool handles others rest. Rests (collection_in now s) rest)
+
+-- ---- the entry at its place
+
+module _ (t : Table Node) (es : List Entry) (id at : ℕ) (old : Entry) (place : IsPlace id es at) (is : old ≡ get_or es at old)
+    (kept : IsKept t (shelves_of es)) (all : AreCounted t es) (us : List Unit) (units : HaveUnits us t es) (change : Change) (may : MayChange (forest_of t (shelves_of es)) id change) where
+  pub own_id : old.id ≡ id
+  own_id = ap (λ (e : Entry). e.id) is ∙ place.id_is old
+
+  found : find (λ (e : Entry). e.id == id) es ≡ Some old
+  found = place.found old ∙ ap Some (sym is)
+
+  pub opens_at : IsOpen t us (shelves_of es) (shelf_of old) change old.strong
+  opens_at =
+      let counted : IsCounted t old = found_counted t id es old all found in
+      record {
+        kept = kept;
+        found = subst (λ (i : ℕ). find (λ (x : Shelf). x.id == i) (shelves_of es) ≡ Some (shelf_of old)) (sym own_id) (shelf_found id es ∙ ap (option_map shelf_of) found);
+        may = subst (λ (i : ℕ). MayChange (forest_of t (shelves_of es)) i change) (sym own_id) may;
+        calm = counted.calm;
+        strong = counted.strong;
+        units = units;
+      }
+
+  -- where it was tidy none of its nodes was over
+  pub tidy_at : old.tidy ≡ true → list_any is_over (nodes_with t old.keys.items) ≡ false
+  tidy_at h = (found_counted t id es old all found).tidy h
+
+  module _ (now : Table Node) (after : List Unit) (left : ℕ) (made : IsDone t now after (shelves_of es) (shelf_of old) change left)
+      (new : Entry) (same : shelf_of new ≡ shelf_of old) (strong : new.strong ≡ left)
+      (tidy : new.tidy ≡ true → list_any is_over (nodes_with now old.keys.items) ≡ false) where
+    pub shelves_at : shelves_of (set es at new) ≡ shelves_of es
+    shelves_at = set_shelves es at new (λ within. same ∙ ap shelf_of (is ∙ get_or_default es at old new within))
+
+    pub finishes_at : (pool : ℕ) (handles : Handles) → Finishes pool handles t (shelves_of es) now (shelves_of es)
+        (changed change no_key (collection_or_new (forest_of t (shelves_of es)) id))
+    finishes_at pool handles =
+        subst (λ (i : ℕ). Finishes pool handles t (shelves_of es) now (shelves_of es) (changed change no_key (collection_or_new (forest_of t (shelves_of es)) i)))
+        own_id (made.finishes pool handles)
+
+    new_id : new.id ≡ id
+    new_id = ap (λ (s : Shelf). s.id) same ∙ own_id
+
+    -- each entry is counted then
+    pub counted_at : place_in id es ≡ Some at → AreCounted now (set es at new)
+    counted_at told =
+        subst (AreCounted now) (sym (set_put new es at kept.rising (subst (λ (i : ℕ). place_in i es ≡ Some at) (sym new_id) told)))
+        (counted_put now new es kept.rising
+        (moved_but t now new.id es (filed_every t new.id es kept.filed)
+        (λ e differ filed. made.others (shelf_of e) (λ one. differ (one ∙ sym (ap (λ (s : Shelf). s.id) same))) filed)
+        (counted_but t new.id es all))
+        (record {
+          calm = subst (λ (s : Shelf). IsCalm (collection_in now s)) (sym same) made.calm;
+          strong = strong ∙ made.strong ∙ ap (λ (s : Shelf). strong_count (nodes_with now s.keys)) (sym same);
+          tidy = λ h. ap (λ (s : Shelf). list_any is_over (nodes_with now s.keys)) same ∙ tidy h;
+        }))

@@ -1,0 +1,490 @@
+-- The effect of a call that is made in its place, and what the count of strong live nodes becomes.
+use Rattle.std.proofs.Common.{◌≡◌, ◌≢◌, ℕ, ◌+◌, ◌==◌, nat_lt, Bool, true, false, ◌||◌, ◌&&◌, not, if◌then◌else◌, is_some, ◌<◌, ◌⊎◌, inl, inr, List, [], ◌∷◌, map, length, set, Option, Some, None, option_map, refl, sym, ap, subst, ◌∙◌, arith}
+use Rattle.std.proofs.lemmas.Bool.{eq-eqb, eqb-true, not-true}
+use Rattle.std.proofs.lemmas.List.{get_or-set_other, get_or-set_same, length-set}
+use Rattle.std.specs.List.{list_all, list_any}
+use Rattle.std.specs.Option.{option_map_or, unwrap_or}
+use Rattle.sm_names.specs.declared.keys.NodeKey.{NodeKey}
+use Rattle.sm_names.specs.declared.messages.Call.{Call}
+use Rattle.sm_names.specs.declared.outcomes.Cause.{Cause}
+use Rattle.sm_names.specs.Forced.{forced}
+use Rattle.sm_names.specs.Sameness.{same_key}
+use Rattle.sm_names.specs.Timelines.{key_of}
+use Rattle.sm_names.specs.Words.{times}
+use Rattle.sm_names.proofs.ListLaws.{In, In-find, In-map, In-map-back}
+use Rattle.sm_names.proofs.SamenessLaws.{and_both, and_left, and_right, both_ways, either_way, or_right, same_key-refl, same_key-true}
+use Rattle.sm_names.proofs.StandingLaws.{In-any}
+use Rattle.node_table.specs.Table.{Table, node_at}
+use Rattle.node_table.specs.Changes.{Writes}
+use Rattle.node_table.specs.Lending.{table_with_node}
+use Rattle.alloc_event.specs.declared.change.Change.{Change}
+use Rattle.alloc_event.specs.declared.node.Node.{Node}
+use Rattle.alloc_event.specs.declared.units.Unit.{Unit}
+use Rattle.alloc_event.specs.Calm.{IsCalm, strong_count}
+use Rattle.alloc_event.specs.Counts.{AreUnits, HasBelow, HasUnits, is_unready, lives_in, no_unit, unit_at, unit_of, waits_in}
+use Rattle.alloc_event.specs.Decisions.{has_strong}
+use Rattle.alloc_event.specs.Forest.{Collection, beside, with_nodes}
+use Rattle.alloc_event.specs.InPlace.{IsMade, IsOpen, bit, is_counted, is_plain}
+use Rattle.alloc_event.specs.Kept.{Finishes, IsKept, IsWhole, Shelf, Stores, collection_in, forest_of, is_filed, is_strong, nodes_with}
+use Rattle.alloc_event.specs.Nodes.{affected, is_over, is_of}
+use Rattle.alloc_event.specs.Questions.{is_live_node}
+use Rattle.alloc_event.specs.Settling.{Rests, changed, collection_or_new, given_back, is_kept, is_there, no_key, put, standing}
+use Rattle.alloc_event.specs.Units.{is_head}
+use Rattle.alloc_event.proofs.tallies.Amounts.{times_changed}
+use Rattle.alloc_event.proofs.changes.Altering.{found_filed, found_put, found_whole, looked-of, same_affected}
+use Rattle.alloc_event.proofs.calm.Calming.{IsPlain, any_map, calm_map, rests_strong, times_map}
+use Rattle.alloc_event.proofs.changes.Done.{done_by}
+use Rattle.alloc_event.proofs.changes.Finishing.{collection-beside}
+use Rattle.alloc_event.proofs.tables.Hanging.{all_in, in_all, looked_there}
+use Rattle.alloc_event.proofs.tallies.Holding.{hangs_in, head_there, holds_unit}
+use Rattle.alloc_event.proofs.calm.Keeping.{calm_changed, lives_held}
+use Rattle.alloc_event.proofs.tables.LeftParents.{loss_left}
+use Rattle.alloc_event.proofs.lists.Lookups.{looked-map}
+use Rattle.alloc_event.proofs.shelves.Putting.{put-map}
+use Rattle.alloc_event.proofs.tallies.Reckoning.{lives_other, lives_own, waits_other, waits_own}
+use Rattle.alloc_event.proofs.tables.Rooted.{IsLeft, left_node}
+use Rattle.alloc_event.proofs.shelves.Showing.{collection_is, node_is}
+use Rattle.alloc_event.proofs.tallies.Slots.{Stays, all_at, but_all, but_join, but_moved, but_stays, one_shelf, one_slot, units_mapped}
+use Rattle.alloc_event.proofs.calm.Steps.{all-In}
+use Rattle.alloc_event.proofs.tables.Storing.{Stores-more, Stores-none}
+use Rattle.alloc_event.proofs.calm.Watched.{nothing_back, strong_lives}
+use Rattle.alloc_event.proofs.tables.Writing.{IsSameNode, kept-map, look-changed, parents-written}
+
+-- ---- what a call does to a node
+
+-- a call that neither releases nor sets constraints changes of a node what the forced steps read only in its weakness
+pub plain_affected : (call : Call) → is_plain call ≡ true → (n : Node) → IsPlain (affected call n) n
+plain_affected (Call.Bind key) is n =
+    record { key = refl; parent = refl; attached = refl; head = refl; allocated = refl; gone = refl; released = refl; asks = refl }
+plain_affected (Call.SetDispensable key) is n =
+    record { key = refl; parent = refl; attached = refl; head = refl; allocated = refl; gone = refl; released = refl; asks = refl }
+plain_affected (Call.SetWeak key) is n =
+    record { key = refl; parent = refl; attached = refl; head = refl; allocated = refl; gone = refl; released = refl; asks = refl }
+plain_affected (Call.SetWeakOk key children) is n =
+    record { key = refl; parent = refl; attached = refl; head = refl; allocated = refl; gone = refl; released = refl; asks = refl }
+plain_affected (Call.Take key) is n =
+    record { key = refl; parent = refl; attached = refl; head = refl; allocated = refl; gone = refl; released = refl; asks = refl }
+plain_affected (Call.TrackNode key) is n =
+    record { key = refl; parent = refl; attached = refl; head = refl; allocated = refl; gone = refl; released = refl; asks = refl }
+plain_affected _ is n = cc
+
+-- the key that a call names
+one_key : (a b : NodeKey) → Some a ≡ Some b → a ≡ b
+one_key a b e = cc
+
+-- a node of another key stays as it is
+alone_affected : (call : Call) (key : NodeKey) → key_of call ≡ Some key → (m : Node) → same_key key m.key ≡ false → affected call m ≡ m
+alone_affected (Call.Bind k) key named m other =
+    let e : same_key k m.key ≡ false = ap (λ (x : NodeKey). same_key x m.key) (one_key k key named) ∙ other in rw e refl
+alone_affected (Call.SetDispensable k) key named m other =
+    let e : same_key k m.key ≡ false = ap (λ (x : NodeKey). same_key x m.key) (one_key k key named) ∙ other in rw e refl
+alone_affected (Call.SetWeak k) key named m other =
+    let e : same_key k m.key ≡ false = ap (λ (x : NodeKey). same_key x m.key) (one_key k key named) ∙ other in rw e refl
+alone_affected (Call.SetWeakOk k children) key named m other =
+    let e : same_key k m.key ≡ false = ap (λ (x : NodeKey). same_key x m.key) (one_key k key named) ∙ other in
+    rw e (λ i. record m { covers = both_false children i || m.covers })
+  where
+    both_false : (b : Bool) → (b && false) ≡ false
+    both_false true = refl
+    both_false false = refl
+alone_affected (Call.SetConstraints k demand) key named m other =
+    let e : same_key k m.key ≡ false = ap (λ (x : NodeKey). same_key x m.key) (one_key k key named) ∙ other in rw e refl
+alone_affected (Call.Take k) key named m other =
+    let e : same_key k m.key ≡ false = ap (λ (x : NodeKey). same_key x m.key) (one_key k key named) ∙ other in rw e refl
+alone_affected (Call.Release k) key named m other =
+    let e : same_key k m.key ≡ false = ap (λ (x : NodeKey). same_key x m.key) (one_key k key named) ∙ other in rw e refl
+alone_affected (Call.TrackNode k) key named m other =
+    let e : same_key k m.key ≡ false = ap (λ (x : NodeKey). same_key x m.key) (one_key k key named) ∙ other in rw e refl
+alone_affected _ key named m other = refl
+
+-- no call changes whether a node is gone, allocated, or over
+record Remains (m n : Node) : Type 0 where
+  gone : m.gone ≡ n.gone
+  allocated : m.allocated ≡ n.allocated
+  over : is_over m ≡ is_over n
+
+remains_affected : (call : Call) (n : Node) → Remains (affected call n) n
+remains_affected (Call.Bind key) n = record { gone = refl; allocated = refl; over = refl }
+remains_affected (Call.SetDispensable key) n = record { gone = refl; allocated = refl; over = refl }
+remains_affected (Call.SetWeak key) n = record { gone = refl; allocated = refl; over = refl }
+remains_affected (Call.SetWeakOk key children) n = record { gone = refl; allocated = refl; over = refl }
+remains_affected (Call.SetConstraints key demand) n = record { gone = refl; allocated = refl; over = refl }
+remains_affected (Call.Take key) n = record { gone = refl; allocated = refl; over = refl }
+remains_affected (Call.Release key) n = record { gone = refl; allocated = refl; over = refl }
+remains_affected (Call.TrackNode key) n = record { gone = refl; allocated = refl; over = refl }
+remains_affected _ n = record { gone = refl; allocated = refl; over = refl }
+
+-- what is false of either is false of the second
+or_second : (a b : Bool) → (a || b) ≡ false → b ≡ false
+or_second true b h = cc
+or_second false b h = h
+
+-- a node is released for good, weak for good, and asks for good
+released_stays : (call : Call) (n : Node) → (affected call n).released ≡ false → n.released ≡ false
+released_stays (Call.Release key) n h = or_second (same_key key n.key) n.released h
+released_stays (Call.Bind key) n h = h
+released_stays (Call.SetDispensable key) n h = h
+released_stays (Call.SetWeak key) n h = h
+released_stays (Call.SetWeakOk key children) n h = h
+released_stays (Call.SetConstraints key demand) n h = h
+released_stays (Call.Take key) n h = h
+released_stays (Call.TrackNode key) n h = h
+released_stays _ n h = h
+
+weak_stays : (call : Call) (n : Node) → (affected call n).weak ≡ false → n.weak ≡ false
+weak_stays (Call.SetWeak key) n h = or_second (same_key key n.key) n.weak h
+weak_stays (Call.Release key) n h = h
+weak_stays (Call.Bind key) n h = h
+weak_stays (Call.SetDispensable key) n h = h
+weak_stays (Call.SetWeakOk key children) n h = h
+weak_stays (Call.SetConstraints key demand) n h = h
+weak_stays (Call.Take key) n h = h
+weak_stays (Call.TrackNode key) n h = h
+weak_stays _ n h = h
+
+asks_stays : (call : Call) (n : Node) → is_some (affected call n).constraints ≡ false → is_some n.constraints ≡ false
+asks_stays (Call.SetConstraints key demand) n h = from (same_key key n.key) h
+  where
+    from : (b : Bool) → is_some (if b then Some demand else n.constraints) ≡ false → is_some n.constraints ≡ false
+    from true h = cc
+    from false h = h
+asks_stays (Call.Release key) n h = h
+asks_stays (Call.SetWeak key) n h = h
+asks_stays (Call.Bind key) n h = h
+asks_stays (Call.SetDispensable key) n h = h
+asks_stays (Call.SetWeakOk key children) n h = h
+asks_stays (Call.Take key) n h = h
+asks_stays (Call.TrackNode key) n h = h
+asks_stays _ n h = h
+
+-- so what a count counts it counted before
+pub live_before : (call : Call) (n : Node) → is_live_node (affected call n) ≡ true → is_live_node n ≡ true
+live_before call n h =
+    and_both (not n.gone) (not n.released)
+    (ap not (sym (remains_affected call n).gone) ∙ and_left (not (affected call n).gone) _ h)
+    (ap not (released_stays call n (not-true _ (and_right (not (affected call n).gone) _ h))))
+
+pub strong_before : (call : Call) (n : Node) → is_strong (affected call n) ≡ true → is_strong n ≡ true
+strong_before call n h =
+    and_both (is_live_node n) (not n.weak) (live_before call n (and_left (is_live_node (affected call n)) _ h))
+    (ap not (weak_stays call n (not-true _ (and_right (is_live_node (affected call n)) _ h))))
+
+pub unready_before : (call : Call) (n : Node) → is_unready (affected call n) ≡ true → is_unready n ≡ true
+unready_before call n h =
+    let one = and_right (not (affected call n).gone) _ h in
+    and_both (not n.gone) _ (ap not (sym (remains_affected call n).gone) ∙ and_left (not (affected call n).gone) _ h)
+    (and_both (not n.released) (not (is_some n.constraints))
+    (ap not (released_stays call n (not-true _ (and_left (not (affected call n).released) _ one))))
+    (ap not (asks_stays call n (not-true _ (and_right (not (affected call n).released) _ one)))))
+
+named_if : (b : Bool) (o : Option NodeKey) (key : NodeKey) → (if b then o else None) ≡ Some key → (b ≡ true) × (o ≡ Some key)
+named_if true o key h = (refl, h)
+named_if false o key h = cc
+
+-- what the key of such a call tells
+pub plain_named : (call : Call) (key : NodeKey) → (if is_plain call then key_of call else None) ≡ Some key → (is_plain call ≡ true) × (key_of call ≡ Some key)
+plain_named call key h = named_if (is_plain call) (key_of call) key h
+
+pub counted_named : (call : Call) (key : NodeKey) → (if is_counted call then key_of call else None) ≡ Some key → key_of call ≡ Some key
+counted_named call key h = (named_if (is_counted call) (key_of call) key h).1
+
+-- what a count became, by the tests
+pub less_is : (count result : ℕ) (was is w i : Bool) → ((real : ℕ) → (is ≡ true → was ≡ true) → real + bit was ≡ count + bit is → result ≡ real) →
+    was ≡ w → is ≡ i → (i ≡ true → w ≡ true) → (real : ℕ) → real + bit w ≡ count + bit i → result ≡ real
+less_is count result was is w i told is_was is_is before real e =
+    told real (λ h. is_was ∙ before (sym is_is ∙ h)) (ap (λ (b : Bool). real + bit b) is_was ∙ (e ∙ sym (ap (λ (b : Bool). count + bit b) is_is)))
+
+-- ---- the effect
+
+module _ (t now : Table Node) (us : List Unit) (call : Call) (key : NodeKey) (named : key_of call ≡ Some key) (n : Node) (was : node_at t key ≡ Some n)
+    (becomes : now ≡ table_with_node t (affected call n).key (affected call n))
+    (writes : Writes t now (affected call n).key (affected call n))
+    (ss : List Shelf) (s : Shelf) (strong : ℕ) (opens : IsOpen t us ss s (Change.Effect call) strong) where
+  abbrev f : Node → Node
+  f = affected call
+
+  abbrev nodes : List Node
+  nodes = nodes_with t s.keys
+
+  same : (m : Node) → IsSameNode (f m) m
+  same = same_affected call
+
+  own : (f n).key ≡ key
+  own = (same n).key ∙ opens.kept.named key n was
+
+  alone : (m : Node) → same_key n.key m.key ≡ false → f m ≡ m
+  alone m other = alone_affected call key named m (subst (λ (k : NodeKey). same_key k m.key ≡ false) (opens.kept.named key n was) other)
+
+  apart : (m : Node) → m.key ≢ key → f m ≡ m
+  apart m differ = elim (either_way (same_key n.key m.key)) [
+    | inl e ↦ absurd (differ (sym (same_key-true n.key m.key e) ∙ opens.kept.named key n was))
+    | inr e ↦ alone m e
+  ]
+
+  -- what the table has then
+  look : (k : NodeKey) → node_at now k ≡ option_map f (node_at t k)
+  look = look-changed t now f key n (f n) (subst (λ (k : NodeKey). Writes t now k (f n)) own writes) was refl opens.kept.named apart
+
+  kept_now : IsKept now ss
+  kept_now = kept-map f same (λ m. (remains_affected call m).gone) t now (ap (λ (x : Table Node). x.first) becomes) writes.len look
+      (parents-written t now (f n).key (f n) writes) ss opens.kept
+
+  nodes_now : nodes_with now s.keys ≡ map f nodes
+  nodes_now = looked-map f (node_at t) (node_at now) look s.keys
+
+  now_is : collection_in now s ≡ with_nodes (map f) (collection_in t s)
+  now_is = λ i. record (collection_in t s) { nodes = nodes_now i }
+
+  whole : IsWhole (collection_in t s)
+  whole = found_whole t s.id ss s opens.kept.whole opens.found
+
+  -- the node is one of the collection
+  fit : is_there (forest_of t ss) s.id key ≡ true
+  fit = ap (λ (o : Option NodeKey). option_map_or (is_there (forest_of t ss) s.id) o (is_kept (forest_of t ss) s.id)) (sym named) ∙ opens.may.named
+
+  left : IsLeft nodes key
+  left = left_node nodes key (loss_left t ss opens.kept s.id (Change.Loss key Cause.Lost)
+      (record { named = fit; room = λ e. cc; heads = refl; trackers = λ k m e. cc }) s opens.found)
+
+  at_key : (m : Node) → In m nodes → node_at t m.key ≡ Some m
+  at_key m there = in_all (λ (x : Node). node_at t x.key ≡ Some x) nodes (looked_there t opens.kept.named s.keys) m there
+
+  is_left : n ≡ left.node
+  is_left =
+      let both : Some n ≡ Some left.node = sym was ∙ (ap (node_at t) (sym left.is) ∙ at_key left.node left.on) in
+      cc
+
+  on : In n nodes
+  on = subst (λ (m : Node). In m nodes) (sym is_left) left.on
+
+  here : n.gone ≡ false
+  here = ap (λ (m : Node). m.gone) is_left ∙ left.here
+
+  -- how many strong nodes are live then
+  pub strong_is : strong_count (map f nodes) + bit (is_strong n) ≡ strong + bit (is_strong (f n))
+  strong_is = times_changed is_strong f nodes n whole.sound.distinct on (λ m there other. alone m other)
+      ∙ ap (λ (k : ℕ). k + bit (is_strong (f n))) (sym opens.strong)
+
+  filed : is_filed t s.id (f n).key ≡ true
+  filed =
+      ap (is_filed t s.id) own ∙ ap (λ (o : Option Node). option_map_or (λ (m : Node). m.collection == s.id) o false) was
+      ∙ and_left (n.collection == s.id) (not n.gone)
+      (ap (λ (o : Option Node). option_map_or (λ (m : Node). m.collection == s.id && not m.gone) o false) (sym (node_is t ss opens.kept key ∙ was)) ∙ fit)
+
+  stores : Stores t now (f n ∷ [])
+  stores = Stores-more t t now [] (f n) opens.kept.named (Stores-none t) becomes writes
+
+  -- the other collections stay
+  beside_same : (x : Shelf) → x.id ≢ s.id → list_all (is_filed t x.id) x.keys ≡ true → collection_in now x ≡ collection_in t x
+  beside_same x differ own_filed = collection-beside t now s.id (f n ∷ []) stores opens.kept.named
+      (and_both (is_filed t s.id (f n).key) true filed refl) x differ own_filed
+
+  module _ (after : List Unit) (lives : ℕ) (some : nat_lt 0 lives ≡ true) (lives_is : lives ≡ strong_count (map f nodes))
+      (calm_now : IsCalm (collection_in now s)) (units_now : AreUnits after (map (collection_in now) ss)) where
+    count_now : lives ≡ strong_count (nodes_with now s.keys)
+    count_now = lives_is ∙ ap strong_count (sym nodes_now)
+
+    -- the change makes what the table has then
+    change_is : changed (Change.Effect call) no_key (collection_or_new (forest_of t ss) s.id) ≡ collection_in now s
+    change_is = ap (λ (o : Option Collection). changed (Change.Effect call) no_key (unwrap_or o (record { id = s.id; nodes = []; buffers = None; held = [] })))
+        (collection_is t s.id ss ∙ ap (option_map (collection_in t)) opens.found)
+        ∙ sym now_is
+
+    pub made_now : IsMade t now after ss s (Change.Effect call) lives
+    made_now = record {
+      done = done_by t now ss s opens.kept opens.found (Change.Effect call) (f n ∷ []) stores (and_both (is_filed t s.id (f n).key) true filed refl)
+          kept_now change_is after lives some count_now calm_now units_now;
+      over = ap (list_any is_over) nodes_now ∙ any_map is_over is_over f nodes (λ m. (remains_affected call m).over);
+    }
+
+  -- ---- the units
+
+  in_shelves : In s ss
+  in_shelves = (In-find (λ (x : Shelf). x.id == s.id) ss s opens.found).0
+
+  unit_has : HasUnits us nodes
+  unit_has = all_at (λ (c : Collection). HasUnits us c.nodes) (map (collection_in t) ss) opens.units (collection_in t s) (In-map-back (collection_in t) ss s in_shelves)
+
+  units_join : (after : List Unit) → Stays t s.id us after → HasUnits after (map f nodes) → AreUnits after (map (collection_in now) ss)
+  units_join after stays has =
+      but_join after s.id (map (collection_in now) ss)
+      (but_moved t now after s.id ss (λ x there differ. beside_same x differ (all-In (λ (y : Shelf). list_all (is_filed t y.id) y.keys) ss x there opens.kept.filed))
+      (but_stays t opens.kept.named us after s.id stays ss opens.kept.filed (but_all us s.id (map (collection_in t) ss) opens.units)))
+      (λ c there is.
+      let x = In-map (collection_in now) ss c there in
+      let one : x.0 ≡ s = one_shelf ss opens.kept.rising x.0 s x.1 in_shelves (sym (ap (λ (d : Collection). d.id) x.2) ∙ is) in
+      subst (λ (d : Collection). HasUnits after d.nodes) (sym (x.2 ∙ ap (collection_in now) one)) (subst (HasUnits after) (sym nodes_now) has))
+
+  -- a call that neither releases nor sets constraints changes no count of units
+  pub plain_made : is_plain call ≡ true → (lives : ℕ) → nat_lt 0 lives ≡ true → lives ≡ strong_count (map f nodes) → IsMade t now us ss s (Change.Effect call) lives
+  plain_made is lives some lives_is =
+      made_now us lives some lives_is (subst IsCalm (sym now_is) (calm_map (collection_in t s) f (plain_affected call is) opens.calm))
+      (units_join us (λ k m at differ within. (within, refl)) (units_mapped us f nodes (λ m. (same m).key) counts unit_has))
+    where
+      counts : (k : NodeKey) → unit_of (map f nodes) k ≡ unit_of nodes k
+      counts k =
+          let p = plain_affected call is in
+          let l = times_map (lives_in k) (lives_in k) f nodes (λ m. λ i. (not ((p m).gone i) && not ((p m).released i)) && same_key ((p m).head i) k) in
+          let w = times_map (waits_in k) (waits_in k) f nodes (λ m. λ i. not ((p m).gone i || (not (same_key ((p m).head i) k) || ((p m).released i || (p m).asks i)))) in
+          λ i. record { live = l i; unready = w i }
+
+  -- ---- where the counts of the unit change
+
+  head : (h : Node) × In h nodes × (h.key ≡ n.head) × (h.gone ≡ false) × (is_head h ≡ true)
+  head = head_there nodes whole.sound.distinct whole.sound.heads whole.rooted whole.united n on here
+
+  head_at : node_at t n.head ≡ Some head.0
+  head_at = ap (node_at t) (sym head.2) ∙ at_key head.0 head.1
+
+  unit_is : n.head.slot < length us → unit_at us n.head.slot ≡ unit_of nodes n.head
+  unit_is = subst (λ (k : NodeKey). k.slot < length us → unit_at us k.slot ≡ unit_of nodes k) head.2
+      (in_all (λ (m : Node). m.key.slot < length us → unit_at us m.key.slot ≡ unit_of nodes m.key) nodes unit_has head.0 head.1)
+
+  count_is : (test : Node → Bool) → times test (map f nodes) + bit (test n) ≡ times test nodes + bit (test (f n))
+  count_is test = times_changed test f nodes n whole.sound.distinct on (λ m there other. alone m other)
+
+  own_unit : same_key n.head n.head ≡ true
+  own_unit = same_key-refl n.head
+
+  own_unit_now : same_key (f n).head n.head ≡ true
+  own_unit_now = ap (λ (k : NodeKey). same_key k n.head) (same n).head ∙ own_unit
+
+  pub live_is : n.head.slot < length us → times (lives_in n.head) (map f nodes) + bit (is_live_node n) ≡ (unit_at us n.head.slot).live + bit (is_live_node (f n))
+  live_is within =
+      ap (λ (b : Bool). times (lives_in n.head) (map f nodes) + bit b) (sym (lives_own n.head n own_unit))
+      ∙ (count_is (lives_in n.head)
+      ∙ (λ i. (sym (unit_is within) i).live + bit (lives_own n.head (f n) own_unit_now i)))
+
+  pub unready_is : n.head.slot < length us → times (waits_in n.head) (map f nodes) + bit (is_unready n) ≡ (unit_at us n.head.slot).unready + bit (is_unready (f n))
+  unready_is within =
+      ap (λ (b : Bool). times (waits_in n.head) (map f nodes) + bit b) (sym (waits_own n.head n own_unit))
+      ∙ (count_is (waits_in n.head)
+      ∙ (λ i. (sym (unit_is within) i).unready + bit (waits_own n.head (f n) own_unit_now i)))
+
+  own_of : n.collection ≡ s.id
+  own_of = eqb-true n.collection s.id (all-In (λ (x : Node). x.collection == s.id) nodes n on (looked-of t s.id s.keys (found_filed t s.id ss s opens.kept.filed opens.found)))
+
+  -- an attached child holds the unit
+  below_holds : HasBelow t key n.collection → list_any (holds_unit (map f nodes) n.head) (map f nodes) ≡ true
+  below_holds below =
+      let m : Node = below.node in
+      let there : is_there (forest_of t ss) s.id below.child ≡ true =
+      ap (λ (o : Option Node). option_map_or (λ (x : Node). x.collection == s.id && not x.gone) o false) (node_is t ss opens.kept below.child ∙ below.at)
+      ∙ and_both (m.collection == s.id) (not m.gone) (eq-eqb m.collection s.id (below.of ∙ own_of)) (ap not below.here) in
+      let found : IsLeft nodes below.child = left_node nodes below.child (loss_left t ss opens.kept s.id (Change.Loss below.child Cause.Lost)
+      (record { named = there; room = λ e. cc; heads = refl; trackers = λ k x e. cc }) s opens.found) in
+      let both : Some m ≡ Some found.node = sym below.at ∙ (ap (node_at t) (sym found.is) ∙ at_key found.node found.on) in
+      let one : m ≡ found.node = cc in
+      let child_on : In m nodes = subst (λ (x : Node). In x nodes) (sym one) found.on in
+      let up : (f m).parent ≡ Some key = (same m).parent ∙ sym (opens.kept.linked below.child m below.at below.here) ∙ below.under in
+      let in_unit : list_any (λ (q : Node). is_of key q && same_key q.head n.head) (map f nodes) ≡ true =
+      In-any (λ (q : Node). is_of key q && same_key q.head n.head) (map f nodes) (f n) (In-map-back f nodes n on)
+      (and_both (is_of key (f n)) (same_key (f n).head n.head) (ap (λ (k : NodeKey). same_key k key) own ∙ same_key-refl key) own_unit_now) in
+      let hangs : hangs_in (map f nodes) n.head (f m) ≡ true =
+      ap (λ (o : Option NodeKey). option_map_or (λ p. list_any (λ (q : Node). is_of p q && same_key q.head n.head) (map f nodes)) o false) up ∙ in_unit in
+      In-any (holds_unit (map f nodes) n.head) (map f nodes) (f m) (In-map-back f nodes m child_on)
+      (and_both (not (f m).gone) _ (ap not ((remains_affected call m).gone ∙ below.here))
+      (or_right (same_key (f m).head n.head && not (f m).released) ((f m).attached && hangs_in (map f nodes) n.head (f m))
+      (and_both (f m).attached (hangs_in (map f nodes) n.head (f m)) ((same m).attached ∙ below.attached) hangs)))
+
+  module _ (within : n.head.slot < length us) (next : Unit) (live_next : next.live ≡ times (lives_in n.head) (map f nodes))
+      (unready_next : next.unready ≡ times (waits_in n.head) (map f nodes)) where
+    abbrev after_one : List Unit
+    after_one = set us n.head.slot next
+
+    stays_one : Stays t s.id us after_one
+    stays_one k m at differ inside = (
+      subst (λ (l : ℕ). k.slot < l) (length-set us n.head.slot next) inside,
+      get_or-set_other us n.head.slot k.slot next no_unit (λ slots.
+          let one : k ≡ n.head = one_slot t k n.head m head.0 at head_at slots in
+          let both : Some m ≡ Some head.0 = sym at ∙ (ap (node_at t) one ∙ head_at) in
+          let node : m ≡ head.0 = cc in
+          let of : head.0.collection ≡ s.id = eqb-true head.0.collection s.id
+          (all-In (λ (x : Node). x.collection == s.id) nodes head.0 head.1 (looked-of t s.id s.keys (found_filed t s.id ss s opens.kept.filed opens.found))) in
+          differ (ap (λ (x : Node). x.collection) node ∙ of)),
+    )
+
+    other_unit : (k : NodeKey) → same_key n.head k ≡ false → unit_of (map f nodes) k ≡ unit_of nodes k
+    other_unit k other =
+        let other_now : same_key (f n).head k ≡ false = ap (λ (h : NodeKey). same_key h k) (same n).head ∙ other in
+        let a = count_is (lives_in k) in
+        let b : bit (lives_in k n) ≡ 0 = ap bit (lives_other k n other) in
+        let d : bit (lives_in k (f n)) ≡ 0 = ap bit (lives_other k (f n) other_now) in
+        let e = count_is (waits_in k) in
+        let g : bit (waits_in k n) ≡ 0 = ap bit (waits_other k n other) in
+        let h : bit (waits_in k (f n)) ≡ 0 = ap bit (waits_other k (f n) other_now) in
+        let l : times (lives_in k) (map f nodes) ≡ times (lives_in k) nodes = omega arith in
+        let w : times (waits_in k) (map f nodes) ≡ times (waits_in k) nodes = omega arith in
+        λ i. record { live = l i; unready = w i }
+
+    has_one : HasUnits after_one (map f nodes)
+    has_one = all_in (λ (m : Node). m.key.slot < length after_one → unit_at after_one m.key.slot ≡ unit_of (map f nodes) m.key) (map f nodes) (λ m there.
+        let x = In-map f nodes m there in
+        let key : x.0.key ≡ m.key = sym (ap (λ (y : Node). y.key) x.2 ∙ (same x.0).key) in
+        subst (λ (k : NodeKey). k.slot < length after_one → unit_at after_one k.slot ≡ unit_of (map f nodes) k) key
+        (one_of x.0 x.1 (either_way (same_key n.head x.0.key))))
+      where
+        one_of : (x : Node) → In x nodes → (same_key n.head x.key ≡ true) ⊎ (same_key n.head x.key ≡ false) →
+            x.key.slot < length after_one → unit_at after_one x.key.slot ≡ unit_of (map f nodes) x.key
+        one_of x there (inl e) inside =
+            subst (λ (k : NodeKey). unit_at after_one k.slot ≡ unit_of (map f nodes) k) (same_key-true n.head x.key e)
+            (get_or-set_same us n.head.slot next no_unit within ∙ (λ i. record { live = live_next i; unready = unready_next i }))
+        one_of x there (inr e) inside =
+            get_or-set_other us n.head.slot x.key.slot next no_unit (λ slots.
+            let one : x.key ≡ n.head = one_slot t x.key n.head x head.0 (at_key x there) head_at slots in
+            both_ways (same_key n.head x.key) (ap (same_key n.head) one ∙ own_unit) e)
+            ∙ (in_all (λ (m : Node). m.key.slot < length us → unit_at us m.key.slot ≡ unit_of nodes m.key) nodes unit_has x there
+            (subst (λ (l : ℕ). x.key.slot < l) (length-set us n.head.slot next) inside)
+            ∙ sym (other_unit x.key e))
+
+    -- the unit keeps a live node, and where it has no buffers it does not become ready
+    pub counted_made : (lives : ℕ) → nat_lt 0 lives ≡ true → lives ≡ strong_count (map f nodes) → (0 < next.live) ⊎ HasBelow t key n.collection →
+        (is_unready n ≡ false) ⊎ ((0 < next.unready) ⊎ (option_map_or (λ (m : Node). m.allocated) (node_at t n.head) false ≡ true)) →
+        IsMade t now after_one ss s (Change.Effect call) lives
+    counted_made lives some lives_is live guard =
+        made_now after_one lives some lives_is
+        (subst IsCalm (sym now_is) (calm_changed (collection_in t s) whole f same (λ m. (remains_affected call m).gone) (λ m. (remains_affected call m).allocated) n on alone
+        (holds live) (guarded guard) opens.calm))
+        (units_join after_one stays_one has_one)
+      where
+        holds : (0 < next.live) ⊎ HasBelow t key n.collection → list_any (holds_unit (map f nodes) n.head) (map f nodes) ≡ true
+        holds (inl some) = lives_held (map f nodes) n.head (omega (arith, live_next, some))
+        holds (inr below) = below_holds below
+
+        guarded : (is_unready n ≡ false) ⊎ ((0 < next.unready) ⊎ (option_map_or (λ (m : Node). m.allocated) (node_at t n.head) false ≡ true)) →
+            (waits_in n.head n ≡ false) ⊎ ((0 < times (waits_in n.head) (map f nodes)) ⊎ ((h : Node) → In h nodes → h.key ≡ n.head → h.allocated ≡ true))
+        guarded (inl settled) = inl (waits_own n.head n own_unit ∙ settled)
+        guarded (inr (inl waits)) = inr (inl (omega (arith, unready_next, waits)))
+        guarded (inr (inr given)) = inr (inr (λ h there is.
+            ap (λ (o : Option Node). option_map_or (λ (m : Node). m.allocated) o false) (sym (at_key h there) ∙ ap (node_at t) is) ∙ given))
+
+-- ---- nothing of the nodes
+
+pub made_nothing : (t : Table Node) (us : List Unit) (ss : List Shelf) (s : Shelf) (strong : ℕ) → nat_lt 0 strong ≡ true → IsOpen t us ss s Change.Nothing strong → IsMade t t us ss s Change.Nothing strong
+made_nothing t us ss s strong some opens =
+    let lives : has_strong (collection_in t s).nodes ≡ true = strong_lives (nodes_with t s.keys) strong some opens.strong in
+    let is : changed Change.Nothing no_key (collection_or_new (forest_of t ss) s.id) ≡ collection_in t s =
+    ap (λ (o : Option Collection). unwrap_or o (record { id = s.id; nodes = []; buffers = None; held = [] }))
+    (collection_is t s.id ss ∙ ap (option_map (collection_in t)) opens.found) in
+    record {
+      done = record {
+        kept = opens.kept;
+        finishes = λ pool handles.
+            let rests = rests_strong (collection_in t s) opens.calm lives pool handles in
+            let back : given_back handles (collection_in t s) ≡ collection_in t s = nothing_back handles (collection_in t s) lives in
+            subst (λ (c : Collection). Finishes pool handles t ss t ss c) (sym is)
+            (record {
+              after = collection_in t s;
+              settles = Rests (collection_in t s) (rests (beside (forest_of t ss) s.id));
+              collections = ap (map (collection_in t)) (sym (found_put s ss opens.kept.rising opens.found)) ∙ put-map t s ss
+                  ∙ ap (λ (c : Collection). put c (map (collection_in t) ss)) (sym back);
+              rests = ap (λ (c : Collection). forced pool (standing handles (beside (forest_of t ss) s.id) c)) back ∙ rests (beside (forest_of t ss) s.id);
+            });
+        calm = opens.calm;
+        strong = opens.strong;
+        others = λ x differ own_filed. refl;
+        units = opens.units;
+        same = record { first = refl; nexts = refl; limit = refl; len = refl };
+      };
+      over = refl;
+    }

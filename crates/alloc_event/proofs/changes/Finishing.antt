@@ -1,0 +1,276 @@
+-- What stays true where a collection that was worked on is put back.
+use Rattle.std.proofs.Common.{◌≡◌, ◌≢◌, ℕ, ◌<◌, ◌==◌, Bool, true, false, ◌||◌, ◌&&◌, not, List, [], ◌∷◌, map, Option, Some, None, option_map, is_some, cond, refl, sym, ap, subst, ◌∙◌, inl, inr, arith}
+use Rattle.std.specs.List.{list_any, list_all, AllByRecursion, cons_option}
+use Rattle.std.specs.Option.{option_map_or}
+use Rattle.std.proofs.lemmas.Bool.{eqb-true, eqb-false, cases_eq, false≢true, ltb-true}
+use Rattle.sm_names.specs.declared.keys.NodeKey.{NodeKey}
+use Rattle.sm_names.specs.Sameness.{same_key}
+use Rattle.sm_names.proofs.ListLaws.{In}
+use Rattle.sm_names.proofs.SamenessLaws.{and_left, and_right, or_none_left}
+use Rattle.node_table.specs.Table.{Table, node_at, parent_at}
+use Rattle.node_table.proofs.Keys.{true-same_key, same_key-true}
+use Rattle.alloc_event.specs.declared.node.Node.{Node}
+use Rattle.alloc_event.specs.Forest.{Collection}
+use Rattle.alloc_event.specs.Nodes.{is_of}
+use Rattle.alloc_event.specs.Kept.{Shelf, AreRising, IsKept, IsWhole, Stores, put_shelf, collection_in, nodes_with, all_keys, are_filed, is_filed, all_of, stored, written, have_places}
+use Rattle.alloc_event.specs.Scenes.{are_distinct, frame_of}
+use Rattle.alloc_event.specs.Settling.{put}
+use Rattle.alloc_event.proofs.tables.Hanging.{in_all}
+use Rattle.alloc_event.proofs.lists.Lookups.{looked-map, same_key-swap}
+use Rattle.alloc_event.proofs.shelves.Putting.{cases_place, rising-put, keys-put, filed-same, filed-put, above-weaker}
+use Rattle.alloc_event.proofs.tables.Storing.{stored-key, stored_one}
+
+-- the keys of nodes
+abbrev pub keys_in : List Node → List NodeKey
+keys_in ns = map (λ (n : Node). n.key) ns
+
+-- ---- what is written over what
+
+-- where neither test holds, the second fails
+pub or_none_right : (a b : Bool) → (a || b) ≡ false → b ≡ false
+or_none_right true b h = absurd (false≢true (sym h))
+or_none_right false b h = h
+
+-- a test whose opposite holds fails
+pub not-true : (b : Bool) → not b ≡ true → b ≡ false
+not-true true h = absurd (false≢true h)
+not-true false h = refl
+
+-- keys that are not one are so in either order
+swapped : (a b : NodeKey) → same_key a b ≡ false → same_key b a ≡ false
+swapped a b e = same_key-swap b a ∙ e
+
+-- no node of these has the key
+stored-lacks : (ns : List Node) (n : Node) → list_any (is_of n.key) ns ≡ false → stored ns n ≡ n
+stored-lacks [] n none = refl
+stored-lacks (m ∷ ms) n none =
+    rw (or_none_left (same_key m.key n.key) _ none) (stored-lacks ms n (or_none_right (same_key m.key n.key) _ none))
+
+-- whether a node has the key is seen by the keys
+any-keys : (key : NodeKey) (ns ms : List Node) → keys_in ns ≡ keys_in ms → list_any (is_of key) ns ≡ list_any (is_of key) ms
+any-keys key [] [] same = refl
+any-keys key [] (m ∷ ms) same = absurd (cc)
+any-keys key (n ∷ ns) [] same = absurd (cc)
+any-keys key (n ∷ ns) (m ∷ ms) same =
+    let first : n.key ≡ m.key = cc in
+    let on : keys_in ns ≡ keys_in ms = cc in
+    rw (first, any-keys key ns ms on) refl
+
+-- a node in front changes none of the others
+stored-others : (n : Node) (ns olds : List Node) → list_any (is_of n.key) olds ≡ false → map (stored (n ∷ ns)) olds ≡ map (stored ns) olds
+stored-others n ns [] none = refl
+stored-others n ns (o ∷ os) none =
+    let other : same_key n.key o.key ≡ false = swapped o.key n.key (or_none_left (same_key o.key n.key) (list_any (is_of n.key) os) none) in
+    rw other (ap (λ l. stored ns o ∷ l) (stored-others n ns os (or_none_right (same_key o.key n.key) (list_any (is_of n.key) os) none)))
+
+-- nodes that are written over those with their keys are what is there then
+pub stored-all : (ns olds : List Node) → keys_in olds ≡ keys_in ns → are_distinct ns ≡ true → map (stored ns) olds ≡ ns
+stored-all [] [] same distinct = refl
+stored-all [] (o ∷ os) same distinct = absurd (cc)
+stored-all (n ∷ ns) [] same distinct = absurd (cc)
+stored-all (n ∷ ns) (o ∷ os) same distinct =
+    let first : n.key ≡ o.key = cc in
+    let on : keys_in os ≡ keys_in ns = cc in
+    let none : list_any (is_of n.key) ns ≡ false = not-true _ (and_left _ _ distinct) in
+    let rest : map (stored ns) os ≡ ns = stored-all ns os on (and_right _ _ distinct) in
+    rw (same_key-true n.key o.key first, stored-lacks ns n none, stored-others n ns os (any-keys n.key os ns on ∙ none), rest) refl
+
+-- the first of them
+looked-key : (id : ℕ) (key : NodeKey) (o : Option Node) (ns : List Node) (keys : List NodeKey) → ((n : Node) → o ≡ Some n → n.key ≡ key) → option_map_or (λ (n : Node). n.collection == id) o false ≡ true → keys_in ns ≡ keys → keys_in (cons_option o ns) ≡ key ∷ keys
+looked-key id key None ns keys named filed on = absurd (false≢true filed)
+looked-key id key (Some n) ns keys named filed on = λ i. named n refl i ∷ on i
+
+-- both tests hold
+both : {a b : Bool} → a ≡ true → b ≡ true → (a && b) ≡ true
+both {a} {b} p q = rw (p, q) refl
+
+-- what is filed is there
+place-filed : (id : ℕ) (o : Option Node) → option_map_or (λ (n : Node). n.collection == id) o false ≡ true → is_some o ≡ true
+place-filed id None filed = absurd (false≢true filed)
+place-filed id (Some n) filed = refl
+
+-- the nodes that filed keys find have those keys
+pub looked-keys : (t : Table Node) (id : ℕ) → ((key : NodeKey) (n : Node) → node_at t key ≡ Some n → n.key ≡ key) → (keys : List NodeKey) → list_all (is_filed t id) keys ≡ true → keys_in (nodes_with t keys) ≡ keys
+looked-keys t id named [] filed = refl
+looked-keys t id named (k ∷ ks) filed = looked-key id k (node_at t k) (nodes_with t ks) ks (named k) (and_left _ _ filed) (looked-keys t id named ks (and_right _ _ filed))
+
+-- the nodes that were stored are found
+pub nodes-stored : (t now : Table Node) (id : ℕ) (ns : List Node) (keys : List NodeKey) → ((key : NodeKey) → node_at now key ≡ option_map (stored ns) (node_at t key)) → ((key : NodeKey) (n : Node) → node_at t key ≡ Some n → n.key ≡ key) → list_all (is_filed t id) keys ≡ true → keys_in ns ≡ keys → are_distinct ns ≡ true → nodes_with now keys ≡ ns
+nodes-stored t now id ns keys look named filed own distinct =
+    looked-map (stored ns) (node_at t) (node_at now) look keys
+    ∙ stored-all ns (nodes_with t keys) (looked-keys t id named keys filed ∙ sym own) distinct
+
+-- each node has a place where its key is filed
+pub places-filed : (t : Table Node) (id : ℕ) (ns : List Node) → list_all (is_filed t id) (keys_in ns) ≡ true → have_places t ns ≡ true
+places-filed t id [] filed = refl
+places-filed t id (n ∷ ns) filed = both (place-filed id (node_at t n.key) (and_left _ _ filed)) (places-filed t id ns (and_right _ _ filed))
+
+-- ---- collections
+
+-- by whether it is written over
+written-of : (id : ℕ) (m n : Node) (same : Bool) → m.collection ≡ id → n.collection ≡ id → (cond same m n).collection ≡ id
+written-of id m n true mine own = mine
+written-of id m n false mine own = own
+
+-- a node of the collection stays of it
+stored-of : (id : ℕ) (ns : List Node) (n : Node) → all_of id ns ≡ true → n.collection ≡ id → (stored ns n).collection ≡ id
+stored-of id [] n all own = own
+stored-of id (m ∷ ms) n all own = stored-of id ms (written m n) (and_right _ _ all) (written-of id m n (same_key m.key n.key) (eqb-true _ _ (and_left _ _ all)) own)
+
+-- a node of another collection has none of these keys
+unwritten : (t : Table Node) (id : ℕ) (m n : Node) (same : Bool) → same_key m.key n.key ≡ same → is_filed t id m.key ≡ true → node_at t n.key ≡ Some n → n.collection ≢ id → cond same m n ≡ n
+unwritten t id m n true same filed found other =
+    let there : node_at t m.key ≡ Some n = ap (node_at t) (true-same_key m.key n.key same) ∙ found in
+    let own : (n.collection == id) ≡ true = rw there at filed in
+    absurd (other (eqb-true _ _ own))
+unwritten t id m n false same filed found other = refl
+
+-- a node of another collection is not written over
+stored-beside : (t : Table Node) (id : ℕ) (ns : List Node) (n : Node) → list_all (is_filed t id) (keys_in ns) ≡ true → node_at t n.key ≡ Some n → n.collection ≢ id → stored ns n ≡ n
+stored-beside t id [] n filed found other = refl
+stored-beside t id (m ∷ ms) n filed found other =
+    rw (unwritten t id m n (same_key m.key n.key) refl (and_left _ _ filed) found other) (stored-beside t id ms n (and_right _ _ filed) found other)
+
+-- a node of another collection stays
+node-beside : (t : Table Node) (id : ℕ) (ns : List Node) → list_all (is_filed t id) (keys_in ns) ≡ true → (other : ℕ) → other ≢ id → (key : NodeKey) (o : Option Node) → node_at t key ≡ o → ((n : Node) → node_at t key ≡ Some n → n.key ≡ key) → option_map_or (λ (n : Node). n.collection == other) o false ≡ true → option_map (stored ns) o ≡ o
+node-beside t id ns own other differ key None is named filed = refl
+node-beside t id ns own other differ key (Some n) is named filed =
+    let found : node_at t n.key ≡ Some n = ap (node_at t) (named n is) ∙ is in
+    ap Some (stored-beside t id ns n own found (λ same. differ (sym (eqb-true _ _ filed) ∙ same)))
+
+-- the nodes of another collection stay
+nodes-beside : (t now : Table Node) (id : ℕ) (ns : List Node) → ((key : NodeKey) → node_at now key ≡ option_map (stored ns) (node_at t key)) → ((key : NodeKey) (n : Node) → node_at t key ≡ Some n → n.key ≡ key) → list_all (is_filed t id) (keys_in ns) ≡ true → (other : ℕ) → other ≢ id → (keys : List NodeKey) → list_all (is_filed t other) keys ≡ true → nodes_with now keys ≡ nodes_with t keys
+nodes-beside t now id ns look named own other differ [] filed = refl
+nodes-beside t now id ns look named own other differ (k ∷ ks) filed =
+    let rest : nodes_with now ks ≡ nodes_with t ks = nodes-beside t now id ns look named own other differ ks (and_right _ _ filed) in
+    rw (look k, rest)
+    (ap (λ o. cons_option o (nodes_with t ks)) (node-beside t id ns own other differ k (node_at t k) refl (named k) (and_left _ _ filed)))
+
+-- what holds while a collection is put back: its nodes are in the table, in the places of those with their keys
+module _ (t now : Table Node) (id : ℕ) (ns : List Node) (stores : Stores t now ns) (named : (key : NodeKey) (n : Node) → node_at t key ≡ Some n → n.key ≡ key) (own : list_all (is_filed t id) (keys_in ns) ≡ true) where
+  -- by the node that was there
+  filed-still-by : all_of id ns ≡ true → (other : ℕ) (key : NodeKey) (o : Option Node) → node_at t key ≡ o → option_map_or (λ (n : Node). n.collection == other) (option_map (stored ns) o) false ≡ option_map_or (λ (n : Node). n.collection == other) o false
+  filed-still-by all other key None is = refl
+  filed-still-by all other key (Some n) is = elim (cases_eq n.collection id) [
+    | inl equal ↦ ap (λ (c : ℕ). c == other) (stored-of id ns n all equal ∙ sym equal)
+    | inr differ ↦ ap (λ (m : Node). m.collection == other) (stored-beside t id ns n own (ap (node_at t) (named key n is) ∙ is) differ)
+  ]
+
+  -- each key is filed where it was
+  filed-still : all_of id ns ≡ true → (other : ℕ) (key : NodeKey) → is_filed now other key ≡ is_filed t other key
+  filed-still all other key = ap (λ o. option_map_or (λ (n : Node). n.collection == other) o false) (stores.look key) ∙ filed-still-by all other key (node_at t key) refl
+
+  -- another collection stays
+  pub collection-beside : (s : Shelf) → s.id ≢ id → list_all (is_filed t s.id) s.keys ≡ true → collection_in now s ≡ collection_in t s
+  collection-beside s differ filed = λ i. record {
+    id = s.id;
+    nodes = nodes-beside t now id ns stores.look named own s.id differ s.keys filed i;
+    buffers = s.buffers;
+    held = s.held;
+  }
+
+  -- so all of greater ids
+  collections-above : (ss : List Shelf) → AllByRecursion (λ (later : Shelf). id < later.id) ss → are_filed t ss ≡ true → map (collection_in now) ss ≡ map (collection_in t) ss
+  collections-above [] all filed = refl
+  collections-above (s ∷ ss) all filed =
+      let first : collection_in now s ≡ collection_in t s = collection-beside s (λ same. omega (arith, all.0)) (and_left _ _ filed) in
+      let rest : map (collection_in now) ss ≡ map (collection_in t) ss = collections-above ss all.1 (and_right _ _ filed) in
+      λ i. first i ∷ rest i
+
+  -- all collections, with that one put back
+  pub collections-put : (new old : Shelf) (ss : List Shelf) → new.id ≡ id → old.id ≡ new.id → AreRising ss → are_filed t (put_shelf old ss) ≡ true → map (collection_in now) (put_shelf new ss) ≡ put (collection_in now new) (map (collection_in t) ss)
+  collections-put new old [] is was rising filed = refl
+  collections-put new old (s ∷ ss) is was rising filed = cases_place s.id new.id (map (collection_in now) (put_shelf new (s ∷ ss)) ≡ put (collection_in now new) (map (collection_in t) (s ∷ ss)))
+      (λ same. rw same (ap (λ cs. collection_in now new ∷ cs)
+      (collections-above ss (subst (λ (low : ℕ). AllByRecursion (λ (later : Shelf). low < later.id) ss) (eqb-true s.id new.id same ∙ is) rising.0) (and_right _ _ (rw (was, same) at filed)))))
+      (λ other above.
+      let less : id < s.id = omega (arith, is, ltb-true _ _ above) in
+      rw (other, above) (ap (λ cs. collection_in now new ∷ cs)
+      (collections-above (s ∷ ss) (less, above-weaker id s.id ss less rising.0) (and_right _ _ (rw (was, other, above) at filed)))))
+      (λ other below.
+      let differ : s.id ≢ id = λ same. eqb-false s.id new.id other (same ∙ sym is) in
+      let parts = rw (was, other, below) at filed in
+      let first : collection_in now s ≡ collection_in t s = collection-beside s differ (and_left _ _ parts) in
+      let rest = collections-put new old ss is was rising.1 (and_right _ _ parts) in
+      rw (other, below) (λ i. first i ∷ rest i))
+
+  -- a node that is found was found under the same key
+  found-before : (key : NodeKey) (o : Option Node) (n : Node) → option_map (stored ns) o ≡ Some n → (m : Node) × (o ≡ Some m) × (n.key ≡ m.key) × (stored ns m ≡ n)
+  found-before key None n is = absurd (cc)
+  found-before key (Some m) n is =
+      let same : stored ns m ≡ n = cc in
+      (m, refl, ap (λ (x : Node). x.key) (sym same) ∙ stored-key ns m, same)
+
+  -- a node that is not gone has its parent in the table, as all that were stored have
+  linked-put : AllByRecursion (λ (n : Node). n.gone ≡ false → parent_at t n.key ≡ n.parent) ns → ((key : NodeKey) (n : Node) → node_at t key ≡ Some n → n.gone ≡ false → parent_at t key ≡ n.parent) →
+      (key : NodeKey) (n : Node) → node_at now key ≡ Some n → n.gone ≡ false → parent_at now key ≡ n.parent
+  linked-put all linked key n is here =
+      let was = found-before key (node_at t key) n (sym (stores.look key) ∙ is) in
+      stores.parents key ∙ (elim (stored_one ns was.0) [
+        | inl same ↦
+            let one : was.0 ≡ n = sym same ∙ was.3 in
+            linked key was.0 was.1 (ap (λ (x : Node). x.gone) one ∙ here) ∙ ap (λ (x : Node). x.parent) one
+        | inr on ↦
+            ap (parent_at t) (sym (was.2 ∙ named key was.0 was.1))
+            ∙ in_all (λ (m : Node). m.gone ≡ false → parent_at t m.key ≡ m.parent) ns all n (subst (λ (m : Node). In m ns) was.3 on) here
+      ])
+
+  -- all stays so
+  pub kept-put : all_of id ns ≡ true → (new old : Shelf) (ss : List Shelf) → old.id ≡ new.id → old.keys ≡ new.keys → AreRising ss → IsKept t (put_shelf old ss) → AllByRecursion (λ (n : Node). n.gone ≡ false → parent_at t n.key ≡ n.parent) ns → AllByRecursion (λ (s : Shelf). IsWhole (collection_in now s)) (put_shelf new ss) → IsKept now (put_shelf new ss)
+  kept-put all new old ss ids keys rising ok linked whole =
+      let same_keys : all_keys (put_shelf new ss) ≡ all_keys (put_shelf old ss) = sym (keys-put old new ss ids keys) in
+      record {
+        first = stores.same.first ∙ ok.first;
+        rising = rising-put new ss rising;
+        apart = rw same_keys ok.apart;
+        named = λ key n is.
+            let was = found-before key (node_at t key) n (sym (stores.look key) ∙ is) in
+            was.2 ∙ named key was.0 was.1;
+        filed = filed-same t now (filed-still all) (put_shelf new ss) ∙ sym (filed-put t old new ss ids keys) ∙ ok.filed;
+        there = λ key n is.
+            let was = found-before key (node_at t key) n (sym (stores.look key) ∙ is) in
+            rw same_keys (ok.there key was.0 was.1);
+        counted = rw same_keys ok.counted ∙ sym stores.same.len;
+        linked = linked-put linked ok.linked;
+        whole = whole;
+      }
+
+-- ---- wholeness
+
+-- of shelves and of their collections
+pub whole-map : (t : Table Node) (ss : List Shelf) → AllByRecursion (λ (s : Shelf). IsWhole (collection_in t s)) ss → AllByRecursion IsWhole (map (collection_in t) ss)
+whole-map t [] all = tt
+whole-map t (s ∷ ss) all = (all.0, whole-map t ss all.1)
+
+-- and back
+pub whole-unmap : (t : Table Node) (ss : List Shelf) → AllByRecursion IsWhole (map (collection_in t) ss) → AllByRecursion (λ (s : Shelf). IsWhole (collection_in t s)) ss
+whole-unmap t [] all = tt
+whole-unmap t (s ∷ ss) all = (all.0, whole-unmap t ss all.1)
+
+-- with a whole collection in the place of another
+pub whole-put : (new old : Collection) (cs : List Collection) → old.id ≡ new.id → IsWhole new → AllByRecursion IsWhole (put old cs) → AllByRecursion IsWhole (put new cs)
+whole-put new old [] ids ok all = (ok, tt)
+whole-put new old (c ∷ cs) ids ok all = cases_place c.id new.id (AllByRecursion IsWhole (put new (c ∷ cs)))
+    (λ same. let parts = rw (ids, same) at all in rw same (ok, parts.1))
+    (λ other above. let parts = rw (ids, other, above) at all in rw (other, above) (ok, parts.1))
+    (λ other below. let parts = rw (ids, other, below) at all in rw (other, below) (parts.0, whole-put new old cs ids ok parts.1))
+
+-- ---- frames
+
+-- a frame has the key
+keys-frames : (ns : List Node) → keys_in ns ≡ keys_in (map frame_of ns)
+keys-frames [] = refl
+keys-frames (n ∷ ns) = ap (λ ks. n.key ∷ ks) (keys-frames ns)
+
+-- and is of the collection
+of-frames : (id : ℕ) (ns : List Node) → all_of id ns ≡ all_of id (map frame_of ns)
+of-frames id [] = refl
+of-frames id (n ∷ ns) = ap (λ b. (n.collection == id) && b) (of-frames id ns)
+
+-- the keys stay
+pub frames-keys : (ns ms : List Node) → map frame_of ns ≡ map frame_of ms → keys_in ns ≡ keys_in ms
+frames-keys ns ms same = keys-frames ns ∙ ap keys_in same ∙ sym (keys-frames ms)
+
+-- and the collection
+pub frames-of : (id : ℕ) (ns ms : List Node) → map frame_of ns ≡ map frame_of ms → all_of id ns ≡ all_of id ms
+frames-of id ns ms same = of-frames id ns ∙ ap (all_of id) same ∙ sym (of-frames id ms)

@@ -1,0 +1,76 @@
+-- What was finished of one collection, told of the forest.
+use Rattle.std.proofs.Common.{◌≡◌, ℕ, Bool, true, false, ◌||◌, nat_lt, nat_le, List, [], ◌∷◌, ◌++◌, slice_index_or, Option, Some, None, refl, sym, ap, subst, ◌∙◌, arith}
+use Rattle.std.specs.Option.{option_map_or}
+use Rattle.std.proofs.lemmas.Bool.{le-leb}
+use Rattle.sm_names.specs.declared.keys.NodeKey.{NodeKey}
+use Rattle.sm_names.specs.Forced.{forced}
+use Rattle.sm_names.specs.Sameness.{same_key}
+use Rattle.node_table.specs.Table.{Table, was_given}
+use Rattle.alloc_event.specs.declared.change.Change.{Change}
+use Rattle.alloc_event.specs.declared.node.Node.{Node}
+use Rattle.alloc_event.specs.Forest.{Collection, given, beside}
+use Rattle.alloc_event.specs.Kept.{Shelf, IsKept, Finishes, Gives, SameTable, forest_of}
+use Rattle.alloc_event.specs.Nodes.{node_of, new_child}
+use Rattle.alloc_event.specs.Settling.{Handles, Settled, Settles, changed, collection_or_new, given_back, is_birth, no_key, standing, with_birth}
+use Rattle.alloc_event.proofs.newborns.Newborn.{before_is}
+
+-- a key was given by the forest where the table gave it
+pub given_is : (t : Table Node) (ss : List Shelf) (key : NodeKey) → t.first ≡ 0 → given (forest_of t ss) key ≡ was_given t key
+given_is t ss key first =
+    let low : nat_le t.first key.generation ≡ true = le-leb _ _ (omega arith) in
+    rw (low, first) refl
+
+-- by the node above
+birth_id : (attached : Bool) (client event : ℕ) (key : NodeKey) (c : Collection) (o : Option Node) → (option_map_or (λ n. record c { nodes = c.nodes ++ new_child attached key event client n ∷ [] }) o c).id ≡ c.id
+birth_id attached client event key c None = refl
+birth_id attached client event key c (Some n) = refl
+
+-- a change keeps the id
+changed_id : (change : Change) (key : NodeKey) (c : Collection) → (changed change key c).id ≡ c.id
+changed_id (Change.Birth None attached client event) key c = refl
+changed_id (Change.Birth (Some above) attached client event) key c = birth_id attached client event key c (node_of c.nodes above)
+changed_id (Change.Effect call) key c = refl
+changed_id (Change.Loss origin cause) key c = refl
+changed_id Change.Nothing key c = refl
+
+module _ (pool : ℕ) (handles : Handles) (t now : Table Node) (ss behind : List Shelf) (ok : IsKept t ss) (id : ℕ) where
+  -- the collection has the id
+  id_is : (change : Change) (key : NodeKey) → (changed change key (collection_or_new (forest_of t ss) id)).id ≡ id
+  id_is change key = changed_id change key (collection_or_new (forest_of t ss) id) ∙ (before_is t ss ok id).id_is
+
+  -- a birth
+  pub settled_birth : (parent : Option NodeKey) (attached : Bool) (client event : ℕ) (key : NodeKey) → Finishes pool handles t ss now behind (with_birth parent attached client event key (collection_or_new (forest_of t ss) id)) → Gives t now key → Settled pool handles (forest_of t ss) (forest_of now behind) id (Change.Birth parent attached client event) (Some key)
+  settled_birth parent attached client event key f gives =
+      let own = id_is (Change.Birth parent attached client event) key in
+      record {
+        after = f.after;
+        told = refl;
+        fresh = given_is t ss key ok.first ∙ gives.fresh;
+        settles = subst (λ (i : ℕ). Settles pool handles (beside (forest_of t ss) i) (changed (Change.Birth parent attached client event) key (collection_or_new (forest_of t ss) id)) f.after) own f.settles;
+        collections = f.collections;
+        rests = subst (λ (i : ℕ). forced pool (standing handles (beside (forest_of now behind) i) (given_back handles f.after)) ≡ None) own f.rests;
+        limit = gives.limit;
+        keys = λ k. given_is now behind k (gives.first ∙ ok.first) ∙ gives.given k ∙ ap (λ b. same_key key k || b) (sym (given_is t ss k ok.first));
+      }
+
+  -- another change
+  pub settled_change : (change : Change) → is_birth change ≡ false → Finishes pool handles t ss now behind (changed change no_key (collection_or_new (forest_of t ss) id)) → SameTable t now → Settled pool handles (forest_of t ss) (forest_of now behind) id change None
+  settled_change change birth f same =
+      let own = id_is change no_key in
+      record {
+        after = f.after;
+        told = sym birth;
+        fresh = tt;
+        settles = subst (λ (i : ℕ). Settles pool handles (beside (forest_of t ss) i) (changed change no_key (collection_or_new (forest_of t ss) id)) f.after) own f.settles;
+        collections = f.collections;
+        rests = subst (λ (i : ℕ). forced pool (standing handles (beside (forest_of now behind) i) (given_back handles f.after)) ≡ None) own f.rests;
+        limit = same.limit;
+        keys = λ k. ap (λ (nexts : List ℕ). nat_lt k.generation (slice_index_or nexts k.slot 0)) same.nexts;
+      }
+
+-- a change that is no birth
+pub no_birth : (change : Change) → ((parent : Option NodeKey) (attached : Bool) (client event : ℕ) → change ≡ Change.Birth parent attached client event → ⊥) → is_birth change ≡ false
+no_birth (Change.Birth parent attached client event) none = absurd (none parent attached client event refl)
+no_birth (Change.Effect call) none = refl
+no_birth (Change.Loss origin cause) none = refl
+no_birth Change.Nothing none = refl

@@ -1,0 +1,321 @@
+-- A calm collection stays calm where nodes fall, as far as the counts of the unit above them tell.
+use Rattle.std.proofs.Common.{◌≡◌, ℕ, zero, suc, ◌<◌, refl, ap, sym, ◌∙◌, subst, Bool, true, false, not, ◌&&◌, ◌||◌, is_none, ◌⊎◌, inl, inr, List, [], ◌∷◌, map, length, Option, Some, None, arith}
+use Rattle.std.proofs.lemmas.Bool.{not-true}
+use Rattle.std.specs.List.{list_any, list_all, find}
+use Rattle.std.specs.Option.{option_map, option_map_or, option_and_then}
+use Rattle.sm_names.specs.declared.keys.NodeKey.{NodeKey}
+use Rattle.sm_names.specs.declared.outcomes.Buffers.{Buffers}
+use Rattle.sm_names.specs.Sameness.{same_key}
+use Rattle.sm_names.specs.Words.{times, when}
+use Rattle.sm_names.proofs.ListLaws.{In, In-find, In-list_any, In-map, In-map-back}
+use Rattle.sm_names.proofs.SamenessLaws.{and_both, and_left, and_right, both_ways, either_way, false_if, or_cases, same_key-true}
+use Rattle.sm_names.proofs.StandingLaws.{In-any}
+use Rattle.alloc_event.specs.declared.node.Node.{Node}
+use Rattle.alloc_event.specs.Calm.{IsCalm}
+use Rattle.alloc_event.specs.Counts.{lives_in, waits_in}
+use Rattle.alloc_event.specs.Decisions.{is_left_of, later_step, waiting}
+use Rattle.alloc_event.specs.Forest.{Collection, with_nodes}
+use Rattle.alloc_event.specs.Kept.{IsWhole}
+use Rattle.alloc_event.specs.Nodes.{is_of}
+use Rattle.alloc_event.specs.Questions.{is_allocated_node, is_deserted_node, is_next_node, is_ready_node, is_root_left}
+use Rattle.alloc_event.specs.Scenes.{are_distinct, heads_itself}
+use Rattle.alloc_event.specs.Units.{is_head}
+use Rattle.alloc_event.proofs.calm.Calming.{AreNone, calm_none, count_none, later, none_calm}
+use Rattle.alloc_event.proofs.tallies.Holding.{are_held, hangs_in, held_where, holds_unit, is_held, line, none_deserted, own_head, shared, step, still_here}
+use Rattle.alloc_event.proofs.calm.Keeping.{any-In, lives_held, some_pass}
+use Rattle.alloc_event.proofs.newborns.Members.{find-none, none-find}
+use Rattle.alloc_event.proofs.tables.Rooted.{left_parent}
+use Rattle.alloc_event.proofs.calm.Steps.{all-In}
+use Rattle.alloc_event.proofs.calm.United.{each_all}
+use Rattle.alloc_event.proofs.tables.Writing.{IsSameNode}
+
+-- what is found, where tests agree
+find-In : {A : Type 0} (p q : A → Bool) (f : A → A) (xs : List A) → ((x : A) → In x xs → p (f x) ≡ q x) → find p (map f xs) ≡ option_map f (find q xs)
+find-In p q f [] same = refl
+find-In {A = A} p q f (x ∷ xs) same = elim (either_way (q x)) [
+  | inl e ↦ let h : p (f x) ≡ true = same x (inl refl) ∙ e in rw (h, e) refl
+  | inr e ↦ let h : p (f x) ≡ false = same x (inl refl) ∙ e in rw (h, e) (find-In p q f xs (λ y on. same y (inr on)))
+]
+
+one_parent : (a b : NodeKey) → Some a ≡ Some b → a ≡ b
+one_parent a b e = cc
+
+second_false : (a b : Bool) → (a || b) ≡ false → b ≡ false
+second_false true b h = cc
+second_false false b h = h
+
+first_false : (a b : Bool) → (a || b) ≡ false → a ≡ false
+first_false true b h = cc
+first_false false b h = refl
+
+not_not : (b : Bool) → not b ≡ false → b ≡ true
+not_not true h = refl
+not_not false h = cc
+
+not_is : (b : Bool) → not b ≡ true → b ≡ false
+not_is true h = cc
+not_is false h = refl
+
+or_last : (b : Bool) → (b || true) ≡ true
+or_last true = refl
+or_last false = refl
+
+-- nodes fall, of which all but the highest have their parents among them
+module _ (c : Collection) (whole : IsWhole c) (falls : NodeKey → Bool) (top above : Node)
+    (up : (x : Node) → In x c.nodes → x.gone ≡ false → falls x.key ≡ true → (x ≡ top) ⊎ ((p : NodeKey) × (x.parent ≡ Some p) × (falls p ≡ true)))
+    (top_up : In top c.nodes → top.gone ≡ false → top.parent ≡ Some above.key)
+    (above_one : (q : Node) → In q c.nodes → q.key ≡ above.key → q ≡ above) where
+  abbrev nodes : List Node
+  nodes = c.nodes
+
+  abbrev distinct : are_distinct nodes ≡ true
+  distinct = whole.sound.distinct
+
+  abbrev heads : list_all heads_itself nodes ≡ true
+  heads = whole.sound.heads
+
+  -- the parent of the highest
+  up_of : (x : Node) → In x nodes → x.gone ≡ false → x ≡ top → x.parent ≡ Some above.key
+  up_of x on here is =
+      ap (λ (n : Node). n.parent) is
+      ∙ top_up (subst (λ (n : Node). In n nodes) is on) (ap (λ (n : Node). n.gone) (sym is) ∙ here)
+
+  -- one that falls while the head of its unit stays is of the unit above, and so is the highest
+  crossing : (fuel : ℕ) (x : Node) → In x nodes → x.gone ≡ false → falls x.key ≡ true → falls x.head ≡ false →
+      length (line nodes distinct heads whole.rooted whole.united x.key) < fuel → (x.head ≡ above.head) × (top.attached ≡ false)
+  crossing zero x on here f out few = absurd (omega arith)
+  crossing (suc fuel) x on here f out few = elim (either_way (is_head x)) [
+    | inl e ↦ both_ways (falls x.key) f (ap falls (sym (own_head nodes distinct heads whole.rooted whole.united x on e)) ∙ out)
+    | inr e ↦ elim (up x on here f) [
+      | inl is ↦
+          let q = shared nodes distinct heads whole.rooted whole.united x on here e above.key (up_of x on here is) in
+          (sym q.3 ∙ ap (λ (n : Node). n.head) (above_one q.0 q.1 q.2), ap (λ (n : Node). n.attached) (sym is) ∙ second_false (is_none x.parent) x.attached e)
+      | inr more ↦
+          let q = shared nodes distinct heads whole.rooted whole.united x on here e more.0 more.1 in
+          let left : is_left_of nodes q.0.key ≡ true = subst (λ (k : NodeKey). is_left_of nodes k ≡ true) (sym q.2) (left_parent nodes whole.rooted x more.0 on here more.1) in
+          let long : length (line nodes distinct heads whole.rooted whole.united x.key) ≡ length (more.0 ∷ line nodes distinct heads whole.rooted whole.united more.0) =
+          ap length (step nodes distinct heads whole.rooted whole.united x on here more.0 more.1) in
+          let same : length (line nodes distinct heads whole.rooted whole.united q.0.key) ≡ length (line nodes distinct heads whole.rooted whole.united more.0) =
+          ap (λ (k : NodeKey). length (line nodes distinct heads whole.rooted whole.united k)) q.2 in
+          let r = crossing fuel q.0 q.1 (still_here nodes distinct heads whole.rooted whole.united q.0 q.1 left) (ap falls q.2 ∙ more.2) (ap falls q.3 ∙ out) (omega arith) in
+          (sym q.3 ∙ r.0, r.1)
+    ]
+  ]
+
+  crossed : (x : Node) → In x nodes → x.gone ≡ false → falls x.key ≡ true → (h : NodeKey) → x.head ≡ h → falls h ≡ false → (h ≡ above.head) × (top.attached ≡ false)
+  crossed x on here f h is out =
+      let r = crossing (suc (length (line nodes distinct heads whole.rooted whole.united x.key))) x on here f (ap falls is ∙ out) (omega arith) in
+      (sym is ∙ r.0, r.1)
+
+  -- so is the unit below whose node it hangs
+  hung_above : (x : Node) → In x nodes → x.gone ≡ false → falls x.key ≡ true → (h : NodeKey) → falls h ≡ false → (o : Option NodeKey) → x.parent ≡ o →
+      option_map_or (λ p. list_any (λ (q : Node). is_of p q && same_key q.head h) nodes) o false ≡ true → h ≡ above.head
+  hung_above x on here f h out None is hangs = cc
+  hung_above x on here f h out (Some p) is hangs =
+      let y = In-list_any (λ (q : Node). is_of p q && same_key q.head h) nodes hangs in
+      let key : y.0.key ≡ p = same_key-true y.0.key p (and_left (is_of p y.0) _ y.2) in
+      let unit : y.0.head ≡ h = same_key-true y.0.head h (and_right (is_of p y.0) _ y.2) in
+      let left : is_left_of nodes y.0.key ≡ true = subst (λ (k : NodeKey). is_left_of nodes k ≡ true) (sym key) (left_parent nodes whole.rooted x p on here is) in
+      elim (up x on here f) [
+        | inl top_is ↦
+            let same : p ≡ above.key = one_parent p above.key (sym is ∙ up_of x on here top_is) in
+            sym unit ∙ ap (λ (n : Node). n.head) (above_one y.0 y.1 (key ∙ same))
+        | inr more ↦
+            let same : more.0 ≡ p = one_parent more.0 p (sym more.1 ∙ is) in
+            (crossed y.0 y.1 (still_here nodes distinct heads whole.rooted whole.united y.0 y.1 left) (ap falls (key ∙ sym same) ∙ more.2) h unit out).0
+      ]
+
+  module _ (f : Node → Node) (same : (n : Node) → IsSameNode (f n) n) (alloc : (n : Node) → (f n).allocated ≡ n.allocated)
+      (goes : (n : Node) → (f n).gone ≡ (falls n.key || n.gone)) (alone : (n : Node) → falls n.key ≡ false → f n ≡ n) where
+    abbrev now : List Node
+    now = map f nodes
+
+    stays : (n : Node) → (f n).gone ≡ false → (falls n.key ≡ false) × (n.gone ≡ false)
+    stays n h = (first_false (falls n.key) n.gone (sym (goes n) ∙ h), second_false (falls n.key) n.gone (sym (goes n) ∙ h))
+
+    unit_same : (p head : NodeKey) → list_any (λ (q : Node). is_of p q && same_key q.head head) now ≡ list_any (λ (q : Node). is_of p q && same_key q.head head) nodes
+    unit_same p head = any-In (λ (q : Node). is_of p q && same_key q.head head) (λ (q : Node). is_of p q && same_key q.head head) f nodes (λ q there. λ i. same_key ((same q).key i) p && same_key ((same q).head i) head)
+
+    hangs_same : (head : NodeKey) (n : Node) → hangs_in now head n ≡ hangs_in nodes head n
+    hangs_same head n = λ i. option_map_or (λ p. unit_same p head i) n.parent false
+
+    -- ---- each unit is held
+
+    module _ (lives : list_any (holds_unit now above.head) now ≡ true) (held : are_held nodes ≡ true) where
+      by_holder : (m x : Node) → In x nodes → falls m.key ≡ false → holds_unit nodes m.key x ≡ true →
+          (falls x.key ≡ true) ⊎ (falls x.key ≡ false) → list_any (holds_unit now m.key) now ≡ true
+      by_holder m x on out holds (inr e) =
+          In-any (holds_unit now m.key) now (f x) (In-map-back f nodes x on)
+          (subst (λ (n : Node). holds_unit now m.key n ≡ true) (sym (alone x e))
+          ((λ i. not x.gone && ((same_key x.head m.key && not x.released) || (x.attached && hangs_same m.key x i))) ∙ holds))
+      by_holder m x on out holds (inl e) =
+          let here : x.gone ≡ false = not-true x.gone (and_left (not x.gone) _ holds) in
+          let is : m.key ≡ above.head = elim (or_cases (same_key x.head m.key && not x.released) (x.attached && hangs_in nodes m.key x) (and_right (not x.gone) _ holds)) [
+            | inl own ↦ (crossed x on here e m.key (same_key-true x.head m.key (and_left (same_key x.head m.key) _ own)) out).0
+            | inr under ↦ hung_above x on here e m.key out x.parent refl (and_right x.attached _ under)
+          ] in
+          subst (λ (k : NodeKey). list_any (holds_unit now k) now ≡ true) (sym is) lives
+
+      held_one : (m : Node) → In m nodes → (falls m.key ≡ false) → (m.gone ≡ false) → (is_head m ≡ true) ⊎ (is_head m ≡ false) → is_held now m ≡ true
+      held_one m on out here (inr h) = rw (here, h) refl
+      held_one m on out here (inl h) =
+          let all : is_held nodes m ≡ true = all-In (is_held nodes) nodes m on held in
+          let some : list_any (holds_unit nodes m.key) nodes ≡ true = rw (here, h) at all in
+          let x = In-list_any (holds_unit nodes m.key) nodes some in
+          let is = by_holder m x.0 x.1 out x.2 (either_way (falls x.0.key)) in
+          rw (here, h) is
+
+      held_now : are_held now ≡ true
+      held_now = each_all (is_held now) now (λ m there.
+          let x = In-map f nodes m there in
+          ap (is_held now) x.2 ∙ from x.0 x.1 (either_way (f x.0).gone))
+        where
+          from : (x : Node) → In x nodes → ((f x).gone ≡ true) ⊎ ((f x).gone ≡ false) → is_held now (f x) ≡ true
+          from x on (inl e) = rw e refl
+          from x on (inr e) =
+              let s = stays x e in
+              subst (λ (n : Node). is_held now n ≡ true) (sym (alone x s.0)) (held_one x on s.0 s.1 (either_way (is_head x)))
+
+    -- ---- no unit becomes ready
+
+    module _ (guard : (top.attached ≡ true) ⊎ ((times (waits_in above.head) nodes ≡ 0) ⊎ ((0 < times (waits_in above.head) now)
+        ⊎ ((h : Node) → In h nodes → h.key ≡ above.head → h.allocated ≡ true)))) where
+      ready_before : (h : Node) → In h nodes → (f h).gone ≡ false → h.allocated ≡ false →
+          list_all (is_ready_node h.key) now ≡ true → list_all (is_ready_node h.key) nodes ≡ true
+      ready_before h on here waiting all = each_all (is_ready_node h.key) nodes (λ m there. one m there (either_way (falls m.key)) (either_way m.gone) (either_way (same_key m.head h.key)))
+        where
+          own : (m : Node) → In m nodes → h.key ≡ above.head → top.attached ≡ false →
+              (top.attached ≡ true) ⊎ ((times (waits_in above.head) nodes ≡ 0) ⊎ ((0 < times (waits_in above.head) now)
+              ⊎ ((h : Node) → In h nodes → h.key ≡ above.head → h.allocated ≡ true))) → is_ready_node h.key m ≡ true
+          own m there is link (inl attached) = both_ways top.attached attached link
+          own m there is link (inr (inl none)) =
+              let no : list_any (waits_in above.head) nodes ≡ false = count_none (waits_in above.head) nodes none in
+              subst (λ (k : NodeKey). is_ready_node k m ≡ true) (sym is)
+              (not_not (is_ready_node above.head m) (false_if (waits_in above.head m) (λ w.
+              both_ways (list_any (waits_in above.head) nodes) (In-any (waits_in above.head) nodes m there w) no)))
+          own m there is link (inr (inr (inl some))) =
+              let x = In-list_any (waits_in above.head) now (some_pass (waits_in above.head) now some) in
+              let ready : is_ready_node h.key x.0 ≡ true = all-In (is_ready_node h.key) now x.0 x.1 all in
+              both_ways (is_ready_node above.head x.0) (subst (λ (k : NodeKey). is_ready_node k x.0 ≡ true) is ready) (not_is (is_ready_node above.head x.0) x.2)
+          own m there is link (inr (inr (inr given))) = both_ways h.allocated (given h on is) waiting
+
+          one : (m : Node) → In m nodes → (falls m.key ≡ true) ⊎ (falls m.key ≡ false) → (m.gone ≡ true) ⊎ (m.gone ≡ false) →
+              (same_key m.head h.key ≡ true) ⊎ (same_key m.head h.key ≡ false) → is_ready_node h.key m ≡ true
+          one m there (inr e) g s = ap (is_ready_node h.key) (sym (alone m e)) ∙ all-In (is_ready_node h.key) now (f m) (In-map-back f nodes m there) all
+          one m there (inl e) (inl g) s = rw g refl
+          one m there (inl e) (inr g) (inr s) = rw s (or_last m.gone)
+          one m there (inl e) (inr g) (inl s) =
+              let r = crossed m there g e h.key (same_key-true m.head h.key s) (stays h here).0 in
+              own m there r.0 r.1 guard
+
+      root_one : (x : Node) → In x nodes → is_root_left (f x) ≡ is_root_left x
+      root_one x on = from (either_way (falls x.key)) (either_way x.gone)
+        where
+          no_root : (b g : Bool) → b ≡ false → (b && g) ≡ false
+          no_root true g h = cc
+          no_root false g h = refl
+
+          not_here : (b g : Bool) → g ≡ true → (b && not g) ≡ false
+          not_here true true h = refl
+          not_here false g h = refl
+          not_here true false h = cc
+
+          has_parent : x.gone ≡ false → falls x.key ≡ true → is_none x.parent ≡ false
+          has_parent g e = elim (up x on g e) [
+            | inl is ↦ ap is_none (up_of x on g is)
+            | inr more ↦ ap is_none more.1
+          ]
+
+          from : (falls x.key ≡ true) ⊎ (falls x.key ≡ false) → (x.gone ≡ true) ⊎ (x.gone ≡ false) → is_root_left (f x) ≡ is_root_left x
+          from (inr e) g = ap is_root_left (alone x e)
+          from (inl e) (inl g) =
+              not_here (is_none (f x).parent) (f x).gone (goes x ∙ ap (λ (b : Bool). b || x.gone) e)
+              ∙ sym (not_here (is_none x.parent) x.gone g)
+          from (inl e) (inr g) =
+              no_root (is_none (f x).parent) (not (f x).gone) (ap is_none (same x).parent ∙ has_parent g e)
+              ∙ sym (no_root (is_none x.parent) (not x.gone) (has_parent g e))
+
+      waiting_none : waiting nodes ≡ None → waiting now ≡ None
+      waiting_none none = ap (option_and_then (λ (root : Node). when (not root.allocated && list_all (is_ready_node root.key) now) root)) (find-In is_root_left is_root_left f nodes root_one)
+          ∙ from (find is_root_left nodes) refl none
+        where
+          from : (o : Option Node) → find is_root_left nodes ≡ o →
+              option_and_then (λ (root : Node). when (not root.allocated && list_all (is_ready_node root.key) nodes) root) o ≡ None →
+              option_and_then (λ (root : Node). when (not root.allocated && list_all (is_ready_node root.key) now) root) (option_map f o) ≡ None
+          from None is h = refl
+          from (Some root) is h =
+              let there = In-find is_root_left nodes root is in
+              let left : is_root_left (f root) ≡ true = root_one root there.0 ∙ there.1 in
+              let here : (f root).gone ≡ false = not-true (f root).gone (and_right (is_none (f root).parent) _ left) in
+              ap (λ (b : Bool). when b (f root)) (false_if (not (f root).allocated && list_all (is_ready_node (f root).key) now) (λ e.
+              let waits : not root.allocated ≡ true = ap not (sym (alloc root)) ∙ and_left (not (f root).allocated) _ e in
+              let all : list_all (is_ready_node root.key) nodes ≡ true =
+              ready_before root there.0 here (not-true root.allocated waits)
+              (ap (λ (k : NodeKey). list_all (is_ready_node k) now) (sym (same root).key) ∙ and_right (not (f root).allocated) _ e) in
+              let both : (not root.allocated && list_all (is_ready_node root.key) nodes) ≡ true = and_both (not root.allocated) _ waits all in
+              let some : Some root ≡ None = sym (ap (λ (b : Bool). when b root) both) ∙ h in
+              cc))
+
+      -- who is in an allocated unit now was so before
+      allocated_before : (p : NodeKey) → list_any (is_allocated_node p) now ≡ true → list_any (is_allocated_node p) nodes ≡ true
+      allocated_before p h =
+          let x = In-list_any (is_allocated_node p) now h in
+          let y = In-map f nodes x.0 x.1 in
+          let is : is_allocated_node p (f y.0) ≡ true = ap (is_allocated_node p) (sym y.2) ∙ x.2 in
+          let here : (f y.0).gone ≡ false = not-true (f y.0).gone (and_left (not (f y.0).gone) _ is) in
+          let rest = and_right (not (f y.0).gone) _ is in
+          In-any (is_allocated_node p) nodes y.0 y.1
+          (and_both (not y.0.gone) _ (ap not (stays y.0 here).1)
+          (and_both y.0.allocated (same_key y.0.key p) (sym (alloc y.0) ∙ and_left (f y.0).allocated _ rest)
+          (ap (λ (k : NodeKey). same_key k p) (sym (same y.0).key) ∙ and_right (f y.0).allocated _ rest)))
+
+      above_before : (o : Option NodeKey) → option_map_or (λ parent. list_any (is_allocated_node parent) now) o false ≡ true →
+          option_map_or (λ parent. list_any (is_allocated_node parent) nodes) o false ≡ true
+      above_before None h = h
+      above_before (Some p) h = allocated_before p h
+
+      next_before : (n : Node) → In n nodes → is_next_node now (f n) ≡ true → is_next_node nodes n ≡ true
+      next_before n on h =
+          let attached = and_left (f n).attached _ h in
+          let one = and_right (f n).attached _ h in
+          let here : (f n).gone ≡ false = not-true (f n).gone (and_left (not (f n).gone) _ one) in
+          let two = and_right (not (f n).gone) _ one in
+          let waits = and_left (not (f n).allocated) _ two in
+          let three = and_right (not (f n).allocated) _ two in
+          let up_now = and_left (option_map_or (λ parent. list_any (is_allocated_node parent) now) (f n).parent false) _ three in
+          let all = and_right (option_map_or (λ parent. list_any (is_allocated_node parent) now) (f n).parent false) _ three in
+          and_both n.attached _ (sym (same n).attached ∙ attached)
+          (and_both (not n.gone) _ (ap not (stays n here).1)
+          (and_both (not n.allocated) _ (ap not (sym (alloc n)) ∙ waits)
+          (and_both (option_map_or (λ parent. list_any (is_allocated_node parent) nodes) n.parent false) _
+          (above_before n.parent (ap (λ (o : Option NodeKey). option_map_or (λ parent. list_any (is_allocated_node parent) now) o false) (sym (same n).parent) ∙ up_now))
+          (ready_before n on here (not-true n.allocated (ap not (sym (alloc n)) ∙ waits)) (ap (λ (k : NodeKey). list_all (is_ready_node k) now) (sym (same n).key) ∙ all)))))
+
+      later_none : (buffers : Option Buffers) → later nodes buffers ≡ None → later now buffers ≡ None
+      later_none None none = refl
+      later_none (Some b) none =
+          ap (option_map (λ (n : Node). later_step now b n.key))
+          (find-none (is_next_node now) now (false_if (list_any (is_next_node now) now) (λ e.
+          let x = In-list_any (is_next_node now) now e in
+          let y = In-map f nodes x.0 x.1 in
+          let was : is_next_node nodes y.0 ≡ true = next_before y.0 y.1 (ap (is_next_node now) (sym y.2) ∙ x.2) in
+          both_ways (list_any (is_next_node nodes) nodes) (In-any (is_next_node nodes) nodes y.0 y.1 was)
+          (none-find (is_next_node nodes) nodes (none_made (find (is_next_node nodes) nodes) none)))))
+        where
+          none_made : (o : Option Node) → option_map (λ (n : Node). later_step nodes b n.key) o ≡ None → o ≡ None
+          none_made None h = refl
+          none_made (Some n) h = cc
+
+      -- so nothing is forced
+      pub calm_fallen : IsWhole (with_nodes (map f) c) → 0 < times (lives_in above.head) now → IsCalm c → IsCalm (with_nodes (map f) c)
+      calm_fallen whole' lives calm =
+          let was : AreNone nodes c.buffers = none_calm c calm in
+          let held : are_held nodes ≡ true =
+          held_where nodes distinct heads whole.rooted whole.united (none-find (is_deserted_node nodes) nodes was.no_end) in
+          let held' : are_held now ≡ true = held_now (lives_held now above.head lives) held in
+          calm_none (with_nodes (map f) c) (record {
+            no_end = find-none (is_deserted_node now) now
+                (none_deserted now whole'.sound.distinct whole'.sound.heads whole'.rooted whole'.united held');
+            no_root = waiting_none was.no_root;
+            no_head = later_none c.buffers was.no_head;
+          })

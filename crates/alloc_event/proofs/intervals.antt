@@ -1,0 +1,4 @@
+-- The pages of buffers.
+pub mod Placings
+pub mod Pools
+pub mod Returned

@@ -1,0 +1,45 @@
+-- What stays true of a forest where the end of a node is put elsewhere.
+use Rattle.std.proofs.Common.{◌≡◌, ◌≢◌, map, Some, option_map, refl, sym, ap, subst, List}
+use Rattle.sm_names.specs.declared.keys.NodeKey.{NodeKey}
+use Rattle.node_table.specs.Table.{Table, node_at}
+use Rattle.node_table.specs.Changes.{Writes}
+use Rattle.node_table.specs.Lending.{table_with_node}
+use Rattle.node_table.proofs.Keys.{same_key-true, same_key-false}
+use Rattle.alloc_event.specs.declared.node.End.{End}
+use Rattle.alloc_event.specs.declared.node.Node.{Node}
+use Rattle.alloc_event.specs.Forest.{with_nodes, on_collections}
+use Rattle.alloc_event.specs.Kept.{Shelf, forest_of, IsKept}
+use Rattle.alloc_event.specs.Nodes.{with_end}
+use Rattle.alloc_event.proofs.tables.Writing.{IsSameNode, look-changed, kept-map, collections-map, parents-written}
+
+module _ (key : NodeKey) (end : End) where
+  -- nothing of a node but its end changes
+  same_node : (n : Node) → IsSameNode (with_end key end n) n
+  same_node n = record { key = refl; parent = refl; attached = refl; collection = refl; head = refl }
+
+  -- the node of the key has the end
+  ends-own : (n : Node) → n.key ≡ key → with_end key end n ≡ record n { end = end }
+  ends-own n own = rw (same_key-true key n.key (sym own)) refl
+
+  -- and no other
+  ends-others : (n : Node) → n.key ≢ key → with_end key end n ≡ n
+  ends-others n other = rw (same_key-false key n.key (λ same. other (sym same))) refl
+
+  module _ (t now : Table Node) (n : Node) (was : node_at t key ≡ Some n) (named : n.key ≡ key) (w : Writes t now n.key (record n { end = end })) where
+    -- what the table has at each key
+    pub ends-look : ((k : NodeKey) (m : Node) → node_at t k ≡ Some m → m.key ≡ k) → (k : NodeKey) → node_at now k ≡ option_map (with_end key end) (node_at t k)
+    ends-look knows k = look-changed t now (with_end key end) key n (record n { end = end }) (subst (λ (x : NodeKey). Writes t now x (record n { end = end })) named w) was (ends-own n named) knows ends-others k
+
+    -- the forest stays sound
+    pub ends-kept : (es : List Shelf) → now ≡ table_with_node t n.key (record n { end = end }) → IsKept t es → IsKept now es
+    ends-kept es becomes ok =
+        kept-map (with_end key end) same_node (λ m. refl) t now (ap (λ (x : Table Node). x.first) becomes) w.len (ends-look ok.named)
+        (parents-written t now n.key (record n { end = end }) w) es ok
+
+    -- and shows the end
+    pub ends-shown : (es : List Shelf) → now ≡ table_with_node t n.key (record n { end = end }) → IsKept t es → forest_of now es ≡ on_collections (with_nodes (map (with_end key end))) (forest_of t es)
+    ends-shown es becomes ok = λ i. record {
+      limit = (ap (λ (x : Table Node). x.limit) becomes) i;
+      collections = (collections-map (with_end key end) same_node t now (ends-look ok.named) es) i;
+      nexts = (ap (λ (x : Table Node). x.nexts) becomes) i;
+    }

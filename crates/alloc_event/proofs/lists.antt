@@ -1,0 +1,10 @@
+-- Lists and tests, whatever they are of.
+pub mod Booleans
+pub mod ByKey
+pub mod ByPage
+pub mod Filters
+pub mod Lookups
+pub mod Loops
+pub mod Ranges
+pub mod SameIntervals
+pub mod StableSort

@@ -1,0 +1,123 @@
+-- The entries once a node is born of which nothing else follows.
+use Rattle.std.proofs.Common.{◌≡◌, ℕ, ◌+◌, ◌==◌, Bool, false, if◌then◌else◌, List, [], Option, Some, None, option_map, get_or, set, Result, Ok, Err, IfOk, OnOk, OnErr, sym, ap, subst, ◌∙◌, arith}
+use Rattle.std.proofs.lemmas.List.{get_or_default}
+use Rattle.std.specs.List.{find, list_any}
+use Rattle.std.specs.Option.{option_map_or, unwrap_or}
+use Rattle.sm_names.specs.declared.keys.NodeKey.{NodeKey}
+use Rattle.node_table.specs.Table.{Table}
+use Rattle.alloc_event.specs.declared.entry.Entry.{Entry}
+use Rattle.alloc_event.specs.declared.node.Node.{Node}
+use Rattle.alloc_event.specs.Calm.{AreCounted, IsCounted, put_in, strong_count}
+use Rattle.alloc_event.specs.Forest.{Collection}
+use Rattle.alloc_event.specs.Kept.{Bears, IsKept, Shelf, born, collection_in, forest_of, place_in, put_shelf, shelf_of, shelves_of}
+use Rattle.alloc_event.specs.Nodes.{is_over}
+use Rattle.alloc_event.specs.Settling.{Handles, collection_or_new}
+use Rattle.alloc_event.specs.Still.{IsStill, no_shelf, shelf_before, shelf_with}
+use Rattle.alloc_event.proofs.newborns.Forest.{still_collection}
+use Rattle.alloc_event.proofs.shelves.Counted.{counted_but, counted_put, counted_set, moved_all, recounted, set_shelves, shelves_put}
+use Rattle.alloc_event.proofs.shelves.Entries.{IsPlace, set_put}
+use Rattle.alloc_event.proofs.newborns.Newborn.{Above}
+use Rattle.alloc_event.proofs.newborns.Quiet.{counted_born}
+use Rattle.alloc_event.proofs.shelves.Showing.{collection_is, shelf_found}
+use Rattle.alloc_event.proofs.calm.Watched.{found_counted}
+
+-- what facts of an answer make true of it
+pub on_three : {A E : Type 0} {P Q : A → Type 0} {X Z : Type 0} (r : Result A E) → IfOk r P → IfOk r Q → OnOk r X →
+    ((a : A) → P a → Q a → X → Z) → OnOk r Z
+on_three (Ok a) p q x all = all a p q x
+on_three (Err e) p q x all = tt
+
+pub by_two : {A E : Type 0} {P R : A → Type 0} (r : Result A E) → IfOk r P → ((a : A) → P a → R a) → IfOk r R
+by_two (Ok a) p all = all a p
+by_two (Err e) p all = tt
+
+pub on_two : {A E : Type 0} {P Q : A → Type 0} {Z : Type 0} (r : Result A E) → IfOk r P → IfOk r Q → ((a : A) → P a → Q a → Z) → OnOk r Z
+on_two (Ok a) p q all = all a p q
+on_two (Err e) p q all = tt
+
+pub refused_two : {A E : Type 0} {X Y Z : Type 0} (r : Result A E) → OnErr r X → OnErr r Y → (X → Y → Z) → OnErr r Z
+refused_two (Ok a) x y all = tt
+refused_two (Err e) x y all = all x y
+
+-- how many strong nodes are born below this one
+abbrev pub more_strong : Option Node → ℕ
+more_strong above = if option_map_or (λ (n : Node). n.weak) above false then 0 else 1
+
+module _ (t : Table Node) (es : List Entry) (ok : IsKept t (shelves_of es)) (all : AreCounted t es) (id : ℕ) where
+  -- the entry at its place
+  module _ (at : ℕ) (told : place_in id es ≡ Some at) (place : IsPlace id es at) (old : Entry) (is : old ≡ get_or es at old) where
+    found : find (λ (e : Entry). e.id == id) es ≡ Some old
+    found = place.found old ∙ ap Some (sym is)
+
+    old_id : old.id ≡ id
+    old_id = ap (λ (e : Entry). e.id) is ∙ place.id_is old
+
+    counted : IsCounted t old
+    counted = found_counted t id es old all found
+
+    -- the count is no more than the keys
+    before_is : shelf_before id (shelves_of es) ≡ shelf_of old
+    before_is = ap (λ (o : Option Shelf). unwrap_or o (no_shelf id)) (shelf_found id es ∙ ap (option_map shelf_of) found)
+
+    at_is : collection_or_new (forest_of t (shelves_of es)) id ≡ collection_in t (shelf_of old)
+    at_is = ap (λ (o : Option Collection). unwrap_or o (record { id = id; nodes = []; buffers = None; held = [] }))
+        (collection_is t id (shelves_of es) ∙ ap (option_map (collection_in t)) (shelf_found id es ∙ ap (option_map shelf_of) found))
+
+    -- where memory was refused
+    module _ (new : Entry) (same : shelf_of new ≡ shelf_of old) (strong : new.strong ≡ old.strong) (tidy : new.tidy ≡ old.tidy) where
+      pub refused_shelves : shelves_of (set es at new) ≡ shelves_of es
+      refused_shelves = set_shelves es at new (λ within. same ∙ ap shelf_of (is ∙ get_or_default es at old new within))
+
+      pub refused_counted : AreCounted t (set es at new)
+      refused_counted = counted_set t es at new
+          (λ within was. recounted t old new (ap (collection_in t) same) strong (λ h. counted.tidy (sym tidy ∙ h)) counted) all
+
+    -- where the node was born
+    module _ (key : NodeKey) (new : Entry) (shelf : shelf_of new ≡ shelf_with (shelf_of old) key) where
+      put_is : set es at new ≡ put_in new es
+      put_is = set_put new es at ok.rising (subst (λ (i : ℕ). place_in i es ≡ Some at) (sym (ap (λ (s : Shelf). s.id) shelf ∙ old_id)) told)
+
+      shelf_is : shelf_of new ≡ shelf_with (shelf_before id (shelves_of es)) key
+      shelf_is = shelf ∙ ap (λ (s : Shelf). shelf_with s key) (sym before_is)
+
+      pub among_shelves : shelves_of (set es at new) ≡ put_shelf (shelf_with (shelf_before id (shelves_of es)) key) (shelves_of es)
+      among_shelves = ap shelves_of put_is ∙ shelves_put new es ∙ ap (λ (s : Shelf). put_shelf s (shelves_of es)) shelf_is
+
+      module _ (now : Table Node) (parent : Option NodeKey) (attached : Bool) (client event : ℕ) (above : Option Node) (over : Above t (shelves_of es) id parent above)
+          (bears : Bears t now (born above attached id event client key)) (handles : Handles)
+          (still : IsStill handles (collection_or_new (forest_of t (shelves_of es)) id))
+          (strong : new.strong ≡ old.strong + more_strong above) (tidy : new.tidy ≡ old.tidy) where
+        pub among_counted : AreCounted now (set es at new)
+        among_counted = subst (AreCounted now) (sym put_is)
+            (counted_put now new es ok.rising
+            (counted_but now new.id es (moved_all t now es ok.filed (λ e filed. still_collection t now _ bears (shelf_of e) filed) all))
+            (counted_born t now (shelves_of es) ok id parent attached client event above over key bears handles still new shelf_is
+            (strong ∙ ap (λ (n : ℕ). n + more_strong above) (counted.strong ∙ ap (λ (c : Collection). strong_count c.nodes) (sym at_is)))
+            (λ h. ap (λ (c : Collection). list_any is_over c.nodes) at_is ∙ counted.tidy (sym tidy ∙ h))))
+
+  -- the first node of a collection
+  module _ (none : find (λ (e : Entry). e.id == id) es ≡ None) (key : NodeKey) (new : Entry) (shelf : shelf_of new ≡ shelf_with (no_shelf id) key) where
+    none_is : find (λ (s : Shelf). s.id == id) (shelves_of es) ≡ None
+    none_is = shelf_found id es ∙ ap (option_map shelf_of) none
+
+    first_is : shelf_of new ≡ shelf_with (shelf_before id (shelves_of es)) key
+    first_is = shelf ∙ ap (λ (o : Option Shelf). shelf_with (unwrap_or o (no_shelf id)) key) (sym none_is)
+
+    empty_is : collection_or_new (forest_of t (shelves_of es)) id ≡ record { id = id; nodes = []; buffers = None; held = [] }
+    empty_is = ap (λ (o : Option Collection). unwrap_or o (record { id = id; nodes = []; buffers = None; held = [] }))
+        (collection_is t id (shelves_of es) ∙ ap (option_map (collection_in t)) none_is)
+
+    pub first_shelves : shelves_of (put_in new es) ≡ put_shelf (shelf_with (shelf_before id (shelves_of es)) key) (shelves_of es)
+    first_shelves = shelves_put new es ∙ ap (λ (s : Shelf). put_shelf s (shelves_of es)) first_is
+
+    module _ (now : Table Node) (parent : Option NodeKey) (attached : Bool) (client event : ℕ) (above : Option Node) (over : Above t (shelves_of es) id parent above)
+        (bears : Bears t now (born above attached id event client key)) (handles : Handles)
+        (still : IsStill handles (collection_or_new (forest_of t (shelves_of es)) id)) (strong : new.strong ≡ more_strong above) where
+      pub first_counted : AreCounted now (put_in new es)
+      first_counted =
+          counted_put now new es ok.rising
+          (counted_but now new.id es (moved_all t now es ok.filed (λ e filed. still_collection t now _ bears (shelf_of e) filed) all))
+          (counted_born t now (shelves_of es) ok id parent attached client event above over key bears handles still new first_is
+          (let base : strong_count (collection_or_new (forest_of t (shelves_of es)) id).nodes ≡ 0 = ap (λ (c : Collection). strong_count c.nodes) empty_is in
+          omega (arith, strong, base))
+          (λ h. ap (λ (c : Collection). list_any is_over c.nodes) empty_is))

@@ -1,0 +1,268 @@
+-- What stays true of a forest with one node more.
+use Rattle.std.proofs.Common.{◌≡◌, ℕ, suc, ◌<◌, ◌==◌, Bool, true, false, ◌||◌, List, [], ◌∷◌, ◌++◌, map, length, Option, Some, None, refl, sym, ap, subst, ◌∙◌, inl, inr, arith, append_assoc}
+use Rattle.std.specs.List.{list_any, list_all, find, flat_map, cons_option, AllByRecursion}
+use Rattle.std.specs.Option.{option_map_or}
+use Rattle.std.proofs.lemmas.Bool.{eq-eqb, ltb-true, false≢true}
+use Rattle.std.proofs.lemmas.List.Elements.{filter_map-append}
+use Rattle.sm_names.specs.declared.keys.NodeKey.{NodeKey}
+use Rattle.sm_names.specs.Sameness.{same_key}
+use Rattle.sm_names.specs.Timelines.{HeldPages}
+use Rattle.sm_names.proofs.SamenessLaws.{and_left, and_right, or_right}
+use Rattle.node_table.specs.Table.{Table, node_at, parent_at}
+use Rattle.node_table.proofs.Keys.{key_cases, true-same_key, same_key-true, same_key-false}
+use Rattle.alloc_event.specs.declared.node.Node.{Node}
+use Rattle.alloc_event.specs.Forest.{Collection, all_held}
+use Rattle.alloc_event.specs.Kept.{Shelf, AreRising, IsKept, IsWhole, Bears, put_shelf, collection_in, nodes_with, forest_of, all_keys, are_apart, are_filed, is_filed}
+use Rattle.alloc_event.specs.Settling.{put}
+use Rattle.alloc_event.proofs.lists.SameIntervals.{or_swap, part_swap}
+use Rattle.alloc_event.proofs.changes.Altering.{none_above, any-append}
+use Rattle.alloc_event.proofs.changes.Finishing.{whole-map, whole-unmap}
+use Rattle.alloc_event.proofs.lists.Lookups.{same_key-swap}
+use Rattle.alloc_event.proofs.shelves.Putting.{cases_place, rising-put, above-weaker, put-map}
+
+-- ---- keys in another order
+
+-- the tests find the same, as many stand apart, and there are as many
+pub record SameKeys (xs ys : List NodeKey) : Type 0 where
+  pub any : (test : NodeKey → Bool) → list_any test xs ≡ list_any test ys
+  pub apart : are_apart xs ≡ are_apart ys
+  pub len : length xs ≡ length ys
+
+SameKeys-refl : (xs : List NodeKey) → SameKeys xs xs
+SameKeys-refl xs = record { any = λ test. refl; apart = refl; len = refl }
+
+SameKeys-trans : (xs ys zs : List NodeKey) → SameKeys xs ys → SameKeys ys zs → SameKeys xs zs
+SameKeys-trans xs ys zs p q = record { any = λ test. p.any test ∙ q.any test; apart = p.apart ∙ q.apart; len = p.len ∙ q.len }
+
+SameKeys-cons : (x : NodeKey) (xs ys : List NodeKey) → SameKeys xs ys → SameKeys (x ∷ xs) (x ∷ ys)
+SameKeys-cons x xs ys p = record {
+  any = λ test. ap (λ b. test x || b) (p.any test);
+  apart = rw (p.any (same_key x), p.apart) refl;
+  len = ap (λ n. suc n) p.len;
+}
+
+SameKeys-swap : (x y : NodeKey) (zs : List NodeKey) → SameKeys (x ∷ y ∷ zs) (y ∷ x ∷ zs)
+SameKeys-swap x y zs = record {
+  any = λ test. or_swap (test x) (test y) (list_any test zs);
+  apart = rw (same_key-swap x y) (part_swap (same_key y x) (list_any (same_key x) zs) (list_any (same_key y) zs) (are_apart zs));
+  len = refl;
+}
+
+SameKeys-move : (xs : List NodeKey) (y : NodeKey) (zs : List NodeKey) → SameKeys (xs ++ y ∷ zs) (y ∷ (xs ++ zs))
+SameKeys-move [] y zs = SameKeys-refl (y ∷ zs)
+SameKeys-move (x ∷ xs) y zs = SameKeys-trans _ _ _ (SameKeys-cons x (xs ++ y ∷ zs) (y ∷ (xs ++ zs)) (SameKeys-move xs y zs)) (SameKeys-swap x y (xs ++ zs))
+
+SameKeys-front : (xs ys zs : List NodeKey) → SameKeys ys zs → SameKeys (xs ++ ys) (xs ++ zs)
+SameKeys-front [] ys zs p = p
+SameKeys-front (x ∷ xs) ys zs p = SameKeys-cons x (xs ++ ys) (xs ++ zs) (SameKeys-front xs ys zs p)
+
+-- ---- a shelf with one key more
+
+-- the keys, the buffers' pages of the shelf with the id
+abbrev pub keys_before : ℕ → List Shelf → List NodeKey
+keys_before id ss = option_map_or (λ (s : Shelf). s.keys) (find (λ (s : Shelf). s.id == id) ss) []
+
+abbrev pub held_before : ℕ → List Shelf → List HeldPages
+held_before id ss = option_map_or (λ (s : Shelf). s.held) (find (λ (s : Shelf). s.id == id) ss) []
+
+-- all keys are those there were, and this one
+pub keys-born : (new : Shelf) (key : NodeKey) (ss : List Shelf) → AreRising ss → new.keys ≡ keys_before new.id ss ++ key ∷ [] → SameKeys (all_keys (put_shelf new ss)) (key ∷ all_keys ss)
+keys-born new key [] rising keys = rw keys (SameKeys-refl (key ∷ []))
+keys-born new key (s ∷ ss) rising keys = cases_place s.id new.id (SameKeys (all_keys (put_shelf new (s ∷ ss))) (key ∷ all_keys (s ∷ ss)))
+    (λ same.
+    let own : new.keys ≡ s.keys ++ key ∷ [] = rw same at keys in
+    rw (same, own, append_assoc s.keys (key ∷ []) (all_keys ss)) (SameKeys-move s.keys key (all_keys ss)))
+    (λ other above.
+    let less : new.id < s.id = ltb-true _ _ above in
+    let none = none_above new.id ss (above-weaker new.id s.id ss less rising.0) in
+    let own : new.keys ≡ key ∷ [] = rw (other, none) at keys in
+    rw (other, above, own) (SameKeys-refl (key ∷ (s.keys ++ all_keys ss))))
+    (λ other below.
+    let own : new.keys ≡ keys_before new.id ss ++ key ∷ [] = rw other at keys in
+    rw (other, below) (SameKeys-trans _ _ _ (SameKeys-front s.keys (all_keys (put_shelf new ss)) (key ∷ all_keys ss) (keys-born new key ss rising.1 own)) (SameKeys-move s.keys key (all_keys ss))))
+
+-- the pages are those there were
+pub helds-born : (new : Shelf) (ss : List Shelf) → AreRising ss → new.held ≡ held_before new.id ss → flat_map (λ (s : Shelf). s.held) (put_shelf new ss) ≡ flat_map (λ (s : Shelf). s.held) ss
+helds-born new [] rising held = rw held refl
+helds-born new (s ∷ ss) rising held = cases_place s.id new.id (flat_map (λ (x : Shelf). x.held) (put_shelf new (s ∷ ss)) ≡ flat_map (λ (x : Shelf). x.held) (s ∷ ss))
+    (λ same. let own : new.held ≡ s.held = rw same at held in rw (same, own) refl)
+    (λ other above.
+    let less : new.id < s.id = ltb-true _ _ above in
+    let none = none_above new.id ss (above-weaker new.id s.id ss less rising.0) in
+    let own : new.held ≡ [] = rw (other, none) at held in
+    rw (other, above, own) refl)
+    (λ other below.
+    let own : new.held ≡ held_before new.id ss = rw other at held in
+    rw (other, below) (ap (λ l. s.held ++ l) (helds-born new ss rising.1 own)))
+
+-- the pages of a forest are those of its shelves
+pub helds_in : (t : Table Node) (ss : List Shelf) → all_held (forest_of t ss) ≡ flat_map (λ (s : Shelf). s.held) ss
+helds_in t [] = refl
+helds_in t (s ∷ ss) = ap (λ l. s.held ++ l) (helds_in t ss)
+
+-- a shelf more that is filed
+filed-born : (t : Table Node) (new : Shelf) (ss : List Shelf) → list_all (is_filed t new.id) new.keys ≡ true → are_filed t ss ≡ true → are_filed t (put_shelf new ss) ≡ true
+filed-born t new [] own all = rw own refl
+filed-born t new (s ∷ ss) own all = cases_place s.id new.id (are_filed t (put_shelf new (s ∷ ss)) ≡ true)
+    (λ same. let rest : are_filed t ss ≡ true = and_right _ _ all in rw (same, own) rest)
+    (λ other above. rw (other, above, own) all)
+    (λ other below.
+    let first : list_all (is_filed t s.id) s.keys ≡ true = and_left _ _ all in
+    rw (other, below, first) (filed-born t new ss own (and_right _ _ all)))
+
+-- a collection more that is whole
+whole-born : (new : Collection) (cs : List Collection) → IsWhole new → AllByRecursion IsWhole cs → AllByRecursion IsWhole (put new cs)
+whole-born new [] ok all = (ok, tt)
+whole-born new (c ∷ cs) ok all = cases_place c.id new.id (AllByRecursion IsWhole (put new (c ∷ cs)))
+    (λ same. rw same (ok, all.1))
+    (λ other above. rw (other, above) (ok, all))
+    (λ other below. rw (other, below) (all.0, whole-born new cs ok all.1))
+
+-- neither test holds
+pub both_none : {a b : Bool} → a ≡ false → b ≡ false → (a || b) ≡ false
+both_none {a} {b} p q = rw (p, q) refl
+
+-- a test that all of two lists pass
+pub all-append : {A : Type 0} (test : A → Bool) (xs ys : List A) → list_all test xs ≡ true → list_all test ys ≡ true → list_all test (xs ++ ys) ≡ true
+all-append test [] ys p q = q
+all-append test (x ∷ xs) ys p q =
+    let first : test x ≡ true = and_left _ _ p in
+    rw first (all-append test xs ys (and_right _ _ p) q)
+
+module _ (t now : Table Node) (node : Node) (bears : Bears t now node) where
+  -- a key that had a node has it still
+  still_at : (key : NodeKey) (n : Node) → node_at t key ≡ Some n → node_at now key ≡ Some n
+  still_at key n is = elim (key_cases node.key key) [
+    | inl same ↦ absurd (let none = ap (node_at t) (sym same) ∙ bears.none in cc)
+    | inr differ ↦ bears.look key ∙ rw (same_key-false node.key key differ) is
+  ]
+
+  -- the node has its key
+  pub born_at : node_at now node.key ≡ Some node
+  born_at = bears.look node.key ∙ rw (same_key-true node.key node.key refl) refl
+
+  -- by what was there
+  still_filed-by : (id : ℕ) (key : NodeKey) (o : Option Node) → node_at t key ≡ o → option_map_or (λ (n : Node). n.collection == id) o false ≡ true → is_filed now id key ≡ true
+  still_filed-by id key None is filed = absurd (false≢true filed)
+  still_filed-by id key (Some n) is filed = rw (still_at key n is) filed
+
+  -- a filed key finds the node that it found
+  still_found : (id : ℕ) (key : NodeKey) (o : Option Node) → node_at t key ≡ o → option_map_or (λ (n : Node). n.collection == id) o false ≡ true → node_at now key ≡ node_at t key
+  still_found id key None is filed = absurd (false≢true filed)
+  still_found id key (Some n) is filed = still_at key n is ∙ sym is
+
+  -- filed keys find the nodes that they found
+  still_looked : (id : ℕ) (keys : List NodeKey) → list_all (is_filed t id) keys ≡ true → nodes_with now keys ≡ nodes_with t keys
+  still_looked id [] filed = refl
+  still_looked id (k ∷ ks) filed =
+      let rest = still_looked id ks (and_right _ _ filed) in
+      λ i. cons_option (still_found id k (node_at t k) refl (and_left _ _ filed) i) (rest i)
+
+  -- and are filed still
+  still_filed : (id : ℕ) (keys : List NodeKey) → list_all (is_filed t id) keys ≡ true → list_all (is_filed now id) keys ≡ true
+  still_filed id [] filed = refl
+  still_filed id (k ∷ ks) filed =
+      let first : is_filed now id k ≡ true = still_filed-by id k (node_at t k) refl (and_left _ _ filed) in
+      rw first (still_filed id ks (and_right _ _ filed))
+
+  -- all of them
+  still_all_filed : (ss : List Shelf) → are_filed t ss ≡ true → are_filed now ss ≡ true
+  still_all_filed [] filed = refl
+  still_all_filed (s ∷ ss) filed =
+      let first : list_all (is_filed now s.id) s.keys ≡ true = still_filed s.id s.keys (and_left _ _ filed) in
+      rw first (still_all_filed ss (and_right _ _ filed))
+
+  -- a collection stays
+  pub still_collection : (s : Shelf) → list_all (is_filed t s.id) s.keys ≡ true → collection_in now s ≡ collection_in t s
+  still_collection s filed = λ i. record { id = s.id; nodes = still_looked s.id s.keys filed i; buffers = s.buffers; held = s.held }
+
+  -- so do all
+  pub still_collections : (ss : List Shelf) → are_filed t ss ≡ true → map (collection_in now) ss ≡ map (collection_in t) ss
+  still_collections [] filed = refl
+  still_collections (s ∷ ss) filed =
+      let first = still_collection s (and_left _ _ filed) in
+      let rest = still_collections ss (and_right _ _ filed) in
+      λ i. first i ∷ rest i
+
+  -- the keys with that of the node find the nodes with the node
+  pub born_looked : (id : ℕ) (keys : List NodeKey) → list_all (is_filed t id) keys ≡ true → nodes_with now (keys ++ node.key ∷ []) ≡ nodes_with t keys ++ node ∷ []
+  born_looked id keys filed =
+      filter_map-append (node_at now) keys (node.key ∷ [])
+      ∙ λ i. still_looked id keys filed i ++ cons_option (born_at i) []
+
+  -- a filed key is not the new one
+  not_this : (id : ℕ) (key : NodeKey) (same : Bool) → same_key node.key key ≡ same → is_filed t id key ≡ true → same ≡ false
+  not_this id key true same filed =
+      let none : node_at t key ≡ None = ap (node_at t) (sym (true-same_key node.key key same)) ∙ bears.none in
+      absurd (false≢true (rw none at filed))
+  not_this id key false same filed = refl
+
+  -- no filed key is the new one
+  pub none_there : (id : ℕ) (keys : List NodeKey) → list_all (is_filed t id) keys ≡ true → list_any (same_key node.key) keys ≡ false
+  none_there id [] filed = refl
+  none_there id (k ∷ ks) filed = both_none (not_this id k (same_key node.key k) refl (and_left _ _ filed)) (none_there id ks (and_right _ _ filed))
+
+  -- each node knows its key
+  named_more : {ss : List Shelf} → IsKept t ss → (key : NodeKey) (n : Node) → node_at now key ≡ Some n → n.key ≡ key
+  named_more ok key n is = elim (key_cases node.key key) [
+    | inl same ↦
+        let one : Some node ≡ Some n = sym (bears.look key ∙ rw (same_key-true node.key key same) refl) ∙ is in
+        let node_is : node ≡ n = cc in
+        ap (λ (m : Node). m.key) (sym node_is) ∙ same
+    | inr differ ↦
+        let was : node_at t key ≡ Some n = sym (bears.look key ∙ rw (same_key-false node.key key differ) refl) ∙ is in
+        ok.named key n was
+  ]
+
+  -- each node has its key among all
+  there_more : {ss : List Shelf} → IsKept t ss → (key : NodeKey) (n : Node) → node_at now key ≡ Some n → list_any (same_key key) (node.key ∷ all_keys ss) ≡ true
+  there_more ok key n is = elim (key_cases node.key key) [
+    | inl same ↦ rw (same_key-true key node.key (sym same)) refl
+    | inr differ ↦
+        let was : node_at t key ≡ Some n = sym (bears.look key ∙ rw (same_key-false node.key key differ) refl) ∙ is in
+        or_right _ _ (ok.there key n was)
+  ]
+
+  -- each node that is not gone has its parent
+  linked_more : {ss : List Shelf} → IsKept t ss → (key : NodeKey) (n : Node) → node_at now key ≡ Some n → n.gone ≡ false → parent_at now key ≡ n.parent
+  linked_more ok key n is here = bears.parents key ∙ (elim (key_cases node.key key) [
+    | inl same ↦
+        let one : Some node ≡ Some n = sym (bears.look key ∙ rw (same_key-true node.key key same) refl) ∙ is in
+        let node_is : node ≡ n = cc in
+        rw (same_key-true node.key key same) (ap (λ (m : Node). m.parent) node_is)
+    | inr differ ↦
+        let was : node_at t key ≡ Some n = sym (bears.look key ∙ rw (same_key-false node.key key differ) refl) ∙ is in
+        rw (same_key-false node.key key differ) (ok.linked key n was here)
+  ])
+
+  -- no shelf has the key yet
+  none_yet : (ss : List Shelf) → are_filed t ss ≡ true → list_any (same_key node.key) (all_keys ss) ≡ false
+  none_yet [] filed = refl
+  none_yet (s ∷ ss) filed = any-append (same_key node.key) s.keys (all_keys ss) ∙ both_none (none_there s.id s.keys (and_left _ _ filed)) (none_yet ss (and_right _ _ filed))
+
+  -- it stands apart
+  apart_more : {ss : List Shelf} → IsKept t ss → are_apart (node.key ∷ all_keys ss) ≡ true
+  apart_more {ss} ok = rw (none_yet ss ok.filed) ok.apart
+
+  -- the shelf is filed
+  own_more : (new : Shelf) (ss : List Shelf) → new.keys ≡ keys_before new.id ss ++ node.key ∷ [] → list_all (is_filed t new.id) (keys_before new.id ss) ≡ true → node.collection ≡ new.id → list_all (is_filed now new.id) new.keys ≡ true
+  own_more new ss keys own of =
+      rw keys (all-append (is_filed now new.id) (keys_before new.id ss) (node.key ∷ []) (still_filed new.id (keys_before new.id ss) own)
+      (rw (born_at, eq-eqb node.collection new.id of) refl))
+
+  -- all that holds of forests holds
+  pub kept-born : (new : Shelf) (ss : List Shelf) → IsKept t ss → new.keys ≡ keys_before new.id ss ++ node.key ∷ [] → list_all (is_filed t new.id) (keys_before new.id ss) ≡ true → node.collection ≡ new.id → IsWhole (collection_in now new) → IsKept now (put_shelf new ss)
+  kept-born new ss ok keys own of whole =
+      let same = keys-born new node.key ss ok.rising keys in
+      record {
+        first = bears.gives.first ∙ ok.first;
+        rising = rising-put new ss ok.rising;
+        apart = same.apart ∙ apart_more ok;
+        named = λ key n is. named_more ok key n is;
+        filed = filed-born now new ss (own_more new ss keys own of) (still_all_filed ss ok.filed);
+        there = λ key n is. same.any (same_key key) ∙ there_more ok key n is;
+        counted = same.len ∙ omega (arith, ok.counted, bears.len);
+        linked = linked_more ok;
+        whole = whole-unmap now (put_shelf new ss) (subst (AllByRecursion IsWhole) (sym (put-map now new ss ∙ ap (put (collection_in now new)) (still_collections ss ok.filed)))
+            (whole-born (collection_in now new) (map (collection_in t) ss) whole (whole-map t ss ok.whole)));
+      }

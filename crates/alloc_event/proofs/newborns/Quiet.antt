@@ -1,0 +1,200 @@
+-- A birth in a collection where nothing else changes with it.
+use Rattle.std.proofs.Common.{◌≡◌, ℕ, ◌+◌, Bool, true, false, ◌||◌, ◌&&◌, ◌==◌, not, if◌then◌else◌, List, [], ◌∷◌, ◌++◌, map, reverse, Option, Some, None, option_map, refl, sym, ap, subst, ◌∙◌, inl, inr}
+use Rattle.std.specs.List.{filter, find, list_all, list_any}
+use Rattle.std.specs.Option.{option_map_or, unwrap_or}
+use Rattle.std.proofs.lemmas.List.{map-append}
+use Rattle.sm_names.specs.declared.keys.NodeKey.{NodeKey}
+use Rattle.sm_names.specs.declared.keys.Strength.{Strength}
+use Rattle.sm_names.specs.Forced.{forced}
+use Rattle.sm_names.specs.Handles.{is_home}
+use Rattle.sm_names.specs.Members.{is_live, some_strong_live, Member}
+use Rattle.sm_names.specs.Timelines.{HeldPages}
+use Rattle.sm_names.specs.Sameness.{same_key}
+use Rattle.sm_names.proofs.ListLaws.{times-append}
+use Rattle.sm_names.proofs.SamenessLaws.{and_left, and_right, both_ways, either_way, or_both, same_key-refl}
+use Rattle.sm_names.proofs.StandingLaws.{In-any}
+use Rattle.node_table.specs.Table.{Table}
+use Rattle.alloc_event.specs.declared.entry.Entry.{Entry}
+use Rattle.alloc_event.specs.declared.node.Node.{Node}
+use Rattle.alloc_event.specs.Calm.{IsCalm, IsCounted, strong_count}
+use Rattle.alloc_event.specs.Forest.{Collection, all_held, beside}
+use Rattle.alloc_event.specs.Kept.{Shelf, IsKept, Bears, Finishes, born, put_shelf, collection_in, forest_of, is_strong, shelf_of}
+use Rattle.alloc_event.specs.Nodes.{is_of, is_over, member_of, members_of}
+use Rattle.alloc_event.specs.Settling.{Handles, collection_or_new, given_back, is_home_in, put, standing, with_birth}
+use Rattle.alloc_event.specs.Still.{IsStill, no_shelf, shelf_before, shelf_with}
+use Rattle.alloc_event.specs.Ties.{are_rooted}
+use Rattle.alloc_event.proofs.changes.Altering.{any-append, shelf_by}
+use Rattle.alloc_event.proofs.newborns.NothingForced.{HaveOthers, births_force_nothing, birth_settles, members_more}
+use Rattle.alloc_event.proofs.newborns.Forest.{still_collections}
+use Rattle.alloc_event.proofs.calm.Calming.{calm_rested}
+use Rattle.alloc_event.proofs.changes.Finishing.{keys_in, looked-keys}
+use Rattle.alloc_event.proofs.newborns.Newborn.{Above, before_is, born_collection, born_fresh, born_held, born_is, born_kept, born_shown, key_is}
+use Rattle.alloc_event.proofs.shelves.Putting.{put-map}
+use Rattle.alloc_event.proofs.tables.Rooted.{left_node, left_parent}
+use Rattle.alloc_event.proofs.shelves.Showing.{collection_is, filed_found}
+
+-- ---- parents
+
+-- a key that none of the nodes has is no parent of one that is not gone
+no_children : (nodes : List Node) (key : NodeKey) → are_rooted (reverse nodes) ≡ true → list_any (is_of key) nodes ≡ false → HaveOthers nodes key
+no_children nodes key rooted fresh n on here up =
+    let x = left_node nodes key (left_parent nodes rooted n key on here up) in
+    both_ways (list_any (is_of key) nodes) (In-any (is_of key) nodes x.node x.on (ap (λ (k : NodeKey). same_key k key) x.is ∙ same_key-refl key)) fresh
+
+-- ---- buffers
+
+-- what is not home is not home with one more node
+out_more : (strong weak : ℕ) (was more : Bool) → not (is_home strong weak was) ≡ true → not (is_home strong weak (was || more)) ≡ true
+out_more strong weak true more out = out
+out_more strong weak false false out = out
+out_more strong weak false true out = elim (either_way (strong == 0)) [
+  | inl e ↦ rw e refl
+  | inr e ↦ rw e refl
+]
+
+-- all stay, where all are kept
+keep_all : {A : Type 0} (keep : A → Bool) (xs : List A) → list_all keep xs ≡ true → filter keep xs ≡ xs
+keep_all keep [] all = refl
+keep_all keep (x ∷ xs) all = rw (and_left (keep x) (list_all keep xs) all) (ap (λ ys. x ∷ ys) (keep_all keep xs (and_right (keep x) (list_all keep xs) all)))
+
+-- a weaker test
+all_weaker : {A : Type 0} (p q : A → Bool) (xs : List A) → ((x : A) → p x ≡ true → q x ≡ true) → list_all p xs ≡ true → list_all q xs ≡ true
+all_weaker p q [] weaker all = refl
+all_weaker p q (x ∷ xs) weaker all = rw (weaker x (and_left (p x) (list_all p xs) all)) (all_weaker p q xs weaker (and_right (p x) (list_all p xs) all))
+
+-- with one more node no buffer goes home
+pub still_out : (handles : Handles) (c : Collection) (b : Node) → list_any (is_of b.key) c.nodes ≡ false → b.gone ≡ false →
+    list_all (λ (h : HeldPages). not (is_home_in handles c h.buffer)) c.held ≡ true →
+    given_back handles (record c { nodes = c.nodes ++ b ∷ [] }) ≡ record c { nodes = c.nodes ++ b ∷ [] }
+still_out handles c b fresh here out =
+    let strong : Member → Bool = λ m. is_live m && not m.weak in
+    let live : some_strong_live (members_of (c.nodes ++ b ∷ [])) ≡ (some_strong_live (members_of c.nodes) || some_strong_live (member_of (c.nodes ++ b ∷ []) b ∷ [])) =
+    ap some_strong_live (members_more c.nodes b fresh here) ∙ any-append strong (members_of c.nodes) (member_of (c.nodes ++ b ∷ []) b ∷ []) in
+    let out' = all_weaker (λ (h : HeldPages). not (is_home_in handles c h.buffer)) (λ (h : HeldPages). not (is_home_in handles (record c { nodes = c.nodes ++ b ∷ [] }) h.buffer)) c.held
+    (λ h e. ap (λ l. not (is_home (handles h.buffer Strength.Strong) (handles h.buffer Strength.Weak) l)) live
+    ∙ out_more (handles h.buffer Strength.Strong) (handles h.buffer Strength.Weak) (some_strong_live (members_of c.nodes)) (some_strong_live (member_of (c.nodes ++ b ∷ []) b ∷ [])) e) out in
+    λ i. record c { nodes = c.nodes ++ b ∷ []; held = keep_all (λ (h : HeldPages). not (is_home_in handles (record c { nodes = c.nodes ++ b ∷ [] }) h.buffer)) c.held out' i }
+
+-- a node that is born is not gone
+pub born_here : (above : Option Node) (attached : Bool) (id event client : ℕ) (key : NodeKey) → (born above attached id event client key).gone ≡ false
+born_here None attached id event client key = refl
+born_here (Some above) attached id event client key = refl
+
+-- ---- the birth
+
+module _ (t now : Table Node) (ss : List Shelf) (ok : IsKept t ss) (id : ℕ) (parent : Option NodeKey) (attached : Bool) (client event : ℕ) (above : Option Node) (at : Above t ss id parent above) (key : NodeKey) (bears : Bears t now (born above attached id event client key))
+    (handles : Handles) (still : IsStill handles (collection_or_new (forest_of t ss) id)) where
+  abbrev c0 : Collection
+  c0 = collection_or_new (forest_of t ss) id
+
+  abbrev node : Node
+  node = born above attached id event client key
+
+  -- the collection then
+  abbrev after : Collection
+  after = with_birth parent attached client event key c0
+
+  grown_is : after ≡ record c0 { nodes = c0.nodes ++ node ∷ [] }
+  grown_is = born_is t now ss ok id parent attached client event above at key bears
+
+  own : node.key ≡ key
+  own = key_is t now ss ok id parent attached client event above at key bears
+
+  fresh : list_any (is_of key) c0.nodes ≡ false
+  fresh = subst (λ (k : NodeKey). list_any (is_of k) c0.nodes ≡ false) own (born_fresh t now ss ok id parent attached client event above at key bears)
+
+  others : HaveOthers c0.nodes key
+  others = no_children c0.nodes key (before_is t ss ok id).whole.rooted fresh
+
+  -- no pages go back
+  stays : given_back handles after ≡ after
+  stays = ap (given_back handles) grown_is
+      ∙ still_out handles c0 node (born_fresh t now ss ok id parent attached client event above at key bears) (born_here above attached id event client key) still.out
+      ∙ sym grown_is
+
+  -- nothing is forced
+  pub quiet_finishes : (pool : ℕ) → Finishes pool handles t ss now (put_shelf (shelf_by (born_collection t now ss ok id parent attached client event above at key bears)) ss) after
+  quiet_finishes pool = record {
+    after = after;
+    settles = birth_settles pool handles (beside (forest_of t ss) after.id) c0 (still.rest pool (beside (forest_of t ss) after.id)) parent attached client event key fresh others;
+    collections = put-map now (shelf_by (born_collection t now ss ok id parent attached client event above at key bears)) ss
+        ∙ (λ i. put (born_shown t now ss ok id parent attached client event above at key bears i) (still_collections t now node bears ss ok.filed i))
+        ∙ ap (λ c. put c (map (collection_in t) ss)) (sym (stays ∙ grown_is));
+    rests =
+        let behind = beside (forest_of now (put_shelf (shelf_by (born_collection t now ss ok id parent attached client event above at key bears)) ss)) after.id in
+        ap (λ c. forced pool (standing handles behind c)) stays
+        ∙ births_force_nothing pool handles behind c0 (still.rest pool behind) parent attached client event key fresh others;
+  }
+
+  -- the collection is as calm as it was
+  calm_after : IsCalm after
+  calm_after = calm_rested 0 handles [] after (births_force_nothing 0 handles [] c0 (still.rest 0 []) parent attached client event key fresh others)
+
+  -- the shelf that showed the collection
+  before_shelf : shelf_by c0 ≡ shelf_before id ss
+  before_shelf =
+      ap (λ (o : Option Collection). shelf_by (unwrap_or o (record { id = id; nodes = []; buffers = None; held = [] }))) (collection_is t id ss)
+      ∙ from (find (λ (s : Shelf). s.id == id) ss) refl
+    where
+      from : (o : Option Shelf) → find (λ (s : Shelf). s.id == id) ss ≡ o →
+          shelf_by (unwrap_or (option_map (collection_in t) o) (record { id = id; nodes = []; buffers = None; held = [] })) ≡ unwrap_or o (no_shelf id)
+      from None found = refl
+      from (Some s) found = λ i. record s { keys = looked-keys t s.id ok.named s.keys (filed_found t id ss ok.filed s found) i }
+
+  -- with the key behind it shows the collection with the node
+  shelf_is : shelf_with (shelf_before id ss) key ≡ shelf_by (born_collection t now ss ok id parent attached client event above at key bears)
+  shelf_is =
+      ap (λ (s : Shelf). shelf_with s key) (sym before_shelf)
+      ∙ λ i. record {
+        id = c0.id;
+        keys = sym (map-append (λ (n : Node). n.key) c0.nodes (node ∷ []) ∙ ap (λ (k : NodeKey). keys_in c0.nodes ++ k ∷ []) own) i;
+        buffers = c0.buffers;
+        held = c0.held;
+      }
+
+  -- how many strong nodes the node adds
+  strong_more : (up : Option Node) → strong_count (born up attached id event client key ∷ []) ≡ (if option_map_or (λ (n : Node). n.weak) up false then 0 else 1)
+  strong_more None = refl
+  strong_more (Some up) = from up.weak
+    where
+      from : (b : Bool) → (if not b then 0 + 1 else 0) ≡ (if b then 0 else 1)
+      from true = refl
+      from false = refl
+
+  -- an entry with the key and the count is counted
+  pub counted_born : (e : Entry) → shelf_of e ≡ shelf_with (shelf_before id ss) key →
+      e.strong ≡ strong_count c0.nodes + (if option_map_or (λ (n : Node). n.weak) above false then 0 else 1) →
+      (e.tidy ≡ true → list_any is_over c0.nodes ≡ false) → IsCounted now e
+  counted_born e is strong tidy =
+      let shown : collection_in now (shelf_of e) ≡ born_collection t now ss ok id parent attached client event above at key bears =
+      ap (collection_in now) (is ∙ shelf_is) ∙ born_shown t now ss ok id parent attached client event above at key bears in
+      record {
+        calm = subst IsCalm (sym (shown ∙ sym grown_is)) calm_after;
+        strong = strong ∙ ap (λ (n : ℕ). strong_count c0.nodes + n) (sym (strong_more above))
+            ∙ sym (times-append is_strong c0.nodes (node ∷ [])) ∙ ap (λ (c : Collection). strong_count c.nodes) (sym shown);
+        tidy = λ h. ap (λ (c : Collection). list_any is_over c.nodes) shown ∙ any-append is_over c0.nodes (node ∷ [])
+            ∙ or_both (list_any is_over c0.nodes) _ (tidy h) (rw (born_here above attached id event client key) refl);
+      }
+
+  module _ (behind : List Shelf) (placed : behind ≡ put_shelf (shelf_with (shelf_before id ss) key) ss) where
+    -- the shelves show the collection with the node
+    pub behind_is : behind ≡ put_shelf (shelf_by (born_collection t now ss ok id parent attached client event above at key bears)) ss
+    behind_is = placed ∙ ap (λ (s : Shelf). put_shelf s ss) shelf_is
+
+    -- and the collections are those with it
+    pub behind_shown : map (collection_in now) behind ≡ put (born_collection t now ss ok id parent attached client event above at key bears) (map (collection_in t) ss)
+    behind_shown = ap (map (collection_in now)) behind_is
+        ∙ put-map now (shelf_by (born_collection t now ss ok id parent attached client event above at key bears)) ss
+        ∙ (λ i. put (born_shown t now ss ok id parent attached client event above at key bears i) (still_collections t now node bears ss ok.filed i))
+
+    -- nothing more is forced
+    pub quiet_ok : (pool : ℕ) → Finishes pool handles t ss now behind after
+    quiet_ok pool = subst (λ (b : List Shelf). Finishes pool handles t ss now b after) (sym behind_is) (quiet_finishes pool)
+
+    -- all that holds of forests holds
+    pub quiet_kept : IsKept now behind
+    quiet_kept = subst (IsKept now) (sym behind_is) (born_kept t now ss ok id parent attached client event above at key bears)
+
+    -- the pages stay
+    pub quiet_held : all_held (forest_of now behind) ≡ all_held (forest_of t ss)
+    quiet_held = ap (λ (b : List Shelf). all_held (forest_of now b)) behind_is ∙ born_held t now ss ok id parent attached client event above at key bears

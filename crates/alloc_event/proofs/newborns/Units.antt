@@ -1,0 +1,250 @@
+-- The counts of units, once a node is born and counted.
+use Rattle.std.proofs.Common.{◌≡◌, ◌≢◌, ℕ, ◌+◌, ◌<◌, ◌≤◌, ◌==◌, nat_lt, Bool, true, false, if◌then◌else◌, List, [], ◌∷◌, ◌++◌, map, length, Option, Some, None, refl, sym, ap, subst, ◌∙◌, inl, inr, arith}
+use Rattle.std.proofs.lemmas.Bool.{eqb-true}
+use Rattle.std.proofs.lemmas.List.{length-append}
+use Rattle.std.specs.List.{cons_option, list_all, list_any}
+use Rattle.std.specs.Option.{unwrap_or}
+use Rattle.sm_names.specs.declared.keys.NodeKey.{NodeKey}
+use Rattle.sm_names.specs.Sameness.{same_key}
+use Rattle.sm_names.specs.Words.{times}
+use Rattle.sm_names.proofs.ListLaws.{In, In-append, In-find, times-append, times-le-length}
+use Rattle.sm_names.proofs.SamenessLaws.{both_ways, either_way, same_key-refl}
+use Rattle.sm_names.proofs.StandingLaws.{In-any}
+use Rattle.node_table.specs.Table.{Table, node_at, table_len}
+use Rattle.alloc_event.specs.declared.node.Node.{Node}
+use Rattle.alloc_event.specs.declared.units.Unit.{Unit}
+use Rattle.alloc_event.specs.Counts.{AreUnits, AreUnitsBut, HasUnits, lives_in, started, tallied, unit_at, unit_of, waits_in}
+use Rattle.alloc_event.specs.Forest.{Collection, collection_at}
+use Rattle.alloc_event.specs.Kept.{Bears, IsKept, IsWhole, Shelf, all_keys, born, collection_in, forest_of, is_filed, nodes_with, put_shelf}
+use Rattle.alloc_event.specs.Nodes.{is_of}
+use Rattle.alloc_event.specs.Settling.{Handles, collection_or_new, put}
+use Rattle.alloc_event.specs.Still.{IsStill, shelf_before, shelf_with}
+use Rattle.alloc_event.proofs.changes.Altering.{looked-of, shelf_by}
+use Rattle.alloc_event.proofs.tables.Hanging.{all_in, in_all, looked_there}
+use Rattle.alloc_event.proofs.tallies.Holding.{head_there}
+use Rattle.alloc_event.proofs.newborns.Newborn.{Above, IsBefore, before_is, born_collection, born_fresh, born_shown, key_is}
+use Rattle.alloc_event.proofs.newborns.Quiet.{behind_is, behind_shown, born_here, quiet_kept}
+use Rattle.alloc_event.proofs.tallies.Reckoning.{lives_gone, lives_other, started_other, started_own, tallied_adds, tallied_long, tallied_other, waits_gone, waits_other}
+use Rattle.alloc_event.proofs.shelves.Showing.{filed-length}
+use Rattle.alloc_event.proofs.tallies.Slots.{Stays, all_at, but_put, one_slot, units_own}
+use Rattle.alloc_event.proofs.calm.Steps.{all-In}
+
+times_zero : (test : Node → Bool) (ns : List Node) → ((n : Node) → In n ns → test n ≡ false) → times test ns ≡ 0
+times_zero test [] none = refl
+times_zero test (n ∷ ns) none = rw (none n (inl refl)) (times_zero test ns (λ m on. none m (inr on)))
+
+-- the table has the old nodes of the collection and the one that was born, and the others have their counts
+module _ (t : Table Node) (ss : List Shelf) (kept : IsKept t ss) (id : ℕ) (s : Shelf) (on : In s ss) (own : s.id ≡ id) (old : List Node) (node : Node)
+    (grown : nodes_with t s.keys ≡ old ++ node ∷ []) (here : node.gone ≡ false) (fresh : list_any (is_of node.key) old ≡ false)
+    (olds : (n : Node) → In n old → n.gone ≡ false → (h : Node) × In h old × (h.key ≡ n.head)) (of : (n : Node) → In n (nodes_with t s.keys) → n.collection ≡ id)
+    (us : List Unit) (has : HasUnits us old) (but : AreUnitsBut us id (map (collection_in t) ss)) (few : length (nodes_with t s.keys) ≤ 18446744073709551615) where
+  abbrev nodes : List Node
+  nodes = nodes_with t s.keys
+
+  abbrev us1 : List Unit
+  us1 = started node.key.slot us
+
+  abbrev new : List Unit
+  new = tallied (node ∷ []) us1
+
+  whole : IsWhole (collection_in t s)
+  whole = all_at (λ (x : Shelf). IsWhole (collection_in t x)) ss kept.whole s on
+
+  at : (n : Node) → In n nodes → node_at t n.key ≡ Some n
+  at n there = in_all (λ (m : Node). node_at t m.key ≡ Some m) nodes (looked_there t kept.named s.keys) n there
+
+  born_on : In node nodes
+  born_on = subst (In node) (sym grown) (In-behind old)
+    where
+      In-behind : (ns : List Node) → In node (ns ++ node ∷ [])
+      In-behind [] = inl refl
+      In-behind (n ∷ ns) = inr (In-behind ns)
+
+  was_old : (n : Node) → In n old → In n nodes
+  was_old n there = subst (In n) (sym grown) (In-front old there)
+    where
+      In-front : (ns : List Node) → In n ns → In n (ns ++ node ∷ [])
+      In-front [] there = absurd there
+      In-front (m ∷ ns) (inl is) = inl is
+      In-front (m ∷ ns) (inr there) = inr (In-front ns there)
+
+  head : (h : Node) × In h nodes × (h.key ≡ node.head)
+  head = let h = head_there nodes whole.sound.distinct whole.sound.heads whole.rooted whole.united node born_on here in (h.0, h.1, h.2)
+
+  head_at : node_at t node.head ≡ Some head.0
+  head_at = ap (node_at t) (sym head.2) ∙ at head.0 head.1
+
+  -- no old node is of its unit, if it heads one
+  none_counted : (n : Node) → In n old → (lives_in node.key n ≡ false) × (waits_in node.key n ≡ false)
+  none_counted n there = elim (either_way n.gone) [
+    | inl e ↦ (lives_gone node.key n e, waits_gone node.key n e)
+    | inr e ↦
+        let h = olds n there e in
+        let other : same_key n.head node.key ≡ false = elim (either_way (same_key n.head node.key)) [
+          | inl d ↦ both_ways (list_any (is_of node.key) old) (In-any (is_of node.key) old h.0 h.1 (ap (λ (k : NodeKey). same_key k node.key) h.2 ∙ d)) fresh
+          | inr d ↦ d
+        ] in
+        (lives_other node.key n other, waits_other node.key n other)
+  ]
+
+  -- an old node has another slot
+  old_slot : (n : Node) → In n old → n.key.slot ≢ node.key.slot
+  old_slot n there slots =
+      let same : n.key ≡ node.key = one_slot t n.key node.key n node (at n (was_old n there)) (at node born_on) slots in
+      both_ways (list_any (is_of node.key) old) (In-any (is_of node.key) old n there (ap (λ (k : NodeKey). same_key k node.key) same ∙ same_key-refl node.key)) fresh
+
+  long : length new ≡ length us1
+  long = tallied_long (node ∷ []) us1
+
+  -- what each slot had before the node was counted
+  before : (n : Node) → In n nodes → n.key.slot < length us1 → unit_at us1 n.key.slot ≡ unit_of old n.key
+  before n there inside = elim (In-append old (node ∷ []) n (subst (In n) grown there)) [
+    | inl o ↦
+        let x = started_other node.key.slot n.key.slot us (old_slot n o) inside in
+        x.1 ∙ in_all (λ (m : Node). m.key.slot < length us → unit_at us m.key.slot ≡ unit_of old m.key) old has n o x.0
+    | inr b ↦ last b
+  ]
+    where
+      last : In n (node ∷ []) → unit_at us1 n.key.slot ≡ unit_of old n.key
+      last (inl is) =
+          let within : node.key.slot < length us1 = subst (λ (m : Node). m.key.slot < length us1) is inside in
+          let l : times (lives_in node.key) old ≡ 0 = times_zero (lives_in node.key) old (λ m o. (none_counted m o).0) in
+          let w : times (waits_in node.key) old ≡ 0 = times_zero (waits_in node.key) old (λ m o. (none_counted m o).1) in
+          subst (λ (m : Node). unit_at us1 m.key.slot ≡ unit_of old m.key) (sym is)
+          (started_own node.key.slot us within ∙ (λ i. record { live = sym l i; unready = sym w i }))
+      last (inr none) = absurd none
+
+  has_new : HasUnits new nodes
+  has_new = all_in (λ (n : Node). n.key.slot < length new → unit_at new n.key.slot ≡ unit_of nodes n.key) nodes (λ n there within.
+      let inside : n.key.slot < length us1 = subst (λ (l : ℕ). n.key.slot < l) long within in
+      let was = before n there inside in
+      let l0 : (unit_at us1 n.key.slot).live ≡ times (lives_in n.key) old = ap (λ (u : Unit). u.live) was in
+      let w0 : (unit_at us1 n.key.slot).unready ≡ times (waits_in n.key) old = ap (λ (u : Unit). u.unready) was in
+      let l1 = times-le-length (lives_in n.key) old in
+      let w1 = times-le-length (waits_in n.key) old in
+      let count : length nodes ≡ length old + 1 = ap length grown ∙ long_more old in
+      let adds = tallied_adds (node ∷ []) us1 n.key inside (head_of n there) (omega arith) (omega arith) in
+      let a = adds.live in
+      let b = adds.unready in
+      let l2 : times (lives_in n.key) nodes ≡ times (lives_in n.key) old + times (lives_in n.key) (node ∷ []) = ap (times (lives_in n.key)) grown ∙ times-append (lives_in n.key) old (node ∷ []) in
+      let w2 : times (waits_in n.key) nodes ≡ times (waits_in n.key) old + times (waits_in n.key) (node ∷ []) = ap (times (waits_in n.key)) grown ∙ times-append (waits_in n.key) old (node ∷ []) in
+      let l : (unit_at new n.key.slot).live ≡ times (lives_in n.key) nodes = omega arith in
+      let w : (unit_at new n.key.slot).unready ≡ times (waits_in n.key) nodes = omega arith in
+      λ i. record { live = l i; unready = w i })
+    where
+      long_more : (ns : List Node) → length (ns ++ node ∷ []) ≡ length ns + 1
+      long_more [] = refl
+      long_more (n ∷ ns) = let on = long_more ns in omega arith
+
+      head_of : (n : Node) → In n nodes → (m : Node) → In m (node ∷ []) → m.gone ≡ false → m.head.slot ≡ n.key.slot → m.head ≡ n.key
+      head_of n there m (inl is) stays slots =
+          let one : node.head ≡ n.key = one_slot t node.head n.key head.0 n head_at (at n there) (ap (λ (x : Node). x.head.slot) (sym is) ∙ slots) in
+          ap (λ (x : Node). x.head) is ∙ one
+      head_of n there m (inr none) stays slots = absurd none
+
+  stays_new : Stays t id us new
+  stays_new k n is differ within =
+      let inside : k.slot < length us1 = subst (λ (l : ℕ). k.slot < l) long within in
+      let x = started_other node.key.slot k.slot us (apart node.key node (at node born_on) (of node born_on)) inside in
+      (x.0, tallied_other (node ∷ []) us1 k.slot heads ∙ x.1)
+    where
+      apart : (j : NodeKey) (m : Node) → node_at t j ≡ Some m → m.collection ≡ id → k.slot ≢ j.slot
+      apart j m found owned slots =
+          let same : k ≡ j = one_slot t k j n m is found slots in
+          let both : Some n ≡ Some m = sym is ∙ (ap (node_at t) same ∙ found) in
+          let one : n ≡ m = cc in
+          differ (ap (λ (y : Node). y.collection) one ∙ owned)
+
+      heads : (m : Node) → In m (node ∷ []) → m.gone ≡ false → m.head.slot ≢ k.slot
+      heads m (inl e) stays slots = apart node.head head.0 head_at (of head.0 head.1) (sym slots ∙ ap (λ (y : Node). y.head.slot) e)
+      heads m (inr none) stays slots = absurd none
+
+  -- so all have their counts
+  pub born_units : AreUnits new (map (collection_in t) ss)
+  born_units = units_own t ss kept id us new stays_new but s on own has_new
+
+-- ---- a birth where nothing else changes
+
+-- a shelf that is put among others is one of them
+in_put_shelf : (s : Shelf) (ss : List Shelf) → In s (put_shelf s ss)
+in_put_shelf s [] = inl refl
+in_put_shelf s (x ∷ xs) = from (x.id == s.id) (nat_lt s.id x.id) (in_put_shelf s xs)
+  where
+    from : (here above : Bool) → In s (put_shelf s xs) → In s (if here then s ∷ xs else (if above then s ∷ x ∷ xs else x ∷ put_shelf s xs))
+    from true above on = inl refl
+    from false true on = inl refl
+    from false false on = inr on
+
+-- its keys are some of all
+keys_fewer : (s : Shelf) (ss : List Shelf) → In s ss → length s.keys ≤ length (all_keys ss)
+keys_fewer s [] on = absurd on
+keys_fewer s (x ∷ xs) (inl is) =
+    let a = length-append x.keys (all_keys xs) in
+    let b : length s.keys ≡ length x.keys = ap (λ (y : Shelf). length y.keys) is in
+    omega arith
+keys_fewer s (x ∷ xs) (inr on) =
+    let a = length-append x.keys (all_keys xs) in
+    let b = keys_fewer s xs on in
+    omega arith
+
+module _ (t now : Table Node) (ss : List Shelf) (ok : IsKept t ss) (id : ℕ) (parent : Option NodeKey) (attached : Bool) (client event : ℕ) (above : Option Node) (up : Above t ss id parent above) (key : NodeKey) (bears : Bears t now (born above attached id event client key))
+    (handles : Handles) (still : IsStill handles (collection_or_new (forest_of t ss) id)) (behind : List Shelf) (placed : behind ≡ put_shelf (shelf_with (shelf_before id ss) key) ss) where
+  abbrev c0 : Collection
+  c0 = collection_or_new (forest_of t ss) id
+
+  abbrev child : Node
+  child = born above attached id event client key
+
+  abbrev with_it : Collection
+  with_it = born_collection t now ss ok id parent attached client event above up key bears
+
+  before_it : IsBefore t ss id c0
+  before_it = before_is t ss ok id
+
+  kept_now : IsKept now behind
+  kept_now = quiet_kept t now ss ok id parent attached client event above up key bears handles still behind placed
+
+  shelf_on : In (shelf_by with_it) behind
+  shelf_on = subst (In (shelf_by with_it)) (sym (behind_is t now ss ok id parent attached client event above up key bears handles still behind placed)) (in_put_shelf (shelf_by with_it) ss)
+
+  shown_nodes : nodes_with now (shelf_by with_it).keys ≡ c0.nodes ++ child ∷ []
+  shown_nodes = ap (λ (c : Collection). c.nodes) (born_shown t now ss ok id parent attached client event above up key bears)
+
+  filed_keys : list_all (is_filed now (shelf_by with_it).id) (shelf_by with_it).keys ≡ true
+  filed_keys = all-In (λ (x : Shelf). list_all (is_filed now x.id) x.keys) behind (shelf_by with_it) shelf_on kept_now.filed
+
+  found_key : node_at now key ≡ Some child
+  found_key = bears.look key ∙ (rw (ap (λ (k : NodeKey). same_key k key) (key_is t now ss ok id parent attached client event above up key bears) ∙ same_key-refl key) refl)
+
+  had : (us : List Unit) → AreUnits us (map (collection_in t) ss) → HasUnits us c0.nodes
+  had us all = from (collection_at (forest_of t ss) id) refl
+    where
+      from : (o : Option Collection) → collection_at (forest_of t ss) id ≡ o → HasUnits us (unwrap_or o (record { id = id; nodes = []; buffers = None; held = [] })).nodes
+      from None is = tt
+      from (Some c) is = all_at (λ (d : Collection). HasUnits us d.nodes) (map (collection_in t) ss) all c (In-find (λ (d : Collection). d.id == id) (map (collection_in t) ss) c is).0
+
+  few_nodes : table_len now ≤ 18446744073709551615 → length (nodes_with now (shelf_by with_it).keys) ≤ 18446744073709551615
+  few_nodes few =
+      let a = filed-length now (shelf_by with_it).id (shelf_by with_it).keys filed_keys in
+      let b = keys_fewer (shelf_by with_it) behind shelf_on in
+      let d = kept_now.counted in
+      omega arith
+
+  -- all have their counts, once the slot of the node is started and the node counted
+  pub newborn_units : (us : List Unit) → AreUnits us (map (collection_in t) ss) → table_len now ≤ 18446744073709551615 →
+      AreUnits (tallied (nodes_with now (key ∷ [])) (started key.slot us)) (map (collection_in now) behind)
+  newborn_units us all few =
+      let own : c0.id ≡ id = before_it.id_is in
+      let named : child.key ≡ key = key_is t now ss ok id parent attached client event above up key bears in
+      let one : nodes_with now (key ∷ []) ≡ child ∷ [] = ap (λ (o : Option Node). cons_option o []) found_key in
+      let but : AreUnitsBut us id (map (collection_in now) behind) =
+      subst (AreUnitsBut us id) (sym (behind_shown t now ss ok id parent attached client event above up key bears handles still behind placed))
+      (subst (λ (i : ℕ). AreUnitsBut us i (put with_it (map (collection_in t) ss))) own (but_put us with_it (map (collection_in t) ss) all)) in
+      let made : AreUnits (tallied (child ∷ []) (started child.key.slot us)) (map (collection_in now) behind) =
+      born_units now behind kept_now id (shelf_by with_it) shelf_on own c0.nodes child shown_nodes (born_here above attached id event client key)
+      (born_fresh t now ss ok id parent attached client event above up key bears)
+      (λ n on here. let h = head_there c0.nodes before_it.whole.sound.distinct before_it.whole.sound.heads before_it.whole.rooted before_it.whole.united n on here in (h.0, h.1, h.2))
+      (λ n on. eqb-true n.collection (shelf_by with_it).id (all-In (λ (m : Node). m.collection == (shelf_by with_it).id) (nodes_with now (shelf_by with_it).keys) n on (looked-of now (shelf_by with_it).id (shelf_by with_it).keys filed_keys)) ∙ own)
+      us (had us all) but (few_nodes few) in
+      subst (λ (ns : List Node). AreUnits (tallied ns (started key.slot us)) (map (collection_in now) behind)) (sym one)
+      (subst (λ (k : NodeKey). AreUnits (tallied (child ∷ []) (started k.slot us)) (map (collection_in now) behind)) named made)

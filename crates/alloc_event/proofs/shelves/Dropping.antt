@@ -1,0 +1,77 @@
+-- Entries of which one loses keys, or goes.
+use Rattle.std.proofs.Common.{◌≡◌, ℕ, zero, suc, ◌+◌, ◌==◌, Bool, true, false, ◌&&◌, List, [], ◌∷◌, length, get_or, set, remove, Option, Some, None, option_map, cond, refl, sym, ap, subst, ◌∙◌, arith}
+use Rattle.std.specs.List.{find}
+use Rattle.node_table.specs.Table.{Table}
+use Rattle.alloc_event.specs.declared.entry.Entry.{Entry}
+use Rattle.alloc_event.specs.declared.node.Node.{Node}
+use Rattle.alloc_event.specs.Forgetting.{is_bare, thin_in, thinned, without_bare}
+use Rattle.alloc_event.specs.Kept.{Shelf, AreRising, place_in, shelf_of, shelves_of}
+use Rattle.alloc_event.proofs.shelves.Entries.{none_in}
+use Rattle.alloc_event.proofs.shelves.Showing.{held_length, shelf_found}
+use Rattle.alloc_event.proofs.leaving.Tidying.{above_other, bare_others, none_others, thin_others}
+
+-- where no entry has the id no shelf has it
+no_shelf : (id : ℕ) (es : List Entry) → place_in id es ≡ None → find (λ (s : Shelf). s.id == id) (shelves_of es) ≡ None
+no_shelf id es none = shelf_found id es ∙ ap (option_map shelf_of) (none_in id es none)
+
+-- and nothing changes
+pub thin_none : (t : Table Node) (id : ℕ) (es : List Entry) → place_in id es ≡ None → shelves_of es ≡ thin_in t id (shelves_of es)
+thin_none t id es none = sym (thin_others t id (shelves_of es) (none_others id (shelves_of es) (no_shelf id es none)))
+
+pub bare_none : (id : ℕ) (es : List Entry) → place_in id es ≡ None → shelves_of es ≡ without_bare id (shelves_of es)
+bare_none id es none = sym (bare_others id (shelves_of es) (none_others id (shelves_of es) (no_shelf id es none)))
+
+-- a number that is told
+Some-inj : (a b : ℕ) → Some a ≡ Some b → a ≡ b
+Some-inj a b e = cc
+
+-- what is told of the first place, or of one behind it
+place_cases : (id : ℕ) (x : Entry) (es : List Entry) (at : ℕ) (P : ℕ → Type 0) → place_in id (x ∷ es) ≡ Some at → ((x.id == id) ≡ true → P zero) → ((n : ℕ) → (x.id == id) ≡ false → place_in id es ≡ Some n → P (suc n)) → P at
+place_cases id x es at P told first behind = by (x.id == id) refl (place_in id es) refl told
+  where
+    by : (b : Bool) → (x.id == id) ≡ b → (o : Option ℕ) → place_in id es ≡ o → cond b (Some 0) (option_map (λ n. n + 1) o) ≡ Some at → P at
+    by true same o is told = let start : zero ≡ at = cc in subst P start (first same)
+    by false other None is told = absurd (cc)
+    by false other (Some n) is told =
+        let next : suc n ≡ at = omega (arith, Some-inj (n + 1) at told) in
+        subst P next (behind n other is)
+
+-- the entry at the place of the id keeps the keys that the table has
+pub set_thin : (t : Table Node) (id : ℕ) (es : List Entry) (at : ℕ) (e : Entry) → AreRising (shelves_of es) → place_in id es ≡ Some at → shelf_of e ≡ thinned t (shelf_of (get_or es at e)) → shelves_of (set es at e) ≡ thin_in t id (shelves_of es)
+set_thin t id [] at e rising told is = absurd (cc)
+set_thin t id (x ∷ es) at e rising told is =
+    place_cases id x es at (λ at. shelf_of e ≡ thinned t (shelf_of (get_or (x ∷ es) at e)) → shelves_of (set (x ∷ es) at e) ≡ thin_in t id (shelves_of (x ∷ es))) told
+    (λ same is. rw (same, thin_others t id (shelves_of es) (above_other id x.id (shelves_of es) rising.0 same)) (ap (λ s. s ∷ shelves_of es) is))
+    (λ n other told is. rw other (ap (λ l. shelf_of x ∷ l) (set_thin t id es n e rising.1 told is)))
+    is
+
+-- the entry at the place of the id goes, if it is bare
+pub remove_bare : (id : ℕ) (es : List Entry) (at : ℕ) (d : Entry) → AreRising (shelves_of es) → place_in id es ≡ Some at → is_bare (shelf_of (get_or es at d)) ≡ true → shelves_of (remove es at) ≡ without_bare id (shelves_of es)
+remove_bare id [] at d rising told bare = absurd (cc)
+remove_bare id (x ∷ es) at d rising told bare =
+    place_cases id x es at (λ at. is_bare (shelf_of (get_or (x ∷ es) at d)) ≡ true → shelves_of (remove (x ∷ es) at) ≡ without_bare id (shelves_of (x ∷ es))) told
+    (λ same bare. rw (same, bare) (sym (bare_others id (shelves_of es) (above_other id x.id (shelves_of es) rising.0 same))))
+    (λ n other told bare. rw other (ap (λ l. shelf_of x ∷ l) (remove_bare id es n d rising.1 told bare)))
+    bare
+
+-- and stays, if it is not
+pub keep_bare : (id : ℕ) (es : List Entry) (at : ℕ) (d : Entry) → AreRising (shelves_of es) → place_in id es ≡ Some at → is_bare (shelf_of (get_or es at d)) ≡ false → shelves_of es ≡ without_bare id (shelves_of es)
+keep_bare id [] at d rising told bare = absurd (cc)
+keep_bare id (x ∷ es) at d rising told bare =
+    place_cases id x es at (λ at. is_bare (shelf_of (get_or (x ∷ es) at d)) ≡ false → shelves_of (x ∷ es) ≡ without_bare id (shelves_of (x ∷ es))) told
+    (λ same bare. rw (same, bare) (ap (λ l. shelf_of x ∷ l) (sym (bare_others id (shelves_of es) (above_other id x.id (shelves_of es) rising.0 same)))))
+    (λ n other told bare. rw other (ap (λ l. shelf_of x ∷ l) (keep_bare id es n d rising.1 told bare)))
+    bare
+
+-- an entry is bare that has no key and no buffer
+pub bare_entry : (e : Entry) → is_bare (shelf_of e) ≡ ((length e.keys.items == 0) && (length e.held.items == 0))
+bare_entry e = ap (λ n. (length e.keys.items == 0) && (n == 0)) (held_length e.held.items)
+
+-- one test of two fails
+pub no_left : (a b : Bool) → a ≡ false → (a && b) ≡ false
+no_left true b h = absurd (cc)
+no_left false b h = refl
+
+pub no_right : (a b : Bool) → b ≡ false → (a && b) ≡ false
+no_right true b h = h
+no_right false b h = refl

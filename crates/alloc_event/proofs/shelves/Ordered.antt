@@ -1,0 +1,59 @@
+-- The live nodes and the buffers of a forest, in order, told by its table and its entries.
+use Rattle.std.proofs.Common.{ℕ, ◌≡◌, refl, ap, sym, ◌∙◌, nat_lt, cond, true, false, Bool, List, [], ◌∷◌, ◌++◌, map}
+use Rattle.std.specs.List.{filter, flat_map}
+use Rattle.std.proofs.lemmas.List.{map-append}
+use Rattle.sm_names.specs.Words.{insert_by, sorted_by}
+use Rattle.node_table.specs.Table.{Table}
+use Rattle.alloc_event.specs.declared.entry.Entry.{Entry}
+use Rattle.alloc_event.specs.declared.held.HeldBuffer.{HeldBuffer}
+use Rattle.alloc_event.specs.declared.node.Node.{Node}
+use Rattle.alloc_event.specs.Forest.{all_held, held_buffer, held_by_page, live_keys}
+use Rattle.alloc_event.specs.Scenes.{held_pages}
+use Rattle.alloc_event.specs.Kept.{Shelf, all_keys, forest_of, is_live, nodes_with, shelves_of}
+use Rattle.alloc_event.proofs.newborns.Forest.{helds_in}
+use Rattle.alloc_event.proofs.shelves.Showing.{nodes_of_all}
+
+-- the live nodes by birth are those of all keys
+pub live_in_order : (t : Table Node) (ss : List Shelf) →
+    live_keys (forest_of t ss) ≡ map (λ (n : Node). n.key) (sorted_by (λ (n : Node). n.event) (filter is_live (nodes_with t (all_keys ss))))
+live_in_order t ss =
+    ap (λ (ns : List Node). map (λ (n : Node). n.key) (sorted_by (λ (n : Node). n.event) (filter is_live ns))) (nodes_of_all t ss)
+
+-- one that is made of another is put into the place of that
+pub insert_by-map : {A B : Type 0} (number : B → ℕ) (f : A → B) (x : A) (xs : List A) →
+    insert_by number (f x) (map f xs) ≡ map f (insert_by (λ y. number (f y)) x xs)
+insert_by-map number f x [] = refl
+insert_by-map number f x (y ∷ ys) =
+    elim (nat_lt (number (f y)) (number (f x))) as (λ (b : Bool).
+    cond b (f y ∷ insert_by number (f x) (map f ys)) (f x ∷ f y ∷ map f ys)
+    ≡ map f (cond b (y ∷ insert_by (λ z. number (f z)) x ys) (x ∷ y ∷ ys))) [
+      | true ↦ ap (λ (l : List _). f y ∷ l) (insert_by-map number f x ys)
+      | false ↦ refl
+    ]
+
+-- a map of sorted elements is sorted by what they were sorted by
+pub sorted_by-map : {A B : Type 0} (number : B → ℕ) (f : A → B) (xs : List A) →
+    sorted_by number (map f xs) ≡ map f (sorted_by (λ y. number (f y)) xs)
+sorted_by-map number f [] = refl
+sorted_by-map number f (x ∷ xs) =
+    ap (insert_by number (f x)) (sorted_by-map number f xs) ∙ insert_by-map number f x (sorted_by (λ y. number (f y)) xs)
+
+-- buffers are read as they are kept
+held_back : (hs : List HeldBuffer) → map held_buffer (map held_pages hs) ≡ hs
+held_back [] = refl
+held_back (h ∷ hs) = ap (λ (l : List HeldBuffer). h ∷ l) (held_back hs)
+
+-- all buffers are those of the entries
+held_of_all : (es : List Entry) →
+    map held_buffer (flat_map (λ (s : Shelf). s.held) (shelves_of es)) ≡ flat_map (λ (e : Entry). e.held.items) es
+held_of_all [] = refl
+held_of_all (e ∷ es) =
+    map-append held_buffer (map held_pages e.held.items) (flat_map (λ (s : Shelf). s.held) (shelves_of es))
+    ∙ λ i. held_back e.held.items i ++ held_of_all es i
+
+-- the buffers by page are those of the entries
+pub held_in_order : (t : Table Node) (es : List Entry) →
+    map held_buffer (held_by_page (forest_of t (shelves_of es))) ≡ sorted_by (λ (h : HeldBuffer). h.start) (flat_map (λ (e : Entry). e.held.items) es)
+held_in_order t es =
+    sym (sorted_by-map (λ (h : HeldBuffer). h.start) held_buffer (all_held (forest_of t (shelves_of es))))
+    ∙ ap (sorted_by (λ (h : HeldBuffer). h.start)) (ap (map held_buffer) (helds_in t (shelves_of es)) ∙ held_of_all es)

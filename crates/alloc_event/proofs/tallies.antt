@@ -1,0 +1,7 @@
+-- The counts of units, and what they tell.
+pub mod Amounts
+pub mod Holding
+pub mod Reckoning
+pub mod Slots
+pub mod Strong
+pub mod Untold

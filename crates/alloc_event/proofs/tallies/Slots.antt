@@ -1,0 +1,403 @@
+-- The counts in the slots of keys: which stay where others change.
+use Rattle.std.proofs.Common.{◌≡◌, ◌≢◌, ℕ, ◌+◌, ◌<◌, ◌≤◌, ◌==◌, nat_le, nat_lt, refl, ap, sym, ◌∙◌, subst, Bool, true, false, ◌&&◌, inl, inr, if◌then◌else◌, slice_index_or, List, [], ◌∷◌, ◌++◌, map, filter, length, Option, Some, None, option_map, not, arith}
+use Rattle.std.proofs.lemmas.Bool.{eq-eqb, eqb-false, eqb-true}
+use Rattle.std.specs.List.{AllByRecursion, find, list_all, list_any}
+use Rattle.std.specs.Option.{option_map_or, unwrap_or}
+use Rattle.sm_names.specs.declared.keys.Interval.{Interval}
+use Rattle.sm_names.specs.declared.keys.NodeKey.{NodeKey}
+use Rattle.sm_names.specs.Marks.{Mark, Called, Loss, Allocated, Ended}
+use Rattle.sm_names.specs.Sameness.{same_key}
+use Rattle.sm_names.specs.Words.{times}
+use Rattle.sm_names.proofs.ListLaws.{In, In-filter, In-find, In-map, In-map-back}
+use Rattle.sm_names.proofs.SamenessLaws.{and_left, and_right, both_ways, either_way, or_left, same_key-refl}
+use Rattle.sm_names.proofs.StandingLaws.{In-any}
+use Rattle.node_table.specs.Table.{Row, Table, next_at, node_at, was_given}
+use Rattle.alloc_event.specs.declared.change.Change.{Change}
+use Rattle.alloc_event.specs.declared.node.Node.{Node}
+use Rattle.alloc_event.specs.declared.units.Unit.{Unit}
+use Rattle.alloc_event.specs.Counts.{AreUnits, AreUnitsBut, HasUnits, cleared, lives_in, no_unit, started, tallied, unit_at, unit_of, waits_in}
+use Rattle.alloc_event.specs.Forest.{Collection, Forest, beside, collection_at, is_left, tidied, with_nodes, without_over_in}
+use Rattle.alloc_event.specs.Kept.{AreRising, Finishes, Gives, IsKept, IsWhole, Shelf, are_filed, collection_in, forest_of, is_filed, nodes_with}
+use Rattle.alloc_event.specs.Nodes.{is_of, is_over, is_spent, new_child, node_of}
+use Rattle.alloc_event.specs.Settling.{Forces, Handles, Rests, Settles, changed, collection_or_new, given_back, is_birth, is_root_of, made, put, with_birth}
+use Rattle.alloc_event.proofs.changes.Altering.{found_filed, found_id, found_whole, looked-of}
+use Rattle.alloc_event.proofs.calm.Calming.{times_map}
+use Rattle.alloc_event.proofs.changes.Finishing.{looked-keys}
+use Rattle.alloc_event.proofs.tables.Hanging.{all_in, in_all, looked_gone, looked_there}
+use Rattle.alloc_event.proofs.tallies.Holding.{head_there}
+use Rattle.alloc_event.proofs.newborns.Members.{none-find}
+use Rattle.alloc_event.proofs.tallies.Reckoning.{cleared_long, cleared_other, cleared_own, started_other, tallied_adds, tallied_long, tallied_other}
+use Rattle.alloc_event.proofs.shelves.Showing.{filed-length}
+use Rattle.alloc_event.proofs.calm.Steps.{all-In}
+
+-- ---- keys that have nodes
+
+-- the node of a key is of its slot's last generation
+last_given : (t : Table Node) (key : NodeKey) (n : Node) → node_at t key ≡ Some n → next_at t key.slot ≡ key.generation + 1
+last_given t key n is = from (next_at t key.slot == key.generation + 1) refl is
+  where
+    from : (b : Bool) → (next_at t key.slot == key.generation + 1) ≡ b →
+        option_map (λ (row : Row Node). row.node) (if b then slice_index_or t.rows key.slot None else None) ≡ Some n →
+        next_at t key.slot ≡ key.generation + 1
+    from true e is = eqb-true _ _ e
+    from false e is = cc
+
+-- such keys are told apart by their slots
+pub one_slot : (t : Table Node) (a b : NodeKey) (n m : Node) → node_at t a ≡ Some n → node_at t b ≡ Some m → a.slot ≡ b.slot → a ≡ b
+one_slot t a b n m one two slots =
+    let x : next_at t a.slot ≡ a.generation + 1 = last_given t a n one in
+    let y : next_at t b.slot ≡ b.generation + 1 = last_given t b m two in
+    let z : next_at t a.slot ≡ next_at t b.slot = ap (next_at t) slots in
+    let generations : a.generation ≡ b.generation = omega arith in
+    λ i. record { slot = slots i; generation = generations i }
+
+-- ---- lists
+
+pub all_at : {A : Type 0} (P : A → Type 0) (xs : List A) → AllByRecursion P xs → (x : A) → In x xs → P x
+all_at P [] all x on = absurd on
+all_at P (y ∷ ys) all x (inl is) = subst P (sym is) all.0
+all_at P (y ∷ ys) all x (inr on) = all_at P ys all.1 x on
+
+-- shelves with one id are one
+pub one_shelf : (ss : List Shelf) → AreRising ss → (x y : Shelf) → In x ss → In y ss → x.id ≡ y.id → x ≡ y
+one_shelf [] rising x y on too same = absurd on
+one_shelf (s ∷ ss) rising x y (inl here) (inl there) same = here ∙ sym there
+one_shelf (s ∷ ss) rising x y (inl here) (inr there) same =
+    let less : s.id < y.id = all_at (λ (later : Shelf). s.id < later.id) ss rising.0 y there in
+    let one : x.id ≡ s.id = ap (λ (z : Shelf). z.id) here in
+    absurd (omega arith)
+one_shelf (s ∷ ss) rising x y (inr here) (inl there) same =
+    let less : s.id < x.id = all_at (λ (later : Shelf). s.id < later.id) ss rising.0 x here in
+    let one : y.id ≡ s.id = ap (λ (z : Shelf). z.id) there in
+    absurd (omega arith)
+one_shelf (s ∷ ss) rising x y (inr here) (inr there) same = one_shelf ss rising.1 x y here there same
+
+-- ---- counts that stay
+
+-- the counts in the slots of other collections' keys stay
+abbrev pub Stays : Table Node → ℕ → List Unit → List Unit → Type 0
+Stays t id us new = (k : NodeKey) (n : Node) → node_at t k ≡ Some n → n.collection ≢ id → k.slot < length new → (k.slot < length us) × (unit_at new k.slot ≡ unit_at us k.slot)
+
+module _ (t : Table Node) (named : (key : NodeKey) (n : Node) → node_at t key ≡ Some n → n.key ≡ key) (us new : List Unit) (id : ℕ) (stays : Stays t id us new) where
+  units_stay : (x : ℕ) → x ≢ id → (keys : List NodeKey) → list_all (is_filed t x) keys ≡ true → HasUnits us (nodes_with t keys) → HasUnits new (nodes_with t keys)
+  units_stay x differ keys filed has = all_in (λ (n : Node). n.key.slot < length new → unit_at new n.key.slot ≡ unit_of (nodes_with t keys) n.key) (nodes_with t keys) (λ n on within.
+      let at : node_at t n.key ≡ Some n = in_all (λ (m : Node). node_at t m.key ≡ Some m) (nodes_with t keys) (looked_there t named keys) n on in
+      let own : n.collection ≡ x = eqb-true n.collection x (all-In (λ (m : Node). m.collection == x) (nodes_with t keys) n on (looked-of t x keys filed)) in
+      let s = stays n.key n at (λ h. differ (sym own ∙ h)) within in
+      s.1 ∙ in_all (λ (m : Node). m.key.slot < length us → unit_at us m.key.slot ≡ unit_of (nodes_with t keys) m.key) (nodes_with t keys) has n on s.0)
+
+  pub but_stays : (ss : List Shelf) → are_filed t ss ≡ true → AreUnitsBut us id (map (collection_in t) ss) → AreUnitsBut new id (map (collection_in t) ss)
+  but_stays [] filed all = tt
+  but_stays (s ∷ ss) filed all = (
+    λ differ. units_stay s.id differ s.keys (and_left (list_all (is_filed t s.id) s.keys) _ filed) (all.0 differ),
+    but_stays ss (and_right (list_all (is_filed t s.id) s.keys) _ filed) all.1,
+  )
+
+-- where all have their counts, all but one have
+pub but_all : (us : List Unit) (id : ℕ) (cs : List Collection) → AreUnits us cs → AreUnitsBut us id cs
+but_all us id [] all = tt
+but_all us id (c ∷ cs) all = (λ differ. all.0, but_all us id cs all.1)
+
+-- and with that one all have
+pub but_join : (us : List Unit) (id : ℕ) (cs : List Collection) → AreUnitsBut us id cs → ((c : Collection) → In c cs → c.id ≡ id → HasUnits us c.nodes) → AreUnits us cs
+but_join us id [] but own = tt
+but_join us id (c ∷ cs) but own = (
+  elim (either_way (c.id == id)) [
+    | inl e ↦ own c (inl refl) (eqb-true c.id id e)
+    | inr e ↦ but.0 (eqb-false c.id id e)
+  ],
+  but_join us id cs but.1 (λ d on. own d (inr on)),
+)
+
+-- where the one has its counts and those of the others stay
+pub units_own : (t : Table Node) (ss : List Shelf) → IsKept t ss → (id : ℕ) (us new : List Unit) → Stays t id us new → AreUnitsBut us id (map (collection_in t) ss) →
+    (s : Shelf) → In s ss → s.id ≡ id → HasUnits new (nodes_with t s.keys) → AreUnits new (map (collection_in t) ss)
+units_own t ss kept id us new stays but s on own has =
+    but_join new id (map (collection_in t) ss) (but_stays t kept.named us new id stays ss kept.filed but) (λ c there same.
+    let x = In-map (collection_in t) ss c there in
+    let one : x.0 ≡ s = one_shelf ss kept.rising x.0 s x.1 on (sym (ap (λ (d : Collection). d.id) x.2) ∙ same ∙ sym own) in
+    subst (λ (d : Collection). HasUnits new d.nodes) (sym (x.2 ∙ ap (collection_in t) one)) has)
+
+-- where the others are the same
+pub but_moved : (t now : Table Node) (us : List Unit) (id : ℕ) (ss : List Shelf) → ((s : Shelf) → In s ss → s.id ≢ id → collection_in now s ≡ collection_in t s) →
+    AreUnitsBut us id (map (collection_in t) ss) → AreUnitsBut us id (map (collection_in now) ss)
+but_moved t now us id [] same but = tt
+but_moved t now us id (s ∷ ss) same but = (
+  λ differ. subst (λ (c : Collection). HasUnits us c.nodes) (sym (same s (inl refl) differ)) (but.0 differ),
+  but_moved t now us id ss (λ x on. same x (inr on)) but.1,
+)
+
+-- where the one is put among them
+pub but_put : (us : List Unit) (c : Collection) (cs : List Collection) → AreUnits us cs → AreUnitsBut us c.id (put c cs)
+but_put us c [] all = (λ differ. absurd (differ refl), tt)
+but_put us c (d ∷ ds) all = from (d.id == c.id) (nat_lt c.id d.id) (but_put us c ds all.1)
+  where
+    from : (here above : Bool) → AreUnitsBut us c.id (put c ds) → AreUnitsBut us c.id (if here then c ∷ ds else (if above then c ∷ d ∷ ds else d ∷ put c ds))
+    from true above on = (λ differ. absurd (differ refl), but_all us c.id ds all.1)
+    from false true on = (λ differ. absurd (differ refl), (λ differ. all.0, but_all us c.id ds all.1))
+    from false false on = (λ differ. all.0, on)
+
+-- ---- collections that were settled
+
+made_id : (pool : ℕ) (others : List Interval) (mark : Mark) (c : Collection) → (made pool others mark c).id ≡ c.id
+made_id pool others (Called client reply call) c = refl
+made_id pool others (Loss origin cause) c = refl
+made_id pool others (Allocated head) c = elim (either_way (is_root_of c head)) [
+  | inl e ↦ rw e refl
+  | inr e ↦ rw e refl
+]
+made_id pool others (Ended top) c = refl
+
+-- no forced step makes a collection another
+settles_id : (pool : ℕ) (handles : Handles) (others : List Interval) (c after : Collection) → Settles pool handles others c after → after.id ≡ c.id
+settles_id pool handles others _ _ (Rests c rest) = refl
+settles_id pool handles others _ _ (Forces c after mark forces settles) =
+    settles_id pool handles others (made pool others mark c) after settles ∙ made_id pool others mark c
+
+-- nor a change
+pub changed_id : (change : Change) (key : NodeKey) (c : Collection) → is_birth change ≡ false → (changed change key c).id ≡ c.id
+changed_id (Change.Birth parent attached client event) key c h = cc
+changed_id (Change.Effect call) key c h = refl
+changed_id (Change.Loss origin cause) key c h = refl
+changed_id Change.Nothing key c h = refl
+
+-- the collection with an id has it, or is new with it
+pub or_new_id : (f : Forest) (id : ℕ) → (collection_or_new f id).id ≡ id
+or_new_id f id = from (collection_at f id) refl
+  where
+    from : (o : Option Collection) → collection_at f id ≡ o → (unwrap_or o (record { id = id; nodes = []; buffers = None; held = [] })).id ≡ id
+    from None is = refl
+    from (Some c) is = eqb-true c.id id (In-find (λ (d : Collection). d.id == id) f.collections c is).1
+
+pub birth_id : (parent : Option NodeKey) (attached : Bool) (client event : ℕ) (key : NodeKey) (c : Collection) → (with_birth parent attached client event key c).id ≡ c.id
+birth_id None attached client event key c = refl
+birth_id (Some above) attached client event key c = from (node_of c.nodes above)
+  where
+    from : (o : Option Node) → (option_map_or (λ (n : Node). record c { nodes = c.nodes ++ new_child attached key event client n ∷ [] }) o c).id ≡ c.id
+    from None = refl
+    from (Some n) = refl
+
+-- the collections but the one that was settled have their counts still
+pub but_finished : (pool : ℕ) (handles : Handles) (old : Table Node) (before : List Shelf) (new : Table Node) (behind : List Shelf) (c : Collection) (id : ℕ) → c.id ≡ id →
+    Finishes pool handles old before new behind c → (us : List Unit) → AreUnits us (map (collection_in old) before) → AreUnitsBut us id (map (collection_in new) behind)
+but_finished pool handles old before new behind c id own fin us all =
+    let same : fin.after.id ≡ id = settles_id pool handles (beside (forest_of old before) c.id) c fin.after fin.settles ∙ own in
+    subst (AreUnitsBut us id) (sym fin.collections)
+    (subst (λ (i : ℕ). AreUnitsBut us i (put (given_back handles fin.after) (map (collection_in old) before))) same
+    (but_put us (given_back handles fin.after) (map (collection_in old) before) all))
+
+-- ---- a key that is new
+
+-- where a key was given that was new, keys that have nodes before and after have other slots
+fresh_slot : (old new : Table Node) (key : NodeKey) → Gives old new key → (k : NodeKey) (n m : Node) → node_at old k ≡ Some n → node_at new k ≡ Some m → k.slot ≢ key.slot
+fresh_slot old new key gives k n m was is slots =
+    let a : next_at old k.slot ≡ next_at new k.slot = last_given old k n was ∙ sym (last_given new k m is) in
+    let b : next_at old key.slot ≡ next_at new key.slot = subst (λ (s : ℕ). next_at old s ≡ next_at new s) slots a in
+    let given : was_given new key ≡ true = gives.given key ∙ or_left (same_key key key) (was_given old key) (same_key-refl key) in
+    let same : was_given new key ≡ was_given old key = λ i. nat_le (gives.first i) key.generation && nat_lt key.generation (sym b i) in
+    both_ways (was_given old key) (sym same ∙ given) gives.fresh
+
+-- a collection that is put among others is the one or of the others
+in_put : (c d : Collection) (cs : List Collection) → In d (put c cs) → d.id ≢ c.id → In d cs
+in_put c d [] (inl is) differ = absurd (differ (ap (λ (x : Collection). x.id) is))
+in_put c d [] (inr none) differ = absurd none
+in_put c d (e ∷ es) on differ = from (e.id == c.id) (nat_lt c.id e.id) (λ there. in_put c d es there differ) on
+  where
+    from : (here above : Bool) → (In d (put c es) → In d es) → In d (if here then c ∷ es else (if above then c ∷ e ∷ es else e ∷ put c es)) → In d (e ∷ es)
+    from true above rest (inl is) = absurd (differ (ap (λ (x : Collection). x.id) is))
+    from true above rest (inr there) = inr there
+    from false true rest (inl is) = absurd (differ (ap (λ (x : Collection). x.id) is))
+    from false true rest (inr there) = there
+    from false false rest (inl is) = inl is
+    from false false rest (inr there) = inr (rest there)
+
+-- so the others have their counts where the new key's slot is started
+pub but_started : (pool : ℕ) (handles : Handles) (old : Table Node) (before : List Shelf) (new : Table Node) (behind : List Shelf) (c : Collection) (id : ℕ) → c.id ≡ id →
+    IsKept old before → IsKept new behind → (key : NodeKey) → Gives old new key → Finishes pool handles old before new behind c →
+    (us : List Unit) → AreUnits us (map (collection_in old) before) → AreUnitsBut (started key.slot us) id (map (collection_in new) behind)
+but_started pool handles old before new behind c id own kept_old kept_new key gives fin us all =
+    all_of_shelves behind (λ x on. on) (but_finished pool handles old before new behind c id own fin us all)
+  where
+    same : fin.after.id ≡ id
+    same = settles_id pool handles (beside (forest_of old before) c.id) c fin.after fin.settles ∙ own
+
+    -- a node of another collection had its key before
+    was_there : (x : Shelf) → In x behind → x.id ≢ id → (n : Node) → In n (nodes_with new x.keys) → node_at old n.key ≡ Some n
+    was_there x on differ n there =
+        let d : In (collection_in new x) (put (given_back handles fin.after) (map (collection_in old) before)) =
+        subst (In (collection_in new x)) fin.collections (In-map-back (collection_in new) behind x on) in
+        let e = In-map (collection_in old) before (collection_in new x) (in_put (given_back handles fin.after) (collection_in new x) (map (collection_in old) before) d (λ h. differ (h ∙ same))) in
+        in_all (λ (m : Node). node_at old m.key ≡ Some m) (nodes_with old e.0.keys) (looked_there old kept_old.named e.0.keys) n
+        (subst (In n) (ap (λ (y : Collection). y.nodes) e.2) there)
+
+    all_of_shelves : (xs : List Shelf) → ((x : Shelf) → In x xs → In x behind) → AreUnitsBut us id (map (collection_in new) xs) → AreUnitsBut (started key.slot us) id (map (collection_in new) xs)
+    all_of_shelves [] within but = tt
+    all_of_shelves (x ∷ xs) within but = (
+      λ differ. all_in (λ (n : Node). n.key.slot < length (started key.slot us) → unit_at (started key.slot us) n.key.slot ≡ unit_of (nodes_with new x.keys) n.key) (nodes_with new x.keys) (λ n there inside.
+          let s = started_other key.slot n.key.slot us
+          (fresh_slot old new key gives n.key n n (was_there x (within x (inl refl)) differ n there)
+          (in_all (λ (m : Node). node_at new m.key ≡ Some m) (nodes_with new x.keys) (looked_there new kept_new.named x.keys) n there)) inside in
+          s.1 ∙ in_all (λ (m : Node). m.key.slot < length us → unit_at us m.key.slot ≡ unit_of (nodes_with new x.keys) m.key) (nodes_with new x.keys) (but.0 differ) n there s.0),
+      all_of_shelves xs (λ y on. within y (inr on)) but.1,
+    )
+
+-- ---- nodes that count as before
+
+pub units_mapped : (us : List Unit) (f : Node → Node) (nodes : List Node) → ((n : Node) → (f n).key ≡ n.key) → ((k : NodeKey) → unit_of (map f nodes) k ≡ unit_of nodes k) →
+    HasUnits us nodes → HasUnits us (map f nodes)
+units_mapped us f nodes keys same has = all_in (λ (n : Node). n.key.slot < length us → unit_at us n.key.slot ≡ unit_of (map f nodes) n.key) (map f nodes) (λ n on.
+    let x = In-map f nodes n on in
+    let key : x.0.key ≡ n.key = sym (ap (λ (m : Node). m.key) x.2 ∙ keys x.0) in
+    subst (λ (k : NodeKey). k.slot < length us → unit_at us k.slot ≡ unit_of (map f nodes) k) key
+    (λ within. in_all (λ (m : Node). m.key.slot < length us → unit_at us m.key.slot ≡ unit_of nodes m.key) nodes has x.0 x.1 within ∙ sym (same x.0.key)))
+
+times_filter : (p test : Node → Bool) (ns : List Node) → ((n : Node) → In n ns → p n ≡ false → test n ≡ false) → times test (filter p ns) ≡ times test ns
+times_filter p test [] none = refl
+times_filter p test (n ∷ ns) none =
+    let rest = times_filter p test ns (λ m on. none m (inr on)) in
+    elim (either_way (p n)) [
+      | inl e ↦ rw (e, rest) refl
+      | inr e ↦ rw (e, none n (inl refl) e) rest
+    ]
+
+pub units_filter : (us : List Unit) (p : Node → Bool) (nodes : List Node) → ((n : Node) → In n nodes → p n ≡ false → n.gone ≡ true) → HasUnits us nodes → HasUnits us (filter p nodes)
+units_filter us p nodes over has = all_in (λ (n : Node). n.key.slot < length us → unit_at us n.key.slot ≡ unit_of (filter p nodes) n.key) (filter p nodes) (λ n on within.
+    in_all (λ (m : Node). m.key.slot < length us → unit_at us m.key.slot ≡ unit_of nodes m.key) nodes has n (In-filter p nodes n on).0 within ∙ sym (same n.key))
+  where
+    same : (k : NodeKey) → unit_of (filter p nodes) k ≡ unit_of nodes k
+    same k =
+        let l : times (lives_in k) (filter p nodes) ≡ times (lives_in k) nodes = times_filter p (lives_in k) nodes (λ n on out. rw (over n on out) refl) in
+        let w : times (waits_in k) (filter p nodes) ≡ times (waits_in k) nodes = times_filter p (waits_in k) nodes (λ n on out. rw (over n on out) refl) in
+        λ i. record { live = l i; unready = w i }
+
+-- ---- counting anew
+
+module _ (t : Table Node) (ss : List Shelf) (kept : IsKept t ss) (id : ℕ) (s : Shelf) (found : find (λ (x : Shelf). x.id == id) ss ≡ Some s)
+    (us : List Unit) (few : length s.keys ≤ 18446744073709551615) where
+  abbrev nodes : List Node
+  nodes = nodes_with t s.keys
+
+  abbrev new : List Unit
+  new = tallied nodes (cleared s.keys us)
+
+  whole : IsWhole (collection_in t s)
+  whole = found_whole t id ss s kept.whole found
+
+  filed : list_all (is_filed t s.id) s.keys ≡ true
+  filed = found_filed t id ss s kept.filed found
+
+  at : (n : Node) → In n nodes → node_at t n.key ≡ Some n
+  at n on = in_all (λ (m : Node). node_at t m.key ≡ Some m) nodes (looked_there t kept.named s.keys) n on
+
+  of : (n : Node) → In n nodes → n.collection ≡ id
+  of n on = eqb-true n.collection s.id (all-In (λ (m : Node). m.collection == s.id) nodes n on (looked-of t s.id s.keys filed)) ∙ found_id id ss s found
+
+  long : length new ≡ length us
+  long = tallied_long nodes (cleared s.keys us) ∙ cleared_long s.keys us
+
+  -- each node's key has its unit's counts
+  has : HasUnits new nodes
+  has = all_in (λ (n : Node). n.key.slot < length new → unit_at new n.key.slot ≡ unit_of nodes n.key) nodes (λ n on within.
+      let key : In n.key s.keys = subst (In n.key) (looked-keys t s.id kept.named s.keys filed) (In-map-back (λ (m : Node). m.key) nodes n on) in
+      let short = cleared_long s.keys us in
+      let same_long = long in
+      let zero : unit_at (cleared s.keys us) n.key.slot ≡ no_unit = cleared_own s.keys us n.key key (omega arith) in
+      let l0 : (unit_at (cleared s.keys us) n.key.slot).live ≡ 0 = ap (λ (u : Unit). u.live) zero in
+      let u0 : (unit_at (cleared s.keys us) n.key.slot).unready ≡ 0 = ap (λ (u : Unit). u.unready) zero in
+      let count : length nodes ≡ length s.keys = filed-length t s.id s.keys filed in
+      let adds = tallied_adds nodes (cleared s.keys us) n.key (omega arith)
+      (λ m there here slots. let h = head_there nodes whole.sound.distinct whole.sound.heads whole.rooted whole.united m there here in
+      one_slot t m.head n.key h.0 n (ap (node_at t) (sym h.2) ∙ at h.0 h.1) (at n on) slots)
+      (omega arith) (omega arith) in
+      let a = adds.live in
+      let b = adds.unready in
+      let l : (unit_at new n.key.slot).live ≡ times (lives_in n.key) nodes = omega arith in
+      let w : (unit_at new n.key.slot).unready ≡ times (waits_in n.key) nodes = omega arith in
+      λ i. record { live = l i; unready = w i })
+
+  filed_at : (k : NodeKey) → In k s.keys → (m : Node) × (node_at t k ≡ Some m) × (m.collection ≡ id)
+  filed_at k on = from (node_at t k) refl (all-In (is_filed t s.id) s.keys k on filed)
+    where
+      from : (o : Option Node) → node_at t k ≡ o → option_map_or (λ (n : Node). n.collection == s.id) o false ≡ true → (m : Node) × (node_at t k ≡ Some m) × (m.collection ≡ id)
+      from None is h = cc
+      from (Some m) is h = (m, is, eqb-true m.collection s.id h ∙ found_id id ss s found)
+
+  -- a key of another collection has another slot
+  apart : (k j : NodeKey) (n m : Node) → node_at t k ≡ Some n → n.collection ≢ id → node_at t j ≡ Some m → m.collection ≡ id → j.slot ≢ k.slot
+  apart k j n m is differ there own slots =
+      let same : j ≡ k = one_slot t j k m n there is slots in
+      let one : Some m ≡ Some n = sym there ∙ (ap (node_at t) same ∙ is) in
+      let node : m ≡ n = cc in
+      differ (ap (λ (x : Node). x.collection) (sym node) ∙ own)
+
+  stays : Stays t id us new
+  stays k n is differ within =
+      let same_long = long in (
+        omega arith,
+        tallied_other nodes (cleared s.keys us) k.slot (λ m there here.
+            let h = head_there nodes whole.sound.distinct whole.sound.heads whole.rooted whole.united m there here in
+            apart k m.head n h.0 is differ (ap (node_at t) (sym h.2) ∙ at h.0 h.1) (of h.0 h.1))
+            ∙ cleared_other s.keys us k.slot (λ j on. let x = filed_at j on in apart k j n x.0 is differ x.1 x.2),
+      )
+
+  -- so have all
+  pub recounted_all : AreUnitsBut us id (map (collection_in t) ss) → AreUnits new (map (collection_in t) ss)
+  recounted_all but = units_own t ss kept id us new stays but s (In-find (λ (y : Shelf). y.id == id) ss s found).0 (found_id id ss s found) has
+
+-- where the collection is not there nothing is to be counted
+pub recounted_none : (t : Table Node) (ss : List Shelf) (id : ℕ) → find (λ (x : Shelf). x.id == id) ss ≡ None → (us : List Unit) →
+    AreUnitsBut us id (map (collection_in t) ss) → AreUnits us (map (collection_in t) ss)
+recounted_none t ss id none us but = but_join us id (map (collection_in t) ss) but (λ c on same.
+    let x = In-map (collection_in t) ss c on in
+    let own : (x.0.id == id) ≡ true = eq-eqb x.0.id id (sym (ap (λ (d : Collection). d.id) x.2) ∙ same) in
+    both_ways (list_any (λ (y : Shelf). y.id == id) ss) (In-any (λ (y : Shelf). y.id == id) ss x.0 x.1 own) (none-find (λ (y : Shelf). y.id == id) ss none))
+
+-- ---- forests whose nodes are changed or forgotten
+
+-- where each node is as f makes it, which keeps what is counted
+pub units_with : (us : List Unit) (f : Node → Node) → ((n : Node) → (f n).key ≡ n.key) → ((k : NodeKey) (n : Node) → lives_in k (f n) ≡ lives_in k n) →
+    ((k : NodeKey) (n : Node) → waits_in k (f n) ≡ waits_in k n) → (cs : List Collection) → AreUnits us cs → AreUnits us (map (with_nodes (map f)) cs)
+units_with us f keys lives waits [] all = tt
+units_with us f keys lives waits (c ∷ cs) all = (
+  units_mapped us f c.nodes keys (λ k.
+      let l = times_map (lives_in k) (lives_in k) f c.nodes (lives k) in
+      let w = times_map (waits_in k) (waits_in k) f c.nodes (waits k) in
+      λ i. record { live = l i; unready = w i }) all.0,
+  units_with us f keys lives waits cs all.1,
+)
+
+-- where a node that is gone is forgotten
+pub units_without : (t : Table Node) (us : List Unit) (key : NodeKey) → ((k : NodeKey) (n : Node) → node_at t k ≡ Some n → n.key ≡ k) →
+    ((m : Node) → node_at t key ≡ Some m → m.gone ≡ true) → (ss : List Shelf) → AreUnits us (map (collection_in t) ss) →
+    AreUnits us (map (with_nodes (filter (λ n. not (is_of key n)))) (map (collection_in t) ss))
+units_without t us key named goes [] all = tt
+units_without t us key named goes (s ∷ ss) all = (
+  units_filter us (λ n. not (is_of key n)) (nodes_with t s.keys) (looked_gone t named key goes s.keys) all.0,
+  units_without t us key named goes ss all.1,
+)
+
+-- where all of a collection that are over are
+pub units_over : (us : List Unit) (id : ℕ) (cs : List Collection) → AreUnits us cs → AreUnits us (without_over_in id cs)
+units_over us id [] all = tt
+units_over us id (c ∷ cs) all = from (c.id == id) (is_left (tidied c)) (units_over us id cs all.1)
+  where
+    tidy : HasUnits us (tidied c).nodes
+    tidy = units_filter us (λ n. not (is_over n)) c.nodes (λ n on out. over n.gone (is_spent n.end) out) all.0
+      where
+        over : (g e : Bool) → not (g && e) ≡ false → g ≡ true
+        over true e h = refl
+        over false e h = cc
+
+    from : (here bare : Bool) → AreUnits us (without_over_in id cs) →
+        AreUnits us (if here then (if bare then cs else tidied c ∷ cs) else c ∷ without_over_in id cs)
+    from true true on = all.1
+    from true false on = (tidy, all.1)
+    from false bare on = (all.0, on)
+
+-- and where collections are
+pub units_some : (us : List Unit) (p : Collection → Bool) (cs : List Collection) → AreUnits us cs → AreUnits us (filter p cs)
+units_some us p [] all = tt
+units_some us p (c ∷ cs) all = elim (p c) as (λ (b : Bool). AreUnits us (if b then c ∷ filter p cs else filter p cs)) [
+  | true ↦ (all.0, units_some us p cs all.1)
+  | false ↦ units_some us p cs all.1
+]
