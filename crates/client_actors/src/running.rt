@@ -7,7 +7,7 @@ use crate::gate::{ActorEnd, Gate};
 use crate::playing::play;
 use crate::start::Start;
 use actor_steps::ActorScript;
-use client_ends::{Client, Held, join};
+use client_ends::{Held, join};
 use client_parting::Holding;
 use service_lock::Service;
 use sm_names::{ClientId, StepFault};
