@@ -4,7 +4,9 @@ use stage::{Scene, stage};
 
 mod alone;
 mod asking;
+mod limits;
 mod meeting;
+mod memory;
 mod stage;
 mod together;
 
@@ -21,4 +23,14 @@ fn two_actors_end_with_nothing(rt: HostRuntime) {
 #[test]
 fn actors_wait_for_one_another_outside_the_lock(rt: HostRuntime) {
     stage(&rt, rt.alloc(), Scene::Meeting)
+}
+
+#[test]
+fn nobody_starts_where_a_client_cannot_join(rt: HostRuntime) {
+    stage(&rt, rt.alloc(), Scene::OneEvent)
+}
+
+#[test]
+fn nothing_is_lost_where_memory_is_refused(rt: HostRuntime) {
+    stage(&rt, rt.alloc(), Scene::Memory)
 }

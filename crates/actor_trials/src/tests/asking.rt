@@ -24,12 +24,15 @@ pub fn made<V, F, R: Abort>(rt: &R, asked: Result<V, F>) -> V
     }
 }
 
-/// One more.
+/// One more, asked for once more where memory is refused.
 pub fn put<V, R: Abort>(rt: &R, all: &mut Vec<V>, one: V)
     ensures { all.new.items ≡ all.old.items ++ one ∷ [] }
 {
     match all.push(one) {
         Ok(()) => {}
-        Err(_) => panic!(rt; "no room"),
+        Err(refused) => match all.push(refused.value) {
+            Ok(()) => {}
+            Err(_) => panic!(rt; "no room"),
+        },
     }
 }

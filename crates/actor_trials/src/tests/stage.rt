@@ -2,7 +2,9 @@
 ghost use Rattle.service_lock.specs.Units.{AreFor};
 
 use super::alone::alone;
+use super::limits::one_event;
 use super::meeting::meeting;
+use super::memory::memory;
 use super::together::together;
 use service_lock::{Blanks, PARTS, Service};
 use sm_names::Limits;
@@ -20,33 +22,55 @@ pub enum Scene {
     Alone,
     Together,
     Meeting,
+    OneEvent,
+    Memory,
+}
+
+// The limits of its service.
+fn limits(scene: Scene) -> Option<Limits> {
+    match scene {
+        Scene::OneEvent => Limits::new(1, 4, 4, 4, 4),
+        _ => Some(Limits::full()),
+    }
 }
 
 /// Plays the scene on a service that has seen nothing, and ends it.
 pub fn stage<R: Threads + Wait + Clock + Abort + Sync>(rt: &R, alloc: Global, scene: Scene) {
+    if !start(rt, alloc, scene) {
+        assert!(rt; start(rt, alloc, scene));
+    }
+}
+
+// The same, once: whether there was memory for a service.
+fn start<R: Threads + Wait + Clock + Abort + Sync>(rt: &R, alloc: Global, scene: Scene) -> bool {
     let blanks = Blanks {
         events: Blank::new(PARTS),
         strong: Blank::new(PARTS),
         weak: Blank::new(PARTS),
     };
-    start::<Brand, Brand, Brand, _>(rt, alloc, blanks, scene)
+    play::<Brand, Brand, Brand, _>(rt, alloc, blanks, scene)
 }
 
-// The same, with the books named.
-fn start<
+fn play<
     E: Ledger + Send + Sync,
     S: Ledger + Send + Sync,
     W: Ledger + Send + Sync,
     R: Threads + Wait + Clock + Abort + Sync,
->(rt: &R, alloc: Global, blanks: Blanks, scene: Scene)
+>(rt: &R, alloc: Global, blanks: Blanks, scene: Scene) -> bool
     requires { AreFor E.name E.parts S.name S.parts W.name W.parts blanks }
 {
-    let Ok(service) = Service::<E, S, W>::new(alloc, blanks, 16, Limits::full()) else {
-        panic!(rt; "no service");
+    let Some(limits) = limits(scene) else {
+        panic!(rt; "no limits");
+    };
+    let Ok(service) = Service::<E, S, W>::new(alloc, blanks, 16, limits) else {
+        return false;
     };
     match scene {
         Scene::Alone => alone(rt, alloc, service),
         Scene::Together => together(rt, alloc, service),
         Scene::Meeting => meeting(rt, alloc, service),
+        Scene::OneEvent => one_event(rt, alloc, service),
+        Scene::Memory => memory(rt, alloc, service),
     }
+    true
 }

@@ -25,7 +25,12 @@ fn script<R: Abort>(rt: &R, alloc: Global, label: u32) -> ActorScript {
     ActorScript { steps }
 }
 
-/// Runs two actors, each of which takes a buffer of its own: what is left of both.
+/// The scripts of two actors, each of which takes a buffer of its own.
+pub fn scripts<R: Abort>(rt: &R, alloc: Global) -> [ActorScript; 2] {
+    [script(rt, alloc, 1), script(rt, alloc, 2)]
+}
+
+/// Runs them: what is left of both.
 pub fn two<
     E: Ledger + Send + Sync,
     S: Ledger + Send + Sync,
@@ -33,7 +38,7 @@ pub fn two<
     G: Gate + Sync,
     R: Threads + Wait + Clock + Abort + Sync,
 >(rt: &R, alloc: Global, service: &Service<E, S, W>, gate: &G) -> Vec<Holding<E, S, W>> {
-    let scripts = [script(rt, alloc, 1), script(rt, alloc, 2)];
+    let scripts = scripts(rt, alloc);
     let mut ends = made(rt, run_actors(rt, alloc, service, gate, &scripts));
     let mut parts = Vec::new(alloc);
     while let Some(end) = ends.pop() {

@@ -1,11 +1,11 @@
-use Rattle.actor_trials.proofs.tests.stage.stage.Given as goal
+use Rattle.actor_trials.proofs.tests.stage.start.Given as goal
 
 -- each ledger is that of its blank
-abbrev pub ghosts-start-E-Ledger : goal.ghosts-start-E-Ledger
-ghosts-start-E-Ledger g a = record { name = a.blanks.events.name; parts = a.blanks.events.parts }
+abbrev pub ghosts-play-E-Ledger : goal.ghosts-play-E-Ledger
+ghosts-play-E-Ledger g a = record { name = a.blanks.events.name; parts = a.blanks.events.parts }
 
-abbrev pub ghosts-start-S-Ledger : goal.ghosts-start-S-Ledger
-ghosts-start-S-Ledger g a = record { name = a.blanks.strong.name; parts = a.blanks.strong.parts }
+abbrev pub ghosts-play-S-Ledger : goal.ghosts-play-S-Ledger
+ghosts-play-S-Ledger g a = record { name = a.blanks.strong.name; parts = a.blanks.strong.parts }
 
-abbrev pub ghosts-start-W-Ledger : goal.ghosts-start-W-Ledger
-ghosts-start-W-Ledger g a = record { name = a.blanks.weak.name; parts = a.blanks.weak.parts }
+abbrev pub ghosts-play-W-Ledger : goal.ghosts-play-W-Ledger
+ghosts-play-W-Ledger g a = record { name = a.blanks.weak.name; parts = a.blanks.weak.parts }
