@@ -254,3 +254,78 @@ fn firings_of_several_conditions_stand_by_id(rt: HostRuntime) -> Result<(), Fail
     }
     Ok(())
 }
+
+#[test]
+fn lifetimes_of_several_nodes_end_by_their_own_numbers(rt: HostRuntime) -> Result<(), Fail> {
+    let mut line = Line::new(rt.alloc(), 8);
+    let conditions = [
+        Condition::Lifetime(NODE, HERE, 2),
+        Condition::Lifetime(OTHER, HERE, 3),
+        Condition::Lifetime(NODE, HERE, 3),
+        Condition::Node(OTHER),
+        Condition::Lifetime(OTHER, HERE, 1),
+        Condition::Lifetime(NODE, HERE, 0),
+    ];
+    for condition in conditions {
+        line.track(condition).map_err(|_| "not attached")?;
+    }
+    let held = |left: usize| Here {
+        gone: None,
+        allocated: true,
+        left,
+        doomed: None,
+    };
+    line.sweep(&held(4));
+    assert!(rt; line.fired().is_empty());
+    line.sweep(&held(3));
+    line.sweep(&held(1));
+    // Before the allocation only the node that goes is told of.
+    let early = Here {
+        gone: Some(4),
+        ..QUIET
+    };
+    line.sweep(&early);
+    line.sweep(&GONE);
+    let seen = [2, 3, 1, 5, 4, 6];
+    assert_eq!(rt; line.fired().len(), 6);
+    for (fired, tracker) in line.fired().iter().zip(seen) {
+        assert!(rt; *fired == Fired { tracker, event: 6 }, "{tracker}");
+    }
+    Ok(())
+}
+
+#[test]
+fn of_4096_lifetimes_of_64_nodes_64_fire_at_a_time(rt: HostRuntime) -> Result<(), Fail> {
+    let mut line = Line::new(rt.alloc(), 4096);
+    for most in 0..64 {
+        for slot in 0..64 {
+            let key = NodeKey {
+                slot: slot * 7 % 64,
+                generation: 0,
+            };
+            line.track(Condition::Lifetime(key, HERE, most))
+                .map_err(|_| "not attached")?;
+        }
+    }
+    let held = |left: usize| Here {
+        gone: None,
+        allocated: true,
+        left,
+        doomed: None,
+    };
+    line.sweep(&held(64));
+    assert!(rt; line.fired().is_empty());
+    for step in 0..64 {
+        line.pass();
+        line.sweep(&held(63 - step));
+        assert_eq!(rt; line.fired().len(), 64 * step + 64);
+        for (place, fired) in line.fired().iter().skip(64 * step).enumerate() {
+            let next = Fired {
+                tracker: 64 * (63 - step as u64) + place as u64 + 1,
+                event: 4097 + step as u64,
+            };
+            assert!(rt; *fired == next, "{step} {place}");
+        }
+    }
+    Ok(())
+}
