@@ -50,9 +50,8 @@ fn rank(condition: Condition) -> u64
     }
 }
 
-/// Where the group of the condition stands, or is to stand: groups before it have smaller numbers.
-/// No proof rests on their order, but what a search costs: a second group of a condition would be
-/// asked too.
+/// Where the group of the condition stands, or is to stand: behind those of smaller numbers. Only the
+/// cost of a search rests on that order, since a second group of the same would be asked too.
 fn place_for(groups: &[Group], condition: Condition) -> usize
     ensures { result ≤ length groups.now }
 {

@@ -68,9 +68,9 @@ impl Trackers {
     /// Attaches a tracker under the number of this event, filed under the collection that its
     /// condition concerns. It is `Full` exactly where as many wait as may, whatever memory there
     /// is; a fault changes nothing. All memory that the firing and the taking will need is taken here:
-    /// a cell, the room for its value, and a place in each table. It costs a pass over the nodes and the
-    /// buffers that are waited for under the collection, the logarithm of how many wait for the same,
-    /// and the growth of the tables.
+    /// a cell, the room for its value, and a place in each table. It costs a binary search among the
+    /// nodes and the buffers that are waited for under the collection, the logarithm of how many wait
+    /// for the same, the shift of the others behind one that is new, and the growth of the tables.
     pub fn attach(
         &mut self,
         id: TrackerId,
