@@ -82,7 +82,7 @@ fn of_handle(buffer: BufferName, strength: Strength, makes: Made) -> Traits
     }
 }
 
-/// What the call names and makes: the only place where calls are told apart by it.
+/// What the call names and makes. Each call is told of here, and none is left to a rest.
 pub(crate) fn traits_of(call: &Call) -> Traits
     ensures value { result ≡ traits_in call.now }
     ensures law { Describes call.now result }
