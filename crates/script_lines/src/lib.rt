@@ -2,6 +2,7 @@
 #![tactic(auto)]
 
 mod buffer_label;
+mod hashing;
 mod label;
 mod line;
 mod number;
@@ -10,6 +11,7 @@ mod spelling;
 mod words;
 
 pub use buffer_label::BufferLabel;
+pub use hashing::LabelHash;
 pub use label::Label;
 pub use line::{BufferVerb, Line, Verb, View};
 pub use parser::line as read_line;

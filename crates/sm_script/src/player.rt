@@ -8,6 +8,7 @@ use crate::fault::ScriptFault;
 use crate::session::Session;
 use crate::stop::Stop;
 use crate::writing::give_up;
+use script_lines::LabelHash;
 use script_runs::write_out;
 use sm_names::{Limits, NoMemory};
 use std::alloc::Global;
@@ -28,14 +29,19 @@ pub(crate) struct Player {
 
 impl Player {
     // No line was answered.
-    pub(crate) fn new(alloc: Global, pages: u32, limits: Limits) -> Result<Player, NoMemory>
+    pub(crate) fn new(
+        alloc: Global,
+        labels: LabelHash,
+        pages: u32,
+        limits: Limits,
+    ) -> Result<Player, NoMemory>
         requires { (1 ≤ pages) × (pages ≤ 1048576) }
         ensures so_far { IfOk result (λ player. (old : Option (List ℕ)) →
             SoFar (record { pool = pages; limits = limits }) player old old []) }
         ensures no_lines { IfOk result (λ player. player.lines ≡ 0) }
         ensures no_text { IfOk result (λ player. player.out.items ≡ []) }
     {
-        let session = Session::new(alloc, pages, limits)?;
+        let session = Session::new(alloc, labels, pages, limits)?;
         Ok(Player {
             session,
             lines: 0,

@@ -17,7 +17,7 @@ use crate::tables::Tables;
 use crate::texts::{push_poll, push_reply};
 use crate::views::push_view;
 use lifetime_core::Core;
-use script_lines::{View, push, read_line};
+use script_lines::{LabelHash, View, push, read_line};
 use sm_names::{Call, ClientId, Fired, Limits, NoMemory, Reply, StepFault, TrackerId};
 use std::alloc::{AllocError, Global};
 use std::collections::HashMap;
@@ -33,7 +33,12 @@ pub(crate) struct Session {
 
 impl Session {
     // A session that has seen no line.
-    pub(crate) fn new(alloc: Global, pages: u32, limits: Limits) -> Result<Session, NoMemory>
+    pub(crate) fn new(
+        alloc: Global,
+        labels: LabelHash,
+        pages: u32,
+        limits: Limits,
+    ) -> Result<Session, NoMemory>
         requires { (1 ≤ pages) × (pages ≤ 1048576) }
         ensures pool { IfOk result (λ session. session.core.pool ≡ pages) }
         ensures limits { IfOk result (λ session. session.core.limits ≡ limits) }
@@ -42,7 +47,7 @@ impl Session {
         let core = Core::new(alloc, pages, limits)?;
         Ok(Session {
             core,
-            tables: Tables::new(alloc),
+            tables: Tables::new(alloc, labels),
             readers: HashMap::new(alloc),
         })
     }

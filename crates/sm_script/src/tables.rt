@@ -6,19 +6,20 @@ ghost use Rattle.sm_script.specs.Names.{Names, act_of, buffer_of, client_of, lab
 ghost use Rattle.sm_script.specs.Tables.{Keeps};
 
 use crate::act::{Act, Binds};
-use script_lines::{BufferLabel, BufferVerb, Label, Line, Verb};
+use script_lines::{BufferLabel, BufferVerb, Label, LabelHash, Line, Verb};
 use sm_names::{BufferName, Call, ClientId, CollectionId, NodeKey, Reply, TrackerId};
 use std::alloc::{AllocError, Global};
 use std::collections::HashMap;
 use std::hash::Hash;
 
-// What each label stands for, and the labels of nodes, of collections' roots and of trackers.
+// What each label stands for, and the labels of nodes, of collections' roots and of trackers. A
+// script picks its labels, so tables hash them from a seed; keys and numbers come from the core.
 #[derive(Drop)]
 pub(crate) struct Tables {
-    pub(crate) clients: HashMap<Label, ClientId>,
+    pub(crate) clients: HashMap<Label, ClientId, LabelHash>,
     // Each node with its collection.
-    pub(crate) nodes: HashMap<Label, (NodeKey, CollectionId)>,
-    pub(crate) trackers: HashMap<Label, TrackerId>,
+    pub(crate) nodes: HashMap<Label, (NodeKey, CollectionId), LabelHash>,
+    pub(crate) trackers: HashMap<Label, TrackerId, LabelHash>,
     pub(crate) births: HashMap<NodeKey, Label>,
     pub(crate) roots: HashMap<CollectionId, Label>,
     pub(crate) tracked: HashMap<TrackerId, Label>,
@@ -26,13 +27,13 @@ pub(crate) struct Tables {
 
 impl Tables {
     // No label stands for anything.
-    pub(crate) fn new(alloc: Global) -> Tables
+    pub(crate) fn new(alloc: Global, labels: LabelHash) -> Tables
         ensures { Keeps result no_names }
     {
         Tables {
-            clients: HashMap::new(alloc),
-            nodes: HashMap::new(alloc),
-            trackers: HashMap::new(alloc),
+            clients: HashMap::with_hasher(alloc, labels),
+            nodes: HashMap::with_hasher(alloc, labels),
+            trackers: HashMap::with_hasher(alloc, labels),
             births: HashMap::new(alloc),
             roots: HashMap::new(alloc),
             tracked: HashMap::new(alloc),

@@ -10,8 +10,10 @@ mod words;
 
 use clap::Error;
 use clap::error::ErrorKind;
+use script_lines::LabelHash;
 use sm_script::run_to_exit;
 use std::process::ExitCode;
+use std::random::RandomSource;
 use std::{env, io};
 use thread_runs::run_threads_to_exit;
 use words::{asks_for_threads, command, pages_of};
@@ -87,8 +89,12 @@ fn main(rt: HostRuntime) -> ExitCode {
             pages,
         );
     }
+    // Where there are no random bytes, all runs hash alike, as they answer alike.
+    let mut seed = [0; 16];
+    let _ = rt.fill_bytes(&mut seed);
     run_to_exit(
         alloc,
+        LabelHash::new(seed),
         &mut rt.reader(),
         &mut io::writer(&rt),
         &mut io::writer(&rt.stderr()),

@@ -1,5 +1,6 @@
 //! Scripts that stop before their end.
 use crate::tests::fixture::{check, play};
+use script_lines::LabelHash;
 use sm_names::Limits;
 use sm_script::{ScriptFault, run_script};
 use std::alloc::Global;
@@ -251,7 +252,14 @@ fn refused_memory_leaves_the_text_of_the_first_lines(rt: HostRuntime) {
         used: 0,
     };
     let mut reader = SHORT.as_bytes();
-    let ended = run_script(rt.alloc(), &mut reader, &mut writer, 16, Limits::full());
+    let ended = run_script(
+        rt.alloc(),
+        LabelHash::new([3; 16]),
+        &mut reader,
+        &mut writer,
+        16,
+        Limits::full(),
+    );
     let out = writer.used.min(128);
     let whole = [0, 7, 15, SHORT_REPLIES.len()];
     if ended != Ok(()) {
