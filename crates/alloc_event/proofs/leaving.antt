@@ -1,7 +1,9 @@
 -- What is forgotten.
+pub mod Alone
 pub mod Emptying
 pub mod Ends
 pub mod Forgotten
 pub mod Leaving
+pub mod Noted
 pub mod Thinning
 pub mod Tidying

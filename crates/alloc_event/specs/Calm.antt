@@ -1,7 +1,9 @@
 -- The counts that are kept of a collection, and that nothing is forced in it while it has a keeper. No public clause cites
 -- this module.
-use Rattle.std.specs.Prelude.{◌≡◌, ◌≢◌, ℕ, true, false, ◌==◌, nat_lt, if◌then◌else◌, List, [], ◌∷◌, None}
+use Rattle.std.specs.Prelude.{◌≡◌, ◌≢◌, ℕ, Bool, true, false, not, ◌&&◌, ◌==◌, nat_lt, if◌then◌else◌, List, [], ◌∷◌, Option, Some, None}
 use Rattle.std.specs.List.{AllByRecursion, list_any}
+use Rattle.sm_names.specs.declared.keys.NodeKey.{NodeKey}
+use Rattle.sm_names.specs.Sameness.{same_key}
 use Rattle.sm_names.specs.Words.{times}
 use Rattle.node_table.specs.Table.{Table}
 use Rattle.alloc_event.specs.declared.entry.Entry.{Entry}
@@ -21,11 +23,17 @@ IsCalm c = decided c.nodes c.buffers true ≡ None
 abbrev pub strong_count : List Node → ℕ
 strong_count nodes = times is_strong nodes
 
--- the collection of the entry is calm, its count is that of its nodes, and where it is tidy none of them is over
+-- the node is over, and not the one that is noted
+abbrev pub over_but : Option NodeKey → Node → Bool
+over_but None n = is_over n
+over_but (Some key) n = is_over n && not (same_key key n.key)
+
+-- the collection of the entry is calm, its count is that of its nodes, and where it is tidy none of them is over but the one
+-- that is noted
 pub record IsCounted (t : Table Node) (e : Entry) : Type 0 where
   pub calm : IsCalm (collection_in t (shelf_of e))
   pub strong : e.strong ≡ strong_count (nodes_with t e.keys.items)
-  pub tidy : e.tidy ≡ true → list_any is_over (nodes_with t e.keys.items) ≡ false
+  pub tidy : e.tidy ≡ true → list_any (over_but e.one) (nodes_with t e.keys.items) ≡ false
 
 -- so of each entry
 abbrev pub AreCounted : Table Node → List Entry → Type 0

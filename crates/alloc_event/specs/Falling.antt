@@ -17,7 +17,7 @@ use Rattle.alloc_event.specs.declared.units.Unit.{Unit}
 use Rattle.alloc_event.specs.Counts.{is_unready, unit_at}
 use Rattle.alloc_event.specs.InPlace.{IsDone}
 use Rattle.alloc_event.specs.Kept.{Shelf, nodes_with}
-use Rattle.alloc_event.specs.Nodes.{is_over, lost}
+use Rattle.alloc_event.specs.Nodes.{lost}
 use Rattle.alloc_event.specs.Questions.{is_live_node}
 use Rattle.alloc_event.specs.Ties.{IsFall}
 
@@ -100,4 +100,4 @@ is_kept_up t before after head attached =
 -- the change was made in its place, by which these nodes went, as they are then
 pub record IsLost (t now : Table Node) (us : List Unit) (ss : List Shelf) (s : Shelf) (change : Change) (lives : ℕ) (fallen : List Node) : Type 0 where
   pub done : IsDone t now us ss s change lives
-  pub over : list_any is_over fallen ≡ false → list_any is_over (nodes_with t s.keys) ≡ false → list_any is_over (nodes_with now s.keys) ≡ false
+  pub over : (p : Node → Bool) → list_any p fallen ≡ false → list_any p (nodes_with t s.keys) ≡ false → list_any p (nodes_with now s.keys) ≡ false

@@ -1,13 +1,15 @@
 -- What the table and the shelves are once nodes are forgotten. No public clause cites this module.
-use Rattle.std.specs.Prelude.{◌≡◌, ◌≢◌, ℕ, ◌+◌, Bool, false, ◌==◌, ◌&&◌, not, if◌then◌else◌, List, [], map, length, Option, Some, None, is_some, IsSome, Contains}
+use Rattle.std.specs.Prelude.{◌≡◌, ◌≢◌, ℕ, ◌+◌, Bool, true, false, ◌==◌, ◌&&◌, not, if◌then◌else◌, List, [], map, length, Option, Some, None, is_some, IsSome, Contains}
 use Rattle.std.specs.List.{filter, list_any}
 use Rattle.std.specs.Option.{option_map_or}
 use Rattle.sm_names.specs.declared.keys.NodeKey.{NodeKey}
 use Rattle.sm_names.specs.Sameness.{same_key}
 use Rattle.node_table.specs.Table.{Table, node_at, parent_at, children_at, table_len}
 use Rattle.node_table.specs.Changes.{SameKeys}
+use Rattle.alloc_event.specs.declared.entry.Entry.{Entry}
 use Rattle.alloc_event.specs.declared.node.Node.{Node}
-use Rattle.alloc_event.specs.Kept.{Shelf}
+use Rattle.alloc_event.specs.Calm.{over_but}
+use Rattle.alloc_event.specs.Kept.{Shelf, nodes_with}
 use Rattle.alloc_event.specs.Nodes.{is_over}
 
 -- the key is a child of the other
@@ -59,3 +61,23 @@ is_bare s = length s.keys == 0 && length s.held == 0
 -- the shelves without the one with this id, if that is bare
 abbrev pub without_bare : ℕ → List Shelf → List Shelf
 without_bare id ss = filter (λ (s : Shelf). not (s.id == id && is_bare s)) ss
+
+-- the node with this key is over, one of the entry's, and noted as the only one that is
+pub record IsNoted (t : Table Node) (e : Entry) (key : NodeKey) : Type 0 where
+  pub tidy : e.tidy ≡ true
+  pub one : e.one ≡ Some key
+  pub over : option_map_or is_over (node_at t key) false ≡ true
+  pub listed : list_any (same_key key) e.keys.items ≡ true
+
+-- of the nodes with these keys it is the only one that is over
+pub record IsAlone (t : Table Node) (keys : List NodeKey) (key : NodeKey) : Type 0 where
+  pub listed : list_any (same_key key) keys ≡ true
+  pub alone : list_any (over_but (Some key)) (nodes_with t keys) ≡ false
+
+-- the table has all of these keys but this one
+abbrev pub IsMissing : Table Node → List NodeKey → NodeKey → Type 0
+IsMissing t keys key = filter (is_found t) keys ≡ filter (λ other. not (same_key key other)) keys
+
+-- the key is noted, or nothing is known
+abbrev pub IsNotedOr : Entry → NodeKey → Type 0
+IsNotedOr e key = e.tidy ≡ true → e.one ≡ Some key

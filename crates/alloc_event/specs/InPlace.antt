@@ -1,15 +1,15 @@
 -- A change that forces nothing and is made in its place. No public clause cites this module.
-use Rattle.std.specs.Prelude.{◌≡◌, ◌≢◌, ℕ, Bool, true, false, if◌then◌else◌, List, map, Some, ◌==◌}
+use Rattle.std.specs.Prelude.{◌≡◌, ◌≢◌, ℕ, Bool, true, false, if◌then◌else◌, List, map, Option, Some, ◌==◌}
 use Rattle.std.specs.List.{find, list_all, list_any}
+use Rattle.sm_names.specs.declared.keys.NodeKey.{NodeKey}
 use Rattle.sm_names.specs.declared.messages.Call.{Call}
 use Rattle.node_table.specs.Table.{Table}
 use Rattle.alloc_event.specs.declared.change.Change.{Change}
 use Rattle.alloc_event.specs.declared.node.Node.{Node}
 use Rattle.alloc_event.specs.declared.units.Unit.{Unit}
-use Rattle.alloc_event.specs.Calm.{IsCalm, strong_count}
+use Rattle.alloc_event.specs.Calm.{IsCalm, over_but, strong_count}
 use Rattle.alloc_event.specs.Counts.{AreUnits}
 use Rattle.alloc_event.specs.Kept.{Finishes, IsKept, SameTable, Shelf, collection_in, forest_of, is_filed, nodes_with}
-use Rattle.alloc_event.specs.Nodes.{is_over}
 use Rattle.alloc_event.specs.Settling.{Handles, MayChange, changed, collection_or_new, no_key}
 
 -- 1 where the test holds
@@ -52,7 +52,7 @@ pub record IsDone (t now : Table Node) (us : List Unit) (ss : List Shelf) (s : S
   pub units : AreUnits us (map (collection_in now) ss)
   pub same : SameTable t now
 
--- so it was, and as many nodes as before are over
+-- so it was, and as many nodes are over as before, also without one of them
 pub record IsMade (t now : Table Node) (us : List Unit) (ss : List Shelf) (s : Shelf) (change : Change) (lives : ℕ) : Type 0 where
   pub done : IsDone t now us ss s change lives
-  pub over : list_any is_over (nodes_with now s.keys) ≡ list_any is_over (nodes_with t s.keys)
+  pub over : (one : Option NodeKey) → list_any (over_but one) (nodes_with now s.keys) ≡ list_any (over_but one) (nodes_with t s.keys)

@@ -341,6 +341,7 @@ fn bear_among(
     ensures err_strong { OnErr result (entry.new.strong ≡ entry.old.strong) }
     ensures id { entry.new.id ≡ entry.old.id }
     ensures tidy { entry.new.tidy ≡ entry.old.tidy }
+    ensures one { entry.new.one ≡ entry.old.one }
 {
     if entry.keys.reserve(1).is_err() {
         return Err(NoMemory);
@@ -393,6 +394,7 @@ fn bear_first(
             held: Vec::new(alloc),
             strong,
             tidy: true,
+            one: None,
         },
     );
     Ok(key)

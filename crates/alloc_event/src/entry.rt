@@ -18,8 +18,10 @@ pub(crate) struct Entry {
     pub(crate) held: Vec<HeldBuffer>,
     /// How many of its nodes are live and strong.
     pub(crate) strong: usize,
-    /// It is known that none of its nodes is over.
+    /// It is known that none of its nodes is over, but for the one that is noted.
     pub(crate) tidy: bool,
+    /// The key of a node that may be over.
+    pub(crate) one: Option<NodeKey>,
 }
 
 /// How many collections have a smaller id.

@@ -1,5 +1,5 @@
 //! Losses and ends in their places: what goes is found first, and then each node goes.
-ghost use Rattle.std.specs.Prelude.{◌≡◌, ◌&&◌, not, ◌≢◌, ℕ, List, Some, None, true, false, IfOk, IfSome, IsSome, OnErr, map};
+ghost use Rattle.std.specs.Prelude.{◌≡◌, ◌⊎◌, ◌≢◌, ℕ, List, Some, None, true, false, IfOk, IfSome, IsSome, OnErr, map};
 ghost use Rattle.std.specs.List.{find, list_all, list_any};
 ghost use Rattle.sm_names.specs.declared.keys.NodeKey.{NodeKey as Key};
 ghost use Rattle.sm_names.specs.declared.messages.Call.{Call as Asked};
@@ -7,17 +7,17 @@ ghost use Rattle.sm_names.specs.Sameness.{same_key};
 ghost use Rattle.node_table.specs.Table.{node_at, row_at};
 ghost use Rattle.alloc_event.specs.declared.change.Change.{Change as Changed};
 ghost use Rattle.alloc_event.specs.declared.node.Node.{Node as Kept};
-ghost use Rattle.alloc_event.specs.Calm.{AreCounted};
+ghost use Rattle.alloc_event.specs.Calm.{AreCounted, over_but};
 ghost use Rattle.alloc_event.specs.Counts.{AreUnitsBut, HaveUnits, unit_at};
 ghost use Rattle.alloc_event.specs.Falling.{IsLost, IsTaken, IsTop, change_of, gone_by, is_first, is_kept_up, lowered, may_go, stays_live, untallied, without_node};
 ghost use Rattle.alloc_event.specs.InPlace.{IsOpen};
 ghost use Rattle.alloc_event.specs.Kept.{Finishes, IsKept, SameTable, Shelf, all_of, collection_in, forest_of, nodes_with, shelves_of};
-ghost use Rattle.alloc_event.specs.Nodes.{is_over};
 ghost use Rattle.alloc_event.specs.Settling.{Handles, MayChange, changed, collection_or_new, no_key};
 
 use crate::entry::{Entry, place_of};
+use crate::forgetting::is_listed;
 use crate::in_place::is_served;
-use crate::kept::{count_strong, is_some_over};
+use crate::kept::{count_strong, is_over, is_some_over};
 use crate::losses::fail;
 use crate::node::Node;
 use crate::questions::is_live;
@@ -99,13 +99,6 @@ fn is_first(keys: &[NodeKey], key: NodeKey) -> bool
         Some((first, _)) => *first == key,
         None => false,
     }
-}
-
-/// Whether the key is one of these.
-fn is_listed(keys: &[NodeKey], key: NodeKey) -> bool
-    ensures { result ≡ list_any (same_key key) keys.now }
-{
-    keys.iter().any(|other| key == *other)
 }
 
 /// Whether a node of these is live, and stays so where the one with this key is released.
@@ -236,11 +229,27 @@ fn fell(
     Some(strong - lost)
 }
 
-/// Whether a collection that was tidy, or not, is so with these nodes as they are now.
-fn is_tidy_still(tidy: bool, nodes: &[Node]) -> bool
-    ensures { result ≡ (tidy && not (list_any is_over nodes.now)) }
+/// What is known of a collection once these nodes went: whether none is over but the noted one, as
+/// before or with another noted, and which is noted.
+fn note_gone(tidy: bool, one: Option<NodeKey>, nodes: &[Node]) -> (bool, Option<NodeKey>)
+    ensures tidy { result.0 ≡ true → tidy ≡ true }
+    ensures one { result.0 ≡ true → (result.1 ≡ one) ⊎ (one ≡ None) }
+    ensures over { result.0 ≡ true → list_any (over_but result.1) nodes.now ≡ false }
 {
-    tidy && !is_some_over(nodes)
+    if let Some(key) = only_over(nodes) {
+        return (tidy && one.is_none(), Some(key));
+    }
+    (tidy && !is_some_over(nodes), one)
+}
+
+/// The key of the node, if there is one alone and it is over.
+fn only_over(nodes: &[Node]) -> Option<NodeKey>
+    ensures { IfSome result (λ key. list_any (over_but (Some key)) nodes.now ≡ false) }
+{
+    match nodes {
+        [node] if is_over(node) => Some(node.key),
+        _ => None,
+    }
 }
 
 /// Makes these nodes go in their places so, and answers whether it did; if not, the table and the
@@ -281,10 +290,11 @@ fn lose_nodes(
         recount(units, table, entries, id);
         return false;
     };
-    let tidy = is_tidy_still(entries[at].tidy, nodes);
+    let (tidy, one) = note_gone(entries[at].tidy, entries[at].one, nodes);
     let entry = &mut entries[at];
     entry.strong = left;
     entry.tidy = tidy;
+    entry.one = one;
     true
 }
 

@@ -74,6 +74,7 @@ pub(crate) fn finish(
             held: scene.held,
             strong,
             tidy,
+            one: None,
         },
     );
     Ok(())

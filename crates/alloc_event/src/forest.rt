@@ -193,7 +193,7 @@ impl Forest {
     {
         if let Some(node) = self.table.get(key).copied() {
             let after = Node { end, ..node };
-            note_over(&mut self.entries, node.collection, is_over(&after));
+            note_over(&mut self.entries, node.collection, key, is_over(&after));
             write(&mut self.table, after);
         }
     }
@@ -227,8 +227,9 @@ impl Forest {
 
     /// Forgets the nodes of the collection that are over, and the collection where nothing is left
     /// of it. Without such a collection nothing changes. It takes no memory, and costs a binary
-    /// search, and a pass over the nodes of the collection where since the last call one went whose
-    /// end was spent, or the end of a gone one was spent.
+    /// search. Where since the last call one node alone went whose end was spent, or the end of one
+    /// gone node was spent, it costs a pass over the keys of the collection besides, and where
+    /// several did, a pass over its nodes.
     pub fn forget_over(&mut self, id: CollectionId)
         ensures collections { self.new.collections ≡ without_over_in id self.old.collections }
         ensures keys { SameKeys self.old self.new }

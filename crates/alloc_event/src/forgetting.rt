@@ -1,7 +1,7 @@
 //! Forgetting: nodes that are taken out of the table with their keys, and collections of which
 //! nothing is left.
-ghost use Rattle.std.specs.Prelude.{Some, None, not, ◌≡◌, ◌==◌, [], map, IsSome, is_some, MatchOption, List, true, false};
-ghost use Rattle.std.specs.List.{filter, find, AllByRecursion};
+ghost use Rattle.std.specs.Prelude.{IfSome, Some, None, not, ◌≡◌, ◌==◌, [], map, IsSome, is_some, MatchOption, List, true, false};
+ghost use Rattle.std.specs.List.{filter, find, list_any, AllByRecursion};
 ghost use Rattle.std.specs.Option.{option_map_or};
 ghost use Rattle.sm_names.specs.declared.keys.NodeKey.{NodeKey as Key};
 ghost use Rattle.sm_names.specs.Sameness.{same_key};
@@ -11,7 +11,7 @@ ghost use Rattle.alloc_event.specs.declared.node.Node.{Node as Kept};
 ghost use Rattle.alloc_event.specs.declared.entry.Entry.{Entry as KeptEntry};
 ghost use Rattle.alloc_event.specs.Calm.{AreCounted, AreTidy};
 ghost use Rattle.alloc_event.specs.Forest.{without_over_in};
-ghost use Rattle.alloc_event.specs.Forgetting.{IsChild, Unlinks, TakesOut, is_found, left_at, thinned, thin_in, without_bare};
+ghost use Rattle.alloc_event.specs.Forgetting.{IsAlone, IsChild, IsMissing, IsNoted, IsNotedOr, Unlinks, TakesOut, is_found, left_at, thinned, thin_in, without_bare};
 ghost use Rattle.alloc_event.specs.Kept.{AreRising, IsKept, Shelf, collection_in, shelf_of, shelves_of};
 ghost use Rattle.alloc_event.specs.Nodes.{is_over};
 
@@ -94,17 +94,77 @@ fn keep_found(keys: &mut Vec<NodeKey>, table: &NodeTable<Node>)
     keys.retain(|key| is_found(table, *key));
 }
 
-/// Keeps those of the collection's keys that the table has: none of their nodes is over.
-pub(crate) fn thin(entries: &mut Vec<Entry>, table: &NodeTable<Node>, id: CollectionId)
-    requires { AreRising (shelves_of entries.old.items) }
+/// Whether the key is one of these.
+pub(crate) fn is_listed(keys: &[NodeKey], key: NodeKey) -> bool
+    ensures { result ≡ list_any (same_key key) keys.now }
+{
+    keys.iter().any(|other| key == *other)
+}
+
+/// Whether it is known that no node of the collection is over.
+fn is_tidy(entry: &Entry) -> bool
+    ensures { result ≡ true → (entry.now.tidy ≡ true) × (entry.now.one ≡ None) }
+{
+    entry.tidy && entry.one.is_none()
+}
+
+/// The one node of the collection that is over, if that is known.
+fn only_over(table: &NodeTable<Node>, entry: &Entry) -> Option<NodeKey>
+    ensures { IfSome result (λ key. IsNoted table.now entry.now key) }
+{
+    let key = entry.one?;
+    if entry.tidy && is_over_at(table, key) && is_listed(&entry.keys, key) {
+        Some(key)
+    } else {
+        None
+    }
+}
+
+/// Takes those of the nodes with these keys out of the table that are over: this one, if it is
+/// known to be the only one. It takes no memory.
+fn take_out_noted(table: &mut NodeTable<Node>, keys: &[NodeKey], one: Option<NodeKey>)
+    requires named { (key : Key) (n : Kept) → node_at table.old key ≡ Some n → n.key ≡ key }
+    requires one { IfSome one (λ key. IsAlone table.old keys.now key) }
+    ensures look { (k : Key) → node_at table.new k ≡ left_at table.old keys.now k }
+    ensures kept { (ss : List Shelf) → IsKept table.old ss → IsKept table.new (map (thinned table.new) ss) }
+    ensures keys { SameKeys table.old table.new }
+{
+    match one {
+        Some(key) => take_out_over(table, &[key]),
+        None => take_out_over(table, keys),
+    }
+}
+
+/// Keeps those of the keys that the table has: all but this one, if that is known.
+fn keep(keys: &mut Vec<NodeKey>, table: &NodeTable<Node>, one: Option<NodeKey>)
+    requires { IfSome one (λ key. IsMissing table.now keys.old.items key) }
+    ensures { keys.new.items ≡ filter (is_found table.now) keys.old.items }
+{
+    match one {
+        Some(key) => forget_key(keys, key),
+        None => keep_found(keys, table),
+    }
+}
+
+/// Keeps those of the collection's keys that the table has, which are all but this one, if that is
+/// known: none of their nodes is over.
+pub(crate) fn thin(
+    entries: &mut Vec<Entry>,
+    table: &NodeTable<Node>,
+    id: CollectionId,
+    one: Option<NodeKey>,
+)
+    requires rising { AreRising (shelves_of entries.old.items) }
+    requires one { IfSome one (λ key. AllByRecursion (λ (e : KeptEntry). e.id ≡ id → IsMissing table.now e.keys.items key) entries.old.items) }
     ensures shelves { shelves_of entries.new.items ≡ thin_in table.now id (shelves_of entries.old.items) }
     ensures counted { AreCounted table.now entries.old.items → AreTidy table.now id entries.old.items
         → AreCounted table.now entries.new.items }
 {
     if let Some(at) = place_of(entries, id) {
         let entry = &mut entries[at];
-        keep_found(&mut entry.keys, table);
+        keep(&mut entry.keys, table, one);
         entry.tidy = true;
+        entry.one = None;
     }
 }
 
@@ -121,8 +181,9 @@ pub(crate) fn drop_bare(entries: &mut Vec<Entry>, id: CollectionId)
     }
 }
 
-/// Forgets the nodes of the collection that are over. It costs a pass over its nodes, and a binary
-/// search alone where it is known that none is over.
+/// Forgets the nodes of the collection that are over. It costs a pass over its nodes, a pass over
+/// their keys where it is known which one is over, and a binary search alone where it is known that
+/// none is.
 fn forget_nodes(table: &mut NodeTable<Node>, entries: &mut Vec<Entry>, id: CollectionId)
     requires kept { IsKept table.old (shelves_of entries.old.items) }
     requires counted { AreCounted table.old entries.old.items }
@@ -137,11 +198,12 @@ fn forget_nodes(table: &mut NodeTable<Node>, entries: &mut Vec<Entry>, id: Colle
     let Some(entry) = entry_of(entries, id) else {
         return;
     };
-    if entry.tidy {
+    if is_tidy(entry) {
         return;
     }
-    take_out_over(table, &entry.keys);
-    thin(entries, table, id);
+    let one = only_over(table, entry);
+    take_out_noted(table, &entry.keys, one);
+    thin(entries, table, id, one);
 }
 
 /// Takes the nodes of the collection that are over out, and the collection where nothing is left
@@ -159,17 +221,20 @@ pub(crate) fn forget_over(table: &mut NodeTable<Node>, entries: &mut Vec<Entry>,
     drop_bare(entries, id);
 }
 
-/// Notes of the collection whether a node of it is over now.
-pub(crate) fn note_over(entries: &mut Vec<Entry>, id: CollectionId, over: bool)
+/// Notes of the collection whether its node with this key is over now.
+pub(crate) fn note_over(entries: &mut Vec<Entry>, id: CollectionId, key: NodeKey, over: bool)
     requires { AreRising (shelves_of entries.old.items) }
     ensures shelves { shelves_of entries.new.items ≡ shelves_of entries.old.items }
     ensures counted { (t : Table Kept) → AreCounted t entries.old.items → AreCounted t entries.new.items }
-    ensures noted { over ≡ true → AllByRecursion (λ (e : KeptEntry). e.id ≡ id → e.tidy ≡ false) entries.new.items }
+    ensures noted { over ≡ true → AllByRecursion (λ (e : KeptEntry). e.id ≡ id → IsNotedOr e key) entries.new.items }
 {
     if !over {
         return;
     }
     if let Some(at) = place_of(entries, id) {
-        entries[at].tidy = false;
+        let tidy = is_tidy(&entries[at]);
+        let entry = &mut entries[at];
+        entry.tidy = tidy;
+        entry.one = Some(key);
     }
 }

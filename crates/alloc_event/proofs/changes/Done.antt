@@ -9,13 +9,12 @@ use Rattle.alloc_event.specs.declared.change.Change.{Change}
 use Rattle.alloc_event.specs.declared.entry.Entry.{Entry}
 use Rattle.alloc_event.specs.declared.node.Node.{Node}
 use Rattle.alloc_event.specs.declared.units.Unit.{Unit}
-use Rattle.alloc_event.specs.Calm.{AreCounted, IsCalm, IsCounted, strong_count}
+use Rattle.alloc_event.specs.Calm.{AreCounted, IsCalm, IsCounted, over_but, strong_count}
 use Rattle.alloc_event.specs.Counts.{AreUnits, HaveUnits}
 use Rattle.alloc_event.specs.Decisions.{has_strong}
 use Rattle.alloc_event.specs.Forest.{Collection, beside}
 use Rattle.alloc_event.specs.InPlace.{IsDone, IsOpen}
 use Rattle.alloc_event.specs.Kept.{Finishes, IsKept, Shelf, Stores, are_filed, collection_in, forest_of, is_filed, nodes_with, place_in, put_shelf, shelf_of, shelves_of}
-use Rattle.alloc_event.specs.Nodes.{is_over}
 use Rattle.alloc_event.specs.Settling.{Handles, MayChange, Rests, Settles, changed, collection_or_new, given_back, no_key, put, standing}
 use Rattle.alloc_event.proofs.changes.Altering.{found_put}
 use Rattle.alloc_event.proofs.calm.Calming.{rests_strong}
@@ -90,13 +89,13 @@ module _ (t : Table Node) (es : List Entry) (id at : ℕ) (old : Entry) (place :
         units = units;
       }
 
-  -- where it was tidy none of its nodes was over
-  pub tidy_at : old.tidy ≡ true → list_any is_over (nodes_with t old.keys.items) ≡ false
+  -- where it was tidy none of its nodes was over but the noted one
+  pub tidy_at : old.tidy ≡ true → list_any (over_but old.one) (nodes_with t old.keys.items) ≡ false
   tidy_at h = (found_counted t id es old all found).tidy h
 
   module _ (now : Table Node) (after : List Unit) (left : ℕ) (made : IsDone t now after (shelves_of es) (shelf_of old) change left)
       (new : Entry) (same : shelf_of new ≡ shelf_of old) (strong : new.strong ≡ left)
-      (tidy : new.tidy ≡ true → list_any is_over (nodes_with now old.keys.items) ≡ false) where
+      (tidy : new.tidy ≡ true → list_any (over_but new.one) (nodes_with now old.keys.items) ≡ false) where
     pub shelves_at : shelves_of (set es at new) ≡ shelves_of es
     shelves_at = set_shelves es at new (λ within. same ∙ ap shelf_of (is ∙ get_or_default es at old new within))
 
@@ -120,5 +119,5 @@ module _ (t : Table Node) (es : List Entry) (id at : ℕ) (old : Entry) (place :
         (record {
           calm = subst (λ (s : Shelf). IsCalm (collection_in now s)) (sym same) made.calm;
           strong = strong ∙ made.strong ∙ ap (λ (s : Shelf). strong_count (nodes_with now s.keys)) (sym same);
-          tidy = λ h. ap (λ (s : Shelf). list_any is_over (nodes_with now s.keys)) same ∙ tidy h;
+          tidy = λ h. ap (λ (s : Shelf). list_any (over_but new.one) (nodes_with now s.keys)) same ∙ tidy h;
         }))

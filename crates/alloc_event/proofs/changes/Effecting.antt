@@ -20,7 +20,7 @@ use Rattle.node_table.specs.Lending.{table_with_node}
 use Rattle.alloc_event.specs.declared.change.Change.{Change}
 use Rattle.alloc_event.specs.declared.node.Node.{Node}
 use Rattle.alloc_event.specs.declared.units.Unit.{Unit}
-use Rattle.alloc_event.specs.Calm.{IsCalm, strong_count}
+use Rattle.alloc_event.specs.Calm.{IsCalm, strong_count, over_but}
 use Rattle.alloc_event.specs.Counts.{AreUnits, HasBelow, HasUnits, is_unready, lives_in, no_unit, unit_at, unit_of, waits_in}
 use Rattle.alloc_event.specs.Decisions.{has_strong}
 use Rattle.alloc_event.specs.Forest.{Collection, beside, with_nodes}
@@ -290,11 +290,15 @@ module _ (t now : Table Node) (us : List Unit) (call : Call) (key : NodeKey) (na
         (collection_is t s.id ss ∙ ap (option_map (collection_in t)) opens.found)
         ∙ sym now_is
 
+    over_same : (one : Option NodeKey) (m : Node) → over_but one (f m) ≡ over_but one m
+    over_same None m = (remains_affected call m).over
+    over_same (Some noted) m = λ i. (remains_affected call m).over i && not (same_key noted ((same m).key i))
+
     pub made_now : IsMade t now after ss s (Change.Effect call) lives
     made_now = record {
       done = done_by t now ss s opens.kept opens.found (Change.Effect call) (f n ∷ []) stores (and_both (is_filed t s.id (f n).key) true filed refl)
           kept_now change_is after lives some count_now calm_now units_now;
-      over = ap (list_any is_over) nodes_now ∙ any_map is_over is_over f nodes (λ m. (remains_affected call m).over);
+      over = λ one. ap (list_any (over_but one)) nodes_now ∙ any_map (over_but one) (over_but one) f nodes (λ m. over_same one m);
     }
 
   -- ---- the units
@@ -486,5 +490,5 @@ made_nothing t us ss s strong some opens =
         units = opens.units;
         same = record { first = refl; nexts = refl; limit = refl; len = refl };
       };
-      over = refl;
+      over = λ one. refl;
     }

@@ -24,7 +24,6 @@ use Rattle.alloc_event.specs.Falling.{change_of, gone_by, IsLost, IsTaken, IsTop
 use Rattle.alloc_event.specs.Forest.{Collection, with_nodes}
 use Rattle.alloc_event.specs.InPlace.{IsOpen}
 use Rattle.alloc_event.specs.Kept.{IsKept, IsWhole, Shelf, Stores, all_of, collection_in, forest_of, is_filed, is_strong, nodes_with, stored, written}
-use Rattle.alloc_event.specs.Nodes.{is_over}
 use Rattle.alloc_event.specs.Settling.{Handles, Settles, standing, changed, collection_or_new, no_key}
 use Rattle.alloc_event.specs.Ties.{are_rooted}
 use Rattle.alloc_event.specs.Units.{is_head}
@@ -439,19 +438,19 @@ module _ (t : Table Node) (us : List Unit) (ss : List Shelf) (s : Shelf) (going 
           let one : x.0 ≡ s = one_shelf ss opens.kept.rising x.0 s x.1 in_shelves (sym (ap (λ (d : Collection). d.id) x.2) ∙ is) in
           subst (λ (d : Collection). HasUnits new d.nodes) (sym (x.2 ∙ (ap (collection_in now) one ∙ now_is))) has_now)
 
-      -- none is over where none of those that fell is, and none was
-      over_now : list_any is_over (map (gone_by going) fallen) ≡ false → list_any is_over nodes ≡ false → list_any is_over (nodes_with now s.keys) ≡ false
-      over_now some was = ap (list_any is_over) nodes_now ∙ false_if (list_any is_over (map f nodes)) (λ e.
-          let x = In-list_any is_over (map f nodes) e in
+      -- a test that none of those that went passes, and none did before, none passes
+      over_now : (p : Node → Bool) → list_any p (map (gone_by going) fallen) ≡ false → list_any p nodes ≡ false → list_any p (nodes_with now s.keys) ≡ false
+      over_now p some was = ap (list_any p) nodes_now ∙ false_if (list_any p (map f nodes)) (λ e.
+          let x = In-list_any p (map f nodes) e in
           let y = In-map f nodes x.0 x.1 in
-          let is : is_over (f y.0) ≡ true = ap is_over (sym y.2) ∙ x.2 in
+          let is : p (f y.0) ≡ true = ap p (sym y.2) ∙ x.2 in
           elim (either_way (falls y.0.key)) [
             | inl h ↦
-                both_ways (list_any is_over (map (gone_by going) fallen))
-                (In-any is_over (map (gone_by going) fallen) (gone_by going y.0)
+                both_ways (list_any p (map (gone_by going) fallen))
+                (In-any p (map (gone_by going) fallen) (gone_by going y.0)
                 (In-map-back (gone_by going) fallen y.0 (in_looked t opens.kept.named going keys y.0 (at_key y.0 y.1) h))
-                (ap is_over (sym (goes_in going keys y.0 h)) ∙ is)) some
-            | inr h ↦ both_ways (list_any is_over nodes) (In-any is_over nodes y.0 y.1 (ap is_over (sym (goes_not going keys y.0 h)) ∙ is)) was
+                (ap p (sym (goes_in going keys y.0 h)) ∙ is)) some
+            | inr h ↦ both_ways (list_any p nodes) (In-any p nodes y.0 y.1 (ap p (sym (goes_not going keys y.0 h)) ∙ is)) was
           ])
 
       calm_now : IsCalm (collection_in now s)

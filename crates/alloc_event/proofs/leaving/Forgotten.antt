@@ -61,7 +61,7 @@ thinned_filed t (s ∷ ss) filed =
     λ i. thinned-same t s (and_left (list_all (is_filed t s.id) s.keys) _ filed) i ∷ thinned_filed t ss (and_right (list_all (is_filed t s.id) s.keys) _ filed) i
 
 -- the node of a key is among those of the keys
-in_nodes : (t : Table Node) (keys : List NodeKey) (k : NodeKey) (n : Node) → node_at t k ≡ Some n → list_any (same_key k) keys ≡ true → In n (nodes_with t keys)
+pub in_nodes : (t : Table Node) (keys : List NodeKey) (k : NodeKey) (n : Node) → node_at t k ≡ Some n → list_any (same_key k) keys ≡ true → In n (nodes_with t keys)
 in_nodes t [] k n is there = cc
 in_nodes t (x ∷ xs) k n is there = elim (or_cases (same_key k x) (list_any (same_key k) xs) there) [
   | inl here ↦ let found : node_at t x ≡ Some n = ap (node_at t) (sym (same_key-true k x here)) ∙ is in rw found (inl refl)

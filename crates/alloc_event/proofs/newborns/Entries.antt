@@ -7,10 +7,9 @@ use Rattle.sm_names.specs.declared.keys.NodeKey.{NodeKey}
 use Rattle.node_table.specs.Table.{Table}
 use Rattle.alloc_event.specs.declared.entry.Entry.{Entry}
 use Rattle.alloc_event.specs.declared.node.Node.{Node}
-use Rattle.alloc_event.specs.Calm.{AreCounted, IsCounted, put_in, strong_count}
+use Rattle.alloc_event.specs.Calm.{AreCounted, IsCounted, put_in, strong_count, over_but}
 use Rattle.alloc_event.specs.Forest.{Collection}
-use Rattle.alloc_event.specs.Kept.{Bears, IsKept, Shelf, born, collection_in, forest_of, place_in, put_shelf, shelf_of, shelves_of}
-use Rattle.alloc_event.specs.Nodes.{is_over}
+use Rattle.alloc_event.specs.Kept.{Bears, IsKept, Shelf, born, collection_in, forest_of, place_in, put_shelf, shelf_of, shelves_of, nodes_with}
 use Rattle.alloc_event.specs.Settling.{Handles, collection_or_new}
 use Rattle.alloc_event.specs.Still.{IsStill, no_shelf, shelf_before, shelf_with}
 use Rattle.alloc_event.proofs.newborns.Forest.{still_collection}
@@ -64,13 +63,13 @@ module _ (t : Table Node) (es : List Entry) (ok : IsKept t (shelves_of es)) (all
         (collection_is t id (shelves_of es) ∙ ap (option_map (collection_in t)) (shelf_found id es ∙ ap (option_map shelf_of) found))
 
     -- where memory was refused
-    module _ (new : Entry) (same : shelf_of new ≡ shelf_of old) (strong : new.strong ≡ old.strong) (tidy : new.tidy ≡ old.tidy) where
+    module _ (new : Entry) (same : shelf_of new ≡ shelf_of old) (strong : new.strong ≡ old.strong) (tidy : new.tidy ≡ old.tidy) (one : new.one ≡ old.one) where
       pub refused_shelves : shelves_of (set es at new) ≡ shelves_of es
       refused_shelves = set_shelves es at new (λ within. same ∙ ap shelf_of (is ∙ get_or_default es at old new within))
 
       pub refused_counted : AreCounted t (set es at new)
       refused_counted = counted_set t es at new
-          (λ within was. recounted t old new (ap (collection_in t) same) strong (λ h. counted.tidy (sym tidy ∙ h)) counted) all
+          (λ within was. recounted t old new (ap (collection_in t) same) strong (λ h. ap (λ (o : Option NodeKey). list_any (over_but o) (nodes_with t old.keys.items)) one ∙ counted.tidy (sym tidy ∙ h)) counted) all
 
     -- where the node was born
     module _ (key : NodeKey) (new : Entry) (shelf : shelf_of new ≡ shelf_with (shelf_of old) key) where
@@ -86,14 +85,14 @@ module _ (t : Table Node) (es : List Entry) (ok : IsKept t (shelves_of es)) (all
       module _ (now : Table Node) (parent : Option NodeKey) (attached : Bool) (client event : ℕ) (above : Option Node) (over : Above t (shelves_of es) id parent above)
           (bears : Bears t now (born above attached id event client key)) (handles : Handles)
           (still : IsStill handles (collection_or_new (forest_of t (shelves_of es)) id))
-          (strong : new.strong ≡ old.strong + more_strong above) (tidy : new.tidy ≡ old.tidy) where
+          (strong : new.strong ≡ old.strong + more_strong above) (tidy : new.tidy ≡ old.tidy) (one : new.one ≡ old.one) where
         pub among_counted : AreCounted now (set es at new)
         among_counted = subst (AreCounted now) (sym put_is)
             (counted_put now new es ok.rising
             (counted_but now new.id es (moved_all t now es ok.filed (λ e filed. still_collection t now _ bears (shelf_of e) filed) all))
             (counted_born t now (shelves_of es) ok id parent attached client event above over key bears handles still new shelf_is
             (strong ∙ ap (λ (n : ℕ). n + more_strong above) (counted.strong ∙ ap (λ (c : Collection). strong_count c.nodes) (sym at_is)))
-            (λ h. ap (λ (c : Collection). list_any is_over c.nodes) at_is ∙ counted.tidy (sym tidy ∙ h))))
+            (λ h. (λ i. list_any (over_but (one i)) (at_is i).nodes) ∙ counted.tidy (sym tidy ∙ h))))
 
   -- the first node of a collection
   module _ (none : find (λ (e : Entry). e.id == id) es ≡ None) (key : NodeKey) (new : Entry) (shelf : shelf_of new ≡ shelf_with (no_shelf id) key) where
@@ -120,4 +119,4 @@ module _ (t : Table Node) (es : List Entry) (ok : IsKept t (shelves_of es)) (all
           (counted_born t now (shelves_of es) ok id parent attached client event above over key bears handles still new first_is
           (let base : strong_count (collection_or_new (forest_of t (shelves_of es)) id).nodes ≡ 0 = ap (λ (c : Collection). strong_count c.nodes) empty_is in
           omega (arith, strong, base))
-          (λ h. ap (λ (c : Collection). list_any is_over c.nodes) empty_is))
+          (λ h. ap (λ (c : Collection). list_any (over_but new.one) c.nodes) empty_is))

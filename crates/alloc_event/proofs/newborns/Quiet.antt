@@ -16,10 +16,11 @@ use Rattle.sm_names.proofs.StandingLaws.{In-any}
 use Rattle.node_table.specs.Table.{Table}
 use Rattle.alloc_event.specs.declared.entry.Entry.{Entry}
 use Rattle.alloc_event.specs.declared.node.Node.{Node}
-use Rattle.alloc_event.specs.Calm.{IsCalm, IsCounted, strong_count}
+use Rattle.alloc_event.specs.Calm.{IsCalm, IsCounted, strong_count, over_but}
+use Rattle.alloc_event.proofs.leaving.Noted.{not_over_but}
 use Rattle.alloc_event.specs.Forest.{Collection, all_held, beside}
 use Rattle.alloc_event.specs.Kept.{Shelf, IsKept, Bears, Finishes, born, put_shelf, collection_in, forest_of, is_strong, shelf_of}
-use Rattle.alloc_event.specs.Nodes.{is_of, is_over, member_of, members_of}
+use Rattle.alloc_event.specs.Nodes.{is_of, member_of, members_of}
 use Rattle.alloc_event.specs.Settling.{Handles, collection_or_new, given_back, is_home_in, put, standing, with_birth}
 use Rattle.alloc_event.specs.Still.{IsStill, no_shelf, shelf_before, shelf_with}
 use Rattle.alloc_event.specs.Ties.{are_rooted}
@@ -164,7 +165,7 @@ module _ (t now : Table Node) (ss : List Shelf) (ok : IsKept t ss) (id : ℕ) (p
   -- an entry with the key and the count is counted
   pub counted_born : (e : Entry) → shelf_of e ≡ shelf_with (shelf_before id ss) key →
       e.strong ≡ strong_count c0.nodes + (if option_map_or (λ (n : Node). n.weak) above false then 0 else 1) →
-      (e.tidy ≡ true → list_any is_over c0.nodes ≡ false) → IsCounted now e
+      (e.tidy ≡ true → list_any (over_but e.one) c0.nodes ≡ false) → IsCounted now e
   counted_born e is strong tidy =
       let shown : collection_in now (shelf_of e) ≡ born_collection t now ss ok id parent attached client event above at key bears =
       ap (collection_in now) (is ∙ shelf_is) ∙ born_shown t now ss ok id parent attached client event above at key bears in
@@ -172,8 +173,9 @@ module _ (t now : Table Node) (ss : List Shelf) (ok : IsKept t ss) (id : ℕ) (p
         calm = subst IsCalm (sym (shown ∙ sym grown_is)) calm_after;
         strong = strong ∙ ap (λ (n : ℕ). strong_count c0.nodes + n) (sym (strong_more above))
             ∙ sym (times-append is_strong c0.nodes (node ∷ [])) ∙ ap (λ (c : Collection). strong_count c.nodes) (sym shown);
-        tidy = λ h. ap (λ (c : Collection). list_any is_over c.nodes) shown ∙ any-append is_over c0.nodes (node ∷ [])
-            ∙ or_both (list_any is_over c0.nodes) _ (tidy h) (rw (born_here above attached id event client key) refl);
+        tidy = λ h. ap (λ (c : Collection). list_any (over_but e.one) c.nodes) shown ∙ any-append (over_but e.one) c0.nodes (node ∷ [])
+            ∙ or_both (list_any (over_but e.one) c0.nodes) _ (tidy h)
+            (ap (λ (b : Bool). b || false) (not_over_but e.one node (rw (born_here above attached id event client key) refl)));
       }
 
   module _ (behind : List Shelf) (placed : behind ≡ put_shelf (shelf_with (shelf_before id ss) key) ss) where

@@ -11,7 +11,8 @@ use Rattle.node_table.specs.Table.{Table, node_at}
 use Rattle.alloc_event.specs.declared.entry.Entry.{Entry}
 use Rattle.alloc_event.specs.declared.node.End.{End}
 use Rattle.alloc_event.specs.declared.node.Node.{Node}
-use Rattle.alloc_event.specs.Calm.{AreCounted, AreCountedBut, AreTidy, IsCalm, IsCounted, put_in, strong_count}
+use Rattle.alloc_event.specs.Calm.{AreCounted, AreCountedBut, AreTidy, IsCalm, IsCounted, put_in, strong_count, over_but}
+use Rattle.alloc_event.specs.Forgetting.{IsNotedOr}
 use Rattle.alloc_event.specs.Forest.{Collection}
 use Rattle.alloc_event.specs.Forgetting.{is_found, left_at, unless_over}
 use Rattle.alloc_event.specs.Kept.{AreRising, IsWhole, Shelf, are_filed, collection_in, is_filed, is_strong, nodes_with, place_in, put_shelf, shelf_of, shelves_of}
@@ -21,6 +22,7 @@ use Rattle.alloc_event.proofs.calm.Calming.{IsPlain, calm_filter, calm_map, stro
 use Rattle.alloc_event.proofs.shelves.Entries.{Some-inj}
 use Rattle.alloc_event.proofs.tables.Hanging.{in_all, looked_there}
 use Rattle.alloc_event.proofs.lists.Lookups.{looked-map}
+use Rattle.alloc_event.proofs.leaving.Noted.{fewer_over, not_over_but, noted_not}
 use Rattle.alloc_event.proofs.shelves.Putting.{cases_place}
 use Rattle.alloc_event.proofs.shelves.Showing.{filed-length}
 use Rattle.alloc_event.proofs.calm.Steps.{all-In}
@@ -31,16 +33,16 @@ pub moved : (t now : Table Node) (e : Entry) → collection_in now (shelf_of e) 
 moved t now e same counted = record {
   calm = subst IsCalm (sym same) counted.calm;
   strong = counted.strong ∙ ap (λ (c : Collection). strong_count c.nodes) (sym same);
-  tidy = λ h. ap (λ (c : Collection). list_any is_over c.nodes) same ∙ counted.tidy h;
+  tidy = λ h. ap (λ (c : Collection). list_any (over_but e.one) c.nodes) same ∙ counted.tidy h;
 }
 
 -- an entry that shows the same with the same count
 pub recounted : (t : Table Node) (e new : Entry) → collection_in t (shelf_of new) ≡ collection_in t (shelf_of e) → new.strong ≡ e.strong →
-    (new.tidy ≡ true → list_any is_over (nodes_with t e.keys.items) ≡ false) → IsCounted t e → IsCounted t new
+    (new.tidy ≡ true → list_any (over_but new.one) (nodes_with t e.keys.items) ≡ false) → IsCounted t e → IsCounted t new
 recounted t e new same count tidy counted = record {
   calm = subst IsCalm (sym same) counted.calm;
   strong = count ∙ counted.strong ∙ ap (λ (c : Collection). strong_count c.nodes) (sym same);
-  tidy = λ h. ap (λ (c : Collection). list_any is_over c.nodes) same ∙ tidy h;
+  tidy = λ h. ap (λ (c : Collection). list_any (over_but new.one) c.nodes) same ∙ tidy h;
 }
 
 -- so of all that show the same
@@ -150,7 +152,7 @@ module _ (t now : Table Node) (named : (k : NodeKey) (n : Node) → node_at t k 
         calm = subst IsCalm (λ i. record (collection_in t (shelf_of e)) { nodes = sym (dropped_nodes e.keys.items) i })
             (calm_filter (collection_in t (shelf_of e)) whole stays over counted.calm);
         strong = counted.strong ∙ sym (strong_filter stays nodes over) ∙ ap strong_count (sym (dropped_nodes e.keys.items));
-        tidy = λ h. ap (list_any is_over) (dropped_nodes e.keys.items) ∙ none-filter stays is_over nodes (counted.tidy h);
+        tidy = λ h. ap (list_any (over_but e.one)) (dropped_nodes e.keys.items) ∙ none-filter stays (over_but e.one) nodes (counted.tidy h);
       }
 
   pub dropped_all : (es : List Entry) → AllByRecursion (λ (s : Shelf). IsWhole (collection_in t s)) (shelves_of es) → AreCounted t es → AreCounted now es
@@ -162,14 +164,14 @@ module _ (t now : Table Node) (named : (k : NodeKey) (n : Node) → node_at t k 
 -- where each node is as f makes it, which keeps what the counts read
 pub mapped_all : (t now : Table Node) (f : Node → Node) → ((n : Node) → IsPlain (f n) n) → ((n : Node) → is_strong (f n) ≡ is_strong n) →
     ((key : NodeKey) → node_at now key ≡ option_map f (node_at t key)) → (es : List Entry) →
-    AllByRecursion (λ (e : Entry). e.tidy ≡ true → list_any is_over (map f (nodes_with t e.keys.items)) ≡ false) es → AreCounted t es → AreCounted now es
+    AllByRecursion (λ (e : Entry). e.tidy ≡ true → list_any (over_but e.one) (map f (nodes_with t e.keys.items)) ≡ false) es → AreCounted t es → AreCounted now es
 mapped_all t now f plain strong look [] tidy all = tt
 mapped_all t now f plain strong look (e ∷ es) tidy all =
     let nodes : nodes_with now e.keys.items ≡ map f (nodes_with t e.keys.items) = looked-map f (node_at t) (node_at now) look e.keys.items in (
       record {
         calm = subst IsCalm (λ i. record (collection_in t (shelf_of e)) { nodes = sym nodes i }) (calm_map (collection_in t (shelf_of e)) f plain all.0.calm);
         strong = all.0.strong ∙ sym (times_map is_strong is_strong f (nodes_with t e.keys.items) strong) ∙ ap strong_count (sym nodes);
-        tidy = λ h. ap (list_any is_over) nodes ∙ tidy.0 h;
+        tidy = λ h. ap (list_any (over_but e.one)) nodes ∙ tidy.0 h;
       },
       mapped_all t now f plain strong look es tidy.1 all.1,
     )
@@ -271,20 +273,24 @@ pub own_key : (ks : List NodeKey) (k : NodeKey) → In k ks → list_any (same_k
 own_key ks k on = In-any (same_key k) ks k on (same_key-refl k)
 
 -- only the entry that is found has the id
-pub tidy_one : (t : Table Node) (id : ℕ) (es : List Entry) → AreRising (shelves_of es) →
-    ((e : Entry) → find (λ (x : Entry). x.id == id) es ≡ Some e → list_any is_over (nodes_with t e.keys.items) ≡ false) → AreTidy t id es
-tidy_one t id [] rising found = tt
-tidy_one t id (e ∷ es) rising found = (
+pub each_own : (P : Entry → Type 0) (id : ℕ) (es : List Entry) → AreRising (shelves_of es) →
+    ((e : Entry) → find (λ (x : Entry). x.id == id) es ≡ Some e → P e) → AllByRecursion (λ (e : Entry). e.id ≡ id → P e) es
+each_own P id [] rising found = tt
+each_own P id (e ∷ es) rising found = (
   λ is. found e (rw (eq-eqb e.id id is) refl),
   elim (either_way (e.id == id)) [
     | inl same ↦ above es (subst (λ (low : ℕ). AllByRecursion (λ (later : Shelf). low < later.id) (shelves_of es)) (eqb-true e.id id same) rising.0)
-    | inr other ↦ tidy_one t id es rising.1 (λ x is. found x (rw other is))
+    | inr other ↦ each_own P id es rising.1 (λ x is. found x (rw other is))
   ],
 )
   where
-    above : (xs : List Entry) → AllByRecursion (λ (later : Shelf). id < later.id) (shelves_of xs) → AreTidy t id xs
+    above : (xs : List Entry) → AllByRecursion (λ (later : Shelf). id < later.id) (shelves_of xs) → AllByRecursion (λ (x : Entry). x.id ≡ id → P x) xs
     above [] all = tt
     above (x ∷ xs) all = (λ is. absurd (omega (arith, all.0)), above xs all.1)
+
+pub tidy_one : (t : Table Node) (id : ℕ) (es : List Entry) → AreRising (shelves_of es) →
+    ((e : Entry) → find (λ (x : Entry). x.id == id) es ≡ Some e → list_any is_over (nodes_with t e.keys.items) ≡ false) → AreTidy t id es
+tidy_one t id es rising found = each_own (λ (e : Entry). list_any is_over (nodes_with t e.keys.items) ≡ false) id es rising found
 
 -- where one is set, it is tidy, and its nodes are those that were there
 pub tidied_set : (t : Table Node) (id : ℕ) (es : List Entry) (at : ℕ) (new : Entry) → AreTidy t id es →
@@ -313,55 +319,64 @@ module _ (t : Table Node) (named : (k : NodeKey) (n : Node) → node_at t k ≡ 
   abbrev f : Node → Node
   f = with_end key end
 
-  -- one entry, where it is not noted as tidy if the node is one of its own and is over then
-  end_tidy : (e : Entry) → list_all (is_filed t e.id) e.keys.items ≡ true → list_any is_over (nodes_with t e.keys.items) ≡ false →
-      (is_over (record n { end = end }) ≡ true → e.id ≡ n.collection → ⊥) → list_any is_over (map f (nodes_with t e.keys.items)) ≡ false
-  end_tidy e filed none apart = each_none is_over (map f (nodes_with t e.keys.items)) (λ m there.
+  -- one entry, where the node is noted if it is one of its own and is over then
+  end_tidy : (e : Entry) → list_all (is_filed t e.id) e.keys.items ≡ true → list_any (over_but e.one) (nodes_with t e.keys.items) ≡ false →
+      (is_over (record n { end = end }) ≡ true → e.id ≡ n.collection → e.one ≡ Some key) → list_any (over_but e.one) (map f (nodes_with t e.keys.items)) ≡ false
+  end_tidy e filed none apart = each_none (over_but e.one) (map f (nodes_with t e.keys.items)) (λ m there.
       let x = In-map f (nodes_with t e.keys.items) m there in
-      ap is_over x.2 ∙ from x.0 x.1 (either_way (same_key key x.0.key)))
+      ap (over_but e.one) x.2 ∙ from x.0 x.1 (either_way (same_key key x.0.key)))
     where
-      from : (m : Node) → In m (nodes_with t e.keys.items) → (same_key key m.key ≡ true) ⊎ (same_key key m.key ≡ false) → is_over (f m) ≡ false
-      from m on (inr other) = rw other (none_each is_over (nodes_with t e.keys.items) none m on)
+      from : (m : Node) → In m (nodes_with t e.keys.items) → (same_key key m.key ≡ true) ⊎ (same_key key m.key ≡ false) → over_but e.one (f m) ≡ false
+      from m on (inr other) =
+          let same : f m ≡ m = λ i. record m { end = if other i then end else m.end } in
+          ap (over_but e.one) same ∙ none_each (over_but e.one) (nodes_with t e.keys.items) none m on
       from m on (inl same) =
           let found : node_at t m.key ≡ Some m = in_all (λ (x : Node). node_at t x.key ≡ Some x) (nodes_with t e.keys.items) (looked_there t named e.keys.items) m on in
           let two : Some n ≡ Some m = sym was ∙ ap (node_at t) (same_key-true key m.key same) ∙ found in
           let one : n ≡ m = cc in
           let own : (m.collection == e.id) ≡ true = all-In (λ (x : Node). x.collection == e.id) (nodes_with t e.keys.items) m on (looked-of t e.id e.keys.items filed) in
           let is : is_over (f m) ≡ is_over (record n { end = end }) = rw same (ap (λ (x : Node). x.gone && is_spent end) (sym one)) in
-          is ∙ (elim (either_way (is_over (record n { end = end }))) [
-            | inl over ↦ absurd (apart over (sym (eqb-true m.collection e.id own) ∙ ap (λ (x : Node). x.collection) (sym one)))
-            | inr not_over ↦ not_over
-          ])
+          elim (either_way (is_over (record n { end = end }))) [
+            | inl over ↦
+                ap (λ (o : Option NodeKey). over_but o (f m)) (apart over (sym (eqb-true m.collection e.id own) ∙ ap (λ (x : Node). x.collection) (sym one)))
+                ∙ noted_not key (f m) same
+            | inr not_over ↦ not_over_but e.one (f m) (is ∙ not_over)
+          ]
 
   pub ends_tidy : (es : List Entry) → are_filed t (shelves_of es) ≡ true → AreCounted t es →
-      (is_over (record n { end = end }) ≡ true → AllByRecursion (λ (e : Entry). e.id ≡ n.collection → e.tidy ≡ false) es) →
-      AllByRecursion (λ (e : Entry). e.tidy ≡ true → list_any is_over (map f (nodes_with t e.keys.items)) ≡ false) es
+      (is_over (record n { end = end }) ≡ true → AllByRecursion (λ (e : Entry). e.id ≡ n.collection → IsNotedOr e key) es) →
+      AllByRecursion (λ (e : Entry). e.tidy ≡ true → list_any (over_but e.one) (map f (nodes_with t e.keys.items)) ≡ false) es
   ends_tidy [] filed all noted = tt
   ends_tidy (e ∷ es) filed all noted = (
     λ tidy. end_tidy e (and_left (list_all (is_filed t e.id) e.keys.items) _ filed) (all.0.tidy tidy)
-        (λ over is. both_ways e.tidy tidy ((noted over).0 is)),
+        (λ over is. (noted over).0 is tidy),
     ends_tidy es (and_right (list_all (is_filed t e.id) e.keys.items) _ filed) all.1 (λ over. (noted over).1),
   )
 
--- an entry that is no longer noted as tidy
+-- an entry that notes a node where it noted none
 pub noted : (t : Table Node) (es : List Entry) (at : ℕ) (new : Entry) → (at < length es → shelf_of new ≡ shelf_of (get_or es at new)) →
-    (at < length es → new.strong ≡ (get_or es at new).strong) → new.tidy ≡ false → AreCounted t es → AreCounted t (set es at new)
-noted t es at new same strong untidy all = counted_set t es at new
-    (λ within counted. recounted t (get_or es at new) new (ap (collection_in t) (same within)) (strong within) (λ tidy. both_ways new.tidy tidy untidy) counted) all
+    (at < length es → new.strong ≡ (get_or es at new).strong) →
+    (at < length es → new.tidy ≡ true → ((get_or es at new).tidy ≡ true) × ((get_or es at new).one ≡ None)) → AreCounted t es → AreCounted t (set es at new)
+noted t es at new same strong known all = counted_set t es at new
+    (λ within counted. recounted t (get_or es at new) new (ap (collection_in t) (same within)) (strong within)
+    (λ tidy.
+    let was = known within tidy in
+    fewer_over new.one (nodes_with t (get_or es at new).keys.items)
+    (ap (λ (o : Option NodeKey). list_any (over_but o) (nodes_with t (get_or es at new).keys.items)) (sym was.1) ∙ counted.tidy was.0)) counted) all
 
 -- and the others of the id, which there are not
-pub noted_set : (id : ℕ) (es : List Entry) (at : ℕ) (new : Entry) → AreRising (shelves_of es) → place_in id es ≡ Some at → new.tidy ≡ false →
-    AllByRecursion (λ (e : Entry). e.id ≡ id → e.tidy ≡ false) (set es at new)
-noted_set id [] at new rising told untidy = tt
-noted_set id (e ∷ es) at new rising told untidy = from (λ n is. noted_set id es n new rising.1 is untidy) (e.id == id) refl (place_in id es) refl told
+pub noted_set : (P : Entry → Type 0) (id : ℕ) (es : List Entry) (at : ℕ) (new : Entry) → AreRising (shelves_of es) → place_in id es ≡ Some at → P new →
+    AllByRecursion (λ (e : Entry). e.id ≡ id → P e) (set es at new)
+noted_set P id [] at new rising told untidy = tt
+noted_set P id (e ∷ es) at new rising told untidy = from (λ n is. noted_set P id es n new rising.1 is untidy) (e.id == id) refl (place_in id es) refl told
   where
-    above : (xs : List Entry) → AllByRecursion (λ (later : Shelf). id < later.id) (shelves_of xs) → AllByRecursion (λ (x : Entry). x.id ≡ id → x.tidy ≡ false) xs
+    above : (xs : List Entry) → AllByRecursion (λ (later : Shelf). id < later.id) (shelves_of xs) → AllByRecursion (λ (x : Entry). x.id ≡ id → P x) xs
     above [] all = tt
     above (x ∷ xs) all = (λ is. absurd (omega (arith, all.0)), above xs all.1)
 
-    from : ((n : ℕ) → place_in id es ≡ Some n → AllByRecursion (λ (x : Entry). x.id ≡ id → x.tidy ≡ false) (set es n new)) →
+    from : ((n : ℕ) → place_in id es ≡ Some n → AllByRecursion (λ (x : Entry). x.id ≡ id → P x) (set es n new)) →
         (here : Bool) → (e.id == id) ≡ here → (behind : Option ℕ) → place_in id es ≡ behind → cond here (Some 0) (option_map (λ n. n + 1) behind) ≡ Some at →
-        AllByRecursion (λ (x : Entry). x.id ≡ id → x.tidy ≡ false) (set (e ∷ es) at new)
+        AllByRecursion (λ (x : Entry). x.id ≡ id → P x) (set (e ∷ es) at new)
     from on true here behind is told =
         let first : zero ≡ at = cc in
         rw (← first) (λ same. untidy, above es (subst (λ (low : ℕ). AllByRecursion (λ (later : Shelf). low < later.id) (shelves_of es)) (eqb-true e.id id here) rising.0))
@@ -371,13 +386,13 @@ noted_set id (e ∷ es) at new rising told untidy = from (λ n is. noted_set id 
         rw next (λ same. absurd (eqb-false e.id id other same), on n is)
 
 -- where none has the id
-pub noted_none : (id : ℕ) (es : List Entry) → place_in id es ≡ None → AllByRecursion (λ (e : Entry). e.id ≡ id → e.tidy ≡ false) es
-noted_none id [] told = tt
-noted_none id (e ∷ es) told = from (noted_none id es) (e.id == id) refl (place_in id es) refl told
+pub noted_none : (P : Entry → Type 0) (id : ℕ) (es : List Entry) → place_in id es ≡ None → AllByRecursion (λ (e : Entry). e.id ≡ id → P e) es
+noted_none P id [] told = tt
+noted_none P id (e ∷ es) told = from (noted_none P id es) (e.id == id) refl (place_in id es) refl told
   where
-    from : (place_in id es ≡ None → AllByRecursion (λ (x : Entry). x.id ≡ id → x.tidy ≡ false) es) →
+    from : (place_in id es ≡ None → AllByRecursion (λ (x : Entry). x.id ≡ id → P x) es) →
         (here : Bool) → (e.id == id) ≡ here → (behind : Option ℕ) → place_in id es ≡ behind → cond here (Some 0) (option_map (λ n. n + 1) behind) ≡ None →
-        AllByRecursion (λ (x : Entry). x.id ≡ id → x.tidy ≡ false) (e ∷ es)
+        AllByRecursion (λ (x : Entry). x.id ≡ id → P x) (e ∷ es)
     from on true here behind is told = absurd (cc)
     from on false other None is told = (λ same. absurd (eqb-false e.id id other same), on is)
     from on false other (Some n) is told = absurd (cc)

@@ -1,6 +1,8 @@
 //! Collections of 1,000 nodes.
 use super::demand;
 use super::ground::{Ground, HERE};
+use alloc_event::forest::Forest;
+use alloc_event::node::End;
 use sm_names::NodeKey;
 use std::alloc::Global;
 use std::test::Fail;
@@ -253,5 +255,31 @@ fn many_siblings_fall_with_the_root(rt: HostRuntime) -> Result<(), Fail> {
 fn a_long_chain_falls(rt: HostRuntime) -> Result<(), Fail> {
     let (mut ground, keys) = chain(rt.alloc(), 1000, false)?;
     assert!(rt; fall_together(&mut ground, &keys)?);
+    Ok(())
+}
+
+// Whether each node is forgotten once its end is spent, from the first to the last, and the
+// collection with the last.
+fn forget_in_turn(mut forest: Forest, keys: &[NodeKey]) -> bool {
+    let count = keys.len();
+    for at in 0..count {
+        let key = keys[at];
+        if forest.node(key).is_none() {
+            return false;
+        }
+        forest.set_end(key, End::Spent);
+        forest.forget_over(HERE);
+        if forest.node(key).is_some() || forest.len() != count - at - 1 {
+            return false;
+        }
+    }
+    forest.collections() == 0
+}
+
+#[test]
+fn many_that_fell_are_forgotten_in_turn(rt: HostRuntime) -> Result<(), Fail> {
+    let (mut ground, keys) = family(rt.alloc(), 999, false)?;
+    assert!(rt; fall_together(&mut ground, &keys)?);
+    assert!(rt; forget_in_turn(ground.into_forest(), &keys));
     Ok(())
 }

@@ -1,9 +1,7 @@
 -- The change is made in its place, and the entry of the collection has the count.
-use Rattle.std.proofs.Common.{◌≡◌, true, false, List, Some, map, get_or, set, refl, sym, ◌∙◌, ap, subst, arith}
-use Rattle.std.proofs.lemmas.Bool.{not-true}
+use Rattle.std.proofs.Common.{◌≡◌, true, false, inl, inr, List, Option, Some, map, get_or, set, refl, sym, ◌∙◌, ap, subst, arith}
 use Rattle.std.proofs.lemmas.List.{get_or_default}
 use Rattle.std.specs.List.{list_any}
-use Rattle.sm_names.proofs.SamenessLaws.{and_left, and_right}
 use Rattle.alloc_event.specs.declared.change.Change.{Change}
 use Rattle.alloc_event.specs.declared.entry.Entry.{Entry}
 use Rattle.alloc_event.specs.declared.units.Unit.{Unit}
@@ -11,7 +9,9 @@ use Rattle.alloc_event.specs.Counts.{AreUnits}
 use Rattle.alloc_event.specs.Falling.{IsLost, change_of}
 use Rattle.alloc_event.specs.InPlace.{IsOpen}
 use Rattle.alloc_event.specs.Kept.{Finishes, Shelf, collection_in, nodes_with, place_in, shelf_of, shelves_of, forest_of}
-use Rattle.alloc_event.specs.Nodes.{is_over}
+use Rattle.sm_names.specs.declared.keys.NodeKey.{NodeKey}
+use Rattle.alloc_event.specs.Calm.{over_but}
+use Rattle.alloc_event.proofs.leaving.Noted.{fewer_over}
 use Rattle.alloc_event.specs.Settling.{changed, collection_or_new, no_key}
 use Rattle.alloc_event.proofs.changes.Done.{counted_at, finishes_at, opens_at, own_id, shelves_at, tidy_at}
 use Rattle.alloc_event.proofs.shelves.Entries.{IsPlace, place_is}
@@ -24,6 +24,11 @@ index-requires c =
 
 pub index-requires-2 : goal.index-requires-2
 index-requires-2 c =
+    let told : place_in c.args.id c.args.entries.now.items ≡ Some c.in-Some.at = sym (rw c.deref.ensures.value at c.place_of.ensures) ∙ c.in-Some.is in
+    omega (arith, (place_is c.args.id c.args.entries.now.items c.in-Some.at told).within)
+
+pub index-requires-3 : goal.index-requires-3
+index-requires-3 c =
     let told : place_in c.args.id c.args.entries.now.items ≡ Some c.in-Some.at = sym (rw c.deref.ensures.value at c.place_of.ensures) ∙ c.in-Some.is in
     omega (arith, (place_is c.args.id c.args.entries.now.items c.in-Some.at told).within)
 
@@ -68,7 +73,8 @@ module _ (c : goal.After-entries-1) where
     buffers = c.index_mut-entry.result.now.buffers;
     held = c.index_mut-entry.result.now.held;
     strong = c.in-Some-fell.left;
-    tidy = c.is_tidy_still-tidy.result;
+    tidy = c.note_gone-tidy.result.0;
+    one = c.note_gone-tidy.result.1;
   }
 
   told : place_in c.args.id es ≡ Some c.in-Some.at
@@ -86,6 +92,9 @@ module _ (c : goal.After-entries-1) where
   twice : c.index-2.result.now ≡ old
   twice = c.index-2.ensures ∙ get_or_default es c.in-Some.at c.index-2.result.now old place.within ∙ sym is
 
+  thrice : c.index-3.result.now ≡ old
+  thrice = c.index-3.ensures ∙ get_or_default es c.in-Some.at c.index-3.result.now old place.within ∙ sym is
+
   opens : IsOpen c.args.table.now us (shelves_of es) (shelf_of old) loss old.strong
   opens = opens_at c.args.table.now es c.args.id c.in-Some.at old place is c.requires.kept c.requires.counted us c.requires.units loss c.requires.change
 
@@ -95,12 +104,17 @@ module _ (c : goal.After-entries-1) where
   lost : IsLost c.args.table.now c.fell.new.table c.fell.new.units.items (shelves_of es) (shelf_of old) loss c.in-Some-fell.left c.fell.new.nodes
   lost = c.in-Some-fell.ensures.some (shelves_of es) (shelf_of old) opens own
 
-  tidies : new.tidy ≡ true → list_any is_over (nodes_with c.fell.new.table old.keys.items) ≡ false
+  tidies : new.tidy ≡ true → list_any (over_but new.one) (nodes_with c.fell.new.table old.keys.items) ≡ false
   tidies h =
-      let both = sym c.is_tidy_still-tidy.ensures ∙ h in
-      lost.over (not-true _ (and_right c.index-2.result.now.tidy _ both))
-      (tidy_at c.args.table.now es c.args.id c.in-Some.at old place is c.requires.kept c.requires.counted us c.requires.units loss c.requires.change
-      (ap (λ (x : Entry). x.tidy) (sym twice) ∙ and_left c.index-2.result.now.tidy _ both))
+      let was : list_any (over_but old.one) (nodes_with c.args.table.now old.keys.items) ≡ false =
+      tidy_at c.args.table.now es c.args.id c.in-Some.at old place is c.requires.kept c.requires.counted us c.requires.units loss c.requires.change
+      (ap (λ (x : Entry). x.tidy) (sym twice) ∙ c.note_gone-tidy.ensures.tidy h) in
+      lost.over (over_but new.one) (c.note_gone-tidy.ensures.over h) (elim (c.note_gone-tidy.ensures.one h) [
+        | inl same ↦ ap (λ (o : Option NodeKey). list_any (over_but o) (nodes_with c.args.table.now old.keys.items)) (same ∙ ap (λ (x : Entry). x.one) thrice) ∙ was
+        | inr none ↦
+            fewer_over new.one (nodes_with c.args.table.now old.keys.items)
+            (ap (λ (o : Option NodeKey). list_any (over_but o) (nodes_with c.args.table.now old.keys.items)) (sym (sym (ap (λ (x : Entry). x.one) thrice) ∙ none)) ∙ was)
+      ])
 
   same_shelves : shelves_of (set es c.in-Some.at new) ≡ shelves_of es
   same_shelves = shelves_at c.args.table.now es c.args.id c.in-Some.at old place is c.requires.kept c.requires.counted us c.requires.units loss c.requires.change

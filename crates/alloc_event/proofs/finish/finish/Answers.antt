@@ -1,5 +1,5 @@
 -- The scene was worked on beside the pages of the others, and is put back.
-use Rattle.std.proofs.Common.{◌≡◌, not, refl, ap}
+use Rattle.std.proofs.Common.{◌≡◌, None, not, refl, ap}
 use Rattle.buffer_holds.specs.Counts.{total}
 use Rattle.alloc_event.specs.declared.entry.Entry.{Entry}
 use Rattle.alloc_event.specs.Calm.{put_in}
@@ -58,8 +58,8 @@ returns-clause-counted c =
     let s = c.in_ok-settle_scene.ensures in
     let es = c.args.entries.now.items in
     let keys = rw c.deref.ensures.value at c.in-Ok.ensures in
-    let new : Entry = record { id = c.give_back.new.scene.id; keys = c.in-Ok.keys; buffers = c.give_back.new.scene.buffers; held = c.give_back.new.scene.held; strong = c.count_strong-strong.result; tidy = not c.is_some_over-tidy.result } in
+    let new : Entry = record { id = c.give_back.new.scene.id; keys = c.in-Ok.keys; buffers = c.give_back.new.scene.buffers; held = c.give_back.new.scene.held; strong = c.count_strong-strong.result; tidy = not c.is_some_over-tidy.result; one = None } in
     let placed : c.put_entry.new.entries.items ≡ put_in new es = rw c.reserve.ensures.items at c.put_entry.ensures.items in
     rw placed (finished-counted (total c.args.holds.now) c.args.table.now es c.args.scene c.settle_scene.new.scene c.give_back.new.scene
     c.requires.kept c.requires.rising c.requires.own s.sound s.id s.frames c.give_back.ensures.scene c.store.new.table (rw c.deref-2.ensures.value at c.store.ensures)
-    new keys refl refl refl (rw c.deref-3.ensures.value at c.count_strong-strong.ensures) (ap not (rw c.deref-4.ensures.value at c.is_some_over-tidy.ensures)) c.args.pool.now.size s.rests c.requires.counted)
+    new keys refl refl refl (rw c.deref-3.ensures.value at c.count_strong-strong.ensures) (ap not (rw c.deref-4.ensures.value at c.is_some_over-tidy.ensures)) refl c.args.pool.now.size s.rests c.requires.counted)

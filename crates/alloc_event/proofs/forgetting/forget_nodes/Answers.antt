@@ -1,13 +1,17 @@
 -- The nodes that are over are taken out, then their keys; where none is, nothing changes.
-use Rattle.std.proofs.Common.{◌≡◌, ◌==◌, Some, None, option_map, sym, ◌∙◌, ap, subst}
-use Rattle.std.specs.List.{find, list_any}
+use Rattle.std.proofs.Common.{◌≡◌, ℕ, ◌==◌, false, List, Option, Some, None, IfSome, option_map, sym, ◌∙◌, ap, subst}
+use Rattle.std.specs.List.{AllByRecursion, find, list_any}
 use Rattle.sm_names.specs.declared.keys.NodeKey.{NodeKey}
-use Rattle.node_table.specs.Table.{node_at}
+use Rattle.node_table.specs.Table.{Table, node_at}
+use Rattle.alloc_event.specs.declared.node.Node.{Node}
 use Rattle.alloc_event.specs.declared.entry.Entry.{Entry}
-use Rattle.alloc_event.specs.Forgetting.{left_at}
+use Rattle.alloc_event.specs.Calm.{AreCounted, over_but}
+use Rattle.alloc_event.specs.Forgetting.{IsAlone, IsMissing, IsNoted, left_at}
 use Rattle.alloc_event.specs.Kept.{IsKept, Shelf, nodes_with, shelf_of, shelves_of}
 use Rattle.alloc_event.specs.Nodes.{is_over}
-use Rattle.alloc_event.proofs.shelves.Counted.{dropped_all, drops_over, none_left, own_key, tidy_one}
+use Rattle.alloc_event.proofs.shelves.Counted.{dropped_all, drops_over, each_own, none_left, own_key, tidy_one}
+use Rattle.alloc_event.proofs.leaving.Alone.{alone_missing}
+use Rattle.alloc_event.proofs.changes.Altering.{found_filed}
 use Rattle.alloc_event.proofs.leaving.Forgotten.{thin_filed, thinned_filed, tidy_left}
 use Rattle.alloc_event.proofs.shelves.Showing.{shelf_found}
 use Rattle.alloc_event.proofs.calm.Watched.{found_counted}
@@ -27,27 +31,68 @@ pub returns-in_default-clause-kept : goal.returns-in_default-clause-kept
 returns-in_default-clause-kept c =
     subst (IsKept c.args.table.now) (sym (thinned_filed c.args.table.now (shelves_of c.args.entries.now.items) c.requires.kept.filed)) c.requires.kept
 
-pub returns-then-entry-clause-shelves : goal.returns-then-entry-clause-shelves
-returns-then-entry-clause-shelves c = sym (thin_filed c.args.table.now c.args.id (shelves_of c.args.entries.now.items) c.requires.kept.filed)
+pub returns-then-is_tidy-clause-shelves : goal.returns-then-is_tidy-clause-shelves
+returns-then-is_tidy-clause-shelves c = sym (thin_filed c.args.table.now c.args.id (shelves_of c.args.entries.now.items) c.requires.kept.filed)
 
-pub returns-then-entry-clause-look : goal.returns-then-entry-clause-look
-returns-then-entry-clause-look c s found k =
+pub returns-then-is_tidy-clause-look : goal.returns-then-is_tidy-clause-look
+returns-then-is_tidy-clause-look c s found k =
     let entry : find (λ (e : Entry). e.id == c.args.id) c.args.entries.now.items ≡ Some c.in-Some.entry.now = sym (rw c.deref.ensures.value at c.in-Some.ensures) in
     let there : Some (shelf_of c.in-Some.entry.now) ≡ Some s = sym (shelf_found c.args.id c.args.entries.now.items ∙ ap (option_map shelf_of) entry) ∙ found in
     let one : shelf_of c.in-Some.entry.now ≡ s = cc in
-    let none = (found_counted c.args.table.now c.args.id c.args.entries.now.items c.in-Some.entry.now c.requires.counted entry).tidy c.if-entry.true in
-    tidy_left c.args.table.now s.keys (ap (λ (x : Shelf). list_any is_over (nodes_with c.args.table.now x.keys)) (sym one) ∙ none) k
+    let known = c.is_tidy.ensures c.if-is_tidy.true in
+    let none = (found_counted c.args.table.now c.args.id c.args.entries.now.items c.in-Some.entry.now c.requires.counted entry).tidy known.0 in
+    let all : list_any is_over (nodes_with c.args.table.now c.in-Some.entry.now.keys.items) ≡ false =
+    ap (λ (o : Option NodeKey). list_any (over_but o) (nodes_with c.args.table.now c.in-Some.entry.now.keys.items)) (sym known.1) ∙ none in
+    tidy_left c.args.table.now s.keys (ap (λ (x : Shelf). list_any is_over (nodes_with c.args.table.now x.keys)) (sym one) ∙ all) k
 
-pub returns-then-entry-clause-kept : goal.returns-then-entry-clause-kept
-returns-then-entry-clause-kept c =
+pub returns-then-is_tidy-clause-kept : goal.returns-then-is_tidy-clause-kept
+returns-then-is_tidy-clause-kept c =
     subst (IsKept c.args.table.now) (sym (thinned_filed c.args.table.now (shelves_of c.args.entries.now.items) c.requires.kept.filed)) c.requires.kept
+
+-- the one node of the entry that is over
+alone_of : (t : Table Node) (id : ℕ) (es : List Entry) (entry : Entry) → AreCounted t es → find (λ (e : Entry). e.id == id) es ≡ Some entry →
+    (key : NodeKey) → IsNoted t entry key → IsAlone t entry.keys.items key
+alone_of t id es entry counted found key noted = record {
+  listed = noted.listed;
+  alone = ap (λ (o : Option NodeKey). list_any (over_but o) (nodes_with t entry.keys.items)) (sym noted.one) ∙ (found_counted t id es entry counted found).tidy noted.tidy;
+}
+
+-- so it is, if there is one
+alone_if : (t : Table Node) (id : ℕ) (es : List Entry) (entry : Entry) → AreCounted t es → find (λ (e : Entry). e.id == id) es ≡ Some entry →
+    (o : Option NodeKey) → IfSome o (λ key. IsNoted t entry key) → IfSome o (λ key. IsAlone t entry.keys.items key)
+alone_if t id es entry counted found None noted = tt
+alone_if t id es entry counted found (Some key) noted = alone_of t id es entry counted found key noted
+
+-- and then the table has all others of the entry
+missing_if : (t now : Table Node) (id : ℕ) (es : List Entry) (entry : Entry) → IsKept t (shelves_of es) → AreCounted t es → find (λ (e : Entry). e.id == id) es ≡ Some entry →
+    ((k : NodeKey) → node_at now k ≡ left_at t entry.keys.items k) → (o : Option NodeKey) → IfSome o (λ key. IsNoted t entry key) →
+    IfSome o (λ key. AllByRecursion (λ (e : Entry). e.id ≡ id → IsMissing now e.keys.items key) es)
+missing_if t now id es entry kept counted found look None noted = tt
+missing_if t now id es entry kept counted found look (Some key) noted =
+    each_own (λ (e : Entry). IsMissing now e.keys.items key) id es kept.rising (λ e is.
+    let same : Some entry ≡ Some e = sym found ∙ is in
+    let one : entry ≡ e = cc in
+    subst (λ (x : Entry). IsMissing now x.keys.items key) one
+    (alone_missing t kept.named entry.keys.items key (alone_of t id es entry counted found key noted) now look entry.id
+    (found_filed t id (shelves_of es) (shelf_of entry) kept.filed (shelf_found id es ∙ ap (option_map shelf_of) found)) noted.over))
+
+pub take_out_noted-requires-clause-one : goal.take_out_noted-requires-clause-one
+take_out_noted-requires-clause-one c =
+    let found : find (λ (e : Entry). e.id == c.args.id) c.args.entries.now.items ≡ Some c.in-Some.entry.now = sym (rw c.deref.ensures.value at c.in-Some.ensures) in
+    rw c.deref-2.ensures.value (alone_if c.args.table.now c.args.id c.args.entries.now.items c.in-Some.entry.now c.requires.counted found c.only_over-one.result c.only_over-one.ensures)
+
+pub thin-requires-clause-one : goal.thin-requires-clause-one
+thin-requires-clause-one c =
+    let found : find (λ (e : Entry). e.id == c.args.id) c.args.entries.now.items ≡ Some c.in-Some.entry.now = sym (rw c.deref.ensures.value at c.in-Some.ensures) in
+    missing_if c.args.table.now c.take_out_noted.new.table c.args.id c.args.entries.now.items c.in-Some.entry.now c.requires.kept c.requires.counted found
+    (λ k. c.take_out_noted.ensures.look k ∙ ap (λ keys. left_at c.args.table.now keys k) c.deref-2.ensures.value) c.only_over-one.result c.only_over-one.ensures
 
 pub returns-clause-look : goal.returns-clause-look
 returns-clause-look c s found k =
     let there : Some (shelf_of c.in-Some.entry.now) ≡ Some s =
     sym (shelf_found c.args.id c.args.entries.now.items ∙ ap (option_map shelf_of) (sym (rw c.deref.ensures.value at c.in-Some.ensures))) ∙ found in
     let one : shelf_of c.in-Some.entry.now ≡ s = cc in
-    c.take_out_over.ensures.look k ∙ ap (λ keys. left_at c.args.table.now keys k) (c.deref-2.ensures.value ∙ ap (λ (x : Shelf). x.keys) one)
+    c.take_out_noted.ensures.look k ∙ ap (λ keys. left_at c.args.table.now keys k) (c.deref-2.ensures.value ∙ ap (λ (x : Shelf). x.keys) one)
 
 pub returns-clause-none : goal.returns-clause-none
 returns-clause-none c none =
@@ -58,11 +103,11 @@ returns-clause-none c none =
 pub returns-clause-counted : goal.returns-clause-counted
 returns-clause-counted c =
     let t = c.args.table.now in
-    let now = c.take_out_over.new.table in
+    let now = c.take_out_noted.new.table in
     let es = c.args.entries.now.items in
     let entry : find (λ (e : Entry). e.id == c.args.id) es ≡ Some c.in-Some.entry.now = sym (rw c.deref.ensures.value at c.in-Some.ensures) in
     let look : (k : NodeKey) → node_at now k ≡ left_at t c.in-Some.entry.now.keys.items k =
-    λ k. c.take_out_over.ensures.look k ∙ ap (λ keys. left_at t keys k) c.deref-2.ensures.value in
+    λ k. c.take_out_noted.ensures.look k ∙ ap (λ keys. left_at t keys k) c.deref-2.ensures.value in
     c.thin.ensures.counted
     (dropped_all t now c.requires.kept.named (drops_over t now c.in-Some.entry.now.keys.items look) es c.requires.kept.whole c.requires.counted)
     (tidy_one now c.args.id es c.requires.kept.rising (λ e found.

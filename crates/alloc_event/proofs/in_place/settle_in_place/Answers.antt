@@ -7,7 +7,7 @@ use Rattle.alloc_event.specs.declared.entry.Entry.{Entry}
 use Rattle.alloc_event.specs.Counts.{AreUnits}
 use Rattle.alloc_event.specs.InPlace.{IsMade, IsOpen}
 use Rattle.alloc_event.specs.Kept.{Finishes, Shelf, collection_in, nodes_with, place_in, shelf_of, shelves_of, forest_of}
-use Rattle.alloc_event.specs.Nodes.{is_over}
+use Rattle.alloc_event.specs.Calm.{over_but}
 use Rattle.alloc_event.specs.Settling.{changed, collection_or_new, no_key}
 use Rattle.alloc_event.proofs.changes.Altering.{tracker_room}
 use Rattle.alloc_event.proofs.changes.Done.{counted_at, finishes_at, opens_at, shelves_at, tidy_at}
@@ -45,6 +45,7 @@ module _ (c : goal.After-entries-1) where
     held = c.index_mut.result.now.held;
     strong = c.in-Some-change_in_place.left;
     tidy = c.index_mut.result.now.tidy;
+    one = c.index_mut.result.now.one;
   }
 
   told : place_in c.args.id es ≡ Some c.in-Some.at
@@ -65,8 +66,8 @@ module _ (c : goal.After-entries-1) where
   made : IsMade c.args.table.now c.change_in_place.new.table c.change_in_place.new.units.items (shelves_of es) (shelf_of old) c.args.change.now c.in-Some-change_in_place.left
   made = c.in-Some-change_in_place.ensures.some (shelves_of es) (shelf_of old) opens
 
-  tidies : new.tidy ≡ true → list_any is_over (nodes_with c.change_in_place.new.table old.keys.items) ≡ false
-  tidies h = made.over ∙ tidy_at c.args.table.now es c.args.id c.in-Some.at old place is c.requires.kept c.requires.counted c.args.units.now.items c.requires.units c.args.change.now c.requires.change
+  tidies : new.tidy ≡ true → list_any (over_but new.one) (nodes_with c.change_in_place.new.table old.keys.items) ≡ false
+  tidies h = made.over new.one ∙ ap (λ (x : Entry). list_any (over_but x.one) (nodes_with c.args.table.now old.keys.items)) again ∙ tidy_at c.args.table.now es c.args.id c.in-Some.at old place is c.requires.kept c.requires.counted c.args.units.now.items c.requires.units c.args.change.now c.requires.change
       (sym (ap (λ (x : Entry). x.tidy) again) ∙ h)
 
   same_shelves : shelves_of (set es c.in-Some.at new) ≡ shelves_of es

@@ -31,7 +31,7 @@ index_mut-requires c =
 pub invariant_of-self : goal.invariant_of-self
 invariant_of-self c =
     let told : place_in c.take_out-node.result.collection c.self.inside.entries.items ≡ Some c.in-Some.at = sym (rw c.deref.ensures.value at c.place_of.ensures) ∙ c.in-Some.is in
-    let e : Entry = record { id = c.index_mut.result.now.id; keys = c.forget_key.new.keys; buffers = c.index_mut.result.now.buffers; held = c.index_mut.result.now.held; strong = c.index_mut.result.now.strong; tidy = c.index_mut.result.now.tidy } in
+    let e : Entry = record { id = c.index_mut.result.now.id; keys = c.forget_key.new.keys; buffers = c.index_mut.result.now.buffers; held = c.index_mut.result.now.held; strong = c.index_mut.result.now.strong; tidy = c.index_mut.result.now.tidy; one = c.index_mut.result.now.one } in
     let within = (place_is c.take_out-node.result.collection c.self.inside.entries.items c.in-Some.at told).within in
     let was : c.index_mut.result.now ≡ get_or c.self.inside.entries.items c.in-Some.at e = c.index_mut.ensures.value ∙ get_or_default c.self.inside.entries.items c.in-Some.at c.index_mut.result.now e within in
     let own : shelf_of e ≡ shelf_without c.args.key (shelf_of c.index_mut.result.now) = λ i. record (shelf_of c.index_mut.result.now) { keys = c.forget_key.ensures i } in
@@ -66,7 +66,7 @@ invariant_of-self-in_default c =
 pub returns-in-Some-clause-nodes : goal.returns-in-Some-clause-nodes
 returns-in-Some-clause-nodes c =
     let told : place_in c.take_out-node.result.collection c.self.inside.entries.items ≡ Some c.in-Some.at = sym (rw c.deref.ensures.value at c.place_of.ensures) ∙ c.in-Some.is in
-    let e : Entry = record { id = c.index_mut.result.now.id; keys = c.forget_key.new.keys; buffers = c.index_mut.result.now.buffers; held = c.index_mut.result.now.held; strong = c.index_mut.result.now.strong; tidy = c.index_mut.result.now.tidy } in
+    let e : Entry = record { id = c.index_mut.result.now.id; keys = c.forget_key.new.keys; buffers = c.index_mut.result.now.buffers; held = c.index_mut.result.now.held; strong = c.index_mut.result.now.strong; tidy = c.index_mut.result.now.tidy; one = c.index_mut.result.now.one } in
     let within = (place_is c.take_out-node.result.collection c.self.inside.entries.items c.in-Some.at told).within in
     let was : c.index_mut.result.now ≡ get_or c.self.inside.entries.items c.in-Some.at e = c.index_mut.ensures.value ∙ get_or_default c.self.inside.entries.items c.in-Some.at c.index_mut.result.now e within in
     let own : shelf_of e ≡ shelf_without c.args.key (shelf_of c.index_mut.result.now) = λ i. record (shelf_of c.index_mut.result.now) { keys = c.forget_key.ensures i } in
