@@ -6,18 +6,17 @@ ghost use Rattle.alloc_event.specs.Forest.{IsPoolOf};
 ghost use Rattle.lifetime_core.specs.Hands.{MayMove};
 ghost use Rattle.lifetime_core.specs.State.{Client as Row, counts_of};
 ghost use Rattle.lifetime_core.specs.Tasks.{MayDo, TakesEffect, takes_room};
-ghost use Rattle.lifetime_core.specs.Tasks.{changes_nothing as is_idle};
+ghost use Rattle.lifetime_core.specs.Tasks.{changes_nothing as is_idle, keyed};
 ghost use Rattle.lifetime_core.specs.Whole.{Rise};
 
 use crate::clients::{Client, note};
 use crate::hands::{hand_back, hand_over, tidy_up};
 use crate::sweeping::{Tracking, attach, detach};
-use crate::table::keyed;
 use crate::task::{Task, make};
 use alloc_event::Forest;
 use buffer_holds::Holds;
 use buffer_pool::Pool;
-use sm_names::{Call, ClientId, NoMemory, Reply};
+use sm_names::{Call, ClientId, NoMemory, NodeKey, Reply};
 use trackers::Trackers;
 
 /// Whether the call, answered so, changes nothing: it was refused, or only asks.
@@ -40,7 +39,7 @@ pub(crate) fn changes_nothing(call: &Call, reply: &Reply) -> bool
 }
 
 /// Makes of the fields what the call makes of them that was answered so, but for the trackers that
-/// fire and for what is forgotten, and answers the reply, with the key of a new node.
+/// fire and for what is forgotten, and answers the key of a new node, if there is one.
 ///
 /// `NoMemory` where memory is refused; then the fields are as they were, but for the order of the
 /// rows of handles. It costs the work on one collection, and a few look-ups.
@@ -55,7 +54,7 @@ pub(crate) fn take_effect(
     asked: &Reply,
     task: &Option<Task>,
     tracking: Option<Tracking>,
-) -> Result<Reply, NoMemory>
+) -> Result<Option<NodeKey>, NoMemory>
     requires clients { Rise (map (λ (c : Row). c.id) clients.old.items) }
     requires handles { MayMove holds.old client call.now asked.now }
     requires may { IfSome task.now (MayDo forest.old) }
@@ -63,10 +62,10 @@ pub(crate) fn take_effect(
     requires rising { IfSome tracking (λ t. All (λ (c : Cell). c.id < t.id) trackers.old.cells) }
     requires room { IfSome tracking (λ t. length trackers.old.unfired < trackers.old.limit) }
     requires alone { takes_room call.now asked.now ≡ true → (task.now ≡ None) × (tracking ≡ None) }
-    ensures ok { IfOk result (TakesEffect pool.old.size
+    ensures ok { IfOk result (λ key. TakesEffect pool.old.size
         (record { clients = clients.old.items; forest = forest.old; holds = holds.old; trackers = trackers.old })
         (record { clients = clients.new.items; forest = forest.new; holds = holds.new; trackers = trackers.new })
-        client call.now asked.now task.now tracking) }
+        client call.now asked.now task.now tracking (keyed asked.now key)) }
     ensures err { OnErr result ((clients.new.items ≡ clients.old.items) × (forest.new ≡ forest.old)
         × (pool.new ≡ pool.old) × (counts_of holds.new ≡ counts_of holds.old)
         × (trackers.new ≡ trackers.old)) }
@@ -89,5 +88,5 @@ pub(crate) fn take_effect(
         return Err(NoMemory);
     };
     tidy_up(holds, client, call);
-    Ok(keyed(*asked, key))
+    Ok(key)
 }

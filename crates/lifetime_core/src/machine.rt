@@ -38,7 +38,7 @@ ghost use Rattle.lifetime_core.specs.Traits.{key_in};
 use crate::clients::{Client, count_waiting, first_waiting, has_joined, is_shut};
 use crate::event::{changes_nothing, take_effect};
 use crate::sweeping::{place_to_sweep, sweep, tracking_of};
-use crate::table::answer;
+use crate::table::{answer, keyed};
 use crate::task::{carried_end, changed_by, finish, task_of};
 use crate::traits::{Named, traits_of};
 use alloc_event::{End, Forest, HeldBuffer, Node};
@@ -358,7 +358,7 @@ impl Core {
         }
         let task = task_of(self, client, &call, &asked, traits.on, node);
         let tracking = tracking_of(self, &call, &asked, node);
-        let Ok(reply) = take_effect(
+        let Ok(key) = take_effect(
             &mut self.clients,
             &mut self.forest,
             &mut self.pool,
@@ -382,7 +382,7 @@ impl Core {
             &self.holds,
         );
         finish(&mut self.forest, &task, carried_end(client, &call, &asked));
-        Ok(reply)
+        Ok(keyed(asked, key))
     }
 
     /// Takes calls in order, each as `step` does, and answers their replies in this order.

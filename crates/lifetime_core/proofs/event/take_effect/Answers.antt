@@ -1,4 +1,4 @@
-use Rattle.std.proofs.Common.{ap, ◌≡◌, sym, subst}
+use Rattle.std.proofs.Common.{ap, ◌≡◌, refl, sym, subst}
 use Rattle.sm_names.specs.Marks.{Called}
 use Rattle.alloc_event.specs.Settling.{Handles}
 use Rattle.lifetime_core.specs.State.{HandleCounts, counts_of}
@@ -11,7 +11,7 @@ returns-clause-ok c =
     let same : counts_of c.tidy_up.new.holds ≡ counts_of c.hand_over.new.holds = c.tidy_up.ensures.counts in
     record {
       key = c.in-Ok-make.key;
-      told = c.keyed.ensures;
+      told = refl;
       clients = c.in-Ok-note.ensures.ok;
       handles = moves_to c.args.holds.now c.hand_over.new.holds c.tidy_up.new.holds (Called c.args.client c.args.asked.now c.args.call.now) c.in_ok-hand_over.ensures.ok same;
       work = subst (λ (h : Handles). Reworked c.args.pool.now.size h c.args.forest.now (work_in c.args.task.now) c.in-Ok-make.key c.make.new.forest)

@@ -8,7 +8,7 @@ use Rattle.alloc_event.specs.Forest.{node_at}
 use Rattle.lifetime_core.specs.declared.traits.Named.{Named}
 use Rattle.lifetime_core.specs.Reads.{node_named, readings_of}
 use Rattle.lifetime_core.specs.State.{State}
-use Rattle.lifetime_core.specs.Tasks.{Parts, placed}
+use Rattle.lifetime_core.specs.Tasks.{Parts, keyed, placed}
 use Rattle.lifetime_core.specs.Traits.{key_in}
 use Rattle.lifetime_core.proofs.theorem.EventParts.{Begins, after, alone, begins, can_carry, finishes, one, step_answers, step_follows}
 use Rattle.lifetime_core.proofs.answers.Kinds.{reply-fits}
@@ -105,7 +105,7 @@ sweep-requires c =
     begins c.self.inside.pool s c.args.self.now c.args.client c.args.call c.answer-asked.result c.task_of-task.result c.tracking_of-tracking.result c.self.view_is c.self.invariant c.answer-asked.ensures
     c.task_of-task.ensures.work c.task_of-task.ensures.spends c.task_of-task.ensures.there c.task_of-task.ensures.some c.tracking_of-tracking.ensures in
     let parts : Parts = record { clients = c.take_effect.new.clients.items; forest = c.take_effect.new.forest; holds = c.take_effect.new.holds; trackers = c.take_effect.new.trackers } in
-    record { elsewhere = rw (c.place_to_sweep-place.ensures, c.changed_by.ensures) (none_elsewhere s c.args.client c.args.call c.answer-asked.result c.in-Ok.reply c.task_of-task.result c.tracking_of-tracking.result b parts c.in-Ok.ensures.ok) }
+    record { elsewhere = rw (c.place_to_sweep-place.ensures, c.changed_by.ensures) (none_elsewhere s c.args.client c.args.call c.answer-asked.result (keyed c.answer-asked.result c.in-Ok.key) c.task_of-task.result c.tracking_of-tracking.result b parts c.in-Ok.ensures.ok) }
 
 -- what is over can be forgotten
 pub finish-requires : goal.finish-requires
@@ -116,9 +116,9 @@ finish-requires c =
     c.task_of-task.ensures.work c.task_of-task.ensures.spends c.task_of-task.ensures.there c.task_of-task.ensures.some c.tracking_of-tracking.ensures in
     let parts : Parts = record { clients = c.take_effect.new.clients.items; forest = c.take_effect.new.forest; holds = c.take_effect.new.holds; trackers = c.take_effect.new.trackers } in
     record {
-      task = finishes s c.args.client c.args.call c.answer-asked.result c.in-Ok.reply c.task_of-task.result c.tracking_of-tracking.result b parts c.in-Ok.ensures.ok;
-      carried = can_carry s c.args.client c.args.call c.answer-asked.result c.in-Ok.reply c.task_of-task.result c.tracking_of-tracking.result b parts c.in-Ok.ensures.ok c.carried_end.result c.carried_end.ensures;
-      one = one s c.args.client c.args.call c.answer-asked.result c.in-Ok.reply c.task_of-task.result c.tracking_of-tracking.result b parts c.in-Ok.ensures.ok c.carried_end.result c.carried_end.ensures;
+      task = finishes s c.args.client c.args.call c.answer-asked.result (keyed c.answer-asked.result c.in-Ok.key) c.task_of-task.result c.tracking_of-tracking.result b parts c.in-Ok.ensures.ok;
+      carried = can_carry s c.args.client c.args.call c.answer-asked.result (keyed c.answer-asked.result c.in-Ok.key) c.task_of-task.result c.tracking_of-tracking.result b parts c.in-Ok.ensures.ok c.carried_end.result c.carried_end.ensures;
+      one = one s c.args.client c.args.call c.answer-asked.result (keyed c.answer-asked.result c.in-Ok.key) c.task_of-task.result c.tracking_of-tracking.result b parts c.in-Ok.ensures.ok c.carried_end.result c.carried_end.ensures;
     }
 
 -- the fields are whole again
@@ -129,7 +129,7 @@ invariant_of-self-2 c =
     begins c.self.inside.pool s c.args.self.now c.args.client c.args.call c.answer-asked.result c.task_of-task.result c.tracking_of-tracking.result c.self.view_is c.self.invariant c.answer-asked.ensures
     c.task_of-task.ensures.work c.task_of-task.ensures.spends c.task_of-task.ensures.there c.task_of-task.ensures.some c.tracking_of-tracking.ensures in
     let parts : Parts = record { clients = c.take_effect.new.clients.items; forest = c.take_effect.new.forest; holds = c.take_effect.new.holds; trackers = c.take_effect.new.trackers } in
-    whole_then s c.args.client c.args.call c.answer-asked.result c.in-Ok.reply c.task_of-task.result c.tracking_of-tracking.result b parts c.in-Ok.ensures.ok c.self.inside.pool c.take_effect.new.pool c.finish.new.forest
+    whole_then s c.args.client c.args.call c.answer-asked.result (keyed c.answer-asked.result c.in-Ok.key) c.task_of-task.result c.tracking_of-tracking.result b parts c.in-Ok.ensures.ok c.self.inside.pool c.take_effect.new.pool c.finish.new.forest
     (placed c.task_of-task.result c.carried_end.result) c.sweep.new.trackers c.self.invariant c.take_effect.ensures.size c.take_effect.ensures.pool c.finish.ensures.held c.take_effect.ensures.limit
     (omega arith) (omega arith) c.finish.ensures.collections c.finish.ensures.keys c.finish.ensures.sound c.finish.ensures.ids c.sweep.ensures
 
@@ -141,18 +141,18 @@ returns c =
     begins c.self.inside.pool s c.args.self.now c.args.client c.args.call c.answer-asked.result c.task_of-task.result c.tracking_of-tracking.result c.self.view_is c.self.invariant c.answer-asked.ensures
     c.task_of-task.ensures.work c.task_of-task.ensures.spends c.task_of-task.ensures.there c.task_of-task.ensures.some c.tracking_of-tracking.ensures in
     let parts : Parts = record { clients = c.take_effect.new.clients.items; forest = c.take_effect.new.forest; holds = c.take_effect.new.holds; trackers = c.take_effect.new.trackers } in
-    let answers = step_answers s c.args.client c.args.call c.answer-asked.result c.in-Ok.reply c.task_of-task.result c.tracking_of-tracking.result b parts c.in-Ok.ensures.ok in
-    let follows = step_follows s c.args.client c.args.call c.answer-asked.result c.in-Ok.reply c.task_of-task.result c.tracking_of-tracking.result b parts c.in-Ok.ensures.ok c.carried_end.result c.carried_end.ensures c.finish.new.forest c.sweep.new.trackers
+    let answers = step_answers s c.args.client c.args.call c.answer-asked.result (keyed c.answer-asked.result c.in-Ok.key) c.task_of-task.result c.tracking_of-tracking.result b parts c.in-Ok.ensures.ok in
+    let follows = step_follows s c.args.client c.args.call c.answer-asked.result (keyed c.answer-asked.result c.in-Ok.key) c.task_of-task.result c.tracking_of-tracking.result b parts c.in-Ok.ensures.ok c.carried_end.result c.carried_end.ensures c.finish.new.forest c.sweep.new.trackers
     c.finish.ensures.collections c.finish.ensures.keys c.sweep.ensures in
     let room : s.events < s.limits.events = omega arith in
-    record {
+    rw c.keyed.ensures (record {
       answer = rw (← c.self.view_is) answers;
-      kind = reply-fits s.limits (readings_of s) c.args.client (key_told c.in-Ok.reply) c.args.call c.in-Ok.reply answers.told;
+      kind = reply-fits s.limits (readings_of s) c.args.client (key_told (keyed c.answer-asked.result c.in-Ok.key)) c.args.call (keyed c.answer-asked.result c.in-Ok.key) answers.told;
       after = rw (← c.self.view_is, c.take_effect.ensures.size) follows;
-      goes_on = rw (← c.self.view_is, c.take_effect.ensures.size) (goes_on s (after s c.args.client c.args.call c.answer-asked.result c.in-Ok.reply c.task_of-task.result c.tracking_of-tracking.result b parts c.in-Ok.ensures.ok c.carried_end.result c.carried_end.ensures c.finish.new.forest c.sweep.new.trackers c.finish.ensures.collections c.finish.ensures.keys c.sweep.ensures) c.args.client c.args.call c.in-Ok.reply answers follows room);
-      untaken = rw (← c.self.view_is) (untaken_after s (after s c.args.client c.args.call c.answer-asked.result c.in-Ok.reply c.task_of-task.result c.tracking_of-tracking.result b parts c.in-Ok.ensures.ok c.carried_end.result c.carried_end.ensures c.finish.new.forest c.sweep.new.trackers c.finish.ensures.collections c.finish.ensures.keys c.sweep.ensures) c.args.client c.args.call c.in-Ok.reply answers follows);
+      goes_on = rw (← c.self.view_is, c.take_effect.ensures.size) (goes_on s (after s c.args.client c.args.call c.answer-asked.result (keyed c.answer-asked.result c.in-Ok.key) c.task_of-task.result c.tracking_of-tracking.result b parts c.in-Ok.ensures.ok c.carried_end.result c.carried_end.ensures c.finish.new.forest c.sweep.new.trackers c.finish.ensures.collections c.finish.ensures.keys c.sweep.ensures) c.args.client c.args.call (keyed c.answer-asked.result c.in-Ok.key) answers follows room);
+      untaken = rw (← c.self.view_is) (untaken_after s (after s c.args.client c.args.call c.answer-asked.result (keyed c.answer-asked.result c.in-Ok.key) c.task_of-task.result c.tracking_of-tracking.result b parts c.in-Ok.ensures.ok c.carried_end.result c.carried_end.ensures c.finish.new.forest c.sweep.new.trackers c.finish.ensures.collections c.finish.ensures.keys c.sweep.ensures) c.args.client c.args.call (keyed c.answer-asked.result c.in-Ok.key) answers follows);
       kept = search rules;
       equal = search rules;
       stays = search rules;
       full = search rules;
-    }
+    })
