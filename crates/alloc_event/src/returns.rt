@@ -1,5 +1,5 @@
 //! Pages that go back to the pool.
-ghost use Rattle.std.specs.Prelude.{◌≡◌, ◌++◌, List, Contains, if◌then◌else◌};
+ghost use Rattle.std.specs.Prelude.{◌≡◌, ◌++◌, List, Contains, if◌then◌else◌, length};
 ghost use Rattle.std.specs.List.{filter};
 ghost use Rattle.sm_names.specs.declared.keys.Interval.{Interval};
 ghost use Rattle.buffer_holds.specs.Counts.{total};
@@ -14,7 +14,7 @@ use buffer_holds::Holds;
 use buffer_pool::Pool;
 
 /// The buffers that nothing keeps any longer give their pages back. It takes no memory, and costs
-/// two looks at the handles of each buffer and what the pool takes.
+/// a look at the handles of each buffer, two where some stay and others go, and what the pool takes.
 pub fn give_back(scene: &mut Scene, pool: &mut Pool, holds: &Holds)
     requires { (others : List Interval) × IsPoolBeside pool.old (collection_of scene.old) others }
     ensures scene { collection_of scene.new
@@ -24,12 +24,12 @@ pub fn give_back(scene: &mut Scene, pool: &mut Pool, holds: &Holds)
     ensures size { pool.new.size ≡ pool.old.size }
 {
     let strong_live = some_strong_live(&scene.nodes);
-    return_pages(&scene.held, pool, holds, strong_live);
-    keep_out(&mut scene.held, holds, strong_live);
+    let out = return_pages(&scene.held, pool, holds, strong_live);
+    keep_out(&mut scene.held, holds, strong_live, out);
 }
 
-/// Each buffer that is home gives its pages back.
-fn return_pages(held: &[HeldBuffer], pool: &mut Pool, holds: &Holds, strong_live: bool)
+/// Each buffer that is home gives its pages back. Answers how many are not.
+fn return_pages(held: &[HeldBuffer], pool: &mut Pool, holds: &Holds, strong_live: bool) -> usize
     requires { (others : List Interval)
         × (pool.old.held ≡ by_page (pages_held held.now ++ others)) }
     ensures held { (others : List Interval) →
@@ -37,25 +37,31 @@ fn return_pages(held: &[HeldBuffer], pool: &mut Pool, holds: &Holds, strong_live
         let left = filter (is_out (total holds.now) strong_live) held.now in
         pool.new.held ≡ by_page (pages_held left ++ others) }
     ensures size { pool.new.size ≡ pool.old.size }
+    ensures out { result ≡ length (filter (is_out (total holds.now) strong_live) held.now) }
 {
     look_at(pool);
+    let mut out = 0;
     for buffer in held {
-        return_one(*buffer, pool, holds, strong_live);
+        out += return_one(*buffer, pool, holds, strong_live);
     }
+    out
 }
 
-/// The buffer gives its pages back, if it is home.
-fn return_one(buffer: HeldBuffer, pool: &mut Pool, holds: &Holds, strong_live: bool)
+/// The buffer gives its pages back, if it is home. Answers 1 if it is not, and else 0.
+fn return_one(buffer: HeldBuffer, pool: &mut Pool, holds: &Holds, strong_live: bool) -> usize
     requires sound { IsSoundPool pool.old }
     requires there { Contains pool.old.held (held_pages buffer).pages }
     ensures held { pool.new.held ≡ (if is_out (total holds.now) strong_live buffer
         then pool.old.held else without buffer.start pool.old.held) }
     ensures size { pool.new.size ≡ pool.old.size }
     ensures sound { IsSoundPool pool.new }
+    ensures out { result ≡ (if is_out (total holds.now) strong_live buffer then 1 else 0) }
 {
     if holds.home(buffer.buffer, strong_live) {
         pool.give_back(buffer.start, buffer.pages);
+        return 0;
     }
+    1
 }
 
 /// The pool's intervals lie apart.
@@ -65,9 +71,17 @@ fn look_at(pool: &Pool)
     let _free = pool.free_pages();
 }
 
-/// The buffers that are home are not held any longer.
-fn keep_out(held: &mut Vec<HeldBuffer>, holds: &Holds, strong_live: bool)
+/// The buffers that are home are not held any longer. So many are not.
+fn keep_out(held: &mut Vec<HeldBuffer>, holds: &Holds, strong_live: bool, out: usize)
+    requires { out ≡ length (filter (is_out (total holds.now) strong_live) held.old.items) }
     ensures { held.new.items ≡ filter (is_out (total holds.now) strong_live) held.old.items }
 {
+    if out == held.len() {
+        return;
+    }
+    if out == 0 {
+        held.clear();
+        return;
+    }
     held.retain(|buffer| !holds.home(buffer.buffer, strong_live));
 }

@@ -12,7 +12,7 @@ use crate::fault::HoldFault;
 use crate::kinds::{HandleKind, Hold};
 use crate::rows::{Rows, forget, lower, raise};
 use crate::spot::Spot;
-use crate::tally::{Tallies, leave, open, tally_of};
+use crate::tally::{Tallies, leave, open, tally_near, tally_of};
 use indexmap::IndexMap;
 use sm_names::{BufferName, ClientId, NoMemory, Strength};
 use std::alloc::Global;
@@ -83,7 +83,7 @@ impl Holds {
         ensures { result ≡ moving self.now buffer strength }
     {
         let kind = HandleKind { buffer, strength };
-        tally_of(&self.tallies, kind, &mut 0).moving
+        tally_of(&self.tallies, kind).moving
     }
 
     /// How many of these handles are open, in parcels and out of them: what was opened, less what
@@ -94,7 +94,8 @@ impl Holds {
         ensures within { result ≤ self.now.limit }
         ensures one_row_each { IsDistinct same_hold (keys_of self.now.rows) }
     {
-        self.total_near(buffer, strength, &mut Spot::new())
+        let kind = HandleKind { buffer, strength };
+        tally_of(&self.tallies, kind).total
     }
 
     /// What `total` says. It looks at the spot first, which goes on behind what it finds, and takes
@@ -105,7 +106,7 @@ impl Holds {
         ensures one_row_each { IsDistinct same_hold (keys_of self.now.rows) }
     {
         let kind = HandleKind { buffer, strength };
-        tally_of(&self.tallies, kind, &mut near.tally).total
+        tally_near(&self.tallies, kind, &mut near.tally).total
     }
 
     /// Whether nothing strong keeps this buffer of an allocated collection any longer: neither an

@@ -25,6 +25,13 @@ pub(crate) struct Tally {
     pub(crate) clients: usize,
 }
 
+// The tally of a kind of which nothing is open.
+const NO_TALLY: Tally = Tally {
+    total: 0,
+    moving: 0,
+    clients: 0,
+};
+
 impl Tally {
     // Whether it says nothing: no client has a row, and no handle is in a parcel.
     fn is_idle(&self) -> bool
@@ -60,16 +67,22 @@ fn tally_place(tallies: &Tallies, kind: HandleKind, guess: usize) -> Option<usiz
     find_tally(tallies, kind)
 }
 
-// The tally of this kind. It is looked for at the place first, which becomes the one behind it.
-pub(crate) fn tally_of(tallies: &Tallies, kind: HandleKind, place: &mut usize) -> Tally
+// The tally of this kind.
+pub(crate) fn tally_of(tallies: &Tallies, kind: HandleKind) -> Tally
+    ensures { result ≡ tally_at tallies.now.entries kind }
+{
+    match tallies.get(&kind) {
+        Some(tally) => *tally,
+        None => NO_TALLY,
+    }
+}
+
+// The same. It is looked for at the place first, which becomes the one behind it.
+pub(crate) fn tally_near(tallies: &Tallies, kind: HandleKind, place: &mut usize) -> Tally
     ensures { result ≡ tally_at tallies.now.entries kind }
 {
     let Some(found) = tally_place(tallies, kind, *place) else {
-        return Tally {
-            total: 0,
-            moving: 0,
-            clients: 0,
-        };
+        return NO_TALLY;
     };
     *place = found.wrapping_add(1);
     *tallies.get_index(found).unwrap().1

@@ -37,7 +37,7 @@ returns-clause-scene c =
 pub returns-clause-pool : goal.returns-clause-pool
 returns-clause-pool c others beside =
     let out : HeldBuffer → Bool = is_out (total c.args.holds.now) c.some_strong_live-strong_live.result in
-    c.return_pages.ensures.held others (beside
+    c.return_pages-out.ensures.held others (beside
     ∙ ap (λ (l : List HeldBuffer). by_page (pages_held l ++ others)) (sym c.deref-2.ensures.value))
     ∙ (ap (λ (l : List HeldBuffer). by_page (pages_held (filter out l) ++ others)) c.deref-2.ensures.value
     ∙ ap (λ (l : List HeldBuffer). by_page (pages_held l ++ others)) (sym c.keep_out.ensures))

@@ -1,4 +1,5 @@
-use Rattle.std.proofs.Common.{ℕ, ◌≡◌, ◌<◌, ◌+◌, ◌∙◌, ◌++◌, ◌∷◌, refl, sym, ap, Bool, true, false, cond, List, length, take, drop, get_or, arith}
+use Rattle.std.proofs.Common.{ℕ, ◌≡◌, ◌<◌, ◌≤◌, ◌+◌, ◌∙◌, ◌++◌, ◌∷◌, refl, sym, ap, Bool, true, false, cond, List, length, take, drop, get_or, arith}
+use Rattle.std.proofs.lemmas.List.Filters.{length-filter_more}
 use Rattle.std.specs.List.{filter}
 use Rattle.sm_names.specs.declared.keys.Interval.{Interval}
 use Rattle.buffer_holds.specs.Counts.{total}
@@ -7,8 +8,8 @@ use Rattle.alloc_event.specs.Scenes.{by_page, is_out, pages_held}
 use Rattle.alloc_event.proofs.intervals.Returned.{holds_one, kept_here, kept_past, one_returned}
 use Rattle.alloc_event.proofs.returns.return_pages.Goals as goal
 
-pub return_one-requires-clause-there : goal.return_one-requires-clause-there
-return_one-requires-clause-there c =
+pub return_one-out-requires-clause-there : goal.return_one-out-requires-clause-there
+return_one-out-requires-clause-there c =
     let i : ℕ = c.loop-buffer.buffer-index in
     let all : List HeldBuffer = c.args.held.now in
     let out : HeldBuffer → Bool = is_out (total c.args.holds.now) c.args.strong_live in
@@ -27,21 +28,29 @@ loop-buffer-preserved c =
     let d : HeldBuffer = record { buffer = record { collection = 0; index = 0 }; start = 0; pages = 0 } in
     let within : i < length all = omega arith in
     record {
-      sound = c.return_one.ensures.sound;
-      size = c.return_one.ensures.size ∙ c.loop-buffer.invariant.size;
+      sound = c.return_one-out.ensures.sound;
+      size = c.return_one-out.ensures.size ∙ c.loop-buffer.invariant.size;
       held = λ others beside.
           let holds : c.loop-buffer.pool.held
           ≡ by_page (pages_held (filter out (take i all) ++ get_or all i d ∷ drop (i + 1) all) ++ others) =
           c.loop-buffer.invariant.held others beside
           ∙ ap (λ (l : List HeldBuffer). by_page (pages_held l ++ others)) (kept_here out all i d within) in
-          c.return_one.ensures.held
+          c.return_one-out.ensures.held
           ∙ ((λ j. cond (out (get_or all i d)) (holds j)
           (one_returned c.loop-buffer.pool (filter out (take i all)) (drop (i + 1) all) (get_or all i d)
           others c.loop-buffer.invariant.sound holds j))
           ∙ (from (out (get_or all i d)) (filter out (take i all)) (drop (i + 1) all) (get_or all i d) others
           ∙ ap (λ (l : List HeldBuffer). by_page (pages_held l ++ others)) (sym (kept_past out all i d within))));
+      out = ap (λ (n : ℕ). n + c.return_one-out.result) c.loop-buffer.invariant.out
+          ∙ ap (λ (n : ℕ). length (filter out (take i all)) + n) c.return_one-out.ensures.out
+          ∙ sym (length-filter_more out all i d within);
+      few = omega (arith, c.loop-buffer.invariant.few, c.return_one-out.ensures.out, at_most_one (out (get_or all i d)));
     }
   where
+    at_most_one : (b : Bool) → cond b 1 0 ≤ 1
+    at_most_one true = omega arith
+    at_most_one false = omega arith
+
     from : (b : Bool) (front rest : List HeldBuffer) (h : HeldBuffer) (others : List Interval) →
         cond b (by_page (pages_held (front ++ h ∷ rest) ++ others)) (by_page (pages_held (front ++ rest) ++ others))
         ≡ by_page (pages_held (cond b (front ++ h ∷ rest) (front ++ rest)) ++ others)

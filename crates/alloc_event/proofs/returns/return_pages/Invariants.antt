@@ -1,4 +1,4 @@
-use Rattle.std.proofs.Common.{◌≡◌, ◌++◌, List, take, drop}
+use Rattle.std.proofs.Common.{◌≡◌, ◌≤◌, ◌++◌, List, length, take, drop}
 use Rattle.std.specs.List.{filter}
 use Rattle.sm_names.specs.declared.keys.Interval.{Interval}
 use Rattle.buffer_holds.specs.Counts.{total}
@@ -15,4 +15,6 @@ invariant-loop-buffer l = record {
       l.pool.held ≡ by_page (pages_held
       (filter (is_out (total l.holds) l.strong_live) (take l.buffer-index l.held) ++ drop l.buffer-index l.held)
       ++ others);
+  out : l.out ≡ length (filter (is_out (total l.holds) l.strong_live) (take l.buffer-index l.held));
+  few : l.out ≤ l.buffer-index;
 }

@@ -7,6 +7,6 @@ use Rattle.buffer_holds.proofs.holds.Holds.total_near.Goals as goal
 pub returns-clause-value : goal.returns-clause-value
 returns-clause-value c =
     let inside = c.self.inside in
-    ap (λ tally. tally.total) c.tally_of.ensures
+    ap (λ tally. tally.total) c.tally_near.ensures
     ∙ sym (total_is inside.limit inside.rows.entries inside.tallies.entries c.self.invariant c.args.buffer c.args.strength)
     ∙ ap (λ counts. total counts c.args.buffer c.args.strength) c.self.view_is
