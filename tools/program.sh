@@ -48,6 +48,16 @@ try 3 'joined\n' 'bad line 2' 'a join\nshow free' run
 try 3 'joined\n' 'bad line 2' 'a join\na fly\n' run
 try 3 '' 'bad line 1' 'a  join\n' run
 
+# Scripts of actors.
+two='a join\nb join\na open r\nb open s\na bind r\nb bind s\na constrain r 1 0 4096\nb constrain s 1 0 4096\na take r\nb take s\n'
+try 0 'events 16\na events 7 strong 0 weak 0\nb events 7 strong 0 weak 0\ngather ok\n' '' "$two" threads
+try 0 'events 4\na events 3 strong 0 weak 0\ngather ok\n' '' 'a join\na open r\na close r\na sync r\na open r\n' threads
+try 0 'events 5\na events 4 strong 0 weak 0\ngather ok\n' '' 'a join\na open r\na bind r\n' threads --pages 1
+try 3 '' 'bad line 1' '' threads
+try 3 '' 'bad line 1' 'a open r\n' threads
+try 3 '' 'bad line 2' 'a join\nshow live\n' threads
+try 3 '' 'bad line 3' 'a join\na open r\nb join\n' threads
+
 # The number of pages.
 try 0 'free 16\n' '' 'show free\n' run
 try 0 'free 1\n' '' 'show free\n' run --pages 1
@@ -57,39 +67,75 @@ try 0 'free 7\n' '' 'show free\n' run --pages=7
 for words in '--pages 0' '--pages 1048577' '--pages many' '--pages -1' '--pages' '--pages 1 --pages 2'; do
   # shellcheck disable=SC2086
   try 2 '' '*' 'show free\n' run $words
+  # shellcheck disable=SC2086
+  try 2 '' '*' 'a join\n' threads $words
 done
 
 # Words that ask for no run.
 try 2 '' '*' '' fly
 try 2 '' '*' '' run fly
 try 2 '' '*' '' run --fly
+try 2 '' '*' '' threads fly
+try 2 '' '*' '' threads --fly
 try 2 '' '*' ''
 
-# A reader and a writer that fail.
-"$program" run <"$room" >"$room/out" 2>"$room/told"
-if [ $? = 1 ] && hears 'read fault'; then passed=$((passed + 1)); else failed=$((failed + 1)) && echo 'no read fault'; fi
-printf 'a join\n' >"$room/script"
-"$program" run <"$room/script" >/dev/full 2>"$room/told"
-if [ $? = 1 ] && hears 'write fault'; then passed=$((passed + 1)); else failed=$((failed + 1)) && echo 'no write fault'; fi
-
-# Each example.
-for script in examples/*.script; do
-  if "$program" run <"$script" 2>"$room/told" | cmp -s - "${script%.script}.out" && hears ''; then
+# Counts what was seen, or tells what was not.
+count() {
+  if "$@"; then
     passed=$((passed + 1))
   else
     failed=$((failed + 1))
-    echo "$script is answered otherwise"
+    echo "not so: $*"
   fi
+}
+
+# A reader and a writer that fail.
+read_fails() {
+  "$program" "$1" <"$room" >"$room/out" 2>"$room/told"
+  [ $? = 1 ] && [ ! -s "$room/out" ] && hears 'read fault'
+}
+write_fails() {
+  printf 'a join\n' >"$room/script"
+  "$program" "$1" <"$room/script" >/dev/full 2>"$room/told"
+  [ $? = 1 ] && hears 'write fault'
+}
+for command in run threads; do
+  count read_fails "$command"
+  count write_fails "$command"
 done
+
+# No memory for what is read, by a limit on the process.
+no_memory() {
+  yes '# a remark' | head -c 8000000 >"$room/script"
+  printf 'a join\n' >>"$room/script"
+  (ulimit -v 12000 && "$program" threads <"$room/script" >"$room/out" 2>"$room/told")
+  [ $? = 4 ] && [ ! -s "$room/out" ] && hears 'no memory'
+}
+count no_memory
+
+# Each example.
+is_answered() {
+  "$program" run <"$1" 2>"$room/told" | cmp -s - "${1%.script}.out" && hears ''
+}
+for script in examples/*.script; do count is_answered "$script"; done
+
+# Actors that never meet have one report. Of those that share a tree the number of events is open.
+is_reported() {
+  "$program" threads <examples/apart.actors 2>"$room/told" | cmp -s - examples/apart.out && hears ''
+}
+all_is_gathered() {
+  "$program" threads <examples/shared.actors >"$room/out" 2>"$room/told"
+  [ $? = 0 ] && [ "$(grep -c ' strong 0 weak 0$' "$room/out")" = 4 ] && [ "$(tail -n 1 "$room/out")" = 'gather ok' ] && hears ''
+}
+count is_reported
+for _ in 1 2 3 4 5 6 7 8 9 10; do count all_is_gathered; done
 
 # Version and help.
 try 0 'sysmem 0.1.0\n' '' '' --version
-"$program" run --help >"$room/out" 2>"$room/told"
-if [ $? = 0 ] && grep -q 'show fired' "$room/out" && hears ''; then
-  passed=$((passed + 1))
-else
-  failed=$((failed + 1))
-  echo 'no help'
-fi
+helps() {
+  "$program" "$1" --help >"$room/out" 2>"$room/told"
+  [ $? = 0 ] && grep -q 'show fired' "$room/out" && grep -q 'C trackweak B T' "$room/out" && grep -q '^Status: 0' "$room/out" && hears ''
+}
+for command in run threads; do count helps "$command"; done
 echo "$passed passed, $failed failed"
 [ "$failed" = 0 ]

@@ -8,7 +8,7 @@
 set -euo pipefail
 cd "$(dirname "$0")/.."
 crates=("$@")
-[ ${#crates[@]} = 0 ] && crates=(part_trials script_trials core_trials ends_trials parting_trials actor_trials)
+[ ${#crates[@]} = 0 ] && crates=(part_trials script_trials core_trials ends_trials parting_trials actor_trials thread_trials)
 most=300
 room=$(mktemp -d)
 trap 'rm -r "$room"' EXIT

@@ -1,0 +1,65 @@
+//! Runs of actors.
+ghost use Rattle.std.specs.Prelude.{◌≤◌};
+
+use sm_names::Limits;
+use std::alloc::Global;
+use std::process::Abort;
+use std::sync::Wait;
+use std::test::Fail;
+use std::thread::Threads;
+use std::time::Clock;
+use thread_runs::{ThreadsFault, run_threads};
+use trial_streams::{Drip, Sink};
+
+/// Two actors that never meet: each asks for a buffer and takes it.
+pub const TWO: &str = "a join\nb join\na open r\nb open s\na bind r\nb bind s\n\
+a constrain r 1 0 4096\nb constrain s 1 0 4096\na take r\nb take s\n";
+
+/// What they leave: each made its four calls, a Shut, a Close and a DropHandle.
+pub const TWO_REPORT: &str =
+    "events 16\na events 7 strong 0 weak 0\nb events 7 strong 0 weak 0\ngather ok\n";
+
+/// Limits of so many events, and else the greatest.
+pub fn events<R: Abort>(rt: &R, most: u32) -> Limits {
+    match Limits::new(most, 1024, 256, 4096, u32::MAX) {
+        Some(limits) => limits,
+        None => panic!(rt; "no limits"),
+    }
+}
+
+/// Asserts what a run of actors writes, whose lines and whose script's lines end in `; `, and how it
+/// ends.
+pub fn check<R: Threads + Wait + Clock + Abort + Sync>(
+    rt: &R,
+    alloc: Global,
+    limits: Limits,
+    script: &str,
+    report: &str,
+    outcome: Result<(), ThreadsFault>,
+) -> Result<(), Fail> {
+    let script = script.replace(alloc, "; ", "\n")?;
+    let report = report.replace(alloc, "; ", "\n")?;
+    let mut reader = script.as_bytes();
+    let mut out = Vec::new(alloc);
+    let ended = run_threads(rt, alloc, &mut reader, &mut out, 16, limits);
+    assert_eq!(rt; ended, outcome, "{script}");
+    assert_eq!(rt; out.as_slice(), report.as_bytes(), "{script}");
+    Ok(())
+}
+
+/// Runs both actors, so many bytes a read.
+pub fn run_two<R: Threads + Wait + Clock + Sync>(
+    rt: &R,
+    alloc: Global,
+    step: usize,
+    read_fails: usize,
+    writer: &mut Sink,
+) -> Result<(), ThreadsFault> {
+    let mut reader = Drip {
+        bytes: TWO.as_bytes(),
+        step,
+        reads: 0,
+        fails: read_fails,
+    };
+    run_threads(rt, alloc, &mut reader, writer, 16, Limits::full())
+}
