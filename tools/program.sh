@@ -104,14 +104,21 @@ for command in run threads; do
   count write_fails "$command"
 done
 
-# No memory for what is read, by a limit on the process.
+# No memory for what is read, and none for the stack of a thread, by limits on the process. The second
+# takes ten seconds.
 no_memory() {
-  yes '# a remark' | head -c 8000000 >"$room/script"
-  printf 'a join\n' >>"$room/script"
-  (ulimit -v 12000 && "$program" threads <"$room/script" >"$room/out" 2>"$room/told")
+  yes '# a remark' | head -c 8000003 >"$room/script"
+  printf '\na join\n' >>"$room/script"
+  (ulimit -v 8000 && "$program" threads <"$room/script" >"$room/out" 2>"$room/told")
   [ $? = 4 ] && [ ! -s "$room/out" ] && hears 'no memory'
 }
+no_thread() {
+  printf 'a join\nb join\n' >"$room/script"
+  (ulimit -s 8192 -v 8000 && "$program" threads <"$room/script" >"$room/out" 2>"$room/told")
+  [ $? = 4 ] && [ ! -s "$room/out" ] && hears 'no thread'
+}
 count no_memory
+count no_thread
 
 # Each example.
 is_answered() {
