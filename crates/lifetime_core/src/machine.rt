@@ -328,8 +328,8 @@ impl Core {
     /// most five look-ups more for each buffer, and fewer where the counts of the buffers stand one
     /// after the other, as the first Take left them. An event that changes something in a collection
     /// costs one test for each node and each buffer that trackers wait for there, two for a node of
-    /// which lifetimes are waited for too, however many wait for the same; and one that only attaches
-    /// a tracker costs a test of that one, unless it fires.
+    /// which lifetimes are waited for too, however many wait for the same. A TrackLifetime or
+    /// TrackWeak costs a test of its own tracker, unless that fires.
     pub fn step(&mut self, client: ClientId, call: Call) -> Result<Reply, StepFault>
         ensures answer { IfOk result (λ reply.
             IsAnswer self.old.limits (readings_of self.old) client call reply) }
