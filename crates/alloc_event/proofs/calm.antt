@@ -1,5 +1,6 @@
 -- The forced steps, and where none applies.
 pub mod Alive
+pub mod Bare
 pub mod Calming
 pub mod Deserting
 pub mod Forcing

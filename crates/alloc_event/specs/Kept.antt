@@ -15,6 +15,7 @@ use Rattle.sm_names.specs.Forced.{forced}
 use Rattle.alloc_event.specs.Forest.{Collection, Forest, beside}
 use Rattle.alloc_event.specs.Settling.{Handles, Settles, put, given_back, standing}
 use Rattle.alloc_event.specs.Nodes.{new_root, new_child}
+use Rattle.alloc_event.specs.Questions.{is_live_node}
 use Rattle.alloc_event.specs.Scenes.{held_pages, IsSound, has_tracker_room}
 use Rattle.alloc_event.specs.Decisions.{is_left_of}
 use Rattle.alloc_event.specs.Ties.{are_rooted}
@@ -104,6 +105,14 @@ pub record IsWhole (c : Collection) : Type 0 where
   pub sound : IsSound c
   pub rooted : are_rooted (reverse c.nodes) ≡ true
   pub united : are_united (reverse c.nodes) ≡ true
+
+-- the node, gone without a fault
+abbrev pub left_of : Node → Node
+left_of n = record n { gone = true }
+
+-- the nodes, of which all left where none is live
+abbrev pub ended_bare : List Node → List Node
+ended_bare nodes = if list_any is_live_node nodes then nodes else map left_of nodes
 
 -- the nodes hang on their parents, and the table has the parent of each that is not gone
 pub record IsHung (t : Table Node) (nodes : List Node) : Type 0 where

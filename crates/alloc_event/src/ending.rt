@@ -1,7 +1,8 @@
 //! A collection or an attached subtree that ends, since no node of it is live.
-ghost use Rattle.std.specs.Prelude.{◌≡◌, ◌||◌, true};
-ghost use Rattle.std.specs.List.{find};
+ghost use Rattle.std.specs.Prelude.{◌≡◌, ◌||◌, map, true};
+ghost use Rattle.std.specs.List.{find, list_any};
 ghost use Rattle.std.specs.Option.{option_map};
+ghost use Rattle.alloc_event.specs.Kept.{ended_bare, left_of};
 ghost use Rattle.alloc_event.specs.Nodes.{after_end};
 ghost use Rattle.alloc_event.specs.Questions.{is_deserted_node, is_live_at, is_live_node};
 
@@ -42,6 +43,31 @@ pub fn end(nodes: &mut [Node], top: NodeKey)
     for at in 0..nodes.len() {
         let taken = is_under(nodes, top, nodes[at].key);
         leave(&mut nodes[at], taken);
+    }
+}
+
+/// Where no node is live, each leaves. One walk.
+pub(crate) fn end_bare(nodes: &mut [Node])
+    ensures { nodes.new ≡ ended_bare nodes.old }
+{
+    if !is_some_live(nodes) {
+        leave_each(nodes);
+    }
+}
+
+/// Whether some node is live.
+fn is_some_live(nodes: &[Node]) -> bool
+    ensures { result ≡ list_any is_live_node nodes.now }
+{
+    nodes.iter().any(|node| is_live(node))
+}
+
+/// Each node leaves.
+fn leave_each(nodes: &mut [Node])
+    ensures { nodes.new ≡ map left_of nodes.old }
+{
+    for node in nodes.iter_mut() {
+        leave(node, true);
     }
 }
 

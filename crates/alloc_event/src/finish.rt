@@ -13,7 +13,7 @@ use crate::kept::{count_strong, is_some_over};
 use crate::node::Node;
 use crate::returns::give_back;
 use crate::scene::Scene;
-use crate::settling::settle_scene;
+use crate::settling::settle_whole;
 use crate::store::{keys_of, put_entry, store};
 use buffer_holds::Holds;
 use buffer_pool::Pool;
@@ -59,7 +59,7 @@ pub(crate) fn finish(
         return Err(NoMemory);
     }
     part(pool);
-    settle_scene(&mut scene, pool, holds)?;
+    settle_whole(&mut scene, pool, holds)?;
     give_back(&mut scene, pool, holds);
     part(pool);
     store(table, &scene.nodes);

@@ -82,9 +82,9 @@ impl Forest {
     ///
     /// These and any other change cost a copy of the collection, a pass over its units, and the
     /// question for the next step after each that is made. A loss costs besides what `fall` costs,
-    /// and a logarithm for each node. Where no strong node is live, a birth that forces nothing and
-    /// sends no buffer home costs the copy, the pass and one question, and another a copy of the
-    /// whole table besides.
+    /// and a logarithm for each node; the end of a collection without a live node one walk. Where no
+    /// strong node is live, a birth that forces nothing and sends no buffer home costs the copy, the
+    /// pass and one question, and another a copy of the whole table besides.
     pub fn settle(
         &mut self,
         pool: &mut Pool,

@@ -2,13 +2,14 @@
 ghost use Rattle.std.specs.Prelude.{◌≡◌, OnErr, OnOk, map, true};
 ghost use Rattle.buffer_holds.specs.Counts.{total};
 ghost use Rattle.alloc_event.specs.Decisions.{is_unplaced, IsMadeBy, IsSized, IsStep, RestsIn, SettlesIn};
+ghost use Rattle.alloc_event.specs.Kept.{IsWhole};
 ghost use Rattle.alloc_event.specs.Moves.{Moves};
 ghost use Rattle.alloc_event.specs.Scenes.{collection_of, frame_of, given_few, IsSound, PoolFollows};
 
 use crate::allocating::allocate;
 use crate::deciding::decide;
 use crate::decision::Decision;
-use crate::ending::end;
+use crate::ending::{end, end_bare};
 use crate::losses::lose;
 use crate::placing::place_first;
 use crate::scene::Scene;
@@ -41,6 +42,30 @@ pub fn settle_scene(scene: &mut Scene, pool: &mut Pool, holds: &Holds) -> Result
         make(scene, pool, step)?;
     }
     Ok(())
+}
+
+/// Makes the forced steps of a whole collection so: where no node is live, the collection ends by
+/// one walk.
+pub(crate) fn settle_whole(
+    scene: &mut Scene,
+    pool: &mut Pool,
+    holds: &Holds,
+) -> Result<(), NoMemory>
+    requires { IsWhole (collection_of scene.old) }
+    ensures settles { OnOk result (SettlesIn pool.old (total holds.now)
+        (collection_of scene.old) (collection_of scene.new)) }
+    ensures pool { OnOk result (PoolFollows pool.old pool.new
+        (collection_of scene.old) (collection_of scene.new)) }
+    ensures size { pool.new.size ≡ pool.old.size }
+    ensures err { OnErr result (pool.new ≡ pool.old) }
+    ensures rests { OnOk result (RestsIn pool.old (total holds.now) (collection_of scene.new)) }
+    ensures sound { OnOk result (IsSound (collection_of scene.new)) }
+    ensures id { OnOk result (scene.new.id ≡ scene.old.id) }
+    ensures frames { OnOk result
+        (map frame_of scene.new.nodes.items ≡ map frame_of scene.old.nodes.items) }
+{
+    end_bare(&mut scene.nodes);
+    settle_scene(scene, pool, holds)
 }
 
 /// Makes the step. `NoMemory` where a growth is refused, and the pool is then as it was.
