@@ -10,11 +10,12 @@ ghost use Rattle.alloc_event.specs.Settling.{given_back};
 use crate::held::HeldBuffer;
 use crate::questions::some_strong_live;
 use crate::scene::Scene;
-use buffer_holds::Holds;
+use buffer_holds::{Holds, Spot};
 use buffer_pool::Pool;
 
 /// The buffers that nothing keeps any longer give their pages back. It takes no memory, and costs
-/// a look at the handles of each buffer, two where some stay and others go, and what the pool takes.
+/// a look at the handles of each buffer, two where some stay and others go, a move of the buffers
+/// behind each that goes, and what the pool takes.
 pub fn give_back(scene: &mut Scene, pool: &mut Pool, holds: &Holds)
     requires { (others : List Interval) × IsPoolBeside pool.old (collection_of scene.old) others }
     ensures scene { collection_of scene.new
@@ -40,15 +41,22 @@ fn return_pages(held: &[HeldBuffer], pool: &mut Pool, holds: &Holds, strong_live
     ensures out { result ≡ length (filter (is_out (total holds.now) strong_live) held.now) }
 {
     look_at(pool);
+    let mut near = Spot::new();
     let mut out = 0;
     for buffer in held {
-        out += return_one(*buffer, pool, holds, strong_live);
+        out += return_one(*buffer, pool, holds, strong_live, &mut near);
     }
     out
 }
 
 /// The buffer gives its pages back, if it is home. Answers 1 if it is not, and else 0.
-fn return_one(buffer: HeldBuffer, pool: &mut Pool, holds: &Holds, strong_live: bool) -> usize
+fn return_one(
+    buffer: HeldBuffer,
+    pool: &mut Pool,
+    holds: &Holds,
+    strong_live: bool,
+    near: &mut Spot,
+) -> usize
     requires sound { IsSoundPool pool.old }
     requires there { Contains pool.old.held (held_pages buffer).pages }
     ensures held { pool.new.held ≡ (if is_out (total holds.now) strong_live buffer
@@ -57,7 +65,7 @@ fn return_one(buffer: HeldBuffer, pool: &mut Pool, holds: &Holds, strong_live: b
     ensures sound { IsSoundPool pool.new }
     ensures out { result ≡ (if is_out (total holds.now) strong_live buffer then 1 else 0) }
 {
-    if holds.home(buffer.buffer, strong_live) {
+    if holds.home_near(buffer.buffer, strong_live, near) {
         pool.give_back(buffer.start, buffer.pages);
         return 0;
     }
@@ -83,5 +91,13 @@ fn keep_out(held: &mut Vec<HeldBuffer>, holds: &Holds, strong_live: bool, out: u
         held.clear();
         return;
     }
-    held.retain(|buffer| !holds.home(buffer.buffer, strong_live));
+    let mut near = Spot::new();
+    let mut at = 0;
+    while at < held.len() {
+        if holds.home_near(held[at].buffer, strong_live, &mut near) {
+            held.remove(at);
+        } else {
+            at += 1;
+        }
+    }
 }

@@ -127,6 +127,16 @@ impl Holds {
         self.doomed(buffer, strong_live) && self.total(buffer, Strength::Weak) == 0
     }
 
+    /// What `home` says. It looks for the strong handles at the spot first, as `total_near` does.
+    pub fn home_near(&self, buffer: BufferName, strong_live: bool, near: &mut Spot) -> bool
+        ensures { result ≡ is_home (total self.now buffer Strength.Strong)
+            (total self.now buffer Strength.Weak) strong_live }
+    {
+        !strong_live
+            && self.total_near(buffer, Strength::Strong, near) == 0
+            && self.total(buffer, Strength::Weak) == 0
+    }
+
     /// Opens one more of these handles for the client.
     ///
     /// `TooMany` comes exactly where as many are open as may be, and `NoMemory` only where the

@@ -82,6 +82,7 @@ pub(crate) fn tally_near(tallies: &Tallies, kind: HandleKind, place: &mut usize)
     ensures { result ≡ tally_at tallies.now.entries kind }
 {
     let Some(found) = tally_place(tallies, kind, *place) else {
+        *place = place.wrapping_add(1);
         return NO_TALLY;
     };
     *place = found.wrapping_add(1);
