@@ -385,8 +385,40 @@ pub(crate) fn fail_in_place(
     )
 }
 
+/// The head of the unit above the one with this head, if it is attached and the counts tell that no
+/// node of it is live.
+fn unit_over(table: &NodeTable<Node>, units: &[Unit], head: NodeKey) -> Option<NodeKey>
+    ensures { IfSome result (λ over. IsSome (row_at table.now over)) }
+{
+    let above = table.get(table.parent(head)?)?;
+    let over = table.get(above.head)?;
+    let unit = unit_in(units, above.head.slot as usize);
+    if over.attached && unit.live == 0 {
+        Some(above.head)
+    } else {
+        None
+    }
+}
+
+/// The highest of the units above one another of which no node is live, from this one on, by the
+/// counts. It costs their number.
+fn highest_over(table: &NodeTable<Node>, units: &[Unit], head: NodeKey) -> NodeKey
+    requires { IsSome (row_at table.now head) }
+    ensures { IsSome (row_at table.now result) }
+{
+    let mut top = head;
+    'up: for _ in 0..table.len() {
+        match unit_over(table, units, top) {
+            Some(over) => top = over,
+            None => return top,
+        }
+    }
+    top
+}
+
 /// The head of the unit that the release of the node with this key leaves without a live node, if
-/// the counts tell that it does and the head is attached.
+/// the counts tell that it does and the head is attached; or of the highest of those above it of
+/// which no node is live.
 fn unit_left(table: &NodeTable<Node>, units: &[Unit], key: NodeKey) -> Option<NodeKey>
     ensures { IfSome result (λ head. IsSome (row_at table.now head)) }
 {
@@ -394,15 +426,15 @@ fn unit_left(table: &NodeTable<Node>, units: &[Unit], key: NodeKey) -> Option<No
     let head = table.get(node.head)?;
     let unit = unit_in(units, node.head.slot as usize);
     if head.attached && is_live(node) && unit.live == 1 {
-        Some(node.head)
+        Some(highest_over(table, units, node.head))
     } else {
         None
     }
 }
 
-/// Makes a release in its place that leaves a unit without a live node, and the end of the unit and
-/// of all below it, if none is live there and the counts tell that nothing more is forced, as
-/// `lose_in_place` does.
+/// Makes a release in its place that leaves a unit without a live node, and the end of the highest
+/// unit without one above it and of all below that, if none is live there and the counts tell that
+/// nothing more is forced, as `lose_in_place` does. It costs the climb over those units besides.
 pub(crate) fn leave_in_place(
     table: &mut NodeTable<Node>,
     entries: &mut Vec<Entry>,

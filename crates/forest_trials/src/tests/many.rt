@@ -226,6 +226,28 @@ fn a_chain_of_units_ends_from_below(rt: HostRuntime) -> Result<(), Fail> {
     Ok(())
 }
 
+// Whether the units stay while they are released from above, and leave with the last.
+fn end_at_once(ground: &mut Ground, keys: &[NodeKey]) -> Result<bool, Fail> {
+    let Some((last, others)) = keys.split_last() else {
+        return Ok(false);
+    };
+    release_each(ground, others)?;
+    let stayed = have_left(ground, keys, false);
+    ground.release(*last)?;
+    Ok(stayed && have_left(ground, keys, true))
+}
+
+#[test]
+fn a_chain_of_units_ends_at_once_below_the_root(rt: HostRuntime) -> Result<(), Fail> {
+    let (mut ground, keys) = chain(rt.alloc(), 1000, true)?;
+    let Some((root, others)) = keys.split_first() else {
+        return Err(Fail::from("no root"));
+    };
+    assert!(rt; end_at_once(&mut ground, others)?);
+    assert!(rt; !left(&ground, *root));
+    Ok(())
+}
+
 // Whether all of them fail with the first.
 fn fall_together(ground: &mut Ground, keys: &[NodeKey]) -> Result<bool, Fail> {
     let Some((root, others)) = keys.split_first() else {

@@ -1,0 +1,7 @@
+use Rattle.std.proofs.Common.{IsSome}
+use Rattle.node_table.specs.Table.{row_at}
+use Rattle.alloc_event.proofs.falling.highest_over.Given as goal
+
+-- the unit is there
+abbrev pub invariant-up : goal.invariant-up
+invariant-up l = IsSome (row_at l.table l.top)
