@@ -30,10 +30,10 @@ nodes, T is a tracker, B a buffer such as r.0, S is strong or weak.
     C attach N M            makes a token M attached to the collection N
     C bind N                turns the token N into a collection
     C sync N                asks whether N is well
-    C dispensable N         once there are buffers, the token N fails alone
-    C weak N                N keeps no buffers alive
+    C dispensable N         N's failure stops at N, once there are buffers
+    C weak N                N and its later children keep no buffers alive
     C weakok N              N copes with weak handles
-    C weakok N children     so do all nodes below its later children
+    C weakok N children     so do N, its later children and all below these
     C constrain N CAMPING AT_LEAST SIZE
                             on how many buffers N camps, how many there are to
                             be at least, and of how many bytes
