@@ -241,6 +241,6 @@ fn counts_are_found_wherever_they_went(rt: HostRuntime) {
             4
         };
         assert_eq!(rt; holds.total_near(buffer, Strength::Strong, &mut near), all);
-        assert_eq!(rt; holds.of(1, buffer, Strength::Strong) * 2, all);
+        assert_eq!(rt; holds.of(1, buffer, Strength::Strong), all / 2);
     }
 }
