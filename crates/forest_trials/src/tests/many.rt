@@ -239,7 +239,7 @@ fn end_at_once(ground: &mut Ground, keys: &[NodeKey]) -> Result<bool, Fail> {
 
 #[test]
 fn a_chain_of_units_ends_at_once_below_the_root(rt: HostRuntime) -> Result<(), Fail> {
-    let (mut ground, keys) = chain(rt.alloc(), 1000, true)?;
+    let (mut ground, keys) = chain(rt.alloc(), 200, true)?;
     let Some((root, others)) = keys.split_first() else {
         return Err(Fail::from("no root"));
     };
