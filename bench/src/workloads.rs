@@ -253,17 +253,22 @@ fn take_64() -> Stream {
     d.end()
 }
 
-fn dup_drop() -> Stream {
-    let mut d = Driver::new(64, FULL);
-    let (r, collection) = d.allocated(k(4, 0, 4096));
-    d.call(Call::Take(r));
+/// Opens one more handle on one of the buffers and drops it, so many times.
+fn dup_and_drop(d: &mut Driver, collection: CollectionId, buffers: u8, turns: u32) {
     d.timed(|d| {
-        for i in 0..10_000 {
-            let b = BufferName { collection, index: i as u8 % 4 };
+        for i in 0..turns {
+            let b = BufferName { collection, index: i as u8 % buffers };
             d.done(Call::DupHandle(b, Strength::Strong));
             d.done(Call::DropHandle(b, Strength::Strong));
         }
     });
+}
+
+fn dup_drop() -> Stream {
+    let mut d = Driver::new(64, FULL);
+    let (r, collection) = d.allocated(k(4, 0, 4096));
+    d.call(Call::Take(r));
+    dup_and_drop(&mut d, collection, 4, 10_000);
     d.end()
 }
 
@@ -397,13 +402,7 @@ fn tracked(nodes: u32, numbers: u32) -> (Driver, NodeKey, CollectionId) {
 
 fn lifetimes_of(nodes: u32, numbers: u32) -> Stream {
     let (mut d, _, collection) = tracked(nodes, numbers);
-    d.timed(|d| {
-        for i in 0..500 {
-            let b = BufferName { collection, index: i as u8 % 64 };
-            d.call(Call::DupHandle(b, Strength::Strong));
-            d.call(Call::DropHandle(b, Strength::Strong));
-        }
-    });
+    dup_and_drop(&mut d, collection, 64, 500);
     d.end()
 }
 
@@ -411,7 +410,7 @@ fn lifetimes_more(nodes: u32, numbers: u32) -> Stream {
     let (mut d, r, _) = tracked(nodes, numbers);
     d.timed(|d| {
         for most in 0..64 {
-            assert!(matches!(d.call(Call::TrackLifetime(r, most % 64)), Reply::Tracker(_)));
+            assert!(matches!(d.call(Call::TrackLifetime(r, most)), Reply::Tracker(_)));
         }
     });
     d.end()
