@@ -63,3 +63,26 @@ pub fn run_two<R: Threads + Wait + Clock + Sync>(
     };
     run_threads(rt, alloc, &mut reader, writer, 16, Limits::full())
 }
+
+// Whether the line is that of an actor that has no handle open.
+fn has_none_open(line: &[u8]) -> bool {
+    line.ends_with(b" strong 0 weak 0")
+}
+
+/// Asserts that so many actors come to their end, that none has a handle open, and that all was
+/// gathered.
+pub fn check_gathered<R: Threads + Wait + Clock + Abort + Sync>(
+    rt: &R,
+    alloc: Global,
+    script: &[u8],
+    actors: usize,
+) {
+    let mut reader = script;
+    let mut out = Vec::new(alloc);
+    let ended = run_threads(rt, alloc, &mut reader, &mut out, 16, Limits::full());
+    assert_eq!(rt; ended, Ok(()));
+    let report = out.as_slice();
+    let lines = report.split(|byte| *byte == b'\n');
+    assert_eq!(rt; lines.filter(|line| has_none_open(*line)).count(), actors);
+    assert!(rt; report.ends_with(b"\ngather ok\n"));
+}

@@ -1,8 +1,7 @@
 //! Actors that come to their end.
-use crate::tests::fixture::{TWO, TWO_REPORT, check};
+use crate::tests::fixture::{TWO, TWO_REPORT, check, check_gathered};
 use sm_names::Limits;
 use std::test::Fail;
-use thread_runs::run_threads;
 
 #[test]
 fn two_actors_that_never_meet_are_reported(rt: HostRuntime) -> Result<(), Fail> {
@@ -71,25 +70,9 @@ enc collect encoder\nenc collect encoder\nenc collect encoder\nenc bind encoder\
 enc constrain encoder 1 0 4096\nenc take encoder\nenc duph encoder.1 strong\n\
 enc giveh encoder.1 strong app\n";
 
-// Whether the line is that of an actor that has no handle open.
-fn has_none_open(line: &[u8]) -> bool {
-    line.ends_with(b" strong 0 weak 0")
-}
-
 #[test]
 fn whoever_comes_first_all_is_gathered(rt: HostRuntime) {
     for _ in 0..20 {
-        let mut reader = SHARED.as_bytes();
-        let mut out = Vec::new(rt.alloc());
-        let ended = run_threads(&rt, rt.alloc(), &mut reader, &mut out, 16, Limits::full());
-        assert_eq!(rt; ended, Ok(()));
-        let mut actors = 0usize;
-        for line in out.as_slice().split(|byte| *byte == b'\n') {
-            if has_none_open(line) {
-                actors = actors.saturating_add(1);
-            }
-        }
-        assert_eq!(rt; actors, 3);
-        assert!(rt; out.as_slice().ends_with(b"\ngather ok\n"));
+        check_gathered(&rt, rt.alloc(), SHARED.as_bytes(), 3);
     }
 }

@@ -1,0 +1,44 @@
+//! Many actors at once.
+use crate::tests::fixture::check_gathered;
+use script_lines::push_number;
+use std::test::Fail;
+
+// Twenty steps of an actor: `@` stands for its number, `%` for that of the next one, and `#` for the
+// round. A root, a child that is given away, and handles of both; what comes is collected, used and
+// left; at last the root is released.
+const ROUND: &str =
+    "c@ open r#\nc@ dup r# k#\nc@ give k# c%\nc@ bind r#\nc@ constrain r# 1 0 4096\n\
+c@ take r#\nc@ duph r#.0 strong\nc@ giveh r#.0 strong c%\nc@ collect m#\nc@ bind m#\n\
+c@ constrain m# 0 0 1\nc@ take m#\nc@ tracknode r# t#\nc@ poll t#\nc@ collect n#\nc@ collect o#\n\
+c@ droph r#.0 strong\nc@ close m#\nc@ release r#\nc@ check r#\n";
+
+const ACTORS: u64 = 64;
+
+// Puts the lines of the template behind the text.
+fn push_lines(text: &mut Vec<u8>, template: &str, actor: u64, round: u64) -> Result<(), Fail> {
+    let next = if actor < ACTORS - 1 { actor + 1 } else { 0 };
+    for byte in template.as_bytes() {
+        match *byte {
+            b'@' => push_number(text, actor)?,
+            b'%' => push_number(text, next)?,
+            b'#' => push_number(text, round)?,
+            other => text.push(other)?,
+        }
+    }
+    Ok(())
+}
+
+#[test]
+fn sixty_four_actors_make_a_thousand_steps_each(rt: HostRuntime) -> Result<(), Fail> {
+    let mut script = Vec::new(rt.alloc());
+    for actor in 0..ACTORS {
+        push_lines(&mut script, "c@ join\n", actor, 0)?;
+    }
+    for round in 0..50u64 {
+        for actor in 0..ACTORS {
+            push_lines(&mut script, ROUND, actor, round)?;
+        }
+    }
+    check_gathered(&rt, rt.alloc(), script.as_slice(), 64);
+    Ok(())
+}
