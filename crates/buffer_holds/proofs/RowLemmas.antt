@@ -45,22 +45,6 @@ module _ {K X : Type 0} (weight : K × X → ℕ) (test : K → Bool) (key : K) 
   pub weight_at-le-sum_by : (es : List (K × X)) → weight_at weight key (lookup test es) ≤ sum_by weight es
   weight_at-le-sum_by es = omega (arith, sum_by-remove_entry-key es)
 
--- two changes at one key
-pub Resets-then : {K X : Type 0} {same : K → K → Bool} {old mid new : List (K × X)} {key : K} {was between now : Option X} (itself : same key key ≡ true)
-    → Resets same old mid key was between → Resets same mid new key (lookup (same key) mid) now → Resets same old new key was now
-Resets-then {X = X} {same = same} {old = old} {mid = mid} {key = key} {was = was} {between = between} {now = now} itself first second =
-    let there : lookup (same key) mid ≡ between = first.finds key ∙ ap (λ b. cond b between (lookup (same key) old)) itself in
-    record {
-      had = first.had;
-      finds = λ other. second.finds other ∙ ap (cond (same key other) now) (first.finds other) ∙ inside (same key other) (lookup (same other) old);
-      weighs = λ weight. omega (arith, first.weighs weight, second.weighs weight, ap (weight_at weight key) there);
-      distinct = second.distinct;
-    }
-  where
-    inside : (b : Bool) (o : Option X) → cond b now (cond b between o) ≡ cond b now o
-    inside true o = refl
-    inside false o = refl
-
 -- ---- calls of a map, whose test of keys is the specs' own
 module _ {K X S : Type 0} (eq same : K → K → Bool) (is : eq ≡ same) (one : (a b : K) → same a b ≡ true → a ≡ b) (m n : HashMap K X S) (key : K) where
   -- by the map's test, and so by the specs' own

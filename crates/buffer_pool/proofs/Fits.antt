@@ -38,16 +38,7 @@ taken_whole pages hs at hole f same = let e : (hole.pages == pages) ≡ true = e
 pub taken_part : (pages : ℕ) (hs : List Interval) (at : ℕ) (hole : Interval) → IsFit pages hs at hole → (hole.pages ≡ pages → ⊥) → at < length hs → set hs at (record { start = hole.start + pages; pages = hole.pages - pages }) ≡ taken pages hs
 taken_part pages hs at hole f other lt = let e : (hole.pages == pages) ≡ false = ne_eqb _ _ other in set_split hs at _ lt ∙ sym (rw e at f.taken)
 
--- a search for the first hole that is not too small, at a hole that is, and at one that is not
-pub search_passes : (pages at : ℕ) (hs : List Interval) (d : Interval) → at ≤ prefix_len (too_small pages) hs → prefix_len (too_small pages) hs < length hs → (get_or hs at d).pages < pages → at + 1 ≤ prefix_len (too_small pages) hs
-search_passes pages at hs d le lt small =
-    let P : ℕ = prefix_len (too_small pages) hs in
-    let stops : pages ≤ (get_or hs P d).pages = ltb-false _ _ (prefix_len_stops (too_small pages) hs d lt) in
-    elim (cases_lt at P) [
-      | inl less ↦ omega arith
-      | inr more ↦ let same : P ≡ at = omega arith in let big : pages ≤ (get_or hs at d).pages = rw same at stops in absurd (omega arith)
-    ]
-
+-- where a search for the first hole that is not too small stops
 pub search_stops : (pages at : ℕ) (hs : List Interval) (d : Interval) → at ≤ prefix_len (too_small pages) hs → pages ≤ (get_or hs at d).pages → at ≡ prefix_len (too_small pages) hs
 search_stops pages at hs d le big =
     elim (cases_lt at (prefix_len (too_small pages) hs)) [

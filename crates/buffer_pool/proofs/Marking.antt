@@ -81,33 +81,3 @@ passes-prefix pages page (h ∷ hs) all =
 pub record AreLowered (place : ℕ) (new : Interval) (marks : List Mark) (holes : List Interval) : Type 0 where
   pub others : AreMarks marks holes
   pub suits : (k : ℕ) (d : Mark) → k < place → k < length marks → Suits (get_or marks k d) new
-
--- all suit it in the end
-pub lowered_all : (place : ℕ) (new : Interval) (marks : List Mark) (holes : List Interval) → length marks ≤ place → AreLowered place new marks holes → AreMarks marks (new ∷ holes)
-lowered_all place new marks holes le l = λ k d lt. All-cons (Suits (get_or marks k d)) new holes (l.suits k d (omega arith) lt) (l.others k d lt)
-
--- a mark that suits it stays
-pub lowered_stays : (place : ℕ) (new : Interval) (marks : List Mark) (holes : List Interval) (mark : Mark) → place < length marks → mark ≡ get_or marks place mark → Suits mark new → AreLowered place new marks holes → AreLowered (place + 1) new marks holes
-lowered_stays place new marks holes mark within is suits l =
-    record {
-      others = l.others;
-      suits = λ k d lt within'.
-          elim (cases_lt k place) [
-            | inl less ↦ l.suits k d less within'
-            | inr more ↦
-                let here : k ≡ place = omega arith in
-                let same : mark ≡ get_or marks k d = is ∙ get_or_default marks place mark d within ∙ ap (λ n. get_or marks n d) (sym here) in
-                subst (λ (m : Mark). Suits m new) same suits
-          ];
-    }
-
--- a mark that does not is set back
-pub lowered_back : (place : ℕ) (new : Interval) (marks : List Mark) (holes : List Interval) (mark low : Mark) → place < length marks → mark ≡ get_or marks place mark → low.pages ≡ mark.pages → low.page ≡ new.start → new.start < mark.page → AreLowered place new marks holes → AreLowered (place + 1) new (set marks place low) holes
-lowered_back place new marks holes mark low within is pages page before l =
-    let old : Passes mark.pages mark.page holes = subst (λ (m : Mark). Passes m.pages m.page holes) (sym is) (l.others place mark within) in
-    let now : Passes low.pages low.page holes = λ k d lt starts. omega (arith, old k d lt (omega arith)) in
-    lowered_stays place new (set marks place low) holes low (subst (λ n. place < n) (sym (length-set marks place low)) within) (sym (get_or-set_same marks place low low within)) (λ starts. absurd (omega arith))
-    (record {
-      others = marks-learned marks holes place low now l.others;
-      suits = λ k d lt within'. rw (get_or-set_other marks place k low d (omega arith)) (l.suits k d lt (omega arith));
-    })

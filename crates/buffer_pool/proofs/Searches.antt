@@ -14,10 +14,6 @@ pub record IsSearch (f : Interval → ℕ) (page low high : ℕ) (xs : List Inte
   pub below : (k : ℕ) (d : Interval) → k < low → f (get_or xs k d) < page
   pub above : (d : Interval) → high < length xs → page ≤ f (get_or xs high d)
 
-pub search_all : (f : Interval → ℕ) (page high : ℕ) (xs : List Interval) → high ≡ length xs → IsSearch f page 0 high xs
-search_all f page high xs is =
-    record { order = omega arith; within = omega arith; below = λ k d lt. absurd (omega arith); above = λ d lt. absurd (omega arith) }
-
 pub search_upper : (f : Interval → ℕ) (page low high middle : ℕ) (xs : List Interval) (x : Interval) → IsNonDecreasingBy f xs → low ≤ middle → middle < high → x ≡ get_or xs middle x → f x < page → IsSearch f page low high xs → IsSearch f page (middle + 1) high xs
 search_upper f page low high middle xs x up le lt is less s =
     record {
@@ -29,17 +25,6 @@ search_upper f page low high middle xs x up le lt is less s =
           let same : f x ≡ f (get_or xs middle d) = ap f (is ∙ get_or_default xs middle x d in_it) in
           omega arith;
       above = s.above;
-    }
-
-pub search_lower : (f : Interval → ℕ) (page low high middle : ℕ) (xs : List Interval) (x : Interval) → low ≤ middle → middle < high → x ≡ get_or xs middle x → page ≤ f x → IsSearch f page low high xs → IsSearch f page low middle xs
-search_lower f page low high middle xs x le lt is more s =
-    record {
-      order = le;
-      within = omega (arith, s.within);
-      below = s.below;
-      above = λ d in_it.
-          let same : f x ≡ f (get_or xs middle d) = ap f (is ∙ get_or_default xs middle x d in_it) in
-          omega arith;
     }
 
 pub search_ends : (f : Interval → ℕ) (page low high : ℕ) (xs : List Interval) → high ≤ low → IsSearch f page low high xs → low ≡ prefix_len (λ (i : Interval). nat_lt (f i) page) xs

@@ -70,16 +70,6 @@ asks_there old new call told items slot on on' (Ok b) so lt is did =
     subst (λ s. Asks old new call s (lies items) (lies (set items slot on')) b) (sym so) (asks_at old new call items (set items slot on') slot on on' b lt is refl did)
 asks_there old new call told items slot on on' (Err fault) so lt is did = did.0
 
--- a call on nothing
-pub asks_none : {E S W : Type 0} (old new : Seen) (call : Call) (before : List (Option Thing)) (brought : Brought E S W) → Lent old new call brought → Asks old new call None before before brought
-asks_none old new call before brought lent = record {
-  reply = lent.reply;
-  made = lent.made;
-  left = rw lent.stays refl;
-  things = lent.things None;
-  owned = lent.owned;
-}
-
 -- the slots of what was brought
 handles_seen : (E S W : Type 0) (hs : List Grip) → lies {E = E} {S = S} {W = W} (map full hs) ≡ map Some (map handle_seen hs)
 handles_seen E S W [] = refl
@@ -182,14 +172,6 @@ pairs_more old new call reply made = ap pairs_of made.told.next ∙ map-append (
 -- turned twice, the things are in their order
 pub left_turned : {E S W : Type 0} (slots : List (Option (End E S W))) → left_in (reverse slots) ≡ left_of slots
 left_turned slots = ap (flat_map kept_things) (reverse-reverse slots)
-
--- the last of the slots comes first
-pub left_pop : {E S W : Type 0} (items rest : List (Option (End E S W))) (x : Option (End E S W)) → items ≡ rest ++ x ∷ [] → left_in items ≡ kept_things x ++ left_in rest
-left_pop items rest x is = ap left_in is ∙ ap (flat_map kept_things) (reverse-append rest (x ∷ []))
-
--- one thing more was put into its list
-pub unload_one : (held held' : Holds) (part : Part) (rest all : List Part) → held' ≡ both held (sorted_one part) → all ≡ part ∷ rest → both held' (sorted rest) ≡ both held (sorted all)
-unload_one held held' part rest all put is = ap (λ h. both h (sorted rest)) put ∙ (both_assoc held (sorted_one part) (sorted rest) ∙ ap (λ l. both held (sorted l)) (sym is))
 
 module _ (client : ℕ) where
   -- a thing in a slot, by what is known of it

@@ -89,11 +89,7 @@ impl<E: Ledger, S: Ledger, W: Ledger> Actor<E, S, W> {
         Actor {
             client,
             slots: Vec::new(alloc),
-            held: Held {
-                tokens: Vec::new(alloc),
-                collections: Vec::new(alloc),
-                handles: Vec::new(alloc),
-            },
+            held: Held::new(alloc),
             desk: Desk::new(alloc),
         }
     }

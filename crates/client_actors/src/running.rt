@@ -151,12 +151,7 @@ fn clients_of<E: Ledger, S: Ledger, W: Ledger>(
     while let Some(actor) = actors.pop() {
         match actor {
             Some(ActorEnd::NotStarted(client)) => {
-                let held = Held {
-                    tokens: Vec::new(alloc),
-                    collections: Vec::new(alloc),
-                    handles: Vec::new(alloc),
-                };
-                parts.push_reserved(Holding::Present(client, held));
+                parts.push_reserved(Holding::Present(client, Held::new(alloc)));
             }
             _ => unreachable!(),
         }

@@ -15,10 +15,6 @@ use Rattle.client_ends.proofs.MadeLaws.{made_more, made_none}
 pub calls_push : (key : NodeKey) (ds : List Drafted) (d : Drafted) → drafted_calls key (ds ++ d ∷ []) ≡ drafted_calls key ds ++ drafted_call key d ∷ []
 calls_push key ds d = map-append (drafted_call key) ds (d ∷ [])
 
--- no call
-pub went_none : (s : Seen) → Went s s [] [] []
-went_none s = record { made = made_none s; tokens = refl }
-
 -- some, and then one more
 pub went_on : (old mid new : Seen) (calls : List Call) (call : Call) (before after : List Reply) (ends further : List Tag) →
     Went old mid calls before ends → WentOn mid new call before after ends further → Went old new (calls ++ call ∷ []) after further
@@ -34,10 +30,6 @@ went_on old mid new calls call before after ends further went on =
           (made_more old mid new calls call before on.reply went.made on.made);
       tokens = on.tokens ∙ (ends_are ∙ ap (λ (r : List Reply). flat_map (f old.id) r) (sym on.replies));
     }
-
--- nothing of all calls
-pub far_none : (s : Seen) (all : List Call) → WentFar s s all all [] []
-far_none s all = record { calls = []; first = refl; went = went_none s }
 
 -- as far, and then the first of what was left
 pub far_on : (old mid new : Seen) (key : NodeKey) (all : List Call) (drafted left : List Drafted) (before after : List Reply) (ends further : List Tag) →

@@ -22,17 +22,6 @@ pub(crate) fn fault_of(fault: StepFault) -> ThreadsFault
     }
 }
 
-// Nothing that a client holds.
-fn nothing<E: Ledger, S: Ledger, W: Ledger>(alloc: Global) -> Held<E, S, W>
-    ensures { held_in result ≡ sorted [] }
-{
-    Held {
-        tokens: Vec::new(alloc),
-        collections: Vec::new(alloc),
-        handles: Vec::new(alloc),
-    }
-}
-
 // What is left of an actor, and why it did not vanish, if it did not.
 fn part_of<E: Ledger, S: Ledger, W: Ledger>(
     alloc: Global,
@@ -47,7 +36,7 @@ fn part_of<E: Ledger, S: Ledger, W: Ledger>(
             (Holding::Present(client, held), Some(fault_of(fault)))
         }
         ActorEnd::NotStarted(client) => (
-            Holding::Present(client, nothing(alloc)),
+            Holding::Present(client, Held::new(alloc)),
             Some(ThreadsFault::NoThread),
         ),
     }

@@ -23,14 +23,7 @@ fn part_of<E: Ledger, S: Ledger, W: Ledger, R: Abort>(
     match end {
         ActorEnd::Wrecked(wreck) => Holding::Wrecked(wreck),
         ActorEnd::Stopped(client, held, StepFault::NoMemory) => Holding::Present(client, held),
-        ActorEnd::NotStarted(client) => {
-            let held = Held {
-                tokens: Vec::new(alloc),
-                collections: Vec::new(alloc),
-                handles: Vec::new(alloc),
-            };
-            Holding::Present(client, held)
-        }
+        ActorEnd::NotStarted(client) => Holding::Present(client, Held::new(alloc)),
         _ => panic!(rt; "another fault"),
     }
 }

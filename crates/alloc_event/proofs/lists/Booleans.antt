@@ -1,11 +1,6 @@
 -- Tests that say the same.
 use Rattle.std.proofs.Common.{◌≡◌, refl, Bool, true, false, ◌&&◌, ◌||◌, not}
 
--- a test that is made twice
-pub and_again : (a b : Bool) → (a && (a && b)) ≡ (a && b)
-and_again true b = refl
-and_again false b = refl
-
 -- the same behind another
 pub and_again_behind : (a r b : Bool) → (a && (r && (a && b))) ≡ (r && (a && b))
 and_again_behind true r b = refl

@@ -29,13 +29,6 @@ Alike-trans xs ys zs p q = record {
   sorted = λ parted. p.sorted parted ∙ q.sorted (sym p.parted ∙ parted);
 }
 
-pub Alike-sym : (xs ys : List Interval) → Alike xs ys → Alike ys xs
-Alike-sym xs ys p = record {
-  any = λ test. sym (p.any test);
-  parted = sym p.parted;
-  sorted = λ parted. sym (p.sorted (p.parted ∙ parted));
-}
-
 -- with one more in front
 Alike-cons : (x : Interval) (xs ys : List Interval) → Alike xs ys → Alike (x ∷ xs) (x ∷ ys)
 Alike-cons x xs ys p = record {

@@ -113,7 +113,3 @@ place_at t (n ∷ ns) (suc i) d all within = place_at t ns i d (and_right _ _ al
 -- and has it still
 pub place_stored : (t u : Table Node) (ns : List Node) (key : NodeKey) → Stores t u ns → is_some (node_at t key) ≡ true → IsSome (row_at u key)
 place_stored t u ns key stores there = row_there u key (ap is_some (stores.look key) ∙ kept_there (stored ns) (node_at t key) ∙ there)
-
--- what one key more finds
-pub looked-more : (look : Look) (keys : List NodeKey) (i : ℕ) (d : NodeKey) → i < length keys → filter_map look (take (i + 1) keys) ≡ filter_map look (take i keys) ++ cons_option (look (get_or keys i d)) []
-looked-more look keys i d within = ap (filter_map look) (take_more keys i d within) ∙ filter_map-append look (take i keys) (get_or keys i d ∷ [])

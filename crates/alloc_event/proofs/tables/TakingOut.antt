@@ -64,18 +64,9 @@ cut_look t now key cuts k = elim (key_cases k key) [
   | inr other ↦ ap node_in (cuts.others k other) ∙ still_node (parent_at t key) key k (row_at t k)
 ]
 
--- the parent is in a row that is there
-row_of_parent : (o : Option (Row Node)) (parent : NodeKey) → parent_in o ≡ Some parent → IsSome o
-row_of_parent None parent is = absurd (cc)
-row_of_parent (Some row) parent is = refl
-
 -- a key that is told
 Some-inj : (a b : NodeKey) → Some a ≡ Some b → a ≡ b
 Some-inj a b e = cc
-
--- a child is there
-pub child_there : (t : Table Node) (parent child : NodeKey) → IsChild t parent child → IsSome (row_at t child)
-child_there t parent child is = row_of_parent (row_at t child) parent is.parent_is
 
 -- a child that is listed is a child
 pub is_child : (t : Table Node) (parent child : NodeKey) → IsForest t → Contains (children_at t parent) child → IsChild t parent child
@@ -144,10 +135,6 @@ pub record CutsOff (old new : Table Node) (key : NodeKey) : Type 0 where
   pub keys : SameKeys old new
   pub len : table_len new ≡ table_len old
 
--- nothing so far
-pub CutsOff-none : (t : Table Node) (key : NodeKey) → CutsOff t t key
-CutsOff-none t key = record { look = λ k. refl; parents = λ k other. refl; keys = SameKeys-refl t; len = refl }
-
 -- one more
 pub CutsOff-more : (t u now : Table Node) (key child : NodeKey) → CutsOff t u key → IsChild u key child → Cuts u now child → CutsOff t now key
 CutsOff-more t u now key child off is cuts = record {
@@ -160,18 +147,10 @@ CutsOff-more t u now key child off is cuts = record {
   len = cuts.len ∙ off.len;
 }
 
--- all
-pub CutsOff-all : (t now : Table Node) (key : NodeKey) → CutsOff t now key → children_at now key ≡ [] → Unlinks t now key
-CutsOff-all t now key off leaf = record { leaf = leaf; look = off.look; parents = off.parents; keys = off.keys; len = off.len }
-
 -- by the row
 row_there-by : (o : Option (Row Node)) → IsSome (node_in o) → IsSome o
 row_there-by None h = absurd (cc)
 row_there-by (Some row) h = refl
-
--- a node that is there has its row still
-pub unlinked_there : (t now : Table Node) (key : NodeKey) → Unlinks t now key → IsSome (node_at t key) → IsSome (row_at now key)
-unlinked_there t now key un there = row_there-by (row_at now key) (ap is_some (un.look key) ∙ there)
 
 -- the look-up of a table from which a node was removed
 removed_look : (t now : Table Node) (key : NodeKey) (n : Node) → Removes t now key n → (k : NodeKey) → node_at now k ≡ (if same_key key k then None else node_at t k)

@@ -66,11 +66,6 @@ In-added x _ _ z (Later y xs ys a) (inr (inr on)) = inr (In-added x xs ys z a (i
 
 -- ---- all elements
 
--- a list has the elements of itself
-pub mixed_same : {A : Type 0} (xs : List A) → Mixed xs xs
-mixed_same [] = Nothing
-mixed_same (x ∷ xs) = Puts x xs xs (x ∷ xs) (mixed_same xs) (First xs)
-
 -- maps keep it so
 pub mixed_map : {A B : Type 0} (f : A → B) (xs ys : List A) → Mixed xs ys → Mixed (map f xs) (map f ys)
 mixed_map f _ _ Nothing = Nothing

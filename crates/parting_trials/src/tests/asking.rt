@@ -38,11 +38,7 @@ pub fn put<V, R: Abort>(rt: &R, parts: &mut Vec<V>, part: V)
 pub fn nothing<E: Ledger, S: Ledger, W: Ledger>(alloc: Global) -> Held<E, S, W>
     ensures { (client : ℕ) → AreOf client (held_in result) }
 {
-    Held {
-        tokens: Vec::new(alloc),
-        collections: Vec::new(alloc),
-        handles: Vec::new(alloc),
-    }
+    Held::new(alloc)
 }
 
 /// A client that is gone.
