@@ -65,10 +65,11 @@ asks_at old new call items items' slot on on' brought lt is put did = record {
 -- whatever comes of it
 pub asks_there : {E S W : Type 0} (old new : Seen) (call : Call) (told : Option ℕ) (items : List (Option (End E S W))) (slot : ℕ) (on on' : Option (End E S W)) (result : Result (Brought E S W) StepFault) →
     told ≡ Some slot → slot < length items → on ≡ slice_index_or items slot on → MatchResult result (λ b. Did old new call (there on) (there on') b) (λ _. (new ≡ old) × (on' ≡ on)) →
-    MatchResult result (λ b. Asks old new call told (lies items) (lies (set items slot on')) b) (λ _. new ≡ old)
+    MatchResult result (λ b. Asks old new call told (lies items) (lies (set items slot on')) b) (λ _. (new ≡ old) × (lies (set items slot on') ≡ lies items))
 asks_there old new call told items slot on on' (Ok b) so lt is did =
     subst (λ s. Asks old new call s (lies items) (lies (set items slot on')) b) (sym so) (asks_at old new call items (set items slot on') slot on on' b lt is refl did)
-asks_there old new call told items slot on on' (Err fault) so lt is did = did.0
+asks_there old new call told items slot on on' (Err fault) so lt is did =
+    (did.0, map-set there items slot on' ∙ (ap (λ o. set (lies items) slot (there o)) did.1 ∙ set_same items slot on lt is))
 
 -- the slots of what was brought
 handles_seen : (E S W : Type 0) (hs : List Grip) → lies {E = E} {S = S} {W = W} (map full hs) ≡ map Some (map handle_seen hs)

@@ -1,5 +1,5 @@
 -- What an actor has, and what it has played.
-use Rattle.std.specs.Prelude.{ℕ, ◌≡◌, ◌≤◌, ◌+◌, if◌then◌else◌, List, [], ◌∷◌, ◌++◌, map, reverse, flat_map, Option, Some, None, vec_len, vec_capacity}
+use Rattle.std.specs.Prelude.{ℕ, ◌≡◌, ◌≤◌, ◌+◌, ◌⊎◌, if◌then◌else◌, List, [], ◌∷◌, ◌++◌, map, reverse, flat_map, Option, Some, None, vec_len, vec_capacity}
 use Rattle.std.specs.List.{All}
 use Rattle.sm_names.specs.declared.messages.Call.{Call}
 use Rattle.sm_names.specs.declared.messages.Reply.{Reply}
@@ -7,7 +7,7 @@ use Rattle.record_parts.specs.declared.own.Own.{Own}
 use Rattle.client_ends.specs.declared.held.End.{End}
 use Rattle.client_ends.specs.declared.held.Held.{Held}
 use Rattle.client_ends.specs.Clients.{Made, Seen}
-use Rattle.client_parting.specs.Partings.{AreOf as AreTheirs, Holds, IsGone, Remains, Thing as Part, Token, Collection, Handle, held_in, sorted}
+use Rattle.client_parting.specs.Partings.{AreOf as AreTheirs, Holds, IsBroken, IsGone, Remains, Thing as Part, Token, Collection, Handle, held_in, sorted}
 use Rattle.client_parting.specs.Stacks.{kept_things}
 use Rattle.actor_steps.specs.declared.step.Step.{Step}
 use Rattle.actor_steps.specs.declared.thing.Asked.{Asked}
@@ -46,6 +46,28 @@ pub record HasPlayed (clients : List ℕ) (steps : List Step) (left : Remains) :
   pub plays : Plays clients steps (pairs_of before.own) desk
   pub gone : IsGone before left.client (held_by before.id desk) left.refused
 
+-- a client's own list is a play of the first of its steps, and these are the things that it then has
+pub record HasPlayedSome (clients : List ℕ) (steps : List Step) (client : Seen) (things : List (Option Thing)) : Type 0 where
+  pub desk : Known
+  pub done : List Step
+  pub left : List Step
+  pub split : steps ≡ done ++ left
+  pub plays : Plays clients done (pairs_of client.own) desk
+  pub has : things ≡ desk.things
+
+-- what an actor is that a fault stopped: its own list is a play of the first of its steps, and then, if it made them all,
+-- the first events of its parting. It holds what is left
+pub record HasStopped (clients : List ℕ) (steps : List Step) (client : Seen) (held : Holds) : Type 0 where
+  pub before : Seen
+  pub desk : Known
+  pub done : List Step
+  pub left : List Step
+  pub split : steps ≡ done ++ left
+  pub plays : Plays clients done (pairs_of before.own) desk
+  pub broken : IsBroken before client (held_by before.id desk) held
+  pub turn : (client ≡ before) ⊎ (left ≡ [])
+  pub owned : AreTheirs client.id held
+
 -- one event was made of this call on what lies in the slot, if one is told: `after` is what is left, and this was brought
 pub record Asks {E S W : Type 0} (old new : Seen) (call : Call) (slot : Option ℕ) (before after : List (Option Thing)) (brought : Brought E S W) : Type 0 where
   pub reply : Reply
@@ -59,6 +81,11 @@ pub record Answers (old new : Seen) (asked : Asked) (before after : List (Option
   pub reply : Reply
   pub made : Made old new asked.call reply
   pub things : after ≡ things_after before asked reply
+
+-- a call came to a fault: it was not made and the slots are as they were, or it was and they are as after its reply
+abbrev pub Falters : Seen → Seen → Asked → List (Option Thing) → List (Option Thing) → Type 0
+Falters old new asked before after =
+    ((new ≡ old) × (after ≡ before)) ⊎ Answers old new asked before after
 
 -- each list has room for so many things more
 pub record HasRoom {E S W : Type 0} (held : Held E S W) (more : ℕ) : Type 0 where
@@ -82,6 +109,12 @@ pub record HasStepped {E S W : Type 0} (clients : List ℕ) (step : Step) (old n
       Plays clients (steps ++ step ∷ []) (pairs_of new.client.own) (known new.desk)
   pub aware : IsAware new
 
+-- a step came to a fault: if the actor has played the steps before it, it has still played the first of all
+pub record HasFaltered {E S W : Type 0} (clients : List ℕ) (step : Step) (old new : Actor E S W) : Type 0 where
+  pub plays : (steps done left : List Step) → steps ≡ done ++ step ∷ left →
+      Plays clients done (pairs_of old.client.own) (known old.desk) →
+      HasPlayedSome clients steps new.client (lies new.slots.items)
+
 -- the things in slots, the newest first
 abbrev pub left_in : {E S W : Type 0} → List (Option (End E S W)) → List Part
 left_in slots = flat_map kept_things (reverse slots)
@@ -97,10 +130,10 @@ pub record HasMade {E S W : Type 0} (step : Step) (asked : Asked) (reply : Reply
   pub things : (known new.desk).things ≡ things_after (known old.desk).things asked reply
   pub slots : lies new.slots.items ≡ things_after (lies old.slots.items) asked reply
 
--- an actor is gone and has played its script, or was stopped with things of its own
+-- an actor is gone and has played its script, or was stopped in it
 abbrev pub EndsSo : {E S W : Type 0} → List ℕ → List Step → ℕ → ActorEnd E S W → Type 0
 EndsSo clients steps id (ActorEnd.Wrecked wreck) = (wreck.client.id ≡ id) × HasPlayed clients steps wreck
-EndsSo clients steps id (ActorEnd.Stopped client held fault) = (client.id ≡ id) × AreTheirs client.id (held_in held)
+EndsSo clients steps id (ActorEnd.Stopped client held fault) = (client.id ≡ id) × HasStopped clients steps client (held_in held)
 EndsSo clients steps id (ActorEnd.NotStarted client) = ⊥
 
 -- it has played all steps but these, which are the last ones

@@ -3,10 +3,10 @@ use Rattle.std.specs.Prelude.{ℕ, ◌≡◌, List, [], map, Option, Some, None,
 use Rattle.std.specs.List.{AllZip}
 use Rattle.client_ends.specs.Clients.{Seen}
 use Rattle.client_parting.specs.declared.gathering.Holding.{Holding}
-use Rattle.client_parting.specs.Partings.{AreOf, held_in, sorted}
+use Rattle.client_parting.specs.Partings.{held_in, sorted}
 use Rattle.actor_steps.specs.declared.step.ActorScript.{ActorScript}
 use Rattle.client_actors.specs.declared.gate.ActorEnd.{ActorEnd}
-use Rattle.client_actors.specs.Acting.{HasPlayed}
+use Rattle.client_actors.specs.Acting.{HasPlayed, HasStopped}
 
 -- the client joined, and made no event since
 pub record HasJoined (client : Seen) : Type 0 where
@@ -19,11 +19,10 @@ end_id (ActorEnd.Wrecked wreck) = wreck.client.id
 end_id (ActorEnd.Stopped client held fault) = client.id
 end_id (ActorEnd.NotStarted client) = client.id
 
--- it is gone and has played the script, or was stopped with things of its own, or did not start. Labels stand for these
--- clients
+-- it is gone and has played the script, or was stopped in it, or did not start. Labels stand for these clients
 abbrev pub IsEndOf : {E S W : Type 0} → List ℕ → ActorScript → ActorEnd E S W → Type 0
 IsEndOf clients script (ActorEnd.Wrecked wreck) = HasPlayed clients script.steps.items wreck
-IsEndOf clients script (ActorEnd.Stopped client held fault) = AreOf client.id (held_in held)
+IsEndOf clients script (ActorEnd.Stopped client held fault) = HasStopped clients script.steps.items client (held_in held)
 IsEndOf clients script (ActorEnd.NotStarted client) = HasJoined client
 
 -- one end for each script, in order, where labels stand for the clients of these ends

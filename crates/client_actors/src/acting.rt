@@ -1,9 +1,9 @@
 //! An actor: what it has and knows, and how it makes a step.
-ghost use Rattle.std.specs.Prelude.{◌≡◌, ◌+◌, ◌≤◌, [], MatchResult, IfOk, OnOk, vec_len, vec_capacity};
+ghost use Rattle.std.specs.Prelude.{◌≡◌, ◌+◌, ◌≤◌, [], MatchResult, IfOk, OnErr, OnOk, vec_len, vec_capacity};
 ghost use Rattle.std.specs.List.{All};
 ghost use Rattle.actor_steps.specs.Desks.{Fits, nothing_known};
 ghost use Rattle.actor_steps.specs.Tables.{known};
-ghost use Rattle.client_actors.specs.Acting.{Answers, Asks, HasMade, HasStepped, IsAware, IsSound};
+ghost use Rattle.client_actors.specs.Acting.{Answers, Asks, Falters, HasFaltered, HasMade, HasStepped, IsAware, IsSound};
 ghost use Rattle.client_actors.specs.Asking.{IsOf, lies};
 
 use crate::asking::on_none;
@@ -40,7 +40,8 @@ fn ask_on<E: Ledger, S: Ledger, W: Ledger, R: Wait>(
     requires fits { Fits (lies slots.old.items) asked.now.slot asked.now.call }
     ensures asked { MatchResult result
         (λ b. Asks client.old client.new asked.now.call asked.now.slot
-        (lies slots.old.items) (lies slots.new.items) b) (λ _. client.new ≡ client.old) }
+        (lies slots.old.items) (lies slots.new.items) b)
+        (λ _. (client.new ≡ client.old) × (lies slots.new.items ≡ lies slots.old.items)) }
     ensures owned { All (IsOf client.old.id) slots.new.items }
     ensures len { vec_len slots.new ≡ vec_len slots.old }
     ensures room { vec_capacity slots.new ≡ vec_capacity slots.old }
@@ -65,7 +66,8 @@ fn ask<E: Ledger, S: Ledger, W: Ledger, R: Wait>(
     requires room { vec_len slots.old + 64 ≤ vec_capacity slots.old }
     ensures asked { MatchResult result
         (λ _. Answers client.old client.new asked.now (lies slots.old.items)
-        (lies slots.new.items)) (λ _. client.new ≡ client.old) }
+        (lies slots.new.items))
+        (λ _. (client.new ≡ client.old) × (lies slots.new.items ≡ lies slots.old.items)) }
     ensures owned { All (IsOf client.old.id) slots.new.items }
     ensures len { vec_len slots.new ≤ vec_len slots.old + 64 }
 {
@@ -106,6 +108,8 @@ impl<E: Ledger, S: Ledger, W: Ledger> Actor<E, S, W> {
         requires sound { IsSound self.old }
         requires fits { Fits (lies self.old.slots.items) asked.now.slot asked.now.call }
         ensures made { IfOk result (λ reply. HasMade step asked.now reply self.old self.new) }
+        ensures falters { OnErr result (Falters self.old.client self.new.client asked.now
+            (lies self.old.slots.items) (lies self.new.slots.items)) }
         ensures sound { IsSound self.new }
         ensures id { self.new.client.id ≡ self.old.client.id }
     {
@@ -132,6 +136,7 @@ impl<E: Ledger, S: Ledger, W: Ledger> Actor<E, S, W> {
         requires sound { IsSound self.old }
         requires aware { IsAware self.old }
         ensures stepped { OnOk result (HasStepped clients.now step self.old self.new) }
+        ensures faltered { OnErr result (HasFaltered clients.now step self.old self.new) }
         ensures sound { IsSound self.new }
         ensures id { self.new.client.id ≡ self.old.client.id }
     {

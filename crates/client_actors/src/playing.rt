@@ -1,10 +1,11 @@
 //! An actor plays its script, and vanishes.
-ghost use Rattle.std.specs.Prelude.{◌≡◌, [], OnOk};
+ghost use Rattle.std.specs.Prelude.{◌≡◌, [], OnErr, OnOk};
 ghost use Rattle.actor_steps.specs.Desks.{nothing_known};
 ghost use Rattle.actor_steps.specs.Plays.{Plays};
 ghost use Rattle.actor_steps.specs.Tables.{known};
 ghost use Rattle.client_parting.specs.Partings.{AreOf, held_in, sorted};
-ghost use Rattle.client_actors.specs.Acting.{EndsSo, IsAware, IsSound, left_of, pairs_of};
+ghost use Rattle.client_actors.specs.Acting.{EndsSo, HasPlayedSome, IsAware, IsSound, left_of, pairs_of};
+ghost use Rattle.client_actors.specs.Asking.{lies};
 
 use crate::acting::Actor;
 use crate::gate::{ActorEnd, Gate};
@@ -34,6 +35,8 @@ fn play_steps<E: Ledger, S: Ledger, W: Ledger, G: Gate, R: Wait>(
     ensures plays { OnOk result (Plays clients.now steps.now (pairs_of actor.new.client.own)
         (known actor.new.desk)) }
     ensures aware { OnOk result (IsAware actor.new) }
+    ensures some { OnErr result (HasPlayedSome clients.now steps.now actor.new.client
+        (lies actor.new.slots.items)) }
     ensures sound { IsSound actor.new }
     ensures id { actor.new.client.id ≡ actor.old.client.id }
 {
@@ -74,7 +77,9 @@ fn leave<E: Ledger, S: Ledger, W: Ledger>(actor: Actor<E, S, W>) -> (Client<E, S
 /// ids of all actors, in the order of their scripts. The gate is told of each step.
 ///
 /// Ended `Wrecked`, the client's own list is a play of the script, each step's call once, and then
-/// the events of its parting. On a fault it is `Stopped` at once, with all that it then holds.
+/// the events of its parting. On a fault it is `Stopped` at once: its own list is a play of the first
+/// steps, each with all that its reply gave, and then, if it made them all, the first events of its
+/// parting; it has all that it then holds.
 ///
 /// Costs the events of its calls, a constant number of look-ups for each step and each thing that
 /// came or went, and memory for each thing that was ever given. A tracker is let go at once, and a

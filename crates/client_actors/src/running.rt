@@ -133,6 +133,20 @@ fn ends_of<E: Ledger, S: Ledger, W: Ledger>(
     ends
 }
 
+// A client that joined and did not start.
+fn idle<E: Ledger, S: Ledger, W: Ledger>(
+    alloc: Global,
+    actor: Option<ActorEnd<E, S, W>>,
+) -> Holding<E, S, W>
+    requires { IsReady actor }
+    ensures { IsIdle result }
+{
+    match actor {
+        Some(ActorEnd::NotStarted(client)) => Holding::Present(client, Held::new(alloc)),
+        _ => unreachable!(),
+    }
+}
+
 // The clients that joined, none of which started.
 fn clients_of<E: Ledger, S: Ledger, W: Ledger>(
     alloc: Global,
@@ -149,12 +163,7 @@ fn clients_of<E: Ledger, S: Ledger, W: Ledger>(
     let mut parts = parts;
     actors.reverse();
     while let Some(actor) = actors.pop() {
-        match actor {
-            Some(ActorEnd::NotStarted(client)) => {
-                parts.push_reserved(Holding::Present(client, Held::new(alloc)));
-            }
-            _ => unreachable!(),
-        }
+        parts.push_reserved(idle(alloc, actor));
     }
     actors.destroy_empty();
     parts

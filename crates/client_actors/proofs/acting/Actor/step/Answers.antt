@@ -1,5 +1,5 @@
 use Rattle.std.proofs.Common.{◌∙◌, sym}
-use Rattle.client_actors.proofs.PlayLaws.{skipped, stepped}
+use Rattle.client_actors.proofs.PlayLaws.{faltered, on_err, skipped, stepped}
 use Rattle.client_actors.proofs.acting.Actor.step.Goals as goal
 
 pub returns-in_ok-reply-in-Some-clause-stepped : goal.returns-in_ok-reply-in-Some-clause-stepped
@@ -8,3 +8,9 @@ returns-in_ok-reply-in-Some-clause-stepped g c =
 
 pub returns-in-None-clause-stepped : goal.returns-in-None-clause-stepped
 returns-in-None-clause-stepped g c = skipped c.args.clients.now c.args.step c.args.self.now (sym c.call.ensures.asked ∙ c.in-None.is) c.requires.aware
+
+pub returns-in_err-reply-in-Some-clause-faltered : goal.returns-in_err-reply-in-Some-clause-faltered
+returns-in_err-reply-in-Some-clause-faltered g c =
+    let asked = sym c.call.ensures.asked ∙ c.in-Some.is in
+    on_err c.from_residual.result _
+    (faltered c.args.clients.now c.args.step c.in-Some.asked c.args.self.now c.make.new.self asked c.in_err-reply-in-Some.ensures.falters c.requires.aware)
