@@ -23,6 +23,7 @@ use Rattle.alloc_event.specs.declared.node.Node.{Node}
 use Rattle.alloc_event.specs.Forest.{Collection, Forest, SameKeys, collection_at, node_at, with_nodes, on_collections, is_left}
 use Rattle.alloc_event.specs.Nodes.{with_end, is_over}
 use Rattle.alloc_event.specs.Settling.{Handles, Settled}
+use Rattle.lifetime_core.specs.declared.task.Place.{Place}
 use Rattle.lifetime_core.specs.Reads.{world_in}
 use Rattle.lifetime_core.specs.State.{Client, HandleCounts, State, counts_of}
 
@@ -95,11 +96,6 @@ Worked s handles None key after = after ≡ s.forest
 Worked s handles (Some work) key after = Settled s.pool handles s.forest after work.collection work.change key
 
 -- ---- ends
-
--- where the end of the node with this key is put
-pub record Place : Type 0 where
-  pub key : NodeKey
-  pub end : End
 
 -- where the event puts an end: a Close that was answered Done spends it, or a Release, also of a node that was gone, a Give puts
 -- it into a parcel, and a Collect gets it for its caller. Every other event leaves all ends

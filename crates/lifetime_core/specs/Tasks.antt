@@ -14,12 +14,12 @@ use Rattle.alloc_event.specs.Settling.{Handles, MayChange, Settled}
 use Rattle.buffer_holds.specs.Counts.{Counts, total}
 use Rattle.trackers.specs.Table.{Table, Waiting}
 use Rattle.lifetime_core.specs.declared.sweeping.Tracking.{Tracking}
-use Rattle.lifetime_core.specs.declared.task.Carried.{Carried}
+use Rattle.lifetime_core.specs.declared.task.Place.{Place}
 use Rattle.lifetime_core.specs.declared.task.Task.{Task}
 use Rattle.lifetime_core.specs.Hands.{Moves}
 use Rattle.lifetime_core.specs.Kinds.{is_releasing, is_sync}
 use Rattle.lifetime_core.specs.State.{Client}
-use Rattle.lifetime_core.specs.Steps.{Gains, Place, Work, clients_by}
+use Rattle.lifetime_core.specs.Steps.{Gains, Work, clients_by}
 
 -- the change to this collection, if there is one
 abbrev pub work_on : ℕ → Option Change → Option Work
@@ -58,13 +58,9 @@ SpendsThere f t = IfSome t.spends (λ key. option_map (λ (n : Node). n.collecti
 abbrev pub DoesSome : Task → Type 0
 DoesSome t = (is_some t.change || is_some t.spends) ≡ true
 
--- where a carried end goes
-abbrev pub place_as : Carried → Place
-place_as c = record { key = c.key; end = c.end }
-
 -- where the event puts an end, by its task or by what it carries
-abbrev pub placed : Option Task → Option Carried → Option Place
-placed task carried = option_or (spent_place (spent_in task)) (option_map place_as carried)
+abbrev pub placed : Option Task → Option Place → Option Place
+placed task carried = option_or (spent_place (spent_in task)) carried
 
 -- the task may be done: its change may be made, the end that it spends is one of its collection, and a release spends
 -- the end

@@ -16,7 +16,7 @@ use Rattle.alloc_event.specs.Forest.{Collection, Forest, IsPoolOf, given, node_a
 use Rattle.alloc_event.specs.Nodes.{is_spent}
 use Rattle.alloc_event.specs.Settling.{Handles}
 use Rattle.trackers.specs.Table.{Cell, Table, Waiting, is_due}
-use Rattle.lifetime_core.specs.declared.task.Carried.{Carried}
+use Rattle.lifetime_core.specs.declared.task.Place.{Place}
 use Rattle.lifetime_core.specs.declared.task.Task.{Task}
 use Rattle.lifetime_core.specs.Reads.{world_in}
 use Rattle.lifetime_core.specs.State.{Client, HandleCounts, counts_of}
@@ -78,9 +78,9 @@ CanFinish f None = IsSound f
 CanFinish f (Some t) = IsAmid f t.collection t.spends
 
 -- the end that is carried is there, and is spent neither before nor after
-abbrev pub CanCarry : Forest → Option Carried → Type 0
+abbrev pub CanCarry : Forest → Option Place → Type 0
 CanCarry f carried = IfSome carried
-    (λ (c : Carried). (n : Node) × (node_at f c.key ≡ Some n) × (is_spent n.end ≡ false) × (is_spent c.end ≡ false))
+    (λ (c : Place). (n : Node) × (node_at f c.key ≡ Some n) × (is_spent n.end ≡ false) × (is_spent c.end ≡ false))
 
 -- how many handles of a buffer and strength wait for the client
 abbrev pub waiting_in : BufferName → Strength → Client → ℕ

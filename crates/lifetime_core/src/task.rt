@@ -12,7 +12,7 @@ ghost use Rattle.lifetime_core.specs.Reads.{node_named, readings_of};
 ghost use Rattle.lifetime_core.specs.Steps.{Work, at_collection, at_node as change_at, birth_by, done_to};
 ghost use Rattle.lifetime_core.specs.Steps.{work_of, with_place, without_over};
 ghost use Rattle.lifetime_core.specs.Tasks.{DoesSome, MayDo, Reworked, SpendsThere, carried_by};
-ghost use Rattle.lifetime_core.specs.Tasks.{place_as, placed, spent_by, spent_in, spent_place, work_in};
+ghost use Rattle.lifetime_core.specs.Tasks.{placed, spent_by, spent_in, spent_place, work_in};
 ghost use Rattle.lifetime_core.specs.Traits.{key_in as key_on};
 ghost use Rattle.lifetime_core.specs.Whole.{AreUpTo, CanCarry, CanFinish, IsSound};
 
@@ -200,23 +200,23 @@ pub(crate) fn make(
     forest.settle(pool, holds, task.collection, change)
 }
 
-/// An end that goes to another client or to a parcel.
+/// Where the end of the node with this key is put.
 #[derive(Clone, Copy, Debug)]
-pub(crate) struct Carried {
+pub(crate) struct Place {
     pub(crate) key: NodeKey,
     pub(crate) end: End,
 }
 
 /// The end that a Give or a Collect, answered so, carries.
-pub(crate) fn carried_end(client: ClientId, call: &Call, reply: &Reply) -> Option<Carried>
-    ensures { option_map place_as result ≡ carried_by client call.now reply.now }
+pub(crate) fn carried_end(client: ClientId, call: &Call, reply: &Reply) -> Option<Place>
+    ensures { result ≡ carried_by client call.now reply.now }
 {
     match (*call, *reply) {
-        (Call::Give(key, _), Reply::Done) => Some(Carried {
+        (Call::Give(key, _), Reply::Done) => Some(Place {
             key,
             end: End::InTransit(client),
         }),
-        (Call::Collect, Reply::Collected { key, .. }) => Some(Carried {
+        (Call::Collect, Reply::Collected { key, .. }) => Some(Place {
             key,
             end: End::Held(client),
         }),
@@ -241,11 +241,11 @@ pub(crate) fn changed_by(task: &Option<Task>) -> Option<CollectionId>
 }
 
 // Puts the end there, if one is carried.
-fn carry(forest: &mut Forest, carried: Option<Carried>)
+fn carry(forest: &mut Forest, carried: Option<Place>)
     requires { CanCarry forest.old carried }
-    ensures { forest.new ≡ with_place (option_map place_as carried) forest.old }
+    ensures { forest.new ≡ with_place carried forest.old }
 {
-    if let Some(Carried { key, end }) = carried {
+    if let Some(Place { key, end }) = carried {
         forest.set_end(key, end);
     }
 }
@@ -262,7 +262,7 @@ fn spend(forest: &mut Forest, end: Option<NodeKey>)
 
 /// Puts an end where the event puts it, and forgets what is over then. It takes no memory, and costs
 /// a pass over the nodes of the task's collection.
-pub(crate) fn finish(forest: &mut Forest, task: &Option<Task>, carried: Option<Carried>)
+pub(crate) fn finish(forest: &mut Forest, task: &Option<Task>, carried: Option<Place>)
     requires task { CanFinish forest.old task.now }
     requires carried { CanCarry forest.old carried }
     requires one { is_some task.now ≡ true → carried ≡ None }

@@ -31,8 +31,9 @@ use Rattle.sm_names.proofs.SettledLaws.{In-was_born, find_birth}
 use Rattle.sm_names.proofs.WholeLaws.{IsWhole}
 use Rattle.alloc_event.specs.declared.node.End.{End}
 use Rattle.alloc_event.specs.Nodes.{is_over}
+use Rattle.lifetime_core.specs.declared.task.Place.{Place}
 use Rattle.lifetime_core.specs.Shown.{node_after, nodes_after, held_after, collection_after}
-use Rattle.lifetime_core.specs.Steps.{Place, end_by}
+use Rattle.lifetime_core.specs.Steps.{end_by}
 use Rattle.lifetime_core.proofs.nodes.Answered.{nodes-answered, answered_other, said_other, no_birth}
 use Rattle.lifetime_core.proofs.collections.MarksApart.{IsIn}
 use Rattle.lifetime_core.proofs.nodes.Called.{answered, rest_called}

@@ -18,8 +18,9 @@ use Rattle.sm_names.proofs.SamenessLaws.{and_left, and_right, either_way, or_rig
 use Rattle.alloc_event.specs.declared.node.Node.{Node}
 use Rattle.alloc_event.specs.Forest.{Collection, Forest, with_nodes, is_left}
 use Rattle.alloc_event.specs.Nodes.{is_over}
+use Rattle.lifetime_core.specs.declared.task.Place.{Place}
 use Rattle.lifetime_core.specs.Shown.{node_after, nodes_after, held_after, collection_after, kept_ids}
-use Rattle.lifetime_core.specs.Steps.{Place, place_of, with_place, without_over}
+use Rattle.lifetime_core.specs.Steps.{place_of, with_place, without_over}
 use Rattle.lifetime_core.proofs.ends.NotRead.{placed_node, placed_in}
 use Rattle.lifetime_core.proofs.collections.Ids.{ids, kept_are}
 use Rattle.lifetime_core.proofs.ends.Forgotten.{left_after}

@@ -13,9 +13,8 @@ use Rattle.alloc_event.specs.declared.node.End.{End}
 use Rattle.alloc_event.specs.declared.node.Node.{Node}
 use Rattle.alloc_event.specs.Forest.{Collection, Forest, SameKeys, all_held, collection_at, given, node_at, with_nodes}
 use Rattle.alloc_event.specs.Nodes.{is_over, is_spent, with_end}
-use Rattle.lifetime_core.specs.declared.task.Carried.{Carried}
+use Rattle.lifetime_core.specs.declared.task.Place.{Place}
 use Rattle.lifetime_core.specs.Steps.{with_place, without_over}
-use Rattle.lifetime_core.specs.Tasks.{place_as}
 use Rattle.lifetime_core.specs.Whole.{AreOnce, AreUpTo, CanCarry, IsFit, IsSound, IsTidy}
 use Rattle.lifetime_core.proofs.forced.Fitting.{mapped_once}
 use Rattle.lifetime_core.proofs.lists.Maps.{filter-all}
@@ -140,7 +139,7 @@ pub record Carries (f g : Forest) : Type 0 where
   pub same : SameKeys f g
   pub ids : (most : ℕ) → AreUpTo most f → AreUpTo most g
 
-pub carries : (f : Forest) (carried : Option Carried) → IsSound f → CanCarry f carried → Carries f (with_place (option_map place_as carried) f)
+pub carries : (f : Forest) (carried : Option Place) → IsSound f → CanCarry f carried → Carries f (with_place carried f)
 carries f None sound can = record {
   sound = sound;
   tidy = sym (all_tidy f.collections sound.tidy);

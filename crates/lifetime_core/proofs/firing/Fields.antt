@@ -30,12 +30,13 @@ use Rattle.alloc_event.specs.declared.change.Change.{Change}
 use Rattle.alloc_event.specs.declared.node.Node.{Node}
 use Rattle.alloc_event.specs.Forest.{Collection, Forest, SameKeys, collection_at, given, node_at}
 use Rattle.alloc_event.specs.Settling.{no_key}
+use Rattle.lifetime_core.specs.declared.task.Place.{Place}
 use Rattle.lifetime_core.specs.declared.sweeping.Tracking.{Tracking}
 use Rattle.lifetime_core.specs.declared.task.Task.{Task}
 use Rattle.lifetime_core.specs.Hands.{Moves}
 use Rattle.lifetime_core.specs.Reads.{readings_of, world_in}
 use Rattle.lifetime_core.specs.State.{State}
-use Rattle.lifetime_core.specs.Steps.{Gains, Place, Work, swept, tracker_by, with_place, without_over, work_of}
+use Rattle.lifetime_core.specs.Steps.{Gains, Work, swept, tracker_by, with_place, without_over, work_of}
 use Rattle.lifetime_core.specs.Tasks.{MayDo, Reworked, looked_in, waiting_as, work_in}
 use Rattle.lifetime_core.specs.Whole.{CanFinish, Concerns, IsNodeOf, IsSound, StillWaits}
 use Rattle.lifetime_core.proofs.forced.Forest.{node_with_key}

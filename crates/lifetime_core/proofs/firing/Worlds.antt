@@ -19,9 +19,10 @@ use Rattle.alloc_event.specs.declared.node.Node.{Node}
 use Rattle.alloc_event.specs.Forest.{Collection, Forest, SameKeys, all_nodes, collection_at, given, is_left, node_at, with_nodes}
 use Rattle.alloc_event.specs.Nodes.{is_of, is_over, member_of, members_of}
 use Rattle.alloc_event.specs.Settling.{Handles}
+use Rattle.lifetime_core.specs.declared.task.Place.{Place}
 use Rattle.lifetime_core.specs.declared.task.Task.{Task}
 use Rattle.lifetime_core.specs.Reads.{world_in}
-use Rattle.lifetime_core.specs.Steps.{Place, place_of, with_place, without_over}
+use Rattle.lifetime_core.specs.Steps.{place_of, with_place, without_over}
 use Rattle.lifetime_core.specs.Whole.{AreOnce, CanFinish, Concerns, IsNodeOf, IsSound, Rise, StillWaits}
 use Rattle.lifetime_core.proofs.ends.NotRead.{placed_in, placed_node}
 use Rattle.lifetime_core.proofs.ends.Finishing.{finished, no_length, placed_collections}

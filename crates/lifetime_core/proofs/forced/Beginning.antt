@@ -26,9 +26,10 @@ use Rattle.alloc_event.specs.declared.node.Node.{Node}
 use Rattle.alloc_event.specs.Forest.{Collection, beside, node_at, with_nodes}
 use Rattle.alloc_event.specs.Nodes.{affected, after_call, after_loss, node_of, new_root, new_child}
 use Rattle.alloc_event.specs.Settling.{changed, collection_or_new, no_key}
+use Rattle.lifetime_core.specs.declared.task.Place.{Place}
 use Rattle.lifetime_core.specs.Shown.{IsAfter, node_after, collection_after}
 use Rattle.lifetime_core.specs.State.{State}
-use Rattle.lifetime_core.specs.Steps.{Work, Place, at_node, end_by, place_of}
+use Rattle.lifetime_core.specs.Steps.{Work, at_node, end_by, place_of}
 use Rattle.lifetime_core.proofs.nodes.Called.{said}
 use Rattle.lifetime_core.proofs.forced.CallStep.{matches_called, kept_answered, kept_born, homes_elsewhere, follows_placed}
 use Rattle.lifetime_core.proofs.collections.Elsewhere.{came, born_in}

@@ -22,9 +22,10 @@ use Rattle.sm_names.proofs.LifeLaws.{whole}
 use Rattle.sm_names.proofs.SamenessLaws.{either_way}
 use Rattle.alloc_event.specs.Forest.{Collection, beside, is_left}
 use Rattle.alloc_event.specs.Settling.{Handles, buffer_names, standing}
+use Rattle.lifetime_core.specs.declared.task.Place.{Place}
 use Rattle.lifetime_core.specs.Shown.{IsAfter, held_after, collection_after, kept_ids}
 use Rattle.lifetime_core.specs.State.{State}
-use Rattle.lifetime_core.specs.Steps.{Place, end_by, place_of, with_place, without_over}
+use Rattle.lifetime_core.specs.Steps.{end_by, place_of, with_place, without_over}
 use Rattle.lifetime_core.proofs.forced.CallStep.{IsIdle, births_idle, follows_idle, held_idle}
 use Rattle.lifetime_core.proofs.ends.NotRead.{placed_in, standing_placed}
 use Rattle.lifetime_core.proofs.ends.Finishing.{finished, ComesTo, finished_is, finished_kept, left_finished}

@@ -26,9 +26,10 @@ use Rattle.alloc_event.specs.declared.node.Node.{Node}
 use Rattle.alloc_event.specs.Forest.{Collection, Forest, beside, is_left}
 use Rattle.alloc_event.specs.Nodes.{is_over}
 use Rattle.alloc_event.specs.Settling.{Handles, Settled, Settles, changed, collection_or_new, given_back, no_key, put}
+use Rattle.lifetime_core.specs.declared.task.Place.{Place}
 use Rattle.lifetime_core.specs.Shown.{IsAfter, node_after, nodes_after, held_after, collection_after, kept_ids}
 use Rattle.lifetime_core.specs.State.{State}
-use Rattle.lifetime_core.specs.Steps.{Work, Place, end_by, place_of, with_place, without_over}
+use Rattle.lifetime_core.specs.Steps.{Work, end_by, place_of, with_place, without_over}
 use Rattle.lifetime_core.proofs.collections.Elsewhere.{came, named_in, collects_end, ends_named, collection_elsewhere}
 use Rattle.lifetime_core.proofs.ends.NotRead.{placed_node, placed_in, settles_placed, given_placed}
 use Rattle.lifetime_core.proofs.ends.Finishing.{finished, ComesTo, finished_is, finished_kept}

@@ -14,8 +14,9 @@ use Rattle.sm_names.specs.Timelines.{key_of}
 use Rattle.sm_names.proofs.GrowthLaws.{Grows}
 use Rattle.alloc_event.specs.declared.node.Node.{Node}
 use Rattle.alloc_event.specs.Nodes.{affected}
+use Rattle.lifetime_core.specs.declared.task.Place.{Place}
 use Rattle.lifetime_core.specs.Shown.{node_after, nodes_after}
-use Rattle.lifetime_core.specs.Steps.{Place, end_by, place_of}
+use Rattle.lifetime_core.specs.Steps.{end_by, place_of}
 use Rattle.lifetime_core.proofs.nodes.Called.{answered, said, node_called}
 use Rattle.lifetime_core.proofs.ends.NotRead.{placed_node}
 use Rattle.lifetime_core.proofs.lists.Maps.{map-map_In}

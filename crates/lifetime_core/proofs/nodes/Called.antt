@@ -24,8 +24,9 @@ use Rattle.event_laws.proofs.TransitLaws.{EndAt, end_at, transit_mark, delivers_
 use Rattle.alloc_event.specs.declared.node.End.{End}
 use Rattle.alloc_event.specs.declared.node.Node.{Node}
 use Rattle.alloc_event.specs.Nodes.{affected}
+use Rattle.lifetime_core.specs.declared.task.Place.{Place}
 use Rattle.lifetime_core.specs.Shown.{node_after, end_after}
-use Rattle.lifetime_core.specs.Steps.{Place, end_by, place_of}
+use Rattle.lifetime_core.specs.Steps.{end_by, place_of}
 use Rattle.lifetime_core.proofs.ends.NotRead.{placed_node}
 
 -- ---- words

@@ -19,12 +19,12 @@ use Rattle.alloc_event.specs.Forest.{Forest, SameKeys, node_at}
 use Rattle.alloc_event.specs.Nodes.{is_spent}
 use Rattle.alloc_event.specs.Settling.{no_key}
 use Rattle.lifetime_core.specs.declared.sweeping.Tracking.{Tracking}
-use Rattle.lifetime_core.specs.declared.task.Carried.{Carried}
+use Rattle.lifetime_core.specs.declared.task.Place.{Place}
 use Rattle.lifetime_core.specs.declared.task.Task.{Task}
 use Rattle.lifetime_core.specs.Reads.{open_end_of, readings_of, world_in}
 use Rattle.lifetime_core.specs.State.{State, counts_of}
-use Rattle.lifetime_core.specs.Steps.{Follows, Gains, Place, end_by, swept, tracker_by, with_place, without_over, work_of}
-use Rattle.lifetime_core.specs.Tasks.{DoesSome, MayDo, Parts, Reworked, SpendsThere, TakesEffect, carried_by, keyed, place_as, placed, spent_by, spent_in, spent_place, takes_room, waiting_as, work_in, work_on}
+use Rattle.lifetime_core.specs.Steps.{Follows, Gains, end_by, swept, tracker_by, with_place, without_over, work_of}
+use Rattle.lifetime_core.specs.Tasks.{DoesSome, MayDo, Parts, Reworked, SpendsThere, TakesEffect, carried_by, keyed, placed, spent_by, spent_in, spent_place, takes_room, waiting_as, work_in, work_on}
 use Rattle.lifetime_core.specs.Whole.{CanCarry, CanFinish, IsWhole}
 use Rattle.lifetime_core.proofs.forced.Change.{can_finish}
 use Rattle.lifetime_core.proofs.handles.Moves.{moved}
@@ -164,15 +164,15 @@ module _ (s : State) (client : ℕ) (call : Call) (asked reply : Reply) (task : 
     pub finishes : CanFinish parts.forest task
     finishes = can_finish s.pool (total parts.holds) s.forest parts.forest task takes.key b.known.whole.sound b.may takes.work
 
-    module _ (carried : Option Carried) (carries : option_map place_as carried ≡ carried_by client call asked) where
+    module _ (carried : Option Place) (carries : carried ≡ carried_by client call asked) where
       -- with a task, nothing is carried
       pub one : is_some task ≡ true → carried ≡ None
       one there = by carried refl
         where
-          by : (o : Option Carried) → carried ≡ o → carried ≡ None
+          by : (o : Option Place) → carried ≡ o → carried ≡ None
           by None is = is
           by (Some c) is =
-              let none : task ≡ None = idle (carried_idle s client call asked (place_as c) (sym carries ∙ ap (option_map place_as) is)) in
+              let none : task ≡ None = idle (carried_idle s client call asked c (sym carries ∙ is)) in
               let not_there : is_some task ≡ false = ap is_some none in
               cc
 
@@ -180,12 +180,12 @@ module _ (s : State) (client : ℕ) (call : Call) (asked reply : Reply) (task : 
       pub can_carry : CanCarry parts.forest carried
       can_carry = by carried refl
         where
-          by : (o : Option Carried) → carried ≡ o → CanCarry parts.forest o
+          by : (o : Option Place) → carried ≡ o → CanCarry parts.forest o
           by None is = tt
           by (Some c) is =
-              let carries_it : carried_by client call asked ≡ Some (place_as c) = sym carries ∙ ap (option_map place_as) is in
-              let there = carried_there s client call asked (place_as c) b.known carries_it in
-              let none : task ≡ None = idle (carried_idle s client call asked (place_as c) carries_it) in
+              let carries_it : carried_by client call asked ≡ Some c = sym carries ∙ is in
+              let there = carried_there s client call asked c b.known carries_it in
+              let none : task ≡ None = idle (carried_idle s client call asked c carries_it) in
               let same : parts.forest ≡ s.forest =
               (subst (λ (o : Option Task). Reworked s.pool (total parts.holds) s.forest (work_in o) takes.key parts.forest) none takes.work).0 in
               (there.0.0, rw same there.0.1, there.0.2, there.1)

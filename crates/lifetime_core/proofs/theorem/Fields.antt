@@ -17,12 +17,13 @@ use Rattle.buffer_pool.specs.Holdings.{Holdings}
 use Rattle.trackers.specs.Table.{Cell, Table, Waiting, is_due}
 use Rattle.alloc_event.specs.Forest.{Forest, IsPoolOf, SameKeys, all_held}
 use Rattle.alloc_event.specs.Settling.{Handles, no_key}
+use Rattle.lifetime_core.specs.declared.task.Place.{Place}
 use Rattle.lifetime_core.specs.declared.sweeping.Tracking.{Tracking}
 use Rattle.lifetime_core.specs.declared.task.Task.{Task}
 use Rattle.lifetime_core.specs.Hands.{MayMove}
 use Rattle.lifetime_core.specs.Reads.{readings_of, world_in}
 use Rattle.lifetime_core.specs.State.{Client, HandleCounts, State, counts_of}
-use Rattle.lifetime_core.specs.Steps.{Gains, Place, Work, clients_by, handles_by, new_client, swept, with_place, without_over}
+use Rattle.lifetime_core.specs.Steps.{Gains, Work, clients_by, handles_by, new_client, swept, with_place, without_over}
 use Rattle.lifetime_core.specs.Tasks.{Parts, Reworked, TakesEffect, looked_in, waiting_as, work_in}
 use Rattle.lifetime_core.specs.Whole.{AreSent, AreUpTo, IsSound, IsWhole, Rise, StillWaits}
 use Rattle.lifetime_core.proofs.theorem.EventParts.{Begins, finishes}

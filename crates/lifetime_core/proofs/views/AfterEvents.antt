@@ -24,9 +24,10 @@ use Rattle.alloc_event.specs.declared.node.Node.{Node}
 use Rattle.alloc_event.specs.Forest.{Collection, Forest, beside}
 use Rattle.alloc_event.specs.Nodes.{is_over, members_of}
 use Rattle.alloc_event.specs.Settling.{Handles, Settled, given_back}
+use Rattle.lifetime_core.specs.declared.task.Place.{Place}
 use Rattle.lifetime_core.specs.Shown.{IsAfter, collection_after, held_after, node_after, nodes_after}
 use Rattle.lifetime_core.specs.State.{State}
-use Rattle.lifetime_core.specs.Steps.{Place, Work, end_by, place_of}
+use Rattle.lifetime_core.specs.Steps.{Work, end_by, place_of}
 use Rattle.lifetime_core.proofs.forced.CallStep.{IsIdle}
 use Rattle.lifetime_core.proofs.ends.NotRead.{placed_in, placed_node, members_placed}
 use Rattle.lifetime_core.proofs.handles.HeldNames.{held_left}
