@@ -261,7 +261,7 @@ fn spend(forest: &mut Forest, end: Option<NodeKey>)
 }
 
 /// Puts an end where the event puts it, and forgets what is over then. It takes no memory, and costs
-/// a pass over the nodes of the task's collection.
+/// what `forget_over` does.
 pub(crate) fn finish(forest: &mut Forest, task: &Option<Task>, carried: Option<Place>)
     requires task { CanFinish forest.old task.now }
     requires carried { CanCarry forest.old carried }
