@@ -74,11 +74,11 @@ impl Forest {
     /// nodes cost a binary search and a constant, growth spread over the births. So does the birth
     /// of a root, but for the shift of the collections behind its own. Of effects there are two
     /// that cost more: the release that leaves no node of its unit live, unless the node's first
-    /// child heads a unit, and one that leaves its unit ready and without buffers. A loss costs
-    /// what `fall` costs and a binary search, where a node stays live of the unit above what it
-    /// takes, and where that unit does not become ready by it or has its buffers. So does the
-    /// release of the last live node at or below the head of an attached unit, which ends, where a
-    /// node of the unit above stays live.
+    /// child heads a unit, and one that leaves its unit ready and without buffers, unless the unit
+    /// above has none either. A loss costs what `fall` costs and a binary search, where a node
+    /// stays live of the unit above what it takes, and where that unit does not become ready by it
+    /// or has its buffers. So does the release of the last live node at or below the head of an
+    /// attached unit, which ends, where a node of the unit above stays live.
     ///
     /// These and any other change cost a copy of the collection, a pass over its units, and the
     /// question for the next step after each that is made. A loss costs besides what `fall` costs,

@@ -10,6 +10,7 @@ ghost use Rattle.alloc_event.specs.declared.node.Node.{Node as Kept};
 ghost use Rattle.alloc_event.specs.declared.units.Unit.{Unit as Counts};
 ghost use Rattle.alloc_event.specs.Calm.{AreCounted};
 ghost use Rattle.alloc_event.specs.Counts.{HasBelow, HaveUnits};
+ghost use Rattle.alloc_event.specs.Due.{is_due_at};
 ghost use Rattle.alloc_event.specs.InPlace.{IsMade, IsOpen, bit, is_counted, is_plain};
 ghost use Rattle.alloc_event.specs.Kept.{Finishes, IsKept, SameTable, Shelf, forest_of, is_strong, shelves_of};
 ghost use Rattle.alloc_event.specs.Nodes.{affected};
@@ -110,6 +111,20 @@ pub(crate) fn is_served(table: &NodeTable<Node>, key: NodeKey) -> bool
     }
 }
 
+/// Whether the unit with this head gets its buffers once it is ready: it has none yet, and the unit
+/// above it has them, or there is none above.
+fn is_due(table: &NodeTable<Node>, head: NodeKey) -> bool
+    ensures { result ≡ is_due_at table.now head }
+{
+    if is_served(table, head) {
+        return false;
+    }
+    match table.parent(head) {
+        Some(above) => is_served(table, above),
+        None => true,
+    }
+}
+
 /// Whether the node with this key is attached, not gone, and of the collection.
 fn heads_unit(table: &NodeTable<Node>, key: NodeKey, id: CollectionId) -> bool
     ensures { result ≡ option_map_or (λ n. n.attached && (not n.gone && n.collection == id)) (node_at table.now key) false }
@@ -141,7 +156,8 @@ fn is_held(table: &NodeTable<Node>, live: usize, key: NodeKey, id: CollectionId)
 /// Releases the node of the call in its place, or sets its constraints, if the counts tell that
 /// nothing is forced: a strong node is live after it, and one of the node's unit, or its first
 /// child heads a unit, and the node's unit has its buffers, or waits for another node, or did not
-/// wait for this one. Answers how many strong nodes are live then. With `None` nothing changed.
+/// wait for this one, or lies below a unit without buffers. Answers how many strong nodes are live
+/// then. With `None` nothing changed.
 fn count_in_place(
     table: &mut NodeTable<Node>,
     units: &mut Vec<Unit>,
@@ -174,7 +190,7 @@ fn count_in_place(
     if left == 0 || !is_held(table, live, key, node.collection) {
         return None;
     }
-    if is_unready(&node) && unready == 0 && !is_served(table, node.head) {
+    if is_unready(&node) && unready == 0 && is_due(table, node.head) {
         return None;
     }
     write(table, after);
@@ -229,8 +245,9 @@ fn change_in_place(
 /// Makes the change to a collection in its place, if it is none of nodes, or an effect, and the
 /// counts tell that nothing is forced, and no buffer goes home: a strong node of the collection is
 /// live after it, and a release leaves a node of its unit live or a unit that its first child
-/// heads, and the unit does not become ready or has its buffers. Answers whether it did; if not, nothing changed. It takes no memory, and
-/// costs a binary search and a constant.
+/// heads, and the unit does not become ready, has its buffers, or lies below one without buffers.
+/// Answers whether it did; if not, nothing changed. It takes no memory, and costs a binary search
+/// and a constant.
 pub(crate) fn settle_in_place(
     table: &mut NodeTable<Node>,
     entries: &mut Vec<Entry>,

@@ -44,6 +44,10 @@ some_pass test (n ∷ ns) few = elim (either_way (test n)) [
       or_right (test n) (list_any test ns) (some_pass test ns rest)
 ]
 
+-- the node's parent, if it has one, has its buffers
+abbrev pub has_turn : List Node → Node → Bool
+has_turn nodes n = option_map_or (λ parent. list_any (is_allocated_node parent) nodes) n.parent true
+
 module _ (nodes : List Node) (f : Node → Node) (same : (n : Node) → IsSameNode (f n) n) (gone : (n : Node) → (f n).gone ≡ n.gone)
     (alloc : (n : Node) → (f n).allocated ≡ n.allocated) where
   abbrev now : List Node
@@ -58,8 +62,8 @@ module _ (nodes : List Node) (f : Node → Node) (same : (n : Node) → IsSameNo
 
   -- ---- no unit becomes ready
 
-  -- where no unit that waits for its buffers becomes ready
-  module _ (ready : (h : Node) → In h nodes → h.allocated ≡ false → list_all (is_ready_node h.key) now ≡ true → list_all (is_ready_node h.key) nodes ≡ true) where
+  -- where no unit that is to get its buffers next becomes ready
+  module _ (ready : (h : Node) → In h nodes → h.allocated ≡ false → has_turn nodes h ≡ true → list_all (is_ready_node h.key) now ≡ true → list_all (is_ready_node h.key) nodes ≡ true) where
     root_same : find is_root_left now ≡ option_map f (find is_root_left nodes)
     root_same = find_map is_root_left is_root_left f nodes (λ n. λ i. is_none ((same n).parent i) && not (gone n i))
 
@@ -76,14 +80,23 @@ module _ (nodes : List Node) (f : Node → Node) (same : (n : Node) → IsSameNo
             ap (λ (b : Bool). when b (f root)) (false_if (not (f root).allocated && list_all (is_ready_node (f root).key) now) (λ e.
             let waits : not root.allocated ≡ true = ap not (sym (alloc root)) ∙ and_left (not (f root).allocated) _ e in
             let all : list_all (is_ready_node root.key) nodes ≡ true =
-            ready root (In-find is_root_left nodes root is).0 (not-true root.allocated waits)
+            ready root (In-find is_root_left nodes root is).0 (not-true root.allocated waits) (first root.parent (and_left (is_none root.parent) _ (In-find is_root_left nodes root is).1))
             (ap (λ (k : NodeKey). list_all (is_ready_node k) now) (sym (same root).key) ∙ and_right (not (f root).allocated) _ e) in
             let both : (not root.allocated && list_all (is_ready_node root.key) nodes) ≡ true = and_both (not root.allocated) _ waits all in
             let some : Some root ≡ None = sym (ap (λ (b : Bool). when b root) both) ∙ h in
             cc))
+          where
+            first : (o : Option NodeKey) → is_none o ≡ true → option_map_or (λ parent. list_any (is_allocated_node parent) nodes) o true ≡ true
+            first None h = refl
+            first (Some p) h = cc
 
     allocated_same : (p : NodeKey) → list_any (is_allocated_node p) now ≡ list_any (is_allocated_node p) nodes
     allocated_same p = any-In (is_allocated_node p) (is_allocated_node p) f nodes (λ n there. λ i. not (gone n i) && (alloc n i && same_key ((same n).key i) p))
+
+    turn_before : (o : Option NodeKey) → option_map_or (λ parent. list_any (is_allocated_node parent) nodes) o false ≡ true →
+        option_map_or (λ parent. list_any (is_allocated_node parent) nodes) o true ≡ true
+    turn_before None h = cc
+    turn_before (Some p) h = h
 
     -- a node that is next now was so before
     next_before : (n : Node) → In n nodes → is_next_node now (f n) ≡ true → is_next_node nodes n ≡ true
@@ -96,12 +109,13 @@ module _ (nodes : List Node) (f : Node → Node) (same : (n : Node) → IsSameNo
         let three = and_right (not (f n).allocated) _ two in
         let above = and_left (option_map_or (λ parent. list_any (is_allocated_node parent) now) (f n).parent false) _ three in
         let all = and_right (option_map_or (λ parent. list_any (is_allocated_node parent) now) (f n).parent false) _ three in
+        let was : option_map_or (λ parent. list_any (is_allocated_node parent) nodes) n.parent false ≡ true =
+        sym (λ i. option_map_or (λ parent. allocated_same parent i) ((same n).parent i) false) ∙ above in
         and_both n.attached _ (sym (same n).attached ∙ attached)
         (and_both (not n.gone) _ (ap not (sym (gone n)) ∙ here)
         (and_both (not n.allocated) _ (ap not (sym (alloc n)) ∙ waits)
-        (and_both (option_map_or (λ parent. list_any (is_allocated_node parent) nodes) n.parent false) _
-        (sym (λ i. option_map_or (λ parent. allocated_same parent i) ((same n).parent i) false) ∙ above)
-        (ready n on (not-true n.allocated (ap not (sym (alloc n)) ∙ waits)) (ap (λ (k : NodeKey). list_all (is_ready_node k) now) (sym (same n).key) ∙ all)))))
+        (and_both (option_map_or (λ parent. list_any (is_allocated_node parent) nodes) n.parent false) _ was
+        (ready n on (not-true n.allocated (ap not (sym (alloc n)) ∙ waits)) (turn_before n.parent was) (ap (λ (k : NodeKey). list_all (is_ready_node k) now) (sym (same n).key) ∙ all)))))
 
     -- so none is, where none was
     later_none : (buffers : Option Buffers) → later nodes buffers ≡ None → later now buffers ≡ None
@@ -123,15 +137,18 @@ module _ (nodes : List Node) (f : Node → Node) (same : (n : Node) → IsSameNo
 
   module _ (n : Node) (on : In n nodes) (alone : (m : Node) → In m nodes → same_key n.key m.key ≡ false → f m ≡ m)
       (one : (m : Node) → In m nodes → same_key n.key m.key ≡ true → m ≡ n) where
-    -- no such unit becomes ready, where its own did not wait for the node, waits for another still, or has its buffers
-    ready_before : (waits_in n.head n ≡ false) ⊎ ((0 < times (waits_in n.head) now) ⊎ ((h : Node) → In h nodes → h.key ≡ n.head → h.allocated ≡ true)) →
-        (h : Node) → In h nodes → h.allocated ≡ false → list_all (is_ready_node h.key) now ≡ true → list_all (is_ready_node h.key) nodes ≡ true
-    ready_before guard h in_nodes waiting all = each_all (is_ready_node h.key) nodes (λ m there. elim (either_way (same_key n.key m.key)) [
+    -- no such unit becomes ready, where its own did not wait for the node, waits for another still, has its buffers, or lies
+    -- below one that has none
+    ready_before : (waits_in n.head n ≡ false) ⊎ ((0 < times (waits_in n.head) now) ⊎ (((h : Node) → In h nodes → h.key ≡ n.head → h.allocated ≡ true)
+        ⊎ ((h : Node) → In h nodes → h.key ≡ n.head → has_turn nodes h ≡ false))) →
+        (h : Node) → In h nodes → h.allocated ≡ false → has_turn nodes h ≡ true → list_all (is_ready_node h.key) now ≡ true → list_all (is_ready_node h.key) nodes ≡ true
+    ready_before guard h in_nodes waiting turn all = each_all (is_ready_node h.key) nodes (λ m there. elim (either_way (same_key n.key m.key)) [
       | inl e ↦ ap (is_ready_node h.key) (one m there e) ∙ own guard (either_way (same_key n.head h.key))
       | inr e ↦ ap (is_ready_node h.key) (sym (alone m there e)) ∙ all-In (is_ready_node h.key) now (f m) (In-map-back f nodes m there) all
     ])
       where
-        own : (waits_in n.head n ≡ false) ⊎ ((0 < times (waits_in n.head) now) ⊎ ((h : Node) → In h nodes → h.key ≡ n.head → h.allocated ≡ true)) →
+        own : (waits_in n.head n ≡ false) ⊎ ((0 < times (waits_in n.head) now) ⊎ (((h : Node) → In h nodes → h.key ≡ n.head → h.allocated ≡ true)
+            ⊎ ((h : Node) → In h nodes → h.key ≡ n.head → has_turn nodes h ≡ false))) →
             (same_key n.head h.key ≡ true) ⊎ (same_key n.head h.key ≡ false) → is_ready_node h.key n ≡ true
         own guard (inr e) = rw e (either n.gone)
           where
@@ -152,7 +169,8 @@ module _ (nodes : List Node) (f : Node → Node) (same : (n : Node) → IsSameNo
             not_is : (b : Bool) → not b ≡ true → b ≡ false
             not_is true h = cc
             not_is false h = refl
-        own (inr (inr given)) (inl e) = both_ways h.allocated (given h in_nodes (sym (same_key-true n.head h.key e))) waiting
+        own (inr (inr (inl given))) (inl e) = both_ways h.allocated (given h in_nodes (sym (same_key-true n.head h.key e))) waiting
+        own (inr (inr (inr bare))) (inl e) = both_ways (has_turn nodes h) turn (bare h in_nodes (sym (same_key-true n.head h.key e)))
 
     -- each unit is held still, where something still holds the node's own
     held_still : list_any (holds_unit now n.head) now ≡ true → are_held nodes ≡ true → are_held now ≡ true
@@ -201,11 +219,12 @@ lives_held nodes head some =
     lives_hold false false true b h = refl
     lives_hold false false false b h = cc
 
--- where one node changes, something holds its unit still, and no unit that waits for its buffers becomes ready
+-- where one node changes, something holds its unit still, and no unit that is to get its buffers next becomes ready
 pub calm_changed : (c : Collection) → IsWhole c → (f : Node → Node) → ((n : Node) → IsSameNode (f n) n) → ((n : Node) → (f n).gone ≡ n.gone) →
     ((n : Node) → (f n).allocated ≡ n.allocated) → (n : Node) → In n c.nodes → ((m : Node) → same_key n.key m.key ≡ false → f m ≡ m) →
     list_any (holds_unit (map f c.nodes) n.head) (map f c.nodes) ≡ true →
-    (waits_in n.head n ≡ false) ⊎ ((0 < times (waits_in n.head) (map f c.nodes)) ⊎ ((h : Node) → In h c.nodes → h.key ≡ n.head → h.allocated ≡ true)) →
+    (waits_in n.head n ≡ false) ⊎ ((0 < times (waits_in n.head) (map f c.nodes)) ⊎ (((h : Node) → In h c.nodes → h.key ≡ n.head → h.allocated ≡ true)
+    ⊎ ((h : Node) → In h c.nodes → h.key ≡ n.head → has_turn c.nodes h ≡ false))) →
     IsCalm c → IsCalm (with_nodes (map f) c)
 calm_changed c whole f same gone alloc n on alone lives guard calm =
     let was : AreNone c.nodes c.buffers = none_calm c calm in

@@ -11,10 +11,10 @@ use Rattle.sm_names.specs.Forced.{forced}
 use Rattle.sm_names.specs.Sameness.{same_key}
 use Rattle.sm_names.specs.Timelines.{key_of}
 use Rattle.sm_names.specs.Words.{times}
-use Rattle.sm_names.proofs.ListLaws.{In, In-find, In-map, In-map-back}
-use Rattle.sm_names.proofs.SamenessLaws.{and_both, and_left, and_right, both_ways, either_way, or_right, same_key-refl, same_key-true}
+use Rattle.sm_names.proofs.ListLaws.{In, In-find, In-list_any, In-map, In-map-back}
+use Rattle.sm_names.proofs.SamenessLaws.{and_both, and_left, and_right, both_ways, either_way, false_if, or_right, same_key-refl, same_key-true}
 use Rattle.sm_names.proofs.StandingLaws.{In-any}
-use Rattle.node_table.specs.Table.{Table, node_at}
+use Rattle.node_table.specs.Table.{Table, node_at, parent_at}
 use Rattle.node_table.specs.Changes.{Writes}
 use Rattle.node_table.specs.Lending.{table_with_node}
 use Rattle.alloc_event.specs.declared.change.Change.{Change}
@@ -23,11 +23,12 @@ use Rattle.alloc_event.specs.declared.units.Unit.{Unit}
 use Rattle.alloc_event.specs.Calm.{IsCalm, strong_count, over_but}
 use Rattle.alloc_event.specs.Counts.{AreUnits, HasBelow, HasUnits, is_unready, lives_in, no_unit, unit_at, unit_of, waits_in}
 use Rattle.alloc_event.specs.Decisions.{has_strong}
+use Rattle.alloc_event.specs.Due.{is_due_at, is_served_at}
 use Rattle.alloc_event.specs.Forest.{Collection, beside, with_nodes}
 use Rattle.alloc_event.specs.InPlace.{IsMade, IsOpen, bit, is_counted, is_plain}
 use Rattle.alloc_event.specs.Kept.{Finishes, IsKept, IsWhole, Shelf, Stores, collection_in, forest_of, is_filed, is_strong, nodes_with}
 use Rattle.alloc_event.specs.Nodes.{affected, is_over, is_of}
-use Rattle.alloc_event.specs.Questions.{is_live_node}
+use Rattle.alloc_event.specs.Questions.{is_allocated_node, is_live_node}
 use Rattle.alloc_event.specs.Settling.{Rests, changed, collection_or_new, given_back, is_kept, is_there, no_key, put, standing}
 use Rattle.alloc_event.specs.Units.{is_head}
 use Rattle.alloc_event.proofs.tallies.Amounts.{times_changed}
@@ -37,7 +38,7 @@ use Rattle.alloc_event.proofs.changes.Done.{done_by}
 use Rattle.alloc_event.proofs.changes.Finishing.{collection-beside}
 use Rattle.alloc_event.proofs.tables.Hanging.{all_in, in_all, looked_there}
 use Rattle.alloc_event.proofs.tallies.Holding.{hangs_in, head_there, holds_unit}
-use Rattle.alloc_event.proofs.calm.Keeping.{calm_changed, lives_held}
+use Rattle.alloc_event.proofs.calm.Keeping.{calm_changed, has_turn, lives_held}
 use Rattle.alloc_event.proofs.tables.LeftParents.{loss_left}
 use Rattle.alloc_event.proofs.lists.Lookups.{looked-map}
 use Rattle.alloc_event.proofs.shelves.Putting.{put-map}
@@ -391,6 +392,31 @@ module _ (t now : Table Node) (us : List Unit) (call : Call) (key : NodeKey) (na
       (or_right (same_key (f m).head n.head && not (f m).released) ((f m).attached && hangs_in (map f nodes) n.head (f m))
       (and_both (f m).attached (hangs_in (map f nodes) n.head (f m)) ((same m).attached ∙ below.attached) hangs)))
 
+  -- a unit that is not due has its buffers, or the one above it has none
+  turnless : (h : Node) → In h nodes → (o : Option NodeKey) → h.parent ≡ o → option_map_or (is_served_at t) o true ≡ false →
+      option_map_or (λ parent. list_any (is_allocated_node parent) nodes) o true ≡ false
+  turnless h there None is none = cc
+  turnless h there (Some p) is none = false_if (list_any (is_allocated_node p) nodes) (λ e.
+      let x = In-list_any (is_allocated_node p) nodes e in
+      let rest : (x.0.allocated && same_key x.0.key p) ≡ true = and_right (not x.0.gone) _ x.2 in
+      let at : node_at t p ≡ Some x.0 = ap (node_at t) (sym (same_key-true x.0.key p (and_right x.0.allocated _ rest))) ∙ at_key x.0 x.1 in
+      both_ways (is_served_at t p)
+      (ap (λ (o : Option Node). option_map_or (λ (m : Node). m.allocated) o false) at ∙ and_left x.0.allocated _ rest) none)
+
+  not_due : is_due_at t n.head ≡ false → ((h : Node) → In h nodes → h.key ≡ n.head → h.allocated ≡ true)
+      ⊎ ((h : Node) → In h nodes → h.key ≡ n.head → has_turn nodes h ≡ false)
+  not_due idle = elim (either_way (is_served_at t n.head)) [
+    | inl e ↦ inl (λ h there is.
+        ap (λ (o : Option Node). option_map_or (λ (m : Node). m.allocated) o false) (sym (at_key h there) ∙ ap (node_at t) is) ∙ e)
+    | inr e ↦ inr (λ h there is.
+        let both : Some h ≡ Some head.0 = sym (at_key h there) ∙ (ap (node_at t) is ∙ head_at) in
+        let one : h ≡ head.0 = cc in
+        let stays : h.gone ≡ false = ap (λ (m : Node). m.gone) one ∙ head.3 in
+        let up : parent_at t n.head ≡ h.parent = ap (parent_at t) (sym is) ∙ opens.kept.linked h.key h (at_key h there) stays in
+        let none : option_map_or (is_served_at t) (parent_at t n.head) true ≡ false = rw e at idle in
+        turnless h there h.parent refl (ap (λ (o : Option NodeKey). option_map_or (is_served_at t) o true) (sym up) ∙ none))
+  ]
+
   module _ (within : n.head.slot < length us) (next : Unit) (live_next : next.live ≡ times (lives_in n.head) (map f nodes))
       (unready_next : next.unready ≡ times (waits_in n.head) (map f nodes)) where
     abbrev after_one : List Unit
@@ -441,9 +467,9 @@ module _ (t now : Table Node) (us : List Unit) (call : Call) (key : NodeKey) (na
             (subst (λ (l : ℕ). x.key.slot < l) (length-set us n.head.slot next) inside)
             ∙ sym (other_unit x.key e))
 
-    -- the unit keeps a live node, and where it has no buffers it does not become ready
+    -- something holds the unit, and where it is due it does not become ready
     pub counted_made : (lives : ℕ) → nat_lt 0 lives ≡ true → lives ≡ strong_count (map f nodes) → (0 < next.live) ⊎ HasBelow t key n.collection →
-        (is_unready n ≡ false) ⊎ ((0 < next.unready) ⊎ (option_map_or (λ (m : Node). m.allocated) (node_at t n.head) false ≡ true)) →
+        (is_unready n ≡ false) ⊎ ((0 < next.unready) ⊎ (is_due_at t n.head ≡ false)) →
         IsMade t now after_one ss s (Change.Effect call) lives
     counted_made lives some lives_is live guard =
         made_now after_one lives some lives_is
@@ -455,12 +481,12 @@ module _ (t now : Table Node) (us : List Unit) (call : Call) (key : NodeKey) (na
         holds (inl some) = lives_held (map f nodes) n.head (omega (arith, live_next, some))
         holds (inr below) = below_holds below
 
-        guarded : (is_unready n ≡ false) ⊎ ((0 < next.unready) ⊎ (option_map_or (λ (m : Node). m.allocated) (node_at t n.head) false ≡ true)) →
-            (waits_in n.head n ≡ false) ⊎ ((0 < times (waits_in n.head) (map f nodes)) ⊎ ((h : Node) → In h nodes → h.key ≡ n.head → h.allocated ≡ true))
+        guarded : (is_unready n ≡ false) ⊎ ((0 < next.unready) ⊎ (is_due_at t n.head ≡ false)) →
+            (waits_in n.head n ≡ false) ⊎ ((0 < times (waits_in n.head) (map f nodes)) ⊎ (((h : Node) → In h nodes → h.key ≡ n.head → h.allocated ≡ true)
+            ⊎ ((h : Node) → In h nodes → h.key ≡ n.head → has_turn nodes h ≡ false)))
         guarded (inl settled) = inl (waits_own n.head n own_unit ∙ settled)
         guarded (inr (inl waits)) = inr (inl (omega (arith, unready_next, waits)))
-        guarded (inr (inr given)) = inr (inr (λ h there is.
-            ap (λ (o : Option Node). option_map_or (λ (m : Node). m.allocated) o false) (sym (at_key h there) ∙ ap (node_at t) is) ∙ given))
+        guarded (inr (inr idle)) = inr (inr (not_due idle))
 
 -- ---- nothing of the nodes
 

@@ -112,6 +112,61 @@ fn many_waiting_units_are_allocated_by_one_call(rt: HostRuntime) -> Result<(), F
     Ok(())
 }
 
+// Whether each unit is allocated as it asks, from above.
+fn allocate_from_above(ground: &mut Ground, keys: &[NodeKey]) -> Result<bool, Fail> {
+    let asked = demand(0, 1, 4096)?;
+    for key in keys {
+        ground.ask(*key, asked)?;
+        if !is_allocated(ground, *key) {
+            return Ok(false);
+        }
+    }
+    Ok(true)
+}
+
+#[test]
+fn a_chain_of_units_waits_for_the_highest(rt: HostRuntime) -> Result<(), Fail> {
+    let (mut ground, keys) = chain(rt.alloc(), 200, true)?;
+    assert!(rt; wait_for_first(&mut ground, &keys, false)?);
+    Ok(())
+}
+
+#[test]
+fn a_chain_of_units_is_allocated_from_above(rt: HostRuntime) -> Result<(), Fail> {
+    let (mut ground, keys) = chain(rt.alloc(), 200, true)?;
+    assert!(rt; allocate_from_above(&mut ground, &keys)?);
+    Ok(())
+}
+
+// One more node of the unit of each of these.
+fn bear_below_each(
+    alloc: Global,
+    ground: &mut Ground,
+    keys: &[NodeKey],
+) -> Result<Vec<NodeKey>, Fail> {
+    let mut more = Vec::new(alloc);
+    for key in keys {
+        let below = ground.bear(Some(*key), false)?;
+        more.push(below)?;
+    }
+    Ok(more)
+}
+
+#[test]
+fn units_that_a_release_makes_ready_wait_for_the_root(rt: HostRuntime) -> Result<(), Fail> {
+    let (mut ground, keys) = family(rt.alloc(), 200, true)?;
+    let Some((root, heads)) = keys.split_first() else {
+        return Err(Fail::from("no root"));
+    };
+    let others = bear_below_each(rt.alloc(), &mut ground, heads)?;
+    ask_each(&mut ground, heads)?;
+    release_each(&mut ground, &others)?;
+    assert!(rt; are_allocated(&ground, &keys, false));
+    ground.ask(*root, demand(0, 1, 4096)?)?;
+    assert!(rt; are_allocated(&ground, &keys, true));
+    Ok(())
+}
+
 // Whether the node failed.
 fn failed(ground: &Ground, key: NodeKey) -> bool {
     match ground.forest().node(key) {

@@ -1,7 +1,6 @@
 -- The node is written, and the counts tell that nothing is forced.
-use Rattle.std.proofs.Common.{◌≡◌, ◌+◌, ◌<◌, ◌⊎◌, true, false, inl, inr, is_some, List, map, length, Some, sym, ◌∙◌, ap, subst, arith}
+use Rattle.std.proofs.Common.{◌≡◌, ◌+◌, ◌<◌, ◌⊎◌, false, inl, inr, is_some, List, map, length, Some, sym, ◌∙◌, ap, subst, arith}
 use Rattle.std.proofs.lemmas.Bool.{lt-ltb}
-use Rattle.std.specs.Option.{option_map_or}
 use Rattle.sm_names.specs.Words.{times}
 use Rattle.sm_names.specs.Timelines.{key_of}
 use Rattle.node_table.specs.Table.{node_at}
@@ -12,6 +11,7 @@ use Rattle.alloc_event.specs.declared.node.Node.{Node}
 use Rattle.alloc_event.specs.declared.units.Unit.{Unit}
 use Rattle.alloc_event.specs.Calm.{strong_count}
 use Rattle.alloc_event.specs.Counts.{is_unready, lives_in, unit_at, waits_in}
+use Rattle.alloc_event.specs.Due.{is_due_at}
 use Rattle.alloc_event.specs.InPlace.{IsMade, bit}
 use Rattle.alloc_event.specs.Kept.{is_strong, nodes_with}
 use Rattle.alloc_event.specs.Nodes.{affected}
@@ -19,7 +19,7 @@ use Rattle.alloc_event.specs.Questions.{is_live_node}
 use Rattle.alloc_event.proofs.changes.Altering.{same_affected}
 use Rattle.alloc_event.proofs.changes.Effecting.{counted_made, counted_named, less_is, live_before, live_is, strong_before, strong_is, unready_before, unready_is}
 use Rattle.alloc_event.proofs.tables.Storing.{row_there}
-use Rattle.alloc_event.proofs.in_place.count_in_place.Goals.{else-is_unready-via-then-is_unready+then-unready-eq0+else-not-is_served, else-is_unready-via-then-is_unready+else-unready-eq0, else-is_unready-via-else-is_unready}
+use Rattle.alloc_event.proofs.in_place.count_in_place.Goals.{else-is_unready-via-then-is_unready+then-unready-eq0+else-is_due, else-is_unready-via-then-is_unready+else-unready-eq0, else-is_unready-via-else-is_unready}
 use Rattle.alloc_event.proofs.in_place.count_in_place.Goals as goal
 
 pub write-requires : goal.write-requires
@@ -30,11 +30,11 @@ write-requires c =
     ap (λ (m : Node). m.key) c.affected_by-after.ensures ∙ (same_affected c.args.call.now n).key ∙ c.requires.named c.in-Some.key n was in
     row_there c.args.table.now c.affected_by-after.result.key (ap is_some (ap (node_at c.args.table.now) own ∙ was))
 
--- the node is in an allocated unit, or the unit waits for another, or did not wait for it
+-- the unit does not get its buffers next, or waits for another, or did not wait for the node
 guard : (c : goal.After-put_unit) → (is_unready c.in-Some-copied.node ≡ false) ⊎ ((0 < c.less-unready.result)
-    ⊎ (option_map_or (λ (m : Node). m.allocated) (node_at c.args.table.now c.in-Some-copied.node.head) false ≡ true))
+    ⊎ (is_due_at c.args.table.now c.in-Some-copied.node.head ≡ false))
 guard c = elim c.else-is_unready.branch [
-  | else-is_unready-via-then-is_unready+then-unready-eq0+else-not-is_served w ↦ inr (inr (sym w.is_served.ensures ∙ w.if-not-is_served.false))
+  | else-is_unready-via-then-is_unready+then-unready-eq0+else-is_due w ↦ inr (inr (sym w.is_due.ensures ∙ w.if-is_due.false))
   | else-is_unready-via-then-is_unready+else-unready-eq0 w ↦ inr (inl (omega (arith, w.if-unready-eq0.false)))
   | else-is_unready-via-else-is_unready w ↦ inl (sym c.is_unready-3.ensures ∙ w.if-is_unready.false)
 ]
