@@ -6,16 +6,17 @@ use crate::halt::Halt;
 use crate::numbering::{add_step, place};
 use actor_steps::ActorScript;
 use indexmap::IndexSet;
-use script_lines::{Label, Line, read_line};
+use script_lines::{Label, LabelHash, Line, read_line};
 use std::alloc::Global;
 
 // The clients in the order of their joins, the labels that their lines named, the steps of each,
-// whether any came, and how many lines were read.
+// whether any came, and how many lines were read. A script picks its labels, so they are hashed from
+// a seed.
 #[derive(Drop)]
 pub(crate) struct Casting {
     alloc: Global,
-    pub(crate) clients: IndexSet<Label>,
-    named: IndexSet<(u32, Label)>,
+    pub(crate) clients: IndexSet<Label, LabelHash>,
+    named: IndexSet<(u32, Label), LabelHash>,
     pub(crate) scripts: Vec<ActorScript>,
     begun: bool,
     pub(crate) lines: u64,
@@ -23,14 +24,14 @@ pub(crate) struct Casting {
 
 impl Casting {
     // No line was read.
-    pub(crate) fn new(alloc: Global) -> Casting
+    pub(crate) fn new(alloc: Global, labels: LabelHash) -> Casting
         ensures start { seen result ≡ start }
         ensures sound { IsSound result 0 }
     {
         Casting {
             alloc,
-            clients: IndexSet::new(alloc),
-            named: IndexSet::new(alloc),
+            clients: IndexSet::with_hasher(alloc, labels),
+            named: IndexSet::with_hasher(alloc, labels),
             scripts: Vec::new(alloc),
             begun: false,
             lines: 0,

@@ -9,7 +9,7 @@ use crate::casting::Casting;
 use crate::fault::CastFault;
 use crate::halt::Halt;
 use crate::reading::read_script;
-use script_lines::place_of;
+use script_lines::{LabelHash, place_of};
 use std::alloc::Global;
 use std::io::Read;
 
@@ -28,24 +28,28 @@ use std::io::Read;
 /// - `NoMemory`: memory was refused.
 ///
 /// Takes a time in proportion to the script's length, and for each line at most three looks into a
-/// table.
-pub fn read_actors<R: Read>(alloc: Global, reader: &mut R) -> Result<Cast, CastFault>
+/// table of labels. How labels are hashed changes what a look costs, and nothing that is told.
+pub fn read_actors<R: Read>(
+    alloc: Global,
+    labels: LabelHash,
+    reader: &mut R,
+) -> Result<Cast, CastFault>
     ensures cast { IfOk result (IsRead (R.remaining reader.old) (R.remaining reader.new)) }
     ensures fault { IfErr result (Fails (R.remaining reader.old) (R.remaining reader.new)) }
 {
     match read_script(alloc, reader) {
-        Ok(script) => cast(alloc, script.as_slice()),
+        Ok(script) => cast(alloc, labels, script.as_slice()),
         Err(fault) => Err(fault),
     }
 }
 
 // The cast of a script.
-fn cast(alloc: Global, script: &[u8]) -> Result<Cast, CastFault>
+fn cast(alloc: Global, labels: LabelHash, script: &[u8]) -> Result<Cast, CastFault>
     requires { length script.now ≤ MOST_BYTES }
     ensures cast { IfOk result (λ cast. cast_of script.now ≡ Ok (company_of cast)) }
     ensures fault { IfErr result (IsWhy (cast_of script.now)) }
 {
-    let mut casting = Casting::new(alloc);
+    let mut casting = Casting::new(alloc, labels);
     match judge(&mut casting, script) {
         Ok(()) => {}
         Err(fault) => return Err(fault),

@@ -7,10 +7,14 @@ ghost use Rattle.actor_scripts.specs.Steps.{buffer_verb_of, naming, number_of, p
 use crate::halt::Halt;
 use actor_steps::{ActorScript, BufferVerb, Step, Verb};
 use indexmap::IndexSet;
-use script_lines::{BufferVerb as BufferWord, Label, Line, Verb as Word};
+use script_lines::{BufferVerb as BufferWord, Label, LabelHash, Line, Verb as Word};
 
 // The number of the label of this actor, which is named now.
-fn number(named: &mut IndexSet<(u32, Label)>, actor: u32, label: Label) -> Result<u32, Halt>
+fn number(
+    named: &mut IndexSet<(u32, Label), LabelHash>,
+    actor: u32,
+    label: Label,
+) -> Result<u32, Halt>
     requires { length named.old.keys + 1 < 2 ^ 32 }
     ensures number { IfOk result (λ n. n ≡ number_of named.old.keys (actor, label)) }
     ensures named { OnOk result (named.new.keys ≡ naming named.old.keys (actor, label)) }
@@ -24,7 +28,7 @@ fn number(named: &mut IndexSet<(u32, Label)>, actor: u32, label: Label) -> Resul
 }
 
 // The place of the client of this label.
-pub(crate) fn place(clients: &IndexSet<Label>, label: Label) -> Result<u32, Halt>
+pub(crate) fn place(clients: &IndexSet<Label, LabelHash>, label: Label) -> Result<u32, Halt>
     requires { length clients.now.keys < 2 ^ 32 }
     ensures within { IfOk result (λ place. place < length clients.now.keys) }
     ensures place { MatchResult result (λ place. place_of clients.now.keys label ≡ Some place)
@@ -38,8 +42,8 @@ pub(crate) fn place(clients: &IndexSet<Label>, label: Label) -> Result<u32, Halt
 
 // What the actor asks of a node.
 fn verb(
-    clients: &IndexSet<Label>,
-    named: &mut IndexSet<(u32, Label)>,
+    clients: &IndexSet<Label, LabelHash>,
+    named: &mut IndexSet<(u32, Label), LabelHash>,
     actor: u32,
     word: Word,
 ) -> Result<Verb, Halt>
@@ -83,8 +87,8 @@ fn verb(
 
 // What the actor asks of a buffer.
 fn buffer_verb(
-    clients: &IndexSet<Label>,
-    named: &mut IndexSet<(u32, Label)>,
+    clients: &IndexSet<Label, LabelHash>,
+    named: &mut IndexSet<(u32, Label), LabelHash>,
     actor: u32,
     word: BufferWord,
 ) -> Result<BufferVerb, Halt>
@@ -112,8 +116,8 @@ fn buffer_verb(
 
 // Puts the step that the line is for this actor behind the others.
 pub(crate) fn add_step(
-    clients: &IndexSet<Label>,
-    named: &mut IndexSet<(u32, Label)>,
+    clients: &IndexSet<Label, LabelHash>,
+    named: &mut IndexSet<(u32, Label), LabelHash>,
     script: &mut ActorScript,
     actor: u32,
     line: Line,

@@ -1,7 +1,7 @@
 //! Scripts of actors, read.
 use crate::{Cast, CastFault, read_actors};
 use actor_steps::{BufferVerb, Step, Verb};
-use script_lines::MOST_BYTES;
+use script_lines::{LabelHash, MOST_BYTES};
 use sm_names::{Constraints, Strength};
 use std::alloc::Global;
 use std::io;
@@ -52,6 +52,11 @@ impl Read for Remarks {
 const TWO: &str = "a join; b join; a open r; b open s; a bind r; b bind s; a constrain r 1 0 4096; \
 b constrain s 1 0 4096; a take r; b take s; ";
 
+// How labels are hashed.
+fn labels() -> LabelHash {
+    LabelHash::new([3; 16])
+}
+
 // Reads a script whose lines end in `; `, so many bytes a read, with an error at read `fails`.
 fn cast(
     alloc: Global,
@@ -66,7 +71,7 @@ fn cast(
         reads: 0,
         fails,
     };
-    Ok(read_actors(alloc, &mut reader))
+    Ok(read_actors(alloc, labels(), &mut reader))
 }
 
 // Asserts who plays in a script, and what.
@@ -242,7 +247,7 @@ fn a_line_has_at_most_256_bytes(rt: HostRuntime) -> Result<(), Fail> {
             script.push(b'#')?;
         }
         script.push(b'\n')?;
-        let fault = read_actors(rt.alloc(), &mut script.as_slice()).err();
+        let fault = read_actors(rt.alloc(), labels(), &mut script.as_slice()).err();
         let bad = if number == 0 {
             None
         } else {
@@ -280,12 +285,12 @@ fn a_failed_read_precedes_a_bad_line(rt: HostRuntime) -> Result<(), Fail> {
 #[test]
 fn a_script_has_a_greatest_size(rt: HostRuntime) -> Result<(), Fail> {
     let mut reader = Remarks { left: MOST_BYTES };
-    let fault = read_actors(rt.alloc(), &mut reader).err();
+    let fault = read_actors(rt.alloc(), labels(), &mut reader).err();
     assert_eq!(rt; fault, Some(CastFault::BadLine(65_537)));
     let mut reader = Remarks {
         left: MOST_BYTES + 1,
     };
-    let fault = read_actors(rt.alloc(), &mut reader).err();
+    let fault = read_actors(rt.alloc(), labels(), &mut reader).err();
     assert_eq!(rt; fault, Some(CastFault::ReadFault));
     Ok(())
 }

@@ -79,22 +79,24 @@ fn main(rt: HostRuntime) -> ExitCode {
         let _ = rt.eprintln("the pool has from 1 to 1048576 pages");
         return ExitCode::from(2);
     };
+    // Where there are no random bytes, all runs hash alike, as they answer alike.
+    let mut seed = [0; 16];
+    let _ = rt.fill_bytes(&mut seed);
+    let labels = LabelHash::new(seed);
     if asks_for_threads(&matches) {
         return run_threads_to_exit(
             &rt,
             alloc,
+            labels,
             &mut rt.reader(),
             &mut io::writer(&rt),
             &mut io::writer(&rt.stderr()),
             pages,
         );
     }
-    // Where there are no random bytes, all runs hash alike, as they answer alike.
-    let mut seed = [0; 16];
-    let _ = rt.fill_bytes(&mut seed);
     run_to_exit(
         alloc,
-        LabelHash::new(seed),
+        labels,
         &mut rt.reader(),
         &mut io::writer(&rt),
         &mut io::writer(&rt.stderr()),

@@ -7,6 +7,7 @@ ghost use Rattle.thread_runs.specs.Runs.{Runs};
 use crate::fault::ThreadsFault;
 use crate::telling::report;
 use actor_scripts::read_actors;
+use script_lines::LabelHash;
 use script_runs::write_out;
 use sm_names::Limits;
 use std::alloc::Global;
@@ -36,10 +37,12 @@ use std::time::Clock;
 /// - `WriteFault`: the writer failed, or took nothing, or could not be flushed. What went out is a
 ///   first part of the report.
 ///
-/// Costs what `read_actors`, `run_actors`, `gather` and `push_report` do.
+/// Costs what `read_actors`, `run_actors`, `gather` and `push_report` do. How labels are hashed changes
+/// what the reading costs, and nothing that is written.
 pub fn run_threads<I: Read, O: Write, R: Threads + Wait + Clock + Sync>(
     rt: &R,
     alloc: Global,
+    labels: LabelHash,
     reader: &mut I,
     writer: &mut O,
     pages: u32,
@@ -49,7 +52,7 @@ pub fn run_threads<I: Read, O: Write, R: Threads + Wait + Clock + Sync>(
     ensures { Runs (I.remaining reader.old) (I.remaining reader.new)
         (O.contents writer.old) (O.contents writer.new) result }
 {
-    let cast = match read_actors(alloc, reader) {
+    let cast = match read_actors(alloc, labels, reader) {
         Ok(cast) => cast,
         Err(fault) => return Err(ThreadsFault::from(fault)),
     };
