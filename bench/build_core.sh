@@ -1,30 +1,63 @@
 #!/bin/sh
 # Builds the library crates that are named in crates.txt, where they have changed, and over them the
-# static library core_calls, into out/libcore_calls.a. More words go to `rattle build`.
+# static library core_calls, into out/libcore_calls.a, and the program lock_calls, into
+# out/lock_calls. More words go to `rattle build`.
+#
+#   build_core.sh [--only core_calls|lock_calls] [WORD..]
 set -eu
 cd "$(dirname "$0")"
 kit=$(dirname "$(rt doc)")
-mkdir -p out
-(cd ../crates/lifetime_core && rt lib --jobs 2) > out/lib.log 2>&1 || { cat out/lib.log; exit 1; }
-set -- --jobs 2 "$@"
-for name in $(sed -n 's/^lifetime_core[^:]*://p' ../crates.txt) lifetime_core; do
-    set -- --extern "$name=$PWD/../crates/$name/out/rlib/$name.rlib" "$@"
-done
-for name in std core; do
-    set -- --extern "$name=$kit/rlibs/$name.rlib" "$@"
-done
-# The gate refuses Rattle files that stand in no crate, so core_calls is made into one for the build.
-room=$(mktemp -d)
-trap 'rm -r "$room"' EXIT
-mkdir "$room/src" "$room/c"
-for file in lib words; do cp "core_calls/$file.rattle" "$room/src/$file.rt"; done
-cp core_calls/tick.h "$room/c"
 out=$PWD/out
-cd "$room"
-"$kit/bin/rattle" build --crate-name core_calls src/lib.rt "$@" \
-    -L dependency="$kit/rlibs" \
-    --antt-project "$kit/rattle/logic/antt-project.json" --logic-built "$kit/logic_built" \
-    --incremental "$out/incremental" --links core_calls=c --crate-type staticlib \
-    --toolchain "${CORE_TOOLCHAIN:-$kit/toolchain}" -o "$out/libcore_calls.a" > "$out/build.log" 2>&1 ||
-    { tail -40 "$out/build.log"; exit 1; }
-tail -1 "$out/build.log"
+toolchain=${CORE_TOOLCHAIN:-$kit/toolchain}
+only=
+if [ "${1:-}" = --only ]; then
+    only=$2
+    shift 2
+fi
+mkdir -p "$out"
+room=
+trap '[ -z "$room" ] || rm -r "$room"' EXIT
+
+# The gate refuses Rattle files that stand in no crate, so the files are made into a crate for the
+# build.
+crate_of() { # name
+    room=$(mktemp -d)
+    (cd "$1" && find . -type f) | while read -r file; do
+        mkdir -p "$room/$(dirname "$file")"
+        case $file in
+            ./src/*.rattle) cp "$1/$file" "$room/${file%.rattle}.rt" ;;
+            ./proofs/*.rattle) cp "$1/$file" "$room/${file%.rattle}.antt" ;;
+            *) cp "$1/$file" "$room/$file" ;;
+        esac
+    done
+}
+
+build() { # name, crate below, root file, what is written, more words
+    name=$1 below=$2 root=$3 to=$4
+    shift 4
+    [ -z "$only" ] || [ "$only" = "$name" ] || return 0
+    (cd "../crates/$below" && rt lib --jobs 2) > "$out/$name.log" 2>&1 || { tail -40 "$out/$name.log"; exit 1; }
+    for lower in $(sed -n "s/^$below\( [^:]*\)\{0,1\}://p" ../crates.txt) "$below"; do
+        set -- --extern "$lower=$PWD/../crates/$lower/out/rlib/$lower.rlib" "$@"
+    done
+    for lower in std core; do
+        set -- --extern "$lower=$kit/rlibs/$lower.rlib" "$@"
+    done
+    crate_of "$name"
+    (cd "$room" && "$kit/bin/rattle" build --crate-name "$name" "$root" --jobs 2 "$@" \
+        -L dependency="$kit/rlibs" \
+        --antt-project "$kit/rattle/logic/antt-project.json" --logic-built "$kit/logic_built" \
+        --incremental "$out/$name.kept" --toolchain "$toolchain" -o "$to") > "$out/$name.log" 2>&1 ||
+        { tail -40 "$out/$name.log"; exit 1; }
+    tail -1 "$out/$name.log"
+    rm -r "$room"
+    room=
+}
+
+build core_calls lifetime_core src/lib.rt "$out/libcore_calls.a" \
+    --links core_calls=c --crate-type staticlib "$@"
+build lock_calls client_ends src/main.rt "$out/lock_calls.o" "$@"
+if [ -z "$only" ] || [ "$only" = lock_calls ]; then
+    "$kit/bin/rattle-link" --target x86_64-unknown-linux-gnu --toolchain "$kit/toolchain" \
+        -o "$out/lock_calls" "$out/lock_calls.o" "$kit/c/libos_c.a" "$kit/c/liblibc_c.a"
+fi

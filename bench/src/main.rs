@@ -1,34 +1,51 @@
 //! The proved core and the plain one, side by side on the same streams of calls.
-//! `core-bench [--rounds N] [--only ours|plain] [--calls] [NAME..]`: names are prefixes.
+//!
+//!     core-bench [--rounds N] [--only ours|plain] [--count] [--keep FILE] [NAME..]
+//!     core-bench --table SECONDS [INSTRUCTIONS]
+//!
+//! Names are prefixes of rows. `--count` is for callgrind: each row's instructions go into a file of
+//! their own, under its name. `--keep` writes the rows into a file, from which `--table` makes TABLE.md.
+mod clock;
 mod count;
+mod locks;
 mod ours;
 mod stream;
+mod table;
+mod valgrind;
 mod workloads;
 
-use ours::{Ours, TICKS, Told, tick, told};
-use std::collections::HashMap;
-use std::hint::black_box;
-use std::time::Instant;
-use stream::Stream;
+use ours::{Ours, Told, told};
 use plain_core::*;
+use std::collections::HashMap;
+use std::fmt::Write;
+use std::hint::black_box;
+use stream::Stream;
 
-/// Plays the stream on the plain core.
-fn play(s: &Stream, out: &mut Vec<Reply>) -> Vec<(Instant, u64)> {
-    TICKS.with(|t| t.borrow_mut().clear());
+/// Plays the stream on the plain core. These are the nanoseconds and allocations of its timed stretches.
+fn play(s: &Stream, out: &mut Vec<Reply>) -> (f64, f64) {
     out.clear();
     let mut core = Core::new(s.pages, s.limits());
     let mut from = 0;
-    tick();
-    for &end in &s.ends {
-        stretch(&mut core, &s.calls[from..end as usize], out);
-        tick();
+    clock::begin();
+    clock::tick();
+    for (i, &end) in s.ends.iter().enumerate() {
+        let calls = &s.calls[from..end as usize];
+        if i % 2 == 1 { play_timed(&mut core, calls, out) } else { stretch(&mut core, calls, out) }
+        clock::tick();
         from = end as usize;
     }
     black_box(&core);
-    TICKS.with(|t| t.borrow().clone())
+    clock::timed()
 }
 
+/// A stretch that is timed: a profiler knows them by this name.
 #[inline(never)]
+fn play_timed(core: &mut Core, calls: &[(ClientId, Call)], out: &mut Vec<Reply>) {
+    stretch(core, calls, out);
+    black_box(out);
+}
+
+#[inline(always)]
 fn stretch(core: &mut Core, calls: &[(ClientId, Call)], out: &mut Vec<Reply>) {
     for &(client, call) in calls {
         let Ok(reply) = core.step(client, call) else { return };
@@ -36,17 +53,7 @@ fn stretch(core: &mut Core, calls: &[(ClientId, Call)], out: &mut Vec<Reply>) {
     }
 }
 
-/// Nanoseconds and allocations of every second stretch, per event.
-fn of(s: &Stream, ticks: &[(Instant, u64)]) -> (f64, f64) {
-    let (mut ns, mut allocations) = (0.0, 0);
-    for pair in ticks[1..].windows(2).step_by(2) {
-        ns += (pair[1].0 - pair[0].0).as_secs_f64() * 1e9;
-        allocations += pair[1].1 - pair[0].1;
-    }
-    (ns / s.events as f64, allocations as f64 / s.events as f64)
-}
-
-fn median(mut v: Vec<f64>) -> f64 {
+pub fn median(mut v: Vec<f64>) -> f64 {
     v.sort_by(f64::total_cmp);
     v[v.len() / 2]
 }
@@ -68,53 +75,87 @@ fn agree(name: &str, s: &Stream, ours: &[Told]) {
     }
 }
 
+#[derive(Default)]
+struct Options {
+    rounds: usize,
+    only: Option<String>,
+    counts: bool,
+    keep: Option<String>,
+    names: Vec<String>,
+}
+
+impl Options {
+    fn wants(&self, name: &str) -> bool {
+        self.names.is_empty() || self.names.iter().any(|n| name.starts_with(n.as_str()))
+    }
+    fn plays(&self, side: &str) -> bool {
+        self.only.as_deref().is_none_or(|it| it == side)
+    }
+}
+
+/// Nanoseconds an event of both sides, and allocations.
+fn measure(o: &Options, name: &str, s: &Stream) -> Option<[f64; 4]> {
+    let ours = Ours::new(s);
+    agree(name, s, &ours.told);
+    let mut out = vec![Told::default(); s.calls.len()];
+    let mut plain = Vec::with_capacity(s.calls.len());
+    let (mut a, mut b) = (Vec::new(), Vec::new());
+    for _ in 0..o.rounds {
+        if o.plays("ours") {
+            a.push(ours.play(s, &mut out));
+            assert!(out == ours.told, "{name}: the second run differs");
+        }
+        if o.plays("plain") {
+            b.push(play(s, &mut plain));
+            assert!(plain == s.replies);
+        }
+    }
+    if o.counts {
+        valgrind::write_as(&format!("{name}|{}", s.events));
+    }
+    let first = |v: &[(f64, f64)]| v.first().map(|v| v.1 / s.events as f64);
+    let allocated = [first(&a)?, first(&b)?];
+    let ns = |v: Vec<(f64, f64)>| median(v.iter().map(|v| v.0).collect()) / s.events as f64;
+    Some([ns(a), ns(b), allocated[0], allocated[1]])
+}
+
 fn main() {
-    let mut rounds = 9;
-    let mut only = None;
-    let mut calls = false;
-    let mut names = Vec::new();
+    let mut o = Options { rounds: 9, ..Options::default() };
     let mut args = std::env::args().skip(1);
     while let Some(a) = args.next() {
         match a.as_str() {
-            "--rounds" => rounds = args.next().unwrap().parse().unwrap(),
-            // For a profiler: one side alone, `ours` or `plain`.
-            "--only" => only = args.next(),
-            // Says how many calls a stream has.
-            "--calls" => calls = true,
-            n => names.push(n.to_string()),
+            "--rounds" => o.rounds = args.next().unwrap().parse().unwrap(),
+            "--only" => o.only = args.next(),
+            "--count" => (o.counts, o.rounds) = (true, 1),
+            "--keep" => o.keep = args.next(),
+            "--table" => return print!("{}", table::table(&args.collect::<Vec<_>>())),
+            n => o.names.push(n.to_string()),
         }
     }
+    let mut kept = format!("rounds|{}\n", o.rounds);
     let counts = cfg!(feature = "count");
-    println!("{:<30} {:>10} {:>10} {:>7}{}", "ns an event, median", "ours", "plain", "ratio", if counts { "   allocations: ours, plain" } else { "" });
-    for (name, make) in workloads::ALL {
-        if !names.is_empty() && !names.iter().any(|n| name.starts_with(n.as_str())) {
-            continue;
-        }
-        let s = make();
-        let ours = Ours::new(&s);
-        agree(name, &s, &ours.told);
-        if calls {
-            println!("{name}: {} calls", s.calls.len());
-        }
-        let mut out = vec![Told::default(); s.calls.len()];
-        let mut plain = Vec::with_capacity(s.calls.len());
-        let (mut a, mut b) = (Vec::new(), Vec::new());
-        for _ in 0..rounds {
-            if only.as_deref() != Some("plain") {
-                a.push(of(&s, &ours.play(&s, &mut out)));
-                assert!(out == ours.told, "{name}: the second run differs");
+    let more = if counts { "   allocations: ours, plain" } else { "" };
+    println!("{:<30} {:>10} {:>10} {:>7}{more}", "ns an event, median", "ours", "plain", "ratio");
+    for row in workloads::ALL {
+        for &size in row.sizes {
+            let name = row.named(size);
+            if !o.wants(&name) {
+                continue;
             }
-            if only.as_deref() != Some("ours") {
-                b.push(of(&s, &play(&s, &mut plain)));
-                assert!(plain == s.replies);
-            }
+            let s = (row.make)(size);
+            let Some([x, y, allocated, plainly]) = measure(&o, &name, &s) else { continue };
+            let more = if counts { format!("   {allocated:8.2} {plainly:8.2}") } else { String::new() };
+            println!("{name:<30} {x:>10.1} {y:>10.1} {:>7.1}{more}", x / y);
+            writeln!(kept, "{name}|{x}|{y}").unwrap();
         }
-        if a.is_empty() || b.is_empty() {
-            continue;
+    }
+    if !o.counts && !counts && o.only.is_none() {
+        for (name, x, y, z) in locks::measure(o.rounds, |name| o.wants(name)) {
+            println!("{name:<30} {x:>10.1} {y:>10.1} {:>7.1}   {z:.1} without the lists", x / y);
+            writeln!(kept, "{name}|{x}|{y}|{z}").unwrap();
         }
-        let (allocated, plainly) = (a[0].1, b[0].1);
-        let (x, y) = (median(a.iter().map(|v| v.0).collect()), median(b.iter().map(|v| v.0).collect()));
-        let more = if counts { format!("   {allocated:8.2} {plainly:8.2}") } else { String::new() };
-        println!("{name:<30} {x:>10.1} {y:>10.1} {:>7.1}{more}", x / y);
+    }
+    if let Some(file) = o.keep {
+        std::fs::write(file, kept).unwrap();
     }
 }

@@ -1,7 +1,6 @@
 //! The proved core, through two exported functions that play calls in numbers.
+use crate::clock;
 use crate::stream::Stream;
-use std::cell::RefCell;
-use std::time::Instant;
 use plain_core::*;
 
 #[repr(C)]
@@ -35,19 +34,9 @@ unsafe extern "C" {
         asked: *const Asked, count: usize, ends: *const u64, stretches: usize, told: *mut Told, room: usize) -> u64;
 }
 
-thread_local! {
-    pub static TICKS: RefCell<Vec<(Instant, u64)>> = const { RefCell::new(Vec::new()) };
-}
-
 #[unsafe(no_mangle)]
 extern "C" fn bench_tick() {
-    tick();
-}
-
-/// Notes the time, and how many allocations there were.
-pub fn tick() {
-    let allocations = crate::count::allocations();
-    TICKS.with(|t| t.borrow_mut().push((Instant::now(), allocations)));
+    clock::tick();
 }
 
 fn asked(client: ClientId, call: Call) -> Asked {
@@ -149,10 +138,10 @@ impl Ours {
         Ours { asked: calls, told }
     }
 
-    /// Plays the stream, and answers the times of its ticks.
-    pub fn play(&self, s: &Stream, out: &mut [Told]) -> Vec<(Instant, u64)> {
-        TICKS.with(|t| t.borrow_mut().clear());
+    /// Plays the stream. These are the nanoseconds and allocations of its timed stretches.
+    pub fn play(&self, s: &Stream, out: &mut [Told]) -> (f64, f64) {
         let [n, c, t, h] = s.limits;
+        clock::begin();
         let made = unsafe {
             core_calls_timed(
                 s.pages, n, c, t, h, self.asked.as_ptr(), self.asked.len(), s.ends.as_ptr(), s.ends.len(),
@@ -160,6 +149,6 @@ impl Ours {
             )
         };
         assert_eq!(made as usize, self.asked.len());
-        TICKS.with(|t| t.borrow().clone())
+        clock::timed()
     }
 }

@@ -1,0 +1,152 @@
+//! Births, losses and units that wait, in wide trees and in chains.
+use super::*;
+
+/// How many turns make some 4,000 events of so many each.
+fn turns(n: u32) -> u32 {
+    (4_000 / n).max(2)
+}
+
+pub fn wide_births(n: u32) -> Stream {
+    let mut d = Driver::new(16, FULL);
+    for _ in 0..turns(n) {
+        let (r, children) = d.timed(|d| wide(d, n));
+        d.call(Call::Close(r));
+        for x in children {
+            d.call(Call::Close(x));
+        }
+    }
+    d.end()
+}
+
+pub fn wide_loss(n: u32) -> Stream {
+    let mut d = Driver::new(16, FULL);
+    for _ in 0..turns(n) {
+        let (r, children) = wide(&mut d, n);
+        d.timed_as(n as u64 + 1, |d| d.call(Call::Close(children[n as usize / 2])));
+        for x in children {
+            d.call(Call::Close(x));
+        }
+        d.call(Call::Close(r));
+    }
+    d.end()
+}
+
+/// The ends of nodes that fell are closed.
+pub fn husks(n: u32) -> Stream {
+    let mut d = Driver::new(16, FULL);
+    for _ in 0..turns(n) {
+        let (r, children) = wide(&mut d, n);
+        d.call(Call::Close(r));
+        d.timed(|d| {
+            for x in children {
+                d.call(Call::Close(x));
+            }
+        });
+    }
+    d.end()
+}
+
+pub fn attach_among(n: u32) -> Stream {
+    let mut d = Driver::new(16, FULL);
+    let (r, children) = wide(&mut d, n);
+    for x in children {
+        d.done(Call::Bind(x));
+        d.done(Call::SetConstraints(x, k(0, 0, 1)));
+    }
+    d.done(Call::Bind(r));
+    d.done(Call::SetConstraints(r, k(1, 0, 1)));
+    d.timed(|d| {
+        for _ in 0..500 {
+            let (x, _) = d.token(Call::AttachToken(r));
+            d.done(Call::Close(x));
+        }
+    });
+    d.end()
+}
+
+fn chain(d: &mut Driver, n: u32) -> Vec<NodeKey> {
+    let mut v = vec![d.token(Call::OpenRoot).0];
+    for i in 0..n as usize {
+        v.push(d.token(Call::Duplicate(v[i])).0);
+    }
+    v
+}
+
+pub fn chain_births(n: u32) -> Stream {
+    let mut d = Driver::new(16, FULL);
+    for _ in 0..turns(n) {
+        let v = d.timed(|d| chain(d, n));
+        for x in v {
+            d.call(Call::Close(x));
+        }
+    }
+    d.end()
+}
+
+pub fn chain_loss(n: u32) -> Stream {
+    let mut d = Driver::new(16, FULL);
+    for _ in 0..turns(n) {
+        let v = chain(&mut d, n);
+        d.timed_as(n as u64 + 1, |d| d.call(Call::Close(v[n as usize])));
+        for x in &v[..n as usize] {
+            d.call(Call::Close(*x));
+        }
+    }
+    d.end()
+}
+
+/// Attached units that are allocated, or fail for want of buffers.
+pub fn attached(at_least: u32) -> Stream {
+    let mut d = Driver::new(64, FULL);
+    let (r, _) = d.allocated(k(1, at_least, 4096));
+    d.timed(|d| {
+        for _ in 0..3_000 {
+            let (t, _) = d.token(Call::AttachToken(r));
+            d.call(Call::Bind(t));
+            d.call(Call::SetConstraints(t, k(2, 0, 4096)));
+            d.call(Call::Check(t));
+            d.call(Call::Close(t));
+        }
+    });
+    d.end()
+}
+
+/// Units that are all allocated by the one event for which they wait.
+pub fn waiting(n: u32) -> Stream {
+    let mut d = Driver::new(64, FULL);
+    for _ in 0..2 {
+        let (r, _) = d.token(Call::OpenRoot);
+        d.done(Call::Bind(r));
+        let mut all = Vec::new();
+        for i in 0..n {
+            let (x, _) = d.token(Call::AttachToken(r));
+            d.done(Call::Bind(x));
+            d.done(Call::SetConstraints(x, k(if i < 40 { 1 } else { 0 }, 0, 1)));
+            all.push(x);
+        }
+        d.timed_as(n as u64 + 1, |d| d.done(Call::SetConstraints(r, k(1, 41, 1))));
+        d.call(Call::Close(r));
+        for x in all {
+            d.call(Call::Close(x));
+        }
+    }
+    d.end()
+}
+
+/// Attached heads that are released, each with a live child, while calls change one node.
+pub fn released_heads(heads: u32) -> Stream {
+    let mut d = Driver::new(64, FULL);
+    let (r, _) = d.allocated(k(1, 0, 1));
+    for _ in 0..heads {
+        let (x, _) = d.token(Call::AttachToken(r));
+        d.token(Call::Duplicate(x));
+        d.done(Call::Bind(x));
+        d.done(Call::Release(x));
+    }
+    d.timed(|d| {
+        for _ in 0..2_000 {
+            d.done(Call::SetWeakOk(r, false));
+        }
+    });
+    d.end()
+}
