@@ -1,5 +1,5 @@
 pub mod calm
-mod changes
+pub mod changes
 pub mod failures
 pub mod intervals
 pub mod leaving

@@ -5,12 +5,12 @@ use Rattle.std.specs.Option.{option_map_or}
 use Rattle.std.specs.Ordering.{nat_cmp, ordering_then}
 use Rattle.std.specs.declared.cmp.Ordering.{Ordering}
 use Rattle.sm_names.specs.declared.keys.NodeKey.{NodeKey}
-use Rattle.sm_names.specs.declared.messages.Call.{Call}
 use Rattle.sm_names.specs.Sameness.{same_key}
 use Rattle.node_table.specs.Table.{Table, children_at, node_at, parent_at}
 use Rattle.node_table.specs.Forest.{IsForest}
 use Rattle.failure_domains.specs.Falls.{IsByLayers}
 use Rattle.alloc_event.specs.declared.change.Change.{Change}
+use Rattle.alloc_event.specs.declared.change.Effect.{Effect}
 use Rattle.alloc_event.specs.declared.falling.Going.{Going}
 use Rattle.alloc_event.specs.declared.node.Node.{Node}
 use Rattle.alloc_event.specs.declared.units.Unit.{Unit}
@@ -68,7 +68,7 @@ pub record IsTop (t : Table Node) (keys : List NodeKey) (head : NodeKey) (attach
 -- the change by which nodes go so
 abbrev pub change_of : Going → Change
 change_of (Going.Fails fault) = Change.Loss fault.origin fault.cause
-change_of (Going.Leaves key) = Change.Effect (Call.Release key)
+change_of (Going.Leaves key) = Change.Effect key Effect.Released
 
 -- the node, gone so
 abbrev pub gone_by : Going → Node → Node

@@ -2,9 +2,9 @@
 use Rattle.std.specs.Prelude.{◌≡◌, ◌≢◌, ℕ, Bool, true, false, if◌then◌else◌, List, map, Option, Some, ◌==◌}
 use Rattle.std.specs.List.{find, list_all, list_any}
 use Rattle.sm_names.specs.declared.keys.NodeKey.{NodeKey}
-use Rattle.sm_names.specs.declared.messages.Call.{Call}
 use Rattle.node_table.specs.Table.{Table}
 use Rattle.alloc_event.specs.declared.change.Change.{Change}
+use Rattle.alloc_event.specs.declared.change.Effect.{Effect}
 use Rattle.alloc_event.specs.declared.node.Node.{Node}
 use Rattle.alloc_event.specs.declared.units.Unit.{Unit}
 use Rattle.alloc_event.specs.Calm.{IsCalm, over_but, strong_count}
@@ -16,21 +16,16 @@ use Rattle.alloc_event.specs.Settling.{Handles, MayChange, changed, collection_o
 abbrev pub bit : Bool → ℕ
 bit b = if b then 1 else 0
 
--- the call takes effect on a node, and neither releases it nor sets its constraints
-abbrev pub is_plain : Call → Bool
-is_plain (Call.Bind key) = true
-is_plain (Call.SetDispensable key) = true
-is_plain (Call.SetWeak key) = true
-is_plain (Call.SetWeakOk key children) = true
-is_plain (Call.Take key) = true
-is_plain (Call.TrackNode key) = true
-is_plain _ = false
-
--- the call releases its node, or sets its constraints
-abbrev pub is_counted : Call → Bool
-is_counted (Call.SetConstraints key demand) = true
-is_counted (Call.Release key) = true
-is_counted _ = false
+-- the effect neither releases its node nor sets its constraints
+abbrev pub is_plain : Effect → Bool
+is_plain Effect.Bound = true
+is_plain Effect.Dispensable = true
+is_plain Effect.Weak = true
+is_plain (Effect.WeakOk children) = true
+is_plain (Effect.Constrained demand) = false
+is_plain Effect.Taken = true
+is_plain Effect.Released = false
+is_plain Effect.Tracked = true
 
 -- the change may be made to the collection of the shelf, which is calm and has so many strong live nodes, and the
 -- units are counted

@@ -171,7 +171,7 @@ pub record Finishes (pool : ℕ) (handles : Handles) (old : Table Node) (before 
 
 -- a tracker that the change makes has room on its node
 abbrev pub has_room : Change → List Node → Bool
-has_room (Change.Effect call) nodes = list_all (has_tracker_room call) nodes
+has_room (Change.Effect key effect) nodes = list_all (has_tracker_room key effect) nodes
 has_room _ nodes = true
 
 -- a node that the change loses is there, and not gone

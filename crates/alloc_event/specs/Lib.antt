@@ -2,6 +2,7 @@ pub mod Calm
 pub mod Counts
 pub mod Decisions
 pub mod Due
+pub mod Effects
 pub mod Falling
 pub mod Forest
 pub mod Forgetting

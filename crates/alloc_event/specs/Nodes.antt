@@ -1,13 +1,13 @@
--- The nodes of a collection as they are kept, and what one mark or call makes of them.
+-- The nodes of a collection as they are kept, and what one mark or effect makes of them.
 use Rattle.std.specs.Prelude.{ℕ, ◌+◌, Bool, true, false, ◌||◌, ◌&&◌, not, if◌then◌else◌, List, [], ◌∷◌, map, reverse, Option, Some, None}
 use Rattle.std.specs.List.{find, filter}
 use Rattle.std.specs.Option.{option_map_or}
 use Rattle.sm_names.specs.declared.keys.NodeKey.{NodeKey}
-use Rattle.sm_names.specs.declared.messages.Call.{Call}
 use Rattle.sm_names.specs.declared.outcomes.Fault.{Fault}
 use Rattle.sm_names.specs.Changes.{highest}
 use Rattle.sm_names.specs.Members.{Member, is_under}
 use Rattle.sm_names.specs.Sameness.{same_key}
+use Rattle.alloc_event.specs.declared.change.Effect.{Effect}
 use Rattle.alloc_event.specs.declared.node.End.{End}
 use Rattle.alloc_event.specs.declared.node.Node.{Node}
 
@@ -82,28 +82,27 @@ ended nodes top n = record n { gone = is_under top (member_of nodes n) || n.gone
 abbrev pub after_end : NodeKey → List Node → List Node
 after_end top nodes = map (ended nodes top) nodes
 
--- ---- what a call makes of a node
+-- ---- what an effect makes of a node
 
--- the effect of the call on its node, but for the end: no other call changes a node
-abbrev pub affected : Call → Node → Node
-affected (Call.Bind key) n = record n { bound = same_key key n.key || n.bound }
-affected (Call.SetDispensable key) n = record n { dispensable = same_key key n.key || n.dispensable }
-affected (Call.SetWeak key) n =
+-- the effect on the node with this key, and on no other
+abbrev pub affected : NodeKey → Effect → Node → Node
+affected key Effect.Bound n = record n { bound = same_key key n.key || n.bound }
+affected key Effect.Dispensable n = record n { dispensable = same_key key n.key || n.dispensable }
+affected key Effect.Weak n =
     record n { weak = same_key key n.key || n.weak; weak_ok = same_key key n.key || n.weak_ok }
-affected (Call.SetWeakOk key children) n = record n {
+affected key (Effect.WeakOk children) n = record n {
   weak_ok = same_key key n.key || n.weak_ok;
   covers = (children && same_key key n.key) || n.covers;
 }
-affected (Call.SetConstraints key demand) n =
+affected key (Effect.Constrained demand) n =
     record n { constraints = if same_key key n.key then Some demand else n.constraints }
-affected (Call.Take key) n = record n { took = same_key key n.key || n.took }
-affected (Call.Release key) n = record n { released = same_key key n.key || n.released }
-affected (Call.TrackNode key) n = record n { trackers = if same_key key n.key then n.trackers + 1 else n.trackers }
-affected call n = n
+affected key Effect.Taken n = record n { took = same_key key n.key || n.took }
+affected key Effect.Released n = record n { released = same_key key n.key || n.released }
+affected key Effect.Tracked n = record n { trackers = if same_key key n.key then n.trackers + 1 else n.trackers }
 
--- the nodes, once the call took effect
-abbrev pub after_call : Call → List Node → List Node
-after_call call nodes = map (affected call) nodes
+-- the nodes, once the effect was made
+abbrev pub after_effect : NodeKey → Effect → List Node → List Node
+after_effect key effect nodes = map (affected key effect) nodes
 
 -- the node with the end there
 abbrev pub with_end : NodeKey → End → Node → Node

@@ -4,14 +4,15 @@ use Rattle.std.specs.List.{list_any, list_all}
 use Rattle.std.specs.Option.{option_map_or}
 use Rattle.sm_names.specs.declared.keys.BufferName.{BufferName}
 use Rattle.sm_names.specs.declared.keys.Interval.{Interval}
+use Rattle.sm_names.specs.declared.keys.NodeKey.{NodeKey}
 use Rattle.sm_names.specs.declared.keys.Strength.{Strength}
-use Rattle.sm_names.specs.declared.messages.Call.{Call}
 use Rattle.sm_names.specs.declared.outcomes.Buffers.{Buffers}
 use Rattle.sm_names.specs.Handles.{is_home, names}
 use Rattle.sm_names.specs.Sameness.{same_key}
 use Rattle.sm_names.specs.Timelines.{HeldPages}
 use Rattle.sm_names.specs.Words.{sorted_by}
 use Rattle.buffer_pool.specs.Holdings.{Holdings}
+use Rattle.alloc_event.specs.declared.change.Effect.{Effect}
 use Rattle.alloc_event.specs.declared.held.HeldBuffer.{HeldBuffer}
 use Rattle.alloc_event.specs.declared.node.Node.{Node}
 use Rattle.alloc_event.specs.declared.scene.Scene.{Scene}
@@ -93,7 +94,13 @@ pub record IsSound (c : Collection) : Type 0 where
   -- it was given at most 64 buffers
   pub few : given_few c.buffers ≡ true
 
--- the call makes no tracker on the node beyond 64
-abbrev pub has_tracker_room : Call → Node → Bool
-has_tracker_room (Call.TrackNode key) n = not (same_key key n.key) || nat_lt n.trackers 64
-has_tracker_room _ n = true
+-- the effect makes no tracker on the node beyond 64
+abbrev pub has_tracker_room : NodeKey → Effect → Node → Bool
+has_tracker_room key Effect.Tracked n = not (same_key key n.key) || nat_lt n.trackers 64
+has_tracker_room key Effect.Bound n = true
+has_tracker_room key Effect.Dispensable n = true
+has_tracker_room key Effect.Weak n = true
+has_tracker_room key (Effect.WeakOk children) n = true
+has_tracker_room key (Effect.Constrained demand) n = true
+has_tracker_room key Effect.Taken n = true
+has_tracker_room key Effect.Released n = true

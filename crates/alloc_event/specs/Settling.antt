@@ -6,18 +6,18 @@ use Rattle.sm_names.specs.declared.keys.BufferName.{BufferName}
 use Rattle.sm_names.specs.declared.keys.Interval.{Interval}
 use Rattle.sm_names.specs.declared.keys.NodeKey.{NodeKey}
 use Rattle.sm_names.specs.declared.keys.Strength.{Strength}
-use Rattle.sm_names.specs.declared.messages.Call.{Call}
 use Rattle.sm_names.specs.declared.outcomes.Buffers.{Buffers}
 use Rattle.sm_names.specs.Forced.{Standing, forced}
 use Rattle.sm_names.specs.Handles.{names, is_home}
 use Rattle.sm_names.specs.Marks.{Mark, Called, Loss, Allocated, Ended}
 use Rattle.sm_names.specs.Members.{asked, some_strong_live}
 use Rattle.sm_names.specs.Sameness.{same_key}
-use Rattle.sm_names.specs.Timelines.{HeldPages, layout, key_of}
+use Rattle.sm_names.specs.Timelines.{HeldPages, layout}
 use Rattle.alloc_event.specs.declared.change.Change.{Change}
+use Rattle.alloc_event.specs.declared.change.Effect.{Effect}
 use Rattle.alloc_event.specs.declared.node.Node.{Node}
 use Rattle.alloc_event.specs.Forest.{Collection, Forest, collection_at, node_at, beside, pages_in, with_nodes, kept, given}
-use Rattle.alloc_event.specs.Nodes.{node_of, members_of, after_loss, after_allocation, after_end, after_call, new_root, new_child}
+use Rattle.alloc_event.specs.Nodes.{node_of, members_of, after_loss, after_allocation, after_end, after_effect, new_root, new_child}
 
 -- how many handles of a buffer and strength are open, in parcels or out of them
 abbrev pub Handles : Type 0
@@ -85,7 +85,7 @@ with_birth (Some above) attached client event key c = option_map_or
 -- the collection once it is changed; a new node gets this key
 abbrev pub changed : Change → NodeKey → Collection → Collection
 changed (Change.Birth parent attached client event) key c = with_birth parent attached client event key c
-changed (Change.Effect call) key c = with_nodes (after_call call) c
+changed (Change.Effect on effect) key c = with_nodes (after_effect on effect) c
 changed (Change.Loss origin cause) key c = with_nodes (after_loss (record { cause = cause; origin = origin })) c
 changed Change.Nothing key c = c
 
@@ -117,7 +117,7 @@ is_kept f id = is_some (collection_at f id)
 abbrev pub fits : Forest → ℕ → Change → Bool
 fits f id (Change.Birth None attached client event) = not (is_kept f id)
 fits f id (Change.Birth (Some above) attached client event) = is_there f id above
-fits f id (Change.Effect call) = option_map_or (is_there f id) (key_of call) (is_kept f id)
+fits f id (Change.Effect key effect) = is_there f id key
 fits f id (Change.Loss origin cause) = is_there f id origin
 fits f id Change.Nothing = is_kept f id
 
@@ -127,7 +127,7 @@ pub record MayChange (f : Forest) (id : ℕ) (change : Change) : Type 0 where
   pub room : is_birth change ≡ true → kept f < f.limit
   pub heads : is_attached_root change ≡ false
   -- a tracker is made only on a node on which fewer than 64 were made
-  pub trackers : (key : NodeKey) (n : Node) → change ≡ Change.Effect (Call.TrackNode key) → node_at f key ≡ Some n → n.trackers < 64
+  pub trackers : (key : NodeKey) (n : Node) → change ≡ Change.Effect key Effect.Tracked → node_at f key ≡ Some n → n.trackers < 64
 
 -- the collection with this id, or an empty one
 abbrev pub collection_or_new : Forest → ℕ → Collection

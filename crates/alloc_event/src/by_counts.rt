@@ -1,53 +1,62 @@
 //! A change in its place, where the counts tell that it forces nothing.
 ghost use Rattle.std.specs.Prelude.{◌≡◌, ℕ, false, true, IfOk, OnErr};
-ghost use Rattle.sm_names.specs.declared.messages.Call.{Call as Asked};
 ghost use Rattle.alloc_event.specs.declared.change.Change.{Change as Changed};
 ghost use Rattle.alloc_event.specs.Calm.{AreCounted};
 ghost use Rattle.alloc_event.specs.Counts.{HaveUnits};
 ghost use Rattle.alloc_event.specs.Kept.{IsKept, Finishes, SameTable, shelves_of, forest_of};
 ghost use Rattle.alloc_event.specs.Settling.{Handles, MayChange, changed, collection_or_new, no_key};
 
-use crate::change::Change;
+use crate::change::{Change, Effect};
 use crate::entry::Entry;
 use crate::falling::{fail_in_place, leave_in_place};
 use crate::in_place::settle_in_place;
 use crate::node::Node;
 use crate::units::Unit;
 use node_table::NodeTable;
-use sm_names::{Call, CollectionId, Fault, NoMemory, NodeKey};
+use sm_names::{CollectionId, Fault, NoMemory, NodeKey};
 
-/// Releases a node in its place, if the counts tell that nothing is forced by it, or that its unit
-/// ends and no more is forced. Answers whether it did; if not, the table and the entries are as they
-/// were. `NoMemory` where the room for what leaves is refused.
-fn release_in_place(
+/// Makes an effect in its place, if the counts tell that nothing is forced by it, or that it is a
+/// release by which the node's unit ends, and no more is forced. Answers whether it did; if not, the
+/// table and the entries are as they were. `NoMemory` where the room for what leaves is refused.
+fn settle_effect(
     table: &mut NodeTable<Node>,
     entries: &mut Vec<Entry>,
     units: &mut Vec<Unit>,
     id: CollectionId,
     key: NodeKey,
+    effect: &Effect,
 ) -> Result<bool, NoMemory>
     requires kept { IsKept table.old (shelves_of entries.old.items) }
     requires counted { AreCounted table.old entries.old.items }
     requires units { HaveUnits units.old.items table.old entries.old.items }
-    requires change { MayChange (forest_of table.old (shelves_of entries.old.items)) id (Changed.Effect (Asked.Release key)) }
+    requires change { MayChange (forest_of table.old (shelves_of entries.old.items)) id (Changed.Effect key effect.now) }
     ensures err_table { OnErr result (table.new ≡ table.old) }
     ensures err_entries { OnErr result (entries.new.items ≡ entries.old.items) }
     ensures no_table { IfOk result (λ made. made ≡ false → table.new ≡ table.old) }
     ensures no_entries { IfOk result (λ made. made ≡ false → entries.new.items ≡ entries.old.items) }
     ensures ok { IfOk result (λ made. made ≡ true → (pool : ℕ) (handles : Handles) →
         Finishes pool handles table.old (shelves_of entries.old.items) table.new (shelves_of entries.new.items)
-        (changed (Changed.Effect (Asked.Release key)) no_key (collection_or_new (forest_of table.old (shelves_of entries.old.items)) id))) }
+        (changed (Changed.Effect key effect.now) no_key (collection_or_new (forest_of table.old (shelves_of entries.old.items)) id))) }
     ensures shelves { shelves_of entries.new.items ≡ shelves_of entries.old.items }
     ensures kept { IfOk result (λ made. made ≡ true → IsKept table.new (shelves_of entries.old.items)) }
     ensures counted { IfOk result (λ made. made ≡ true → AreCounted table.new entries.new.items) }
     ensures units { HaveUnits units.new.items table.new entries.new.items }
     ensures same { SameTable table.old table.new }
 {
-    let change = Change::Effect(Call::Release(key));
+    let change = Change::Effect(key, *effect);
     if settle_in_place(table, entries, units, id, &change) {
         return Ok(true);
     }
-    leave_in_place(table, entries, units, id, key)
+    match *effect {
+        Effect::Released => leave_in_place(table, entries, units, id, key),
+        Effect::Bound
+        | Effect::Dispensable
+        | Effect::Weak
+        | Effect::WeakOk(_)
+        | Effect::Constrained(_)
+        | Effect::Taken
+        | Effect::Tracked => Ok(false),
+    }
 }
 
 /// Makes a change to a collection that is there in its place, if it is no birth and the counts tell
@@ -81,7 +90,7 @@ pub(crate) fn settle_counted(
         Change::Loss(origin, cause) => {
             fail_in_place(table, entries, units, id, Fault { cause, origin })
         }
-        Change::Effect(Call::Release(key)) => { release_in_place(table, entries, units, id, key) }
+        Change::Effect(key, effect) => settle_effect(table, entries, units, id, key, &effect),
         _ => Ok(settle_in_place(table, entries, units, id, change)),
     }
 }

@@ -1,5 +1,5 @@
 //! What one event changes of a collection, before what that forces.
-use sm_names::{Call, Cause, ClientId, NodeKey};
+use sm_names::{Cause, ClientId, Constraints, NodeKey};
 
 /// One change to a collection.
 #[derive(Clone, Copy, Debug)]
@@ -13,10 +13,31 @@ pub enum Change {
         /// The number of the event.
         event: u64,
     },
-    /// The call took effect on the node that it names.
-    Effect(Call),
+    /// A call took effect on the node, and on no other.
+    Effect(NodeKey, Effect),
     /// The node fails by this cause.
     Loss(NodeKey, Cause),
     /// Nothing of the nodes: a handle may have been opened or dropped.
     Nothing,
+}
+
+/// What a call makes of the node that it names, if it makes and loses none.
+#[derive(Clone, Copy, Debug)]
+pub enum Effect {
+    /// It was a token, and is a collection.
+    Bound,
+    /// Once its unit is allocated, its failure goes no further up.
+    Dispensable,
+    /// It keeps no buffer alive, nor do children made from now on.
+    Weak,
+    /// It knows how to treat weak handles; with `true` also children made from now on.
+    WeakOk(bool),
+    /// It asks this of the buffers.
+    Constrained(Constraints),
+    /// It took its handles.
+    Taken,
+    /// It left without a failure.
+    Released,
+    /// One more tracker was made on it.
+    Tracked,
 }

@@ -49,7 +49,7 @@ fn change_scene(
     ensures { OnOk result (collection_of scene.new ≡ changed change.now no_key (collection_of scene.old)) }
 {
     match *change {
-        Change::Effect(call) => affect(&mut scene.nodes, &call),
+        Change::Effect(key, effect) => affect(&mut scene.nodes, key, &effect),
         Change::Loss(origin, cause) => {
             return lose_by_fall(alloc, table, &mut scene.nodes, Fault { cause, origin });
         }

@@ -1,45 +1,99 @@
-//! What a call changes of the nodes.
+//! The effects of calls, and what they change of the nodes.
 ghost use Rattle.std.specs.Prelude.{◌≡◌, true};
 ghost use Rattle.std.specs.List.{list_all};
-ghost use Rattle.alloc_event.specs.Nodes.{affected, after_call};
+ghost use Rattle.std.specs.Option.{option_map};
+ghost use Rattle.alloc_event.specs.declared.change.Change.{Change as Changed};
+ghost use Rattle.alloc_event.specs.Effects.{effect_of as effect_in, if_done as where_done};
+ghost use Rattle.alloc_event.specs.Nodes.{affected, after_effect};
 ghost use Rattle.alloc_event.specs.Scenes.{has_tracker_room};
 
+use crate::change::{Change, Effect};
 use crate::node::Node;
-use sm_names::{Call, NodeKey};
+use sm_names::{Call, NodeKey, Reply};
 
-/// The call takes effect on its node, and on no other. The node it names, if it makes a tracker,
-/// has made fewer than 64. One walk over the nodes.
-pub fn affect(nodes: &mut [Node], call: &Call)
-    requires { list_all (has_tracker_room call.now) nodes.old ≡ true }
-    ensures { nodes.new ≡ after_call call.now nodes.old }
+// The effect on the node, where the call was answered Done.
+fn if_done(reply: &Reply, key: NodeKey, effect: Effect) -> Option<Change>
+    ensures { result ≡ option_map (λ e. Changed.Effect e.0 e.1) (where_done reply.now key effect) }
+{
+    match *reply {
+        Reply::Done => Some(Change::Effect(key, effect)),
+        _ => None,
+    }
+}
+
+/// The effect of the call, answered so, on the node that it names, if it has one. Each call is told
+/// of here, and none is left to a rest.
+pub fn effect_of(call: &Call, reply: &Reply) -> Option<Change>
+    ensures { result ≡ option_map (λ e. Changed.Effect e.0 e.1) (effect_in call.now reply.now) }
+{
+    match *call {
+        Call::Bind(key) => if_done(reply, key, Effect::Bound),
+        Call::SetDispensable(key) => if_done(reply, key, Effect::Dispensable),
+        Call::SetWeak(key) => if_done(reply, key, Effect::Weak),
+        Call::SetWeakOk(key, children) => if_done(reply, key, Effect::WeakOk(children)),
+        Call::SetConstraints(key, constraints) => {
+            if_done(reply, key, Effect::Constrained(constraints))
+        }
+        Call::Release(key) => if_done(reply, key, Effect::Released),
+        Call::Take(key) => match *reply {
+            Reply::Taken { .. } => Some(Change::Effect(key, Effect::Taken)),
+            _ => None,
+        },
+        Call::TrackNode(key) => match *reply {
+            Reply::Tracker(_) => Some(Change::Effect(key, Effect::Tracked)),
+            _ => None,
+        },
+        Call::Join
+        | Call::Shut
+        | Call::OpenRoot
+        | Call::Duplicate(_)
+        | Call::AttachToken(_)
+        | Call::Sync(_)
+        | Call::Give(_, _)
+        | Call::Collect
+        | Call::Check(_)
+        | Call::Close(_)
+        | Call::DupHandle(_, _)
+        | Call::DropHandle(_, _)
+        | Call::GiveHandle(_, _, _)
+        | Call::TrackLifetime(_, _)
+        | Call::TrackWeak(_) => None,
+    }
+}
+
+/// The effect is made on the node with this key, and on no other. If it is that of a tracker, fewer
+/// than 64 were made on the node. One walk over the nodes.
+pub fn affect(nodes: &mut [Node], key: NodeKey, effect: &Effect)
+    requires { list_all (has_tracker_room key effect.now) nodes.old ≡ true }
+    ensures { nodes.new ≡ after_effect key effect.now nodes.old }
 {
     for node in nodes.iter_mut() {
-        affect_one(node, call);
+        affect_one(node, key, effect);
     }
 }
 
 /// The same on one node.
-pub(crate) fn affect_one(node: &mut Node, call: &Call)
-    requires { has_tracker_room call.now node.old ≡ true }
-    ensures { node.new ≡ affected call.now node.old }
+pub(crate) fn affect_one(node: &mut Node, key: NodeKey, effect: &Effect)
+    requires { has_tracker_room key effect.now node.old ≡ true }
+    ensures { node.new ≡ affected key effect.now node.old }
 {
-    match *call {
-        Call::Bind(key) if key == node.key => node.bound = true,
-        Call::SetDispensable(key) if key == node.key => node.dispensable = true,
-        Call::SetWeak(key) if key == node.key => {
+    if key != node.key {
+        return;
+    }
+    match *effect {
+        Effect::Bound => node.bound = true,
+        Effect::Dispensable => node.dispensable = true,
+        Effect::Weak => {
             node.weak = true;
             node.weak_ok = true;
         }
-        Call::SetWeakOk(key, children) if key == node.key => {
+        Effect::WeakOk(children) => {
             node.weak_ok = true;
             node.covers = children || node.covers;
         }
-        Call::SetConstraints(key, constraints) if key == node.key => {
-            node.constraints = Some(constraints);
-        }
-        Call::Take(key) if key == node.key => node.took = true,
-        Call::Release(key) if key == node.key => node.released = true,
-        Call::TrackNode(key) if key == node.key => node.trackers += 1,
-        _ => {}
+        Effect::Constrained(constraints) => node.constraints = Some(constraints),
+        Effect::Taken => node.took = true,
+        Effect::Released => node.released = true,
+        Effect::Tracked => node.trackers += 1,
     }
 }

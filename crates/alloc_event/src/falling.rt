@@ -2,10 +2,10 @@
 ghost use Rattle.std.specs.Prelude.{◌≡◌, ◌⊎◌, ◌≢◌, ℕ, List, Some, None, true, false, IfOk, IfSome, IsSome, OnErr, map};
 ghost use Rattle.std.specs.List.{find, list_all, list_any};
 ghost use Rattle.sm_names.specs.declared.keys.NodeKey.{NodeKey as Key};
-ghost use Rattle.sm_names.specs.declared.messages.Call.{Call as Asked};
 ghost use Rattle.sm_names.specs.Sameness.{same_key};
 ghost use Rattle.node_table.specs.Table.{node_at, row_at};
 ghost use Rattle.alloc_event.specs.declared.change.Change.{Change as Changed};
+ghost use Rattle.alloc_event.specs.declared.change.Effect.{Effect as Effected};
 ghost use Rattle.alloc_event.specs.declared.node.Node.{Node as Kept};
 ghost use Rattle.alloc_event.specs.Calm.{AreCounted, over_but};
 ghost use Rattle.alloc_event.specs.Counts.{AreUnitsBut, HaveUnits, unit_at};
@@ -445,14 +445,14 @@ pub(crate) fn leave_in_place(
     requires kept { IsKept table.old (shelves_of entries.old.items) }
     requires counted { AreCounted table.old entries.old.items }
     requires units { HaveUnits units.old.items table.old entries.old.items }
-    requires change { MayChange (forest_of table.old (shelves_of entries.old.items)) id (Changed.Effect (Asked.Release key)) }
+    requires change { MayChange (forest_of table.old (shelves_of entries.old.items)) id (Changed.Effect key Effected.Released) }
     ensures err_table { OnErr result (table.new ≡ table.old) }
     ensures err_entries { OnErr result (entries.new.items ≡ entries.old.items) }
     ensures no_table { IfOk result (λ made. made ≡ false → table.new ≡ table.old) }
     ensures no_entries { IfOk result (λ made. made ≡ false → entries.new.items ≡ entries.old.items) }
     ensures ok { IfOk result (λ made. made ≡ true → (pool : ℕ) (handles : Handles) →
         Finishes pool handles table.old (shelves_of entries.old.items) table.new (shelves_of entries.new.items)
-        (changed (Changed.Effect (Asked.Release key)) no_key (collection_or_new (forest_of table.old (shelves_of entries.old.items)) id))) }
+        (changed (Changed.Effect key Effected.Released) no_key (collection_or_new (forest_of table.old (shelves_of entries.old.items)) id))) }
     ensures shelves { shelves_of entries.new.items ≡ shelves_of entries.old.items }
     ensures kept { IfOk result (λ made. made ≡ true → IsKept table.new (shelves_of entries.old.items)) }
     ensures counted { IfOk result (λ made. made ≡ true → AreCounted table.new entries.new.items) }

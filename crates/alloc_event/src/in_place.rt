@@ -2,22 +2,21 @@
 ghost use Rattle.std.specs.Option.{option_map_or};
 ghost use Rattle.std.specs.Prelude.{◌≡◌, ◌<◌, ◌⊎◌, ◌+◌, ◌==◌, ◌&&◌, not, ℕ, List, None, Some, true, false, if◌then◌else◌, IfSome};
 ghost use Rattle.sm_names.specs.declared.keys.NodeKey.{NodeKey as Key};
-ghost use Rattle.sm_names.specs.declared.messages.Call.{Call as Asked};
-ghost use Rattle.sm_names.specs.Timelines.{key_of};
 ghost use Rattle.node_table.specs.Table.{node_at};
 ghost use Rattle.alloc_event.specs.declared.change.Change.{Change as Changed};
+ghost use Rattle.alloc_event.specs.declared.change.Effect.{Effect as Effected};
 ghost use Rattle.alloc_event.specs.declared.node.Node.{Node as Kept};
 ghost use Rattle.alloc_event.specs.declared.units.Unit.{Unit as Counts};
 ghost use Rattle.alloc_event.specs.Calm.{AreCounted};
 ghost use Rattle.alloc_event.specs.Counts.{HasBelow, HaveUnits};
 ghost use Rattle.alloc_event.specs.Due.{is_due_at};
-ghost use Rattle.alloc_event.specs.InPlace.{IsMade, IsOpen, bit, is_counted, is_plain};
+ghost use Rattle.alloc_event.specs.InPlace.{IsMade, IsOpen, bit, is_plain as is_plain_effect};
 ghost use Rattle.alloc_event.specs.Kept.{Finishes, IsKept, SameTable, Shelf, forest_of, is_strong, shelves_of};
 ghost use Rattle.alloc_event.specs.Nodes.{affected};
 ghost use Rattle.alloc_event.specs.Scenes.{has_tracker_room};
 ghost use Rattle.alloc_event.specs.Settling.{Handles, MayChange, changed, collection_or_new, no_key};
 
-use crate::change::Change;
+use crate::change::{Change, Effect};
 use crate::effects::affect_one;
 use crate::entry::{Entry, place_of};
 use crate::forgetting::first_child;
@@ -27,31 +26,30 @@ use crate::questions::is_live;
 use crate::store::write;
 use crate::units::{Unit, is_unready, put_unit, unit_in};
 use node_table::NodeTable;
-use sm_names::{Call, CollectionId, NodeKey};
+use sm_names::{CollectionId, NodeKey};
 
-/// The node on which the call takes effect, if it neither releases the node nor sets its
-/// constraints.
-fn plain_key(call: &Call) -> Option<NodeKey>
-    ensures { result ≡ (if is_plain call.now then key_of call.now else None) }
+/// Whether the effect neither releases its node nor sets its constraints.
+fn is_plain(effect: &Effect) -> bool
+    ensures { result ≡ is_plain_effect effect.now }
 {
-    match *call {
-        Call::Bind(key)
-        | Call::SetDispensable(key)
-        | Call::SetWeak(key)
-        | Call::SetWeakOk(key, _)
-        | Call::Take(key)
-        | Call::TrackNode(key) => Some(key),
-        _ => None,
+    match *effect {
+        Effect::Bound
+        | Effect::Dispensable
+        | Effect::Weak
+        | Effect::WeakOk(_)
+        | Effect::Taken
+        | Effect::Tracked => true,
+        Effect::Constrained(_) | Effect::Released => false,
     }
 }
 
-/// The node once the call took effect on it.
-fn affected_by(node: &Node, call: &Call) -> Node
-    requires { has_tracker_room call.now node.now ≡ true }
-    ensures { result ≡ affected call.now node.now }
+/// The node after the effect on the one with this key.
+fn affected_by(node: &Node, key: NodeKey, effect: &Effect) -> Node
+    requires { has_tracker_room key effect.now node.now ≡ true }
+    ensures { result ≡ affected key effect.now node.now }
 {
     let mut after = *node;
-    affect_one(&mut after, call);
+    affect_one(&mut after, key, effect);
     after
 }
 
@@ -66,39 +64,34 @@ fn less(count: usize, was: bool, is: bool) -> usize
     }
 }
 
-/// Makes the effect of the call in its place, if it neither releases the node nor sets its
-/// constraints, and a strong node is live after it: then nothing is forced. Answers how many strong
-/// nodes are live then. With `None` nothing changed.
-fn affect_in_place(table: &mut NodeTable<Node>, strong: usize, call: &Call) -> Option<usize>
-    requires named { (key : Key) (n : Kept) → node_at table.old key ≡ Some n → n.key ≡ key }
-    requires room { (key : Key) (n : Kept) → node_at table.old key ≡ Some n → has_tracker_room call.now n ≡ true }
+/// Makes the effect in its place, if it neither releases the node nor sets its constraints, and a
+/// strong node is live after it: then nothing is forced. Answers how many strong nodes are live
+/// then. With `None` nothing changed.
+fn affect_in_place(
+    table: &mut NodeTable<Node>,
+    strong: usize,
+    key: NodeKey,
+    effect: &Effect,
+) -> Option<usize>
+    requires named { (at : Key) (n : Kept) → node_at table.old at ≡ Some n → n.key ≡ at }
+    requires room { (at : Key) (n : Kept) → node_at table.old at ≡ Some n → has_tracker_room key effect.now n ≡ true }
     ensures none { result ≡ None → table.new ≡ table.old }
     ensures some { IfSome result (λ left. (us : List Counts) (ss : List Shelf) (s : Shelf) →
-        IsOpen table.old us ss s (Changed.Effect call.now) strong → IsMade table.old table.new us ss s (Changed.Effect call.now) left) }
+        IsOpen table.old us ss s (Changed.Effect key effect.now) strong → IsMade table.old table.new us ss s (Changed.Effect key effect.now) left) }
 {
-    let Some(key) = plain_key(call) else {
+    if !is_plain(effect) {
         return None;
-    };
+    }
     let Some(node) = table.get(key).copied() else {
         return None;
     };
-    let after = affected_by(&node, call);
+    let after = affected_by(&node, key, effect);
     let left = less(strong, is_strong(&node), is_strong(&after));
     if left == 0 {
         return None;
     }
     write(table, after);
     Some(left)
-}
-
-/// The node that the call releases, or whose constraints it sets.
-fn counted_key(call: &Call) -> Option<NodeKey>
-    ensures { result ≡ (if is_counted call.now then key_of call.now else None) }
-{
-    match *call {
-        Call::SetConstraints(key, _) | Call::Release(key) => Some(key),
-        _ => None,
-    }
 }
 
 /// Whether there is a node with this key in an allocated unit.
@@ -153,28 +146,25 @@ fn is_held(table: &NodeTable<Node>, live: usize, key: NodeKey, id: CollectionId)
     live > 0 || has_unit_below(table, key, id)
 }
 
-/// Releases the node of the call in its place, or sets its constraints, if the counts tell that
-/// nothing is forced: a strong node is live after it, and one of the node's unit, or its first
-/// child heads a unit, and the node's unit has its buffers, or waits for another node, or did not
-/// wait for this one, or lies below a unit without buffers. Answers how many strong nodes are live
-/// then. With `None` nothing changed.
+/// Makes the effect in its place, if the counts tell that nothing is forced: a strong node is live
+/// after it, and one of the node's unit, or its first child heads a unit, and the node's unit has
+/// its buffers, or waits for another node, or did not wait for this one, or lies below a unit
+/// without buffers. Answers how many strong nodes are live then. With `None` nothing changed.
 fn count_in_place(
     table: &mut NodeTable<Node>,
     units: &mut Vec<Unit>,
     strong: usize,
-    call: &Call,
+    key: NodeKey,
+    effect: &Effect,
 ) -> Option<usize>
-    requires named { (key : Key) (n : Kept) → node_at table.old key ≡ Some n → n.key ≡ key }
-    requires room { (key : Key) (n : Kept) → node_at table.old key ≡ Some n → has_tracker_room call.now n ≡ true }
+    requires named { (at : Key) (n : Kept) → node_at table.old at ≡ Some n → n.key ≡ at }
+    requires room { (at : Key) (n : Kept) → node_at table.old at ≡ Some n → has_tracker_room key effect.now n ≡ true }
     ensures none { result ≡ None → table.new ≡ table.old }
     ensures none_units { result ≡ None → units.new.items ≡ units.old.items }
     ensures some { IfSome result (λ left. (ss : List Shelf) (s : Shelf) →
-        IsOpen table.old units.old.items ss s (Changed.Effect call.now) strong →
-        IsMade table.old table.new units.new.items ss s (Changed.Effect call.now) left) }
+        IsOpen table.old units.old.items ss s (Changed.Effect key effect.now) strong →
+        IsMade table.old table.new units.new.items ss s (Changed.Effect key effect.now) left) }
 {
-    let Some(key) = counted_key(call) else {
-        return None;
-    };
     let Some(node) = table.get(key).copied() else {
         return None;
     };
@@ -183,7 +173,7 @@ fn count_in_place(
         return None;
     }
     let unit = unit_in(units, slot);
-    let after = affected_by(&node, call);
+    let after = affected_by(&node, key, effect);
     let left = less(strong, is_strong(&node), is_strong(&after));
     let live = less(unit.live, is_live(&node), is_live(&after));
     let unready = less(unit.unready, is_unready(&node), is_unready(&after));
@@ -198,25 +188,26 @@ fn count_in_place(
     Some(left)
 }
 
-/// Makes the effect of the call in its place, if the counts tell that nothing is forced. Answers
-/// how many strong nodes are live then. With `None` nothing changed.
+/// Makes the effect in its place, if the counts tell that nothing is forced. Answers how many strong
+/// nodes are live then. With `None` nothing changed.
 fn effect_in_place(
     table: &mut NodeTable<Node>,
     units: &mut Vec<Unit>,
     strong: usize,
-    call: &Call,
+    key: NodeKey,
+    effect: &Effect,
 ) -> Option<usize>
-    requires named { (key : Key) (n : Kept) → node_at table.old key ≡ Some n → n.key ≡ key }
-    requires room { (key : Key) (n : Kept) → node_at table.old key ≡ Some n → has_tracker_room call.now n ≡ true }
+    requires named { (at : Key) (n : Kept) → node_at table.old at ≡ Some n → n.key ≡ at }
+    requires room { (at : Key) (n : Kept) → node_at table.old at ≡ Some n → has_tracker_room key effect.now n ≡ true }
     ensures none { result ≡ None → table.new ≡ table.old }
     ensures none_units { result ≡ None → units.new.items ≡ units.old.items }
     ensures some { IfSome result (λ left. (ss : List Shelf) (s : Shelf) →
-        IsOpen table.old units.old.items ss s (Changed.Effect call.now) strong →
-        IsMade table.old table.new units.new.items ss s (Changed.Effect call.now) left) }
+        IsOpen table.old units.old.items ss s (Changed.Effect key effect.now) strong →
+        IsMade table.old table.new units.new.items ss s (Changed.Effect key effect.now) left) }
 {
-    match affect_in_place(table, strong, call) {
+    match affect_in_place(table, strong, key, effect) {
         Some(left) => Some(left),
-        None => count_in_place(table, units, strong, call),
+        None => count_in_place(table, units, strong, key, effect),
     }
 }
 
@@ -229,7 +220,7 @@ fn change_in_place(
     change: &Change,
 ) -> Option<usize>
     requires named { (key : Key) (n : Kept) → node_at table.old key ≡ Some n → n.key ≡ key }
-    requires room { (call : Asked) (key : Key) (n : Kept) → change.now ≡ Changed.Effect call → node_at table.old key ≡ Some n → has_tracker_room call n ≡ true }
+    requires room { (key : Key) (effect : Effected) (at : Key) (n : Kept) → change.now ≡ Changed.Effect key effect → node_at table.old at ≡ Some n → has_tracker_room key effect n ≡ true }
     ensures none { result ≡ None → table.new ≡ table.old }
     ensures none_units { result ≡ None → units.new.items ≡ units.old.items }
     ensures some { IfSome result (λ left. (ss : List Shelf) (s : Shelf) →
@@ -237,7 +228,7 @@ fn change_in_place(
 {
     match *change {
         Change::Nothing if strong > 0 => Some(strong),
-        Change::Effect(call) => effect_in_place(table, units, strong, &call),
+        Change::Effect(key, effect) => effect_in_place(table, units, strong, key, &effect),
         _ => None,
     }
 }

@@ -36,7 +36,7 @@ mod store;
 pub mod summary;
 mod units;
 
-pub use change::Change;
+pub use change::{Change, Effect};
 pub use forest::Forest;
 pub use held::HeldBuffer;
 pub use node::{End, Node};

@@ -4,6 +4,7 @@ ghost use Rattle.alloc_event.specs.Scenes.{collection_of, IsSound};
 
 use alloc_event::allocating::allocate;
 use alloc_event::births::{new_child, new_root};
+use alloc_event::change::Effect;
 use alloc_event::effects::affect;
 use alloc_event::ending::end;
 use alloc_event::losses::lose;
@@ -12,7 +13,7 @@ use alloc_event::scene::Scene;
 use alloc_event::settling::settle_scene;
 use buffer_holds::Holds;
 use buffer_pool::Pool;
-use sm_names::{Buffers, Call, Cause, Constraints, Failure, Fault, NodeKey};
+use sm_names::{Buffers, Cause, Constraints, Failure, Fault, NodeKey};
 use std::alloc::Global;
 use std::test::Fail;
 
@@ -228,7 +229,7 @@ fn a_loss_goes_up_as_far_as_links_let_it(rt: HostRuntime) -> Result<(), Fail> {
     let middle = new_child(false, MIDDLE, 6, 1, &root);
     let low = new_child(false, LOW, 7, 1, &middle);
     let mut nodes = [root, middle, low];
-    affect(&mut nodes, &Call::SetDispensable(MIDDLE));
+    affect(&mut nodes, MIDDLE, &Effect::Dispensable);
     allocate(&mut nodes, ROOT);
     let cause = Cause::Lost;
     lose(&mut nodes, Fault { cause, origin: LOW });

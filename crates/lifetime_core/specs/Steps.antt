@@ -18,8 +18,10 @@ use Rattle.event_laws.specs.ByEvent.{one_if, anyone, only, gains, loses}
 use Rattle.buffer_holds.specs.Counts.{total}
 use Rattle.trackers.specs.Table.{Table, Waiting, Attaches, firings, still_waiting}
 use Rattle.alloc_event.specs.declared.change.Change.{Change}
+use Rattle.alloc_event.specs.declared.change.Effect.{Effect}
 use Rattle.alloc_event.specs.declared.node.End.{End}
 use Rattle.alloc_event.specs.declared.node.Node.{Node}
+use Rattle.alloc_event.specs.Effects.{effect_of}
 use Rattle.alloc_event.specs.Forest.{Collection, Forest, SameKeys, collection_at, node_at, with_nodes, on_collections, is_left}
 use Rattle.alloc_event.specs.Nodes.{with_end, is_over}
 use Rattle.alloc_event.specs.Settling.{Handles, Settled}
@@ -56,38 +58,27 @@ birth_by s client _ collection = None
 abbrev pub losing : NodeKey → Cause → Node → Change
 losing key cause n = if n.gone then Change.Nothing else Change.Loss key cause
 
--- what a call that was answered Done changes: it takes effect on its node, loses it, or drops a handle, after which a buffer may
--- be kept no longer. The other calls ask, move an end or a handle, or open a handle beside another
+-- the effect of the call, answered so, made on its node
+abbrev pub effect_at : Forest → Call → Reply → Option Work
+effect_at f call reply =
+    option_and_then (λ (e : NodeKey × Effect). at_node f e.0 (λ n. Change.Effect e.0 e.1)) (effect_of call reply)
+
+-- what a call that was answered Done changes: it loses its node, or drops a handle, after which a buffer may be kept no longer,
+-- or has an effect. The other calls ask, move an end or a handle, or open a handle beside another
 abbrev pub done_to : Forest → Call → Option Work
-done_to f (Call.Bind key) = at_node f key (λ n. Change.Effect (Call.Bind key))
-done_to f (Call.SetDispensable key) = at_node f key (λ n. Change.Effect (Call.SetDispensable key))
-done_to f (Call.SetWeak key) = at_node f key (λ n. Change.Effect (Call.SetWeak key))
-done_to f (Call.SetWeakOk key children) = at_node f key (λ n. Change.Effect (Call.SetWeakOk key children))
-done_to f (Call.SetConstraints key demand) = at_node f key (λ n. Change.Effect (Call.SetConstraints key demand))
-done_to f (Call.Release key) = at_node f key (λ n. Change.Effect (Call.Release key))
 done_to f (Call.Close key) = at_node f key (losing key Cause.Lost)
 done_to f (Call.DropHandle buffer strength) = at_collection f buffer.collection Change.Nothing
-done_to f _ = None
+done_to f call = effect_at f call Reply.Done
 
--- a Take that was answered Taken takes effect on its node: no other call is answered so
-abbrev pub taken_at : Forest → Call → Option Work
-taken_at f (Call.Take key) = at_node f key (λ n. Change.Effect (Call.Take key))
-taken_at f _ = None
-
--- a tracker of a node is counted there: those of lifetimes and buffers are not
-abbrev pub counted_at : Forest → Call → Option Work
-counted_at f (Call.TrackNode key) = at_node f key (λ n. Change.Effect (Call.TrackNode key))
-counted_at f _ = None
-
--- what the event changes of the nodes and buffers of a collection: the call makes a node, takes effect, or fails its node.
+-- what the event changes of the nodes and buffers of a collection: the call makes a node, has an effect, or fails its node.
 -- Any other call and reply change nothing there
 abbrev pub work_of : State → ℕ → Call → Reply → Option Work
 work_of s client call (Reply.Token key collection) = birth_by s client call collection
 work_of s client call (Reply.Misused misuse) =
     option_and_then (λ key. at_node s.forest key (λ n. Change.Loss key (Cause.Misused misuse))) (key_of call)
 work_of s client call Reply.Done = done_to s.forest call
-work_of s client call (Reply.Taken collection strength set) = taken_at s.forest call
-work_of s client call (Reply.Tracker id) = counted_at s.forest call
+work_of s client call (Reply.Taken collection strength set) = effect_at s.forest call (Reply.Taken collection strength set)
+work_of s client call (Reply.Tracker id) = effect_at s.forest call (Reply.Tracker id)
 work_of s client call _ = None
 
 -- the forest, once the work is done and all that it forces

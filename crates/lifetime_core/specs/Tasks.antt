@@ -5,6 +5,7 @@ use Rattle.sm_names.specs.declared.keys.NodeKey.{NodeKey}
 use Rattle.sm_names.specs.declared.messages.Call.{Call}
 use Rattle.sm_names.specs.declared.messages.Reply.{Reply}
 use Rattle.alloc_event.specs.declared.change.Change.{Change}
+use Rattle.alloc_event.specs.declared.change.Effect.{Effect}
 use Rattle.alloc_event.specs.declared.node.End.{End}
 use Rattle.alloc_event.specs.declared.node.Node.{Node}
 use Rattle.sm_names.specs.Marks.{Called}
@@ -47,7 +48,7 @@ spent_in task = option_and_then (λ (t : Task). t.spends) task
 
 -- the node that the change releases
 abbrev pub released_by : Change → Option NodeKey
-released_by (Change.Effect (Call.Release key)) = Some key
+released_by (Change.Effect key Effect.Released) = Some key
 released_by _ = None
 
 -- the end that the task spends is one of its collection

@@ -18,6 +18,7 @@ ghost use Rattle.lifetime_core.specs.Whole.{AreUpTo, CanCarry, CanFinish, IsSoun
 
 use crate::machine::Core;
 use crate::traits::Named;
+use alloc_event::effects::effect_of;
 use alloc_event::{Change, End, Forest, Node};
 use buffer_holds::Holds;
 use buffer_pool::Pool;
@@ -92,17 +93,10 @@ fn done(core: &Core, call: &Call, node: Option<&Node>) -> Option<Task>
     }
     let node = node?;
     let (change, spends) = match *call {
-        Call::Bind(_)
-        | Call::SetDispensable(_)
-        | Call::SetWeak(_)
-        | Call::SetWeakOk(_, _)
-        | Call::SetConstraints(_, _) => (Change::Effect(*call), None),
-        Call::Release(key) => (Change::Effect(*call), Some(key)),
         Call::Close(key) if node.gone => (Change::Nothing, Some(key)),
         Call::Close(key) => (Change::Loss(key, Cause::Lost), Some(key)),
-        _ => {
-            return None;
-        }
+        Call::Release(key) => (effect_of(call, &Reply::Done)?, Some(key)),
+        _ => (effect_of(call, &Reply::Done)?, None),
     };
     Some(Task {
         collection: node.collection,
@@ -155,11 +149,8 @@ pub(crate) fn task_of(
             }
             Named::Nothing | Named::Handle(_, _) => None,
         },
-        (Call::Take(key), Reply::Taken { .. }) => {
-            at_node(core, key, node, Change::Effect(Call::Take(key)))
-        }
-        (Call::TrackNode(key), Reply::Tracker(_)) => {
-            at_node(core, key, node, Change::Effect(Call::TrackNode(key)))
+        (Call::Take(key), Reply::Taken { .. }) | (Call::TrackNode(key), Reply::Tracker(_)) => {
+            at_node(core, key, node, effect_of(call, reply)?)
         }
         (Call::Release(key), Reply::PeerClosed { .. }) => {
             let node = node?;

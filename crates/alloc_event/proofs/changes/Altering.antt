@@ -4,13 +4,12 @@ use Rattle.std.specs.List.{list_any, list_all, find, cons_option, AllByRecursion
 use Rattle.std.specs.Option.{option_map_or, unwrap_or}
 use Rattle.std.proofs.lemmas.Bool.{eqb-true, eq-eqb, ne_eqb, ltb-true, lt-ltb, false≢true}
 use Rattle.sm_names.specs.declared.keys.NodeKey.{NodeKey}
-use Rattle.sm_names.specs.declared.messages.Call.{Call}
 use Rattle.sm_names.specs.Sameness.{same_key}
-use Rattle.sm_names.specs.Timelines.{key_of}
 use Rattle.sm_names.proofs.SamenessLaws.{and_left, and_right, or_cases}
 use Rattle.node_table.specs.Table.{Table, node_at}
 use Rattle.node_table.proofs.Keys.{true-same_key}
 use Rattle.alloc_event.specs.declared.change.Change.{Change}
+use Rattle.alloc_event.specs.declared.change.Effect.{Effect}
 use Rattle.alloc_event.specs.declared.node.Node.{Node}
 use Rattle.alloc_event.specs.Forest.{Collection, with_nodes, node_at as forest_node}
 use Rattle.alloc_event.specs.Kept.{Shelf, AreRising, IsHung, IsKept, IsWhole, put_shelf, collection_in, nodes_with, forest_of, all_keys, are_filed, is_filed, all_of, has_room}
@@ -28,17 +27,16 @@ use Rattle.alloc_event.proofs.tables.Writing.{IsSameNode, IsSound-map}
 
 -- ---- what a change keeps
 
--- a call keeps the key, the links, the collection and the unit
-pub same_affected : (call : Call) (n : Node) → IsSameNode (affected call n) n
-same_affected (Call.Bind key) n = record { key = refl; parent = refl; attached = refl; collection = refl; head = refl }
-same_affected (Call.SetDispensable key) n = record { key = refl; parent = refl; attached = refl; collection = refl; head = refl }
-same_affected (Call.SetWeak key) n = record { key = refl; parent = refl; attached = refl; collection = refl; head = refl }
-same_affected (Call.SetWeakOk key children) n = record { key = refl; parent = refl; attached = refl; collection = refl; head = refl }
-same_affected (Call.SetConstraints key demand) n = record { key = refl; parent = refl; attached = refl; collection = refl; head = refl }
-same_affected (Call.Take key) n = record { key = refl; parent = refl; attached = refl; collection = refl; head = refl }
-same_affected (Call.Release key) n = record { key = refl; parent = refl; attached = refl; collection = refl; head = refl }
-same_affected (Call.TrackNode key) n = record { key = refl; parent = refl; attached = refl; collection = refl; head = refl }
-same_affected _ n = record { key = refl; parent = refl; attached = refl; collection = refl; head = refl }
+-- an effect keeps the key, the links, the collection and the unit
+pub same_affected : (key : NodeKey) (effect : Effect) (n : Node) → IsSameNode (affected key effect n) n
+same_affected key Effect.Bound n = record { key = refl; parent = refl; attached = refl; collection = refl; head = refl }
+same_affected key Effect.Dispensable n = record { key = refl; parent = refl; attached = refl; collection = refl; head = refl }
+same_affected key Effect.Weak n = record { key = refl; parent = refl; attached = refl; collection = refl; head = refl }
+same_affected key (Effect.WeakOk children) n = record { key = refl; parent = refl; attached = refl; collection = refl; head = refl }
+same_affected key (Effect.Constrained demand) n = record { key = refl; parent = refl; attached = refl; collection = refl; head = refl }
+same_affected key Effect.Taken n = record { key = refl; parent = refl; attached = refl; collection = refl; head = refl }
+same_affected key Effect.Released n = record { key = refl; parent = refl; attached = refl; collection = refl; head = refl }
+same_affected key Effect.Tracked n = record { key = refl; parent = refl; attached = refl; collection = refl; head = refl }
 
 -- each node as itself
 unchanged : (ns : List Node) → map (λ (n : Node). n) ns ≡ ns
@@ -53,7 +51,7 @@ pub record MakesNodes (c now : Collection) : Type 0 where
 
 pub change_makes : (change : Change) (key : NodeKey) (c : Collection) → is_birth change ≡ false → MakesNodes c (changed change key c)
 change_makes (Change.Birth parent attached client event) key c h = absurd (false≢true (sym h))
-change_makes (Change.Effect call) key c h = record { of = affected call; same = same_affected call; is = refl }
+change_makes (Change.Effect on effect) key c h = record { of = affected on effect; same = same_affected on effect; is = refl }
 change_makes (Change.Loss origin cause) key c h = record {
   of = lost (is_taken c.nodes origin) (record { cause = cause; origin = origin });
   same = λ n. record { key = refl; parent = refl; attached = refl; collection = refl; head = refl };
@@ -177,15 +175,10 @@ mapped_some t (Some s) = refl
 collection_kept : (t : Table Node) (ss : List Shelf) (id : ℕ) → is_kept (forest_of t ss) id ≡ true → is_some (find (λ (s : Shelf). s.id == id) ss) ≡ true
 collection_kept t ss id fit = sym (mapped_some t (find (λ (s : Shelf). s.id == id) ss)) ∙ ap is_some (sym (collection_is t id ss)) ∙ fit
 
--- by the key that the call names
-change_kept-by : (t : Table Node) (ss : List Shelf) → IsKept t ss → (id : ℕ) (named : Option NodeKey) → option_map_or (is_there (forest_of t ss) id) named (is_kept (forest_of t ss) id) ≡ true → is_some (find (λ (s : Shelf). s.id == id) ss) ≡ true
-change_kept-by t ss ok id None fit = collection_kept t ss id fit
-change_kept-by t ss ok id (Some key) fit = there_kept t ss ok id key fit
-
 -- a collection that is changed is there
 pub change_kept : (t : Table Node) (ss : List Shelf) → IsKept t ss → (id : ℕ) (change : Change) → is_birth change ≡ false → fits (forest_of t ss) id change ≡ true → is_some (find (λ (s : Shelf). s.id == id) ss) ≡ true
 change_kept t ss ok id (Change.Birth parent attached client event) h fit = absurd (false≢true (sym h))
-change_kept t ss ok id (Change.Effect call) h fit = change_kept-by t ss ok id (key_of call) fit
+change_kept t ss ok id (Change.Effect key effect) h fit = there_kept t ss ok id key fit
 change_kept t ss ok id (Change.Loss origin cause) h fit = there_kept t ss ok id origin fit
 change_kept t ss ok id Change.Nothing h fit = collection_kept t ss id fit
 
@@ -205,14 +198,20 @@ tracker_room-by key n true same few = lt-ltb n.trackers 64 (few (true-same_key k
 tracker_room-by key n false same few = refl
 
 -- the node of a tracker has room for it
-pub tracker_room : (t : Table Node) (ss : List Shelf) → IsKept t ss → (call : Call) → ((key : NodeKey) (n : Node) → call ≡ Call.TrackNode key → forest_node (forest_of t ss) key ≡ Some n → n.trackers < 64) → (key : NodeKey) (n : Node) → node_at t key ≡ Some n → has_tracker_room call n ≡ true
-tracker_room t ss ok (Call.TrackNode asked) few key n is = tracker_room-by asked n (same_key asked n.key) refl (λ same.
-    few asked n refl (node_is t ss ok asked ∙ ap (node_at t) (same ∙ ok.named key n is) ∙ is))
-tracker_room t ss ok _ few key n is = refl
+pub tracker_room : (t : Table Node) (ss : List Shelf) → IsKept t ss → (asked : NodeKey) (effect : Effect) → ((n : Node) → effect ≡ Effect.Tracked → forest_node (forest_of t ss) asked ≡ Some n → n.trackers < 64) → (key : NodeKey) (n : Node) → node_at t key ≡ Some n → has_tracker_room asked effect n ≡ true
+tracker_room t ss ok asked Effect.Tracked few key n is = tracker_room-by asked n (same_key asked n.key) refl (λ same.
+    few n refl (node_is t ss ok asked ∙ ap (node_at t) (same ∙ ok.named key n is) ∙ is))
+tracker_room t ss ok asked Effect.Bound few key n is = refl
+tracker_room t ss ok asked Effect.Dispensable few key n is = refl
+tracker_room t ss ok asked Effect.Weak few key n is = refl
+tracker_room t ss ok asked (Effect.WeakOk children) few key n is = refl
+tracker_room t ss ok asked (Effect.Constrained demand) few key n is = refl
+tracker_room t ss ok asked Effect.Taken few key n is = refl
+tracker_room t ss ok asked Effect.Released few key n is = refl
 
 -- so for the whole change
 pub change_room : (t : Table Node) (ss : List Shelf) → IsKept t ss → (id : ℕ) (change : Change) → MayChange (forest_of t ss) id change → (keys : List NodeKey) → has_room change (nodes_with t keys) ≡ true
-change_room t ss ok id (Change.Effect call) may keys = looked-all t (has_tracker_room call) (tracker_room t ss ok call (λ key n is. may.trackers key n (ap (λ c. Change.Effect c) is))) keys
+change_room t ss ok id (Change.Effect on effect) may keys = looked-all t (has_tracker_room on effect) (tracker_room t ss ok on effect (λ n is. may.trackers on n (ap (Change.Effect on) is))) keys
 change_room t ss ok id _ may keys = refl
 
 -- ---- a scene that is changed

@@ -1,15 +1,13 @@
--- The effect of a call that is made in its place, and what the count of strong live nodes becomes.
+-- An effect that is made in its place, and what the count of strong live nodes becomes.
 use Rattle.std.proofs.Common.{◌≡◌, ◌≢◌, ℕ, ◌+◌, ◌==◌, nat_lt, Bool, true, false, ◌||◌, ◌&&◌, not, if◌then◌else◌, is_some, ◌<◌, ◌⊎◌, inl, inr, List, [], ◌∷◌, map, length, set, Option, Some, None, option_map, refl, sym, ap, subst, ◌∙◌, arith}
 use Rattle.std.proofs.lemmas.Bool.{eq-eqb, eqb-true, not-true}
 use Rattle.std.proofs.lemmas.List.{get_or-set_other, get_or-set_same, length-set}
 use Rattle.std.specs.List.{list_all, list_any}
 use Rattle.std.specs.Option.{option_map_or, unwrap_or}
 use Rattle.sm_names.specs.declared.keys.NodeKey.{NodeKey}
-use Rattle.sm_names.specs.declared.messages.Call.{Call}
 use Rattle.sm_names.specs.declared.outcomes.Cause.{Cause}
 use Rattle.sm_names.specs.Forced.{forced}
 use Rattle.sm_names.specs.Sameness.{same_key}
-use Rattle.sm_names.specs.Timelines.{key_of}
 use Rattle.sm_names.specs.Words.{times}
 use Rattle.sm_names.proofs.ListLaws.{In, In-find, In-list_any, In-map, In-map-back}
 use Rattle.sm_names.proofs.SamenessLaws.{and_both, and_left, and_right, both_ways, either_way, false_if, or_right, same_key-refl, same_key-true}
@@ -18,6 +16,7 @@ use Rattle.node_table.specs.Table.{Table, node_at, parent_at}
 use Rattle.node_table.specs.Changes.{Writes}
 use Rattle.node_table.specs.Lending.{table_with_node}
 use Rattle.alloc_event.specs.declared.change.Change.{Change}
+use Rattle.alloc_event.specs.declared.change.Effect.{Effect}
 use Rattle.alloc_event.specs.declared.node.Node.{Node}
 use Rattle.alloc_event.specs.declared.units.Unit.{Unit}
 use Rattle.alloc_event.specs.Calm.{IsCalm, strong_count, over_but}
@@ -25,11 +24,11 @@ use Rattle.alloc_event.specs.Counts.{AreUnits, HasBelow, HasUnits, is_unready, l
 use Rattle.alloc_event.specs.Decisions.{has_strong}
 use Rattle.alloc_event.specs.Due.{is_due_at, is_served_at}
 use Rattle.alloc_event.specs.Forest.{Collection, beside, with_nodes}
-use Rattle.alloc_event.specs.InPlace.{IsMade, IsOpen, bit, is_counted, is_plain}
+use Rattle.alloc_event.specs.InPlace.{IsMade, IsOpen, bit, is_plain}
 use Rattle.alloc_event.specs.Kept.{Finishes, IsKept, IsWhole, Shelf, Stores, collection_in, forest_of, is_filed, is_strong, nodes_with}
 use Rattle.alloc_event.specs.Nodes.{affected, is_over, is_of}
 use Rattle.alloc_event.specs.Questions.{is_allocated_node, is_live_node}
-use Rattle.alloc_event.specs.Settling.{Rests, changed, collection_or_new, given_back, is_kept, is_there, no_key, put, standing}
+use Rattle.alloc_event.specs.Settling.{Rests, changed, collection_or_new, given_back, is_there, no_key, put, standing}
 use Rattle.alloc_event.specs.Units.{is_head}
 use Rattle.alloc_event.proofs.tallies.Amounts.{times_changed}
 use Rattle.alloc_event.proofs.changes.Altering.{found_filed, found_put, found_whole, looked-of, same_affected}
@@ -51,69 +50,55 @@ use Rattle.alloc_event.proofs.tables.Storing.{Stores-more, Stores-none}
 use Rattle.alloc_event.proofs.calm.Watched.{nothing_back, strong_lives}
 use Rattle.alloc_event.proofs.tables.Writing.{IsSameNode, kept-map, look-changed, parents-written}
 
--- ---- what a call does to a node
+-- ---- what an effect does to a node
 
--- a call that neither releases nor sets constraints changes of a node what the forced steps read only in its weakness
-pub plain_affected : (call : Call) → is_plain call ≡ true → (n : Node) → IsPlain (affected call n) n
-plain_affected (Call.Bind key) is n =
+-- one that neither releases nor sets constraints changes of a node what the forced steps read only in its weakness
+pub plain_affected : (key : NodeKey) (effect : Effect) → is_plain effect ≡ true → (n : Node) → IsPlain (affected key effect n) n
+plain_affected key Effect.Bound is n =
     record { key = refl; parent = refl; attached = refl; head = refl; allocated = refl; gone = refl; released = refl; asks = refl }
-plain_affected (Call.SetDispensable key) is n =
+plain_affected key Effect.Dispensable is n =
     record { key = refl; parent = refl; attached = refl; head = refl; allocated = refl; gone = refl; released = refl; asks = refl }
-plain_affected (Call.SetWeak key) is n =
+plain_affected key Effect.Weak is n =
     record { key = refl; parent = refl; attached = refl; head = refl; allocated = refl; gone = refl; released = refl; asks = refl }
-plain_affected (Call.SetWeakOk key children) is n =
+plain_affected key (Effect.WeakOk children) is n =
     record { key = refl; parent = refl; attached = refl; head = refl; allocated = refl; gone = refl; released = refl; asks = refl }
-plain_affected (Call.Take key) is n =
+plain_affected key (Effect.Constrained demand) is n = cc
+plain_affected key Effect.Taken is n =
     record { key = refl; parent = refl; attached = refl; head = refl; allocated = refl; gone = refl; released = refl; asks = refl }
-plain_affected (Call.TrackNode key) is n =
+plain_affected key Effect.Released is n = cc
+plain_affected key Effect.Tracked is n =
     record { key = refl; parent = refl; attached = refl; head = refl; allocated = refl; gone = refl; released = refl; asks = refl }
-plain_affected _ is n = cc
-
--- the key that a call names
-one_key : (a b : NodeKey) → Some a ≡ Some b → a ≡ b
-one_key a b e = cc
 
 -- a node of another key stays as it is
-alone_affected : (call : Call) (key : NodeKey) → key_of call ≡ Some key → (m : Node) → same_key key m.key ≡ false → affected call m ≡ m
-alone_affected (Call.Bind k) key named m other =
-    let e : same_key k m.key ≡ false = ap (λ (x : NodeKey). same_key x m.key) (one_key k key named) ∙ other in rw e refl
-alone_affected (Call.SetDispensable k) key named m other =
-    let e : same_key k m.key ≡ false = ap (λ (x : NodeKey). same_key x m.key) (one_key k key named) ∙ other in rw e refl
-alone_affected (Call.SetWeak k) key named m other =
-    let e : same_key k m.key ≡ false = ap (λ (x : NodeKey). same_key x m.key) (one_key k key named) ∙ other in rw e refl
-alone_affected (Call.SetWeakOk k children) key named m other =
-    let e : same_key k m.key ≡ false = ap (λ (x : NodeKey). same_key x m.key) (one_key k key named) ∙ other in
-    rw e (λ i. record m { covers = both_false children i || m.covers })
+pub alone_affected : (key : NodeKey) (effect : Effect) (m : Node) → same_key key m.key ≡ false → affected key effect m ≡ m
+alone_affected key Effect.Bound m other = rw other refl
+alone_affected key Effect.Dispensable m other = rw other refl
+alone_affected key Effect.Weak m other = rw other refl
+alone_affected key (Effect.WeakOk children) m other = rw other (λ i. record m { covers = both_false children i || m.covers })
   where
     both_false : (b : Bool) → (b && false) ≡ false
     both_false true = refl
     both_false false = refl
-alone_affected (Call.SetConstraints k demand) key named m other =
-    let e : same_key k m.key ≡ false = ap (λ (x : NodeKey). same_key x m.key) (one_key k key named) ∙ other in rw e refl
-alone_affected (Call.Take k) key named m other =
-    let e : same_key k m.key ≡ false = ap (λ (x : NodeKey). same_key x m.key) (one_key k key named) ∙ other in rw e refl
-alone_affected (Call.Release k) key named m other =
-    let e : same_key k m.key ≡ false = ap (λ (x : NodeKey). same_key x m.key) (one_key k key named) ∙ other in rw e refl
-alone_affected (Call.TrackNode k) key named m other =
-    let e : same_key k m.key ≡ false = ap (λ (x : NodeKey). same_key x m.key) (one_key k key named) ∙ other in rw e refl
-alone_affected _ key named m other = refl
+alone_affected key (Effect.Constrained demand) m other = rw other refl
+alone_affected key Effect.Taken m other = rw other refl
+alone_affected key Effect.Released m other = rw other refl
+alone_affected key Effect.Tracked m other = rw other refl
 
--- no call changes whether a node is gone, allocated, or over
+-- no effect changes whether a node is gone, allocated, or over
 record Remains (m n : Node) : Type 0 where
   gone : m.gone ≡ n.gone
   allocated : m.allocated ≡ n.allocated
   over : is_over m ≡ is_over n
 
-remains_affected : (call : Call) (n : Node) → Remains (affected call n) n
-remains_affected (Call.Bind key) n = record { gone = refl; allocated = refl; over = refl }
-remains_affected (Call.SetDispensable key) n = record { gone = refl; allocated = refl; over = refl }
-remains_affected (Call.SetWeak key) n = record { gone = refl; allocated = refl; over = refl }
-remains_affected (Call.SetWeakOk key children) n = record { gone = refl; allocated = refl; over = refl }
-remains_affected (Call.SetConstraints key demand) n = record { gone = refl; allocated = refl; over = refl }
-remains_affected (Call.Take key) n = record { gone = refl; allocated = refl; over = refl }
-remains_affected (Call.Release key) n = record { gone = refl; allocated = refl; over = refl }
-remains_affected (Call.TrackNode key) n = record { gone = refl; allocated = refl; over = refl }
-remains_affected _ n = record { gone = refl; allocated = refl; over = refl }
+remains_affected : (key : NodeKey) (effect : Effect) (n : Node) → Remains (affected key effect n) n
+remains_affected key Effect.Bound n = record { gone = refl; allocated = refl; over = refl }
+remains_affected key Effect.Dispensable n = record { gone = refl; allocated = refl; over = refl }
+remains_affected key Effect.Weak n = record { gone = refl; allocated = refl; over = refl }
+remains_affected key (Effect.WeakOk children) n = record { gone = refl; allocated = refl; over = refl }
+remains_affected key (Effect.Constrained demand) n = record { gone = refl; allocated = refl; over = refl }
+remains_affected key Effect.Taken n = record { gone = refl; allocated = refl; over = refl }
+remains_affected key Effect.Released n = record { gone = refl; allocated = refl; over = refl }
+remains_affected key Effect.Tracked n = record { gone = refl; allocated = refl; over = refl }
 
 -- what is false of either is false of the second
 or_second : (a b : Bool) → (a || b) ≡ false → b ≡ false
@@ -121,73 +106,59 @@ or_second true b h = cc
 or_second false b h = h
 
 -- a node is released for good, weak for good, and asks for good
-released_stays : (call : Call) (n : Node) → (affected call n).released ≡ false → n.released ≡ false
-released_stays (Call.Release key) n h = or_second (same_key key n.key) n.released h
-released_stays (Call.Bind key) n h = h
-released_stays (Call.SetDispensable key) n h = h
-released_stays (Call.SetWeak key) n h = h
-released_stays (Call.SetWeakOk key children) n h = h
-released_stays (Call.SetConstraints key demand) n h = h
-released_stays (Call.Take key) n h = h
-released_stays (Call.TrackNode key) n h = h
-released_stays _ n h = h
+released_stays : (key : NodeKey) (effect : Effect) (n : Node) → (affected key effect n).released ≡ false → n.released ≡ false
+released_stays key Effect.Bound n h = h
+released_stays key Effect.Dispensable n h = h
+released_stays key Effect.Weak n h = h
+released_stays key (Effect.WeakOk children) n h = h
+released_stays key (Effect.Constrained demand) n h = h
+released_stays key Effect.Taken n h = h
+released_stays key Effect.Released n h = or_second (same_key key n.key) n.released h
+released_stays key Effect.Tracked n h = h
 
-weak_stays : (call : Call) (n : Node) → (affected call n).weak ≡ false → n.weak ≡ false
-weak_stays (Call.SetWeak key) n h = or_second (same_key key n.key) n.weak h
-weak_stays (Call.Release key) n h = h
-weak_stays (Call.Bind key) n h = h
-weak_stays (Call.SetDispensable key) n h = h
-weak_stays (Call.SetWeakOk key children) n h = h
-weak_stays (Call.SetConstraints key demand) n h = h
-weak_stays (Call.Take key) n h = h
-weak_stays (Call.TrackNode key) n h = h
-weak_stays _ n h = h
+weak_stays : (key : NodeKey) (effect : Effect) (n : Node) → (affected key effect n).weak ≡ false → n.weak ≡ false
+weak_stays key Effect.Bound n h = h
+weak_stays key Effect.Dispensable n h = h
+weak_stays key Effect.Weak n h = or_second (same_key key n.key) n.weak h
+weak_stays key (Effect.WeakOk children) n h = h
+weak_stays key (Effect.Constrained demand) n h = h
+weak_stays key Effect.Taken n h = h
+weak_stays key Effect.Released n h = h
+weak_stays key Effect.Tracked n h = h
 
-asks_stays : (call : Call) (n : Node) → is_some (affected call n).constraints ≡ false → is_some n.constraints ≡ false
-asks_stays (Call.SetConstraints key demand) n h = from (same_key key n.key) h
+asks_stays : (key : NodeKey) (effect : Effect) (n : Node) → is_some (affected key effect n).constraints ≡ false → is_some n.constraints ≡ false
+asks_stays key Effect.Bound n h = h
+asks_stays key Effect.Dispensable n h = h
+asks_stays key Effect.Weak n h = h
+asks_stays key (Effect.WeakOk children) n h = h
+asks_stays key (Effect.Constrained demand) n h = from (same_key key n.key) h
   where
     from : (b : Bool) → is_some (if b then Some demand else n.constraints) ≡ false → is_some n.constraints ≡ false
     from true h = cc
     from false h = h
-asks_stays (Call.Release key) n h = h
-asks_stays (Call.SetWeak key) n h = h
-asks_stays (Call.Bind key) n h = h
-asks_stays (Call.SetDispensable key) n h = h
-asks_stays (Call.SetWeakOk key children) n h = h
-asks_stays (Call.Take key) n h = h
-asks_stays (Call.TrackNode key) n h = h
-asks_stays _ n h = h
+asks_stays key Effect.Taken n h = h
+asks_stays key Effect.Released n h = h
+asks_stays key Effect.Tracked n h = h
 
 -- so what a count counts it counted before
-pub live_before : (call : Call) (n : Node) → is_live_node (affected call n) ≡ true → is_live_node n ≡ true
-live_before call n h =
+pub live_before : (key : NodeKey) (effect : Effect) (n : Node) → is_live_node (affected key effect n) ≡ true → is_live_node n ≡ true
+live_before key effect n h =
     and_both (not n.gone) (not n.released)
-    (ap not (sym (remains_affected call n).gone) ∙ and_left (not (affected call n).gone) _ h)
-    (ap not (released_stays call n (not-true _ (and_right (not (affected call n).gone) _ h))))
+    (ap not (sym (remains_affected key effect n).gone) ∙ and_left (not (affected key effect n).gone) _ h)
+    (ap not (released_stays key effect n (not-true _ (and_right (not (affected key effect n).gone) _ h))))
 
-pub strong_before : (call : Call) (n : Node) → is_strong (affected call n) ≡ true → is_strong n ≡ true
-strong_before call n h =
-    and_both (is_live_node n) (not n.weak) (live_before call n (and_left (is_live_node (affected call n)) _ h))
-    (ap not (weak_stays call n (not-true _ (and_right (is_live_node (affected call n)) _ h))))
+pub strong_before : (key : NodeKey) (effect : Effect) (n : Node) → is_strong (affected key effect n) ≡ true → is_strong n ≡ true
+strong_before key effect n h =
+    and_both (is_live_node n) (not n.weak) (live_before key effect n (and_left (is_live_node (affected key effect n)) _ h))
+    (ap not (weak_stays key effect n (not-true _ (and_right (is_live_node (affected key effect n)) _ h))))
 
-pub unready_before : (call : Call) (n : Node) → is_unready (affected call n) ≡ true → is_unready n ≡ true
-unready_before call n h =
-    let one = and_right (not (affected call n).gone) _ h in
-    and_both (not n.gone) _ (ap not (sym (remains_affected call n).gone) ∙ and_left (not (affected call n).gone) _ h)
+pub unready_before : (key : NodeKey) (effect : Effect) (n : Node) → is_unready (affected key effect n) ≡ true → is_unready n ≡ true
+unready_before key effect n h =
+    let one = and_right (not (affected key effect n).gone) _ h in
+    and_both (not n.gone) _ (ap not (sym (remains_affected key effect n).gone) ∙ and_left (not (affected key effect n).gone) _ h)
     (and_both (not n.released) (not (is_some n.constraints))
-    (ap not (released_stays call n (not-true _ (and_left (not (affected call n).released) _ one))))
-    (ap not (asks_stays call n (not-true _ (and_right (not (affected call n).released) _ one)))))
-
-named_if : (b : Bool) (o : Option NodeKey) (key : NodeKey) → (if b then o else None) ≡ Some key → (b ≡ true) × (o ≡ Some key)
-named_if true o key h = (refl, h)
-named_if false o key h = cc
-
--- what the key of such a call tells
-pub plain_named : (call : Call) (key : NodeKey) → (if is_plain call then key_of call else None) ≡ Some key → (is_plain call ≡ true) × (key_of call ≡ Some key)
-plain_named call key h = named_if (is_plain call) (key_of call) key h
-
-pub counted_named : (call : Call) (key : NodeKey) → (if is_counted call then key_of call else None) ≡ Some key → key_of call ≡ Some key
-counted_named call key h = (named_if (is_counted call) (key_of call) key h).1
+    (ap not (released_stays key effect n (not-true _ (and_left (not (affected key effect n).released) _ one))))
+    (ap not (asks_stays key effect n (not-true _ (and_right (not (affected key effect n).released) _ one)))))
 
 -- what a count became, by the tests
 pub less_is : (count result : ℕ) (was is w i : Bool) → ((real : ℕ) → (is ≡ true → was ≡ true) → real + bit was ≡ count + bit is → result ≡ real) →
@@ -197,24 +168,24 @@ less_is count result was is w i told is_was is_is before real e =
 
 -- ---- the effect
 
-module _ (t now : Table Node) (us : List Unit) (call : Call) (key : NodeKey) (named : key_of call ≡ Some key) (n : Node) (was : node_at t key ≡ Some n)
-    (becomes : now ≡ table_with_node t (affected call n).key (affected call n))
-    (writes : Writes t now (affected call n).key (affected call n))
-    (ss : List Shelf) (s : Shelf) (strong : ℕ) (opens : IsOpen t us ss s (Change.Effect call) strong) where
+module _ (t now : Table Node) (us : List Unit) (key : NodeKey) (effect : Effect) (n : Node) (was : node_at t key ≡ Some n)
+    (becomes : now ≡ table_with_node t (affected key effect n).key (affected key effect n))
+    (writes : Writes t now (affected key effect n).key (affected key effect n))
+    (ss : List Shelf) (s : Shelf) (strong : ℕ) (opens : IsOpen t us ss s (Change.Effect key effect) strong) where
   abbrev f : Node → Node
-  f = affected call
+  f = affected key effect
 
   abbrev nodes : List Node
   nodes = nodes_with t s.keys
 
   same : (m : Node) → IsSameNode (f m) m
-  same = same_affected call
+  same = same_affected key effect
 
   own : (f n).key ≡ key
   own = (same n).key ∙ opens.kept.named key n was
 
   alone : (m : Node) → same_key n.key m.key ≡ false → f m ≡ m
-  alone m other = alone_affected call key named m (subst (λ (k : NodeKey). same_key k m.key ≡ false) (opens.kept.named key n was) other)
+  alone m other = alone_affected key effect m (subst (λ (k : NodeKey). same_key k m.key ≡ false) (opens.kept.named key n was) other)
 
   apart : (m : Node) → m.key ≢ key → f m ≡ m
   apart m differ = elim (either_way (same_key n.key m.key)) [
@@ -227,7 +198,7 @@ module _ (t now : Table Node) (us : List Unit) (call : Call) (key : NodeKey) (na
   look = look-changed t now f key n (f n) (subst (λ (k : NodeKey). Writes t now k (f n)) own writes) was refl opens.kept.named apart
 
   kept_now : IsKept now ss
-  kept_now = kept-map f same (λ m. (remains_affected call m).gone) t now (ap (λ (x : Table Node). x.first) becomes) writes.len look
+  kept_now = kept-map f same (λ m. (remains_affected key effect m).gone) t now (ap (λ (x : Table Node). x.first) becomes) writes.len look
       (parents-written t now (f n).key (f n) writes) ss opens.kept
 
   nodes_now : nodes_with now s.keys ≡ map f nodes
@@ -241,7 +212,7 @@ module _ (t now : Table Node) (us : List Unit) (call : Call) (key : NodeKey) (na
 
   -- the node is one of the collection
   fit : is_there (forest_of t ss) s.id key ≡ true
-  fit = ap (λ (o : Option NodeKey). option_map_or (is_there (forest_of t ss) s.id) o (is_kept (forest_of t ss) s.id)) (sym named) ∙ opens.may.named
+  fit = opens.may.named
 
   left : IsLeft nodes key
   left = left_node nodes key (loss_left t ss opens.kept s.id (Change.Loss key Cause.Lost)
@@ -286,18 +257,18 @@ module _ (t now : Table Node) (us : List Unit) (call : Call) (key : NodeKey) (na
     count_now = lives_is ∙ ap strong_count (sym nodes_now)
 
     -- the change makes what the table has then
-    change_is : changed (Change.Effect call) no_key (collection_or_new (forest_of t ss) s.id) ≡ collection_in now s
-    change_is = ap (λ (o : Option Collection). changed (Change.Effect call) no_key (unwrap_or o (record { id = s.id; nodes = []; buffers = None; held = [] })))
+    change_is : changed (Change.Effect key effect) no_key (collection_or_new (forest_of t ss) s.id) ≡ collection_in now s
+    change_is = ap (λ (o : Option Collection). changed (Change.Effect key effect) no_key (unwrap_or o (record { id = s.id; nodes = []; buffers = None; held = [] })))
         (collection_is t s.id ss ∙ ap (option_map (collection_in t)) opens.found)
         ∙ sym now_is
 
     over_same : (one : Option NodeKey) (m : Node) → over_but one (f m) ≡ over_but one m
-    over_same None m = (remains_affected call m).over
-    over_same (Some noted) m = λ i. (remains_affected call m).over i && not (same_key noted ((same m).key i))
+    over_same None m = (remains_affected key effect m).over
+    over_same (Some noted) m = λ i. (remains_affected key effect m).over i && not (same_key noted ((same m).key i))
 
-    pub made_now : IsMade t now after ss s (Change.Effect call) lives
+    pub made_now : IsMade t now after ss s (Change.Effect key effect) lives
     made_now = record {
-      done = done_by t now ss s opens.kept opens.found (Change.Effect call) (f n ∷ []) stores (and_both (is_filed t s.id (f n).key) true filed refl)
+      done = done_by t now ss s opens.kept opens.found (Change.Effect key effect) (f n ∷ []) stores (and_both (is_filed t s.id (f n).key) true filed refl)
           kept_now change_is after lives some count_now calm_now units_now;
       over = λ one. ap (list_any (over_but one)) nodes_now ∙ any_map (over_but one) (over_but one) f nodes (λ m. over_same one m);
     }
@@ -320,15 +291,15 @@ module _ (t now : Table Node) (us : List Unit) (call : Call) (key : NodeKey) (na
       let one : x.0 ≡ s = one_shelf ss opens.kept.rising x.0 s x.1 in_shelves (sym (ap (λ (d : Collection). d.id) x.2) ∙ is) in
       subst (λ (d : Collection). HasUnits after d.nodes) (sym (x.2 ∙ ap (collection_in now) one)) (subst (HasUnits after) (sym nodes_now) has))
 
-  -- a call that neither releases nor sets constraints changes no count of units
-  pub plain_made : is_plain call ≡ true → (lives : ℕ) → nat_lt 0 lives ≡ true → lives ≡ strong_count (map f nodes) → IsMade t now us ss s (Change.Effect call) lives
+  -- an effect that neither releases nor sets constraints changes no count of units
+  pub plain_made : is_plain effect ≡ true → (lives : ℕ) → nat_lt 0 lives ≡ true → lives ≡ strong_count (map f nodes) → IsMade t now us ss s (Change.Effect key effect) lives
   plain_made is lives some lives_is =
-      made_now us lives some lives_is (subst IsCalm (sym now_is) (calm_map (collection_in t s) f (plain_affected call is) opens.calm))
+      made_now us lives some lives_is (subst IsCalm (sym now_is) (calm_map (collection_in t s) f (plain_affected key effect is) opens.calm))
       (units_join us (λ k m at differ within. (within, refl)) (units_mapped us f nodes (λ m. (same m).key) counts unit_has))
     where
       counts : (k : NodeKey) → unit_of (map f nodes) k ≡ unit_of nodes k
       counts k =
-          let p = plain_affected call is in
+          let p = plain_affected key effect is in
           let l = times_map (lives_in k) (lives_in k) f nodes (λ m. λ i. (not ((p m).gone i) && not ((p m).released i)) && same_key ((p m).head i) k) in
           let w = times_map (waits_in k) (waits_in k) f nodes (λ m. λ i. not ((p m).gone i || (not (same_key ((p m).head i) k) || ((p m).released i || (p m).asks i)))) in
           λ i. record { live = l i; unready = w i }
@@ -388,7 +359,7 @@ module _ (t now : Table Node) (us : List Unit) (call : Call) (key : NodeKey) (na
       let hangs : hangs_in (map f nodes) n.head (f m) ≡ true =
       ap (λ (o : Option NodeKey). option_map_or (λ p. list_any (λ (q : Node). is_of p q && same_key q.head n.head) (map f nodes)) o false) up ∙ in_unit in
       In-any (holds_unit (map f nodes) n.head) (map f nodes) (f m) (In-map-back f nodes m child_on)
-      (and_both (not (f m).gone) _ (ap not ((remains_affected call m).gone ∙ below.here))
+      (and_both (not (f m).gone) _ (ap not ((remains_affected key effect m).gone ∙ below.here))
       (or_right (same_key (f m).head n.head && not (f m).released) ((f m).attached && hangs_in (map f nodes) n.head (f m))
       (and_both (f m).attached (hangs_in (map f nodes) n.head (f m)) ((same m).attached ∙ below.attached) hangs)))
 
@@ -470,10 +441,10 @@ module _ (t now : Table Node) (us : List Unit) (call : Call) (key : NodeKey) (na
     -- something holds the unit, and where it is due it does not become ready
     pub counted_made : (lives : ℕ) → nat_lt 0 lives ≡ true → lives ≡ strong_count (map f nodes) → (0 < next.live) ⊎ HasBelow t key n.collection →
         (is_unready n ≡ false) ⊎ ((0 < next.unready) ⊎ (is_due_at t n.head ≡ false)) →
-        IsMade t now after_one ss s (Change.Effect call) lives
+        IsMade t now after_one ss s (Change.Effect key effect) lives
     counted_made lives some lives_is live guard =
         made_now after_one lives some lives_is
-        (subst IsCalm (sym now_is) (calm_changed (collection_in t s) whole f same (λ m. (remains_affected call m).gone) (λ m. (remains_affected call m).allocated) n on alone
+        (subst IsCalm (sym now_is) (calm_changed (collection_in t s) whole f same (λ m. (remains_affected key effect m).gone) (λ m. (remains_affected key effect m).allocated) n on alone
         (holds live) (guarded guard) opens.calm))
         (units_join after_one stays_one has_one)
       where

@@ -29,7 +29,7 @@ birth_id attached client event key c (Some n) = refl
 changed_id : (change : Change) (key : NodeKey) (c : Collection) → (changed change key c).id ≡ c.id
 changed_id (Change.Birth None attached client event) key c = refl
 changed_id (Change.Birth (Some above) attached client event) key c = birth_id attached client event key c (node_of c.nodes above)
-changed_id (Change.Effect call) key c = refl
+changed_id (Change.Effect on effect) key c = refl
 changed_id (Change.Loss origin cause) key c = refl
 changed_id Change.Nothing key c = refl
 
@@ -71,6 +71,6 @@ module _ (pool : ℕ) (handles : Handles) (t now : Table Node) (ss behind : List
 -- a change that is no birth
 pub no_birth : (change : Change) → ((parent : Option NodeKey) (attached : Bool) (client event : ℕ) → change ≡ Change.Birth parent attached client event → ⊥) → is_birth change ≡ false
 no_birth (Change.Birth parent attached client event) none = absurd (none parent attached client event refl)
-no_birth (Change.Effect call) none = refl
+no_birth (Change.Effect key effect) none = refl
 no_birth (Change.Loss origin cause) none = refl
 no_birth Change.Nothing none = refl

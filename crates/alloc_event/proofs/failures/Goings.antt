@@ -4,7 +4,6 @@ use Rattle.std.proofs.lemmas.Bool.{not-true}
 use Rattle.std.specs.List.{find, list_any}
 use Rattle.std.specs.Option.{option_map_or, unwrap_or}
 use Rattle.sm_names.specs.declared.keys.NodeKey.{NodeKey}
-use Rattle.sm_names.specs.declared.messages.Call.{Call}
 use Rattle.sm_names.specs.declared.outcomes.Fault.{Fault}
 use Rattle.sm_names.specs.Sameness.{same_key}
 use Rattle.sm_names.specs.Words.{times}
@@ -14,6 +13,7 @@ use Rattle.sm_names.proofs.StandingLaws.{In-any}
 use Rattle.node_table.specs.Table.{Table, node_at}
 use Rattle.failure_domains.specs.Falls.{blocked_at}
 use Rattle.alloc_event.specs.declared.change.Change.{Change}
+use Rattle.alloc_event.specs.declared.change.Effect.{Effect}
 use Rattle.alloc_event.specs.declared.falling.Going.{Going}
 use Rattle.alloc_event.specs.declared.node.Node.{Node}
 use Rattle.alloc_event.specs.declared.units.Unit.{Unit}
@@ -36,7 +36,7 @@ use Rattle.alloc_event.proofs.failures.Ties.{fall_below, losses_by_fall}
 use Rattle.alloc_event.proofs.tables.Hanging.{looked_hung, looked_tied}
 use Rattle.alloc_event.proofs.tallies.Holding.{in_unit_below}
 use Rattle.alloc_event.proofs.calm.Keeping.{some_pass}
-use Rattle.alloc_event.proofs.tables.KeptRoots.{rooted_call, rooted_end, rooted_loss}
+use Rattle.alloc_event.proofs.tables.KeptRoots.{rooted_effect, rooted_end, rooted_loss}
 use Rattle.alloc_event.proofs.tables.LeftParents.{loss_left}
 use Rattle.alloc_event.proofs.newborns.Members.{none-find}
 use Rattle.alloc_event.proofs.tables.Rooted.{distinct_one, left_in}
@@ -106,7 +106,7 @@ module _ (t : Table Node) (us : List Unit) (ss : List Shelf) (s : Shelf) (fault 
 -- ---- nodes leave
 
 module _ (t : Table Node) (us : List Unit) (ss : List Shelf) (s : Shelf) (key : NodeKey) (strong : ℕ)
-    (opens : IsOpen t us ss s (Change.Effect (Call.Release key)) strong)
+    (opens : IsOpen t us ss s (Change.Effect key Effect.Released) strong)
     (origin : NodeKey) (keys : List NodeKey) (taken : IsTaken t origin keys) (own : all_of s.id (nodes_with t keys) ≡ true)
     (head : NodeKey) (attached : Bool) (top : IsTop t keys head attached) (inside : head.slot < length us)
     (kept_up : is_kept_up t (unit_at us head.slot) (unit_at (untallied (nodes_with t keys) us) head.slot) head attached ≡ true)
@@ -114,14 +114,11 @@ module _ (t : Table Node) (us : List Unit) (ss : List Shelf) (s : Shelf) (key : 
   abbrev leaving : Going
   leaving = Going.Leaves key
 
-  abbrev call : Call
-  call = Call.Release key
-
   abbrev members : List Node
   members = nodes_with t s.keys
 
   abbrev g : Node → Node
-  g = affected call
+  g = affected key Effect.Released
 
   abbrev goes : Node → Node
   goes = f t us ss s leaving strong opens origin keys taken own
@@ -201,7 +198,7 @@ module _ (t : Table Node) (us : List Unit) (ss : List Shelf) (s : Shelf) (key : 
   -- ---- the release
 
   same_g : (n : Node) → IsSameNode (g n) n
-  same_g n = same_affected call n
+  same_g n = same_affected key Effect.Released n
 
   alone : (n : Node) → among n.key ≡ false → g n ≡ n
   alone n out = elim (either_way (same_key key n.key)) [
@@ -241,17 +238,17 @@ module _ (t : Table Node) (us : List Unit) (ss : List Shelf) (s : Shelf) (key : 
   rooted_leaves : are_rooted (reverse (map goes members)) ≡ true
   rooted_leaves =
       ap (λ (ns : List Node). are_rooted (reverse ns)) (sym leaves_is)
-      ∙ (rooted_end (map g members) (rooted_call members (record { one = distinct_one members entire.sound.distinct; rooted = entire.rooted }) call) top.node.key).rooted
+      ∙ (rooted_end (map g members) (rooted_effect members (record { one = distinct_one members entire.sound.distinct; rooted = entire.rooted }) key Effect.Released) top.node.key).rooted
 
   module _ (now : Table Node) (stores : Stores t now (map (gone_by leaving) (nodes_with t keys))) where
     leaves_now : collection_in now s ≡ with_nodes (map goes) (collection_in t s)
     leaves_now = now_is t us ss s leaving strong opens origin keys taken own head attached top inside kept_up now stores rooted_leaves
 
     pub leaves_made : (lives : ℕ) → nat_lt 0 lives ≡ true → lives + strong_count (nodes_with t keys) ≡ strong →
-        IsLost t now (untallied (nodes_with t keys) us) ss s (Change.Effect call) lives (map (gone_by leaving) (nodes_with t keys))
+        IsLost t now (untallied (nodes_with t keys) us) ss s (Change.Effect key Effect.Released) lives (map (gone_by leaving) (nodes_with t keys))
     leaves_made =
         made_by t us ss s leaving strong opens origin keys taken own head attached top inside kept_up now stores rooted_leaves (map g members)
-        (change_nodes t ss s opens.found (Change.Effect call))
+        (change_nodes t ss s opens.found (Change.Effect key Effect.Released))
         (λ pool handles others rest.
         settled_end (collection_in t s) entire among top.node top.above on_top top.here (sym top.attached_is ∙ is_attached)
         (top_up t us ss s leaving strong opens origin keys taken own head attached top inside kept_up)

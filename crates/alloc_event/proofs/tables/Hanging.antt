@@ -17,7 +17,7 @@ use Rattle.alloc_event.specs.Nodes.{affected, ended, given_buffers, is_of, is_ta
 use Rattle.alloc_event.specs.Scenes.{are_distinct}
 use Rattle.alloc_event.specs.Settling.{Handles, Settles, Rests, Forces, changed, is_birth, is_root_of, made}
 use Rattle.alloc_event.specs.Ties.{IsTied, are_rooted}
-use Rattle.alloc_event.proofs.tables.KeptRoots.{Takes, call_takes, rooted_changed, rooted_settled}
+use Rattle.alloc_event.proofs.tables.KeptRoots.{Takes, effect_takes, rooted_changed, rooted_settled}
 use Rattle.alloc_event.proofs.tables.Rooted.{distinct_one}
 
 -- ---- what holds of all
@@ -118,9 +118,9 @@ module _ (t : Table Node) where
   pub hung_changed : (change : Change) (key : NodeKey) (c : Collection) → is_birth change ≡ false → are_distinct c.nodes ≡ true → IsHung t c.nodes →
       IsHung t (changed change key c).nodes
   hung_changed (Change.Birth parent attached client event) key c h distinct hung = absurd (false≢true (sym h))
-  hung_changed (Change.Effect call) key c h distinct hung =
-      hung_remain c.nodes (map (affected call) c.nodes) (remain_map (affected call) (λ n. false) (call_takes call) c.nodes) hung
-      (rooted_changed (Change.Effect call) key c tt (record { one = distinct_one c.nodes distinct; rooted = hung.rooted })).rooted
+  hung_changed (Change.Effect on effect) key c h distinct hung =
+      hung_remain c.nodes (map (affected on effect) c.nodes) (remain_map (affected on effect) (λ n. false) (effect_takes on effect) c.nodes) hung
+      (rooted_changed (Change.Effect on effect) key c tt (record { one = distinct_one c.nodes distinct; rooted = hung.rooted })).rooted
   hung_changed (Change.Loss origin cause) key c h distinct hung =
       hung_remain c.nodes _ (remain_made 0 [] (Loss origin cause) c) hung
       (rooted_changed (Change.Loss origin cause) key c tt (record { one = distinct_one c.nodes distinct; rooted = hung.rooted })).rooted

@@ -5,7 +5,6 @@ use Rattle.std.specs.List.{filter, list_any}
 use Rattle.std.specs.Option.{option_map_or}
 use Rattle.sm_names.specs.declared.keys.Interval.{Interval}
 use Rattle.sm_names.specs.declared.keys.NodeKey.{NodeKey}
-use Rattle.sm_names.specs.declared.messages.Call.{Call}
 use Rattle.sm_names.specs.declared.outcomes.Fault.{Fault}
 use Rattle.sm_names.specs.Changes.{highest}
 use Rattle.sm_names.specs.Marks.{Mark, Called, Loss, Allocated, Ended}
@@ -16,10 +15,11 @@ use Rattle.sm_names.proofs.ReachLaws.{IsChain}
 use Rattle.sm_names.proofs.SamenessLaws.{and_both, and_left, and_right, both_ways, either_way, or_parts, or_right, same_key-refl, same_key-true}
 use Rattle.sm_names.proofs.StandingLaws.{In-any}
 use Rattle.alloc_event.specs.declared.change.Change.{Change}
+use Rattle.alloc_event.specs.declared.change.Effect.{Effect}
 use Rattle.alloc_event.specs.declared.node.Node.{Node}
 use Rattle.alloc_event.specs.Decisions.{is_left_of}
 use Rattle.alloc_event.specs.Forest.{Collection}
-use Rattle.alloc_event.specs.Nodes.{above_among, affected, after_allocation, after_call, after_end, after_loss, ended, given_buffers, is_of, is_taken, lost, member_of, members_of, new_child, new_root, node_of}
+use Rattle.alloc_event.specs.Nodes.{above_among, affected, after_allocation, after_effect, after_end, after_loss, ended, given_buffers, is_of, is_taken, lost, member_of, members_of, new_child, new_root, node_of}
 use Rattle.alloc_event.specs.Settling.{Handles, Settles, Rests, Forces, changed, is_root_of, made}
 use Rattle.alloc_event.proofs.tables.Chains.{one_line}
 use Rattle.alloc_event.specs.Ties.{IsFit, are_rooted, hangs_on}
@@ -53,17 +53,16 @@ abbrev GoesDown : List Node → (Node → Bool) → Type 0
 GoesDown nodes taken =
     (n m : Node) → In n nodes → In m nodes → n.gone ≡ false → n.parent ≡ Some m.key → taken m ≡ true → taken n ≡ true
 
--- no call takes a node
-pub call_takes : (call : Call) → Takes (affected call) (λ n. false)
-call_takes (Call.Bind key) = record { key = λ n. refl; parent = λ n. refl; gone = λ n. refl }
-call_takes (Call.SetDispensable key) = record { key = λ n. refl; parent = λ n. refl; gone = λ n. refl }
-call_takes (Call.SetWeak key) = record { key = λ n. refl; parent = λ n. refl; gone = λ n. refl }
-call_takes (Call.SetWeakOk key children) = record { key = λ n. refl; parent = λ n. refl; gone = λ n. refl }
-call_takes (Call.SetConstraints key demand) = record { key = λ n. refl; parent = λ n. refl; gone = λ n. refl }
-call_takes (Call.Take key) = record { key = λ n. refl; parent = λ n. refl; gone = λ n. refl }
-call_takes (Call.Release key) = record { key = λ n. refl; parent = λ n. refl; gone = λ n. refl }
-call_takes (Call.TrackNode key) = record { key = λ n. refl; parent = λ n. refl; gone = λ n. refl }
-call_takes call = record { key = λ n. refl; parent = λ n. refl; gone = λ n. refl }
+-- no effect takes a node
+pub effect_takes : (key : NodeKey) (effect : Effect) → Takes (affected key effect) (λ n. false)
+effect_takes key Effect.Bound = record { key = λ n. refl; parent = λ n. refl; gone = λ n. refl }
+effect_takes key Effect.Dispensable = record { key = λ n. refl; parent = λ n. refl; gone = λ n. refl }
+effect_takes key Effect.Weak = record { key = λ n. refl; parent = λ n. refl; gone = λ n. refl }
+effect_takes key (Effect.WeakOk children) = record { key = λ n. refl; parent = λ n. refl; gone = λ n. refl }
+effect_takes key (Effect.Constrained demand) = record { key = λ n. refl; parent = λ n. refl; gone = λ n. refl }
+effect_takes key Effect.Taken = record { key = λ n. refl; parent = λ n. refl; gone = λ n. refl }
+effect_takes key Effect.Released = record { key = λ n. refl; parent = λ n. refl; gone = λ n. refl }
+effect_takes key Effect.Tracked = record { key = λ n. refl; parent = λ n. refl; gone = λ n. refl }
 
 module _ (nodes : List Node) (old : IsRooted nodes) where
   -- ---- maps
@@ -196,9 +195,9 @@ module _ (nodes : List Node) (old : IsRooted nodes) where
   pub rooted_allocation : (head : NodeKey) → IsRooted (after_allocation head nodes)
   rooted_allocation head = rooted_same (given_buffers head) (record { key = λ n. refl; parent = λ n. refl; gone = λ n. refl })
 
-  -- and a call
-  pub rooted_call : (call : Call) → IsRooted (after_call call nodes)
-  rooted_call call = rooted_same (affected call) (call_takes call)
+  -- and an effect
+  pub rooted_effect : (key : NodeKey) (effect : Effect) → IsRooted (after_effect key effect nodes)
+  rooted_effect key effect = rooted_same (affected key effect) (effect_takes key effect)
 
   -- ---- births, and nodes that are forgotten
 
@@ -312,6 +311,6 @@ rooted_changed (Change.Birth (Some above) attached client event) key c fit old =
     from (Some n) is =
         let same : n.key ≡ above = same_key-true n.key above (In-find (is_of above) c.nodes n is).1 in
         rooted_birth c.nodes old (new_child attached key event client n) fit.0 (ap (is_left_of c.nodes) same ∙ fit.1)
-rooted_changed (Change.Effect call) key c fit old = rooted_call c.nodes old call
+rooted_changed (Change.Effect on effect) key c fit old = rooted_effect c.nodes old on effect
 rooted_changed (Change.Loss origin cause) key c fit old = rooted_loss c.nodes old (record { cause = cause; origin = origin })
 rooted_changed Change.Nothing key c fit old = old

@@ -157,7 +157,7 @@ settles_id pool handles others _ _ (Forces c after mark forces settles) =
 -- nor a change
 pub changed_id : (change : Change) (key : NodeKey) (c : Collection) → is_birth change ≡ false → (changed change key c).id ≡ c.id
 changed_id (Change.Birth parent attached client event) key c h = cc
-changed_id (Change.Effect call) key c h = refl
+changed_id (Change.Effect on effect) key c h = refl
 changed_id (Change.Loss origin cause) key c h = refl
 changed_id Change.Nothing key c h = refl
 

@@ -1,16 +1,20 @@
 //! A forest and a pool of 16 pages, changed only as they may be.
 ghost use Rattle.std.specs.Prelude.{◌≡◌, true};
+ghost use Rattle.alloc_event.specs.declared.change.Effect.{Effect as Effected};
 ghost use Rattle.alloc_event.specs.Forest.{Forest as Trees, IsPoolOf};
 ghost use Rattle.alloc_event.specs.Settling.{MayChange, is_kept, is_there};
 ghost use Rattle.forest_trials.specs.declared.tests.ground.TheConstants.{LIMIT};
 
-use alloc_event::change::Change;
+use alloc_event::change::{Change, Effect};
+use alloc_event::effects::effect_of;
 use alloc_event::forest::Forest;
 use alloc_event::node::Node;
 use alloc_event::summary::Summary;
 use buffer_holds::Holds;
 use buffer_pool::Pool;
-use sm_names::{BufferName, Call, Cause, CollectionId, Constraints, NoMemory, NodeKey, Strength};
+use sm_names::{
+    BufferName, Call, Cause, CollectionId, Constraints, NoMemory, NodeKey, Reply, Strength,
+};
 use std::alloc::Global;
 use std::test::Fail;
 
@@ -44,6 +48,16 @@ pub struct View {
     here: Option<Summary>,
     first: [Option<Node>; 4],
     free_pages: u32,
+}
+
+// Whether the effect is one more tracker of the node.
+fn is_tracked(effect: &Effect) -> bool
+    ensures { effect.now ≡ Effected.Tracked → result ≡ true }
+{
+    match *effect {
+        Effect::Tracked => true,
+        _ => false,
+    }
 }
 
 impl Ground {
@@ -112,8 +126,7 @@ impl Ground {
             Change::Birth { attached, .. } => {
                 !self.is_kept() && !attached && self.forest.len() < LIMIT
             }
-            Change::Effect(Call::SetConstraints(key, _) | Call::Release(key)) => self.is_there(key),
-            Change::Effect(_) => false,
+            Change::Effect(key, effect) => !is_tracked(&effect) && self.is_there(key),
             Change::Loss(origin, _) => self.is_there(origin),
             Change::Nothing => self.is_kept(),
         }
@@ -161,16 +174,25 @@ impl Ground {
         }
     }
 
+    // The call takes effect, and was answered Done.
+    fn make(&mut self, call: Call) -> Result<(), Fail> {
+        match effect_of(&call, &Reply::Done) {
+            Some(effect) => {
+                self.change(effect)?;
+                Ok(())
+            }
+            None => Err(Fail::from("a call without an effect")),
+        }
+    }
+
     /// The node asks for this.
     pub fn ask(&mut self, key: NodeKey, asked: Constraints) -> Result<(), Fail> {
-        self.change(Change::Effect(Call::SetConstraints(key, asked)))?;
-        Ok(())
+        self.make(Call::SetConstraints(key, asked))
     }
 
     /// The node is released.
     pub fn release(&mut self, key: NodeKey) -> Result<(), Fail> {
-        self.change(Change::Effect(Call::Release(key)))?;
-        Ok(())
+        self.make(Call::Release(key))
     }
 
     /// The node fails.

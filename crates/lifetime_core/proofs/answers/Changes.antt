@@ -28,6 +28,7 @@ use Rattle.sm_names.proofs.RejectLaws.{is_refusal, not_refused_end}
 use Rattle.sm_names.proofs.SamenessLaws.{either_way, none_or_some, or_right}
 use Rattle.sm_names.proofs.SettledLaws.{and_then-Some, map-Some}
 use Rattle.alloc_event.specs.declared.change.Change.{Change}
+use Rattle.alloc_event.specs.declared.change.Effect.{Effect}
 use Rattle.alloc_event.specs.declared.node.Node.{Node}
 use Rattle.alloc_event.specs.Forest.{Collection, collection_at, node_at}
 use Rattle.alloc_event.specs.Nodes.{affected}
@@ -110,14 +111,14 @@ module _ (s : State) (marks : Timeline) (shown : IsAfter s marks) (limits : Boun
 
   -- a call that was answered Done and is no work changes no node
   idle_done : (client : ℕ) (call : Call) → IsAnswer limits (readings marks) client call Reply.Done → done_to s.forest call ≡ None → IsIdle marks client Reply.Done call
-  idle_done client (Call.Bind key) answer none = absurd (work_there client Reply.Done (Call.Bind key) key (λ n. Change.Effect (Call.Bind key)) answer refl refl none)
-  idle_done client (Call.SetDispensable key) answer none = absurd (work_there client Reply.Done (Call.SetDispensable key) key (λ n. Change.Effect (Call.SetDispensable key)) answer refl refl none)
-  idle_done client (Call.SetWeak key) answer none = absurd (work_there client Reply.Done (Call.SetWeak key) key (λ n. Change.Effect (Call.SetWeak key)) answer refl refl none)
+  idle_done client (Call.Bind key) answer none = absurd (work_there client Reply.Done (Call.Bind key) key (λ n. Change.Effect key Effect.Bound) answer refl refl none)
+  idle_done client (Call.SetDispensable key) answer none = absurd (work_there client Reply.Done (Call.SetDispensable key) key (λ n. Change.Effect key Effect.Dispensable) answer refl refl none)
+  idle_done client (Call.SetWeak key) answer none = absurd (work_there client Reply.Done (Call.SetWeak key) key (λ n. Change.Effect key Effect.Weak) answer refl refl none)
   idle_done client (Call.SetWeakOk key children) answer none =
-      absurd (work_there client Reply.Done (Call.SetWeakOk key children) key (λ n. Change.Effect (Call.SetWeakOk key children)) answer refl refl none)
+      absurd (work_there client Reply.Done (Call.SetWeakOk key children) key (λ n. Change.Effect key (Effect.WeakOk children)) answer refl refl none)
   idle_done client (Call.SetConstraints key demand) answer none =
-      absurd (work_there client Reply.Done (Call.SetConstraints key demand) key (λ n. Change.Effect (Call.SetConstraints key demand)) answer refl refl none)
-  idle_done client (Call.Release key) answer none = absurd (work_there client Reply.Done (Call.Release key) key (λ n. Change.Effect (Call.Release key)) answer refl refl none)
+      absurd (work_there client Reply.Done (Call.SetConstraints key demand) key (λ n. Change.Effect key (Effect.Constrained demand)) answer refl refl none)
+  idle_done client (Call.Release key) answer none = absurd (work_there client Reply.Done (Call.Release key) key (λ n. Change.Effect key Effect.Released) answer refl refl none)
   idle_done client (Call.Close key) answer none = absurd (work_there client Reply.Done (Call.Close key) key (losing key Cause.Lost) answer refl refl none)
   idle_done client (Call.DropHandle buffer strength) answer none = absurd (drop_there client buffer strength answer none)
   idle_done client call answer none = changes_none client Reply.Done call answer refl (λ n. refl) refl refl
@@ -142,24 +143,24 @@ module _ (s : State) (marks : Timeline) (shown : IsAfter s marks) (limits : Boun
   idle client (Reply.Token key collection) (Call.Duplicate above) answer none = cc
   idle client (Reply.Token key collection) (Call.AttachToken above) answer none = cc
   idle client (Reply.Taken collection strength set) (Call.Take key) answer none =
-      absurd (work_there client (Reply.Taken collection strength set) (Call.Take key) key (λ n. Change.Effect (Call.Take key)) answer refl refl none)
+      absurd (work_there client (Reply.Taken collection strength set) (Call.Take key) key (λ n. Change.Effect key Effect.Taken) answer refl refl none)
   idle client (Reply.Tracker id) (Call.TrackNode key) answer none =
-      absurd (work_there client (Reply.Tracker id) (Call.TrackNode key) key (λ n. Change.Effect (Call.TrackNode key)) answer refl refl none)
+      absurd (work_there client (Reply.Tracker id) (Call.TrackNode key) key (λ n. Change.Effect key Effect.Tracked) answer refl refl none)
   idle client reply (Call.Take key) answer none = changes_none client reply (Call.Take key) answer refl (λ n. refl) refl refl
   idle client reply call answer none = changes_none client reply call answer refl (λ n. refl) refl refl
 
   -- ---- events that change a collection
 
   -- one that takes effect on its node
-  starts_effect : (client : ℕ) (reply : Reply) (call : Call) (answer : IsAnswer limits (readings marks) client call reply) (key : NodeKey) → key_of call ≡ Some key →
-      ((n : Node) → said call reply n ≡ affected call n) → own_loss marks call reply ≡ None → birth_at 0 (Called client reply call) ≡ None →
-      (work : Work) → at_node s.forest key (λ n. Change.Effect call) ≡ Some work → Starts s marks shown limits grown client reply call answer work
-  starts_effect client reply call answer key is says no_loss none work e =
-      let f : IsFound s marks shown limits grown key (λ n. Change.Effect call) work = at_found s marks shown limits grown key (λ n. Change.Effect call) work e in
+  starts_effect : (client : ℕ) (reply : Reply) (call : Call) (answer : IsAnswer limits (readings marks) client call reply) (key : NodeKey) (effect : Effect) → key_of call ≡ Some key →
+      ((n : Node) → said call reply n ≡ affected key effect n) → own_loss marks call reply ≡ None → birth_at 0 (Called client reply call) ≡ None →
+      (work : Work) → at_node s.forest key (λ n. Change.Effect key effect) ≡ Some work → Starts s marks shown limits grown client reply call answer work
+  starts_effect client reply call answer key effect is says no_loss none work e =
+      let f : IsFound s marks shown limits grown key (λ n. Change.Effect key effect) work = at_found s marks shown limits grown key (λ n. Change.Effect key effect) work e in
       let of : collection_of (Called client reply call ∷ marks) call reply ≡ Some f.birth.collection =
       named_in s.pool limits marks grown client reply call answer f.birth f.there (is ∙ ap Some (sym f.is)) in
       subst (λ (w : Work). Starts s marks shown limits grown client reply call answer w) (sym f.work_is)
-      (effect_starts s marks shown limits grown client reply call answer f.birth f.there of f.kept says no_loss none)
+      (effect_starts s marks shown limits grown client reply call answer f.birth f.there of f.kept key effect says no_loss none)
 
   -- a Close: it loses its node, unless that is gone
   starts_close : (client : ℕ) (key : NodeKey) (answer : IsAnswer limits (readings marks) client (Call.Close key) Reply.Done) (work : Work) → at_node s.forest key (losing key Cause.Lost) ≡ Some work →
@@ -202,12 +203,12 @@ module _ (s : State) (marks : Timeline) (shown : IsAfter s marks) (limits : Boun
   -- one that was answered Done
   starts_done : (client : ℕ) (call : Call) (answer : IsAnswer limits (readings marks) client call Reply.Done) (work : Work) → done_to s.forest call ≡ Some work →
       Starts s marks shown limits grown client Reply.Done call answer work
-  starts_done client (Call.Bind key) answer work e = starts_effect client Reply.Done (Call.Bind key) answer key refl (λ n. refl) refl refl work e
-  starts_done client (Call.SetDispensable key) answer work e = starts_effect client Reply.Done (Call.SetDispensable key) answer key refl (λ n. refl) refl refl work e
-  starts_done client (Call.SetWeak key) answer work e = starts_effect client Reply.Done (Call.SetWeak key) answer key refl (λ n. refl) refl refl work e
-  starts_done client (Call.SetWeakOk key children) answer work e = starts_effect client Reply.Done (Call.SetWeakOk key children) answer key refl (λ n. refl) refl refl work e
-  starts_done client (Call.SetConstraints key demand) answer work e = starts_effect client Reply.Done (Call.SetConstraints key demand) answer key refl (λ n. refl) refl refl work e
-  starts_done client (Call.Release key) answer work e = starts_effect client Reply.Done (Call.Release key) answer key refl (λ n. refl) refl refl work e
+  starts_done client (Call.Bind key) answer work e = starts_effect client Reply.Done (Call.Bind key) answer key Effect.Bound refl (λ n. refl) refl refl work e
+  starts_done client (Call.SetDispensable key) answer work e = starts_effect client Reply.Done (Call.SetDispensable key) answer key Effect.Dispensable refl (λ n. refl) refl refl work e
+  starts_done client (Call.SetWeak key) answer work e = starts_effect client Reply.Done (Call.SetWeak key) answer key Effect.Weak refl (λ n. refl) refl refl work e
+  starts_done client (Call.SetWeakOk key children) answer work e = starts_effect client Reply.Done (Call.SetWeakOk key children) answer key (Effect.WeakOk children) refl (λ n. refl) refl refl work e
+  starts_done client (Call.SetConstraints key demand) answer work e = starts_effect client Reply.Done (Call.SetConstraints key demand) answer key (Effect.Constrained demand) refl (λ n. refl) refl refl work e
+  starts_done client (Call.Release key) answer work e = starts_effect client Reply.Done (Call.Release key) answer key Effect.Released refl (λ n. refl) refl refl work e
   starts_done client (Call.Close key) answer work e = starts_close client key answer work e
   starts_done client (Call.DropHandle buffer strength) answer work e = starts_drop client buffer strength answer work e
   starts_done client _ answer work e = cc
@@ -241,6 +242,6 @@ module _ (s : State) (marks : Timeline) (shown : IsAfter s marks) (limits : Boun
   starts client (Reply.Token key collection) (Call.AttachToken above) answer work e =
       subst (λ (w : Work). Starts s marks shown limits grown client (Reply.Token key collection) (Call.AttachToken above) answer w) (some_work e) (attached_starts s marks shown limits grown client key collection above answer)
   starts client (Reply.Taken collection strength set) (Call.Take key) answer work e =
-      starts_effect client (Reply.Taken collection strength set) (Call.Take key) answer key refl (λ n. refl) refl refl work e
-  starts client (Reply.Tracker id) (Call.TrackNode key) answer work e = starts_effect client (Reply.Tracker id) (Call.TrackNode key) answer key refl (λ n. refl) refl refl work e
+      starts_effect client (Reply.Taken collection strength set) (Call.Take key) answer key Effect.Taken refl (λ n. refl) refl refl work e
+  starts client (Reply.Tracker id) (Call.TrackNode key) answer work e = starts_effect client (Reply.Tracker id) (Call.TrackNode key) answer key Effect.Tracked refl (λ n. refl) refl refl work e
   starts client _ _ answer work e = no_work e

@@ -27,6 +27,7 @@ use Rattle.event_laws.proofs.FreeEndLaws.{passed}
 use Rattle.buffer_holds.specs.Counts.{Counts, total}
 use Rattle.trackers.specs.Table.{Cell, Table, Waiting, is_due}
 use Rattle.alloc_event.specs.declared.change.Change.{Change}
+use Rattle.alloc_event.specs.declared.change.Effect.{Effect}
 use Rattle.alloc_event.specs.declared.node.Node.{Node}
 use Rattle.alloc_event.specs.Forest.{Collection, Forest, SameKeys, collection_at, given, node_at}
 use Rattle.alloc_event.specs.Settling.{no_key}
@@ -182,7 +183,7 @@ module _ (s : State) (client : ℕ) (call : Call) (asked : Reply) (task : Option
       by (Call.TrackNode key) (Reply.Tracker number) there made =
           let n = map-Some (λ (n : Node). record { id = number; place = n.collection; condition = Condition.Node key }) (node_at s.forest key) t made in
           let here : Some n.0.collection ≡ Some id =
-          sym (ap (λ (o : Option Node). option_map (λ (w : Work). w.collection) (option_map (λ (m : Node). record { collection = m.collection; change = Change.Effect (Call.TrackNode key) }) o)) n.1) ∙ there in
+          sym (ap (λ (o : Option Node). option_map (λ (w : Work). w.collection) (option_map (λ (m : Node). record { collection = m.collection; change = Change.Effect key Effect.Tracked }) o)) n.1) ∙ there in
           ap (λ (w : Waiting). w.place) (sym n.2) ∙ same n.0.collection id here
       by (Call.TrackLifetime key most) (Reply.Tracker number) there made = let no : None ≡ Some id = there in cc
       by (Call.TrackWeak buffer) (Reply.Tracker number) there made = let no : None ≡ Some id = there in cc

@@ -22,9 +22,10 @@ use Rattle.sm_names.proofs.ListLaws.{In}
 use Rattle.sm_names.proofs.SamenessLaws.{or_right}
 use Rattle.sm_names.proofs.SettledLaws.{map-Some}
 use Rattle.alloc_event.specs.declared.change.Change.{Change}
+use Rattle.alloc_event.specs.declared.change.Effect.{Effect}
 use Rattle.alloc_event.specs.declared.node.Node.{Node}
 use Rattle.alloc_event.specs.Forest.{Collection, beside, node_at, with_nodes}
-use Rattle.alloc_event.specs.Nodes.{affected, after_call, after_loss, node_of, new_root, new_child}
+use Rattle.alloc_event.specs.Nodes.{affected, after_effect, after_loss, node_of, new_root, new_child}
 use Rattle.alloc_event.specs.Settling.{changed, collection_or_new, no_key}
 use Rattle.lifetime_core.specs.declared.task.Place.{Place}
 use Rattle.lifetime_core.specs.Shown.{IsAfter, node_after, collection_after}
@@ -89,9 +90,9 @@ module _ (s : State) (marks : Timeline) (shown : IsAfter s marks) (limits : Boun
       there_now = there_or_new s marks shown limits grown b.collection kept
 
       -- the call takes effect on one of its nodes
-      pub effect_starts : ((n : Node) → said call reply n ≡ affected call n) → own_loss marks call reply ≡ None → birth_at 0 (Called client reply call) ≡ None →
-          Starts s marks shown limits grown client reply call answer (record { collection = b.collection; change = Change.Effect call })
-      effect_starts says no_loss none =
+      pub effect_starts : (key : NodeKey) (effect : Effect) → ((n : Node) → said call reply n ≡ affected key effect n) → own_loss marks call reply ≡ None → birth_at 0 (Called client reply call) ≡ None →
+          Starts s marks shown limits grown client reply call answer (record { collection = b.collection; change = Change.Effect key effect })
+      effect_starts key effect says no_loss none =
           let place = place_of (end_by client call reply) in
           let c : Collection = collection_after s.pool marks b.collection in
           let homes = homes_elsewhere s marks shown limits grown client reply call answer b.collection of in
@@ -100,12 +101,12 @@ module _ (s : State) (marks : Timeline) (shown : IsAfter s marks) (limits : Boun
             birth = b;
             born = born_still;
             ours = refl;
-            start = with_nodes (after_call call) c;
-            start_is = ap (with_nodes (after_call call)) there_now;
+            start = with_nodes (after_effect key effect) c;
+            start_is = ap (with_nodes (after_effect key effect)) there_now;
             same_id = refl;
-            begins = subst (λ (o : Option Mark). Matches s.pool (is_kept marks) (cons_option o called) (beside s.forest b.collection) (placed_in place (with_nodes (after_call call) c))) (sym no_loss)
-                (matches_called s marks shown limits grown client reply call answer b.collection homes (map (placed_node place) (map (affected call) c.nodes))
-                (map-map (placed_node place) (affected call) c.nodes
+            begins = subst (λ (o : Option Mark). Matches s.pool (is_kept marks) (cons_option o called) (beside s.forest b.collection) (placed_in place (with_nodes (after_effect key effect) c))) (sym no_loss)
+                (matches_called s marks shown limits grown client reply call answer b.collection homes (map (placed_node place) (map (affected key effect) c.nodes))
+                (map-map (placed_node place) (affected key effect) c.nodes
                 ∙ ((λ i. map (λ n. placed_node place (sym (says n) i)) c.nodes) ∙ kept_answered s marks shown limits grown client reply call answer none b.collection)));
           }
 

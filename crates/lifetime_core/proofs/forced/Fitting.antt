@@ -4,7 +4,6 @@ use Rattle.std.specs.List.{find, filter}
 use Rattle.std.specs.Option.{option_map_or}
 use Rattle.sm_names.specs.declared.keys.Interval.{Interval}
 use Rattle.sm_names.specs.declared.keys.NodeKey.{NodeKey}
-use Rattle.sm_names.specs.declared.messages.Call.{Call}
 use Rattle.sm_names.specs.declared.outcomes.Cause.{Cause}
 use Rattle.sm_names.specs.declared.outcomes.Failure.{Failure}
 use Rattle.sm_names.specs.declared.outcomes.Fault.{Fault}
@@ -17,10 +16,12 @@ use Rattle.sm_names.proofs.ListLaws.{In, In-map, In-map-back, In-filter-back, In
 use Rattle.sm_names.proofs.SamenessLaws.{and_right, or_right}
 use Rattle.sm_names.proofs.SettledLaws.{and_then-Some, map-Some, not_back}
 use Rattle.alloc_event.specs.declared.change.Change.{Change}
+use Rattle.alloc_event.specs.declared.change.Effect.{Effect}
 use Rattle.alloc_event.specs.declared.node.Node.{Node}
 use Rattle.alloc_event.specs.Forest.{Collection, pages_in, with_nodes}
 use Rattle.alloc_event.specs.Nodes.{affected, after_allocation, after_loss, ended, given_buffers, is_of, is_taken, lost, member_of, members_of, new_child, new_root, node_of, is_spent}
 use Rattle.alloc_event.specs.Settling.{Handles, Settles, Rests, Forces, changed, is_birth, is_root_of, made, standing, with_birth}
+use Rattle.alloc_event.proofs.changes.Altering.{same_affected}
 use Rattle.lifetime_core.specs.Tasks.{released_by}
 use Rattle.lifetime_core.specs.Whole.{AreFit, AreOnce, IsFit, is_leaving}
 
@@ -66,7 +67,7 @@ module _ (Known : NodeKey → Type 0) (id : ℕ) (leaving : Option NodeKey) wher
   }
 
   -- a release does, where it spends the end
-  released-fit : (key : NodeKey) (n : Node) → leaving ≡ Some key → IsFit Known id leaving n → IsFit Known id leaving (affected (Call.Release key) n)
+  released-fit : (key : NodeKey) (n : Node) → leaving ≡ Some key → IsFit Known id leaving n → IsFit Known id leaving (affected key Effect.Released n)
   released-fit key n spends fit = record {
     key = fit.key;
     collection = fit.collection;
@@ -83,18 +84,17 @@ module _ (Known : NodeKey → Type 0) (id : ℕ) (leaving : Option NodeKey) wher
       spent true false gone leaves is now before = or_right gone leaves is
       spent false false gone leaves is now before = cc
 
-  -- any other call does
-  affected-fit : (call : Call) (n : Node) → ((key : NodeKey) → released_by (Change.Effect call) ≡ Some key → leaving ≡ Some key) →
-      IsFit Known id leaving n → IsFit Known id leaving (affected call n)
-  affected-fit (Call.Release key) n spends fit = released-fit key n (spends key refl) fit
-  affected-fit (Call.Bind key) n spends fit = record { key = fit.key; collection = fit.collection; failed = fit.failed; left = fit.left }
-  affected-fit (Call.SetDispensable key) n spends fit = record { key = fit.key; collection = fit.collection; failed = fit.failed; left = fit.left }
-  affected-fit (Call.SetWeak key) n spends fit = record { key = fit.key; collection = fit.collection; failed = fit.failed; left = fit.left }
-  affected-fit (Call.SetWeakOk key children) n spends fit = record { key = fit.key; collection = fit.collection; failed = fit.failed; left = fit.left }
-  affected-fit (Call.SetConstraints key demand) n spends fit = record { key = fit.key; collection = fit.collection; failed = fit.failed; left = fit.left }
-  affected-fit (Call.Take key) n spends fit = record { key = fit.key; collection = fit.collection; failed = fit.failed; left = fit.left }
-  affected-fit (Call.TrackNode key) n spends fit = record { key = fit.key; collection = fit.collection; failed = fit.failed; left = fit.left }
-  affected-fit _ n spends fit = fit
+  -- any other effect does
+  affected-fit : (key : NodeKey) (effect : Effect) (n : Node) → ((k : NodeKey) → released_by (Change.Effect key effect) ≡ Some k → leaving ≡ Some k) →
+      IsFit Known id leaving n → IsFit Known id leaving (affected key effect n)
+  affected-fit key Effect.Released n spends fit = released-fit key n (spends key refl) fit
+  affected-fit key Effect.Bound n spends fit = record { key = fit.key; collection = fit.collection; failed = fit.failed; left = fit.left }
+  affected-fit key Effect.Dispensable n spends fit = record { key = fit.key; collection = fit.collection; failed = fit.failed; left = fit.left }
+  affected-fit key Effect.Weak n spends fit = record { key = fit.key; collection = fit.collection; failed = fit.failed; left = fit.left }
+  affected-fit key (Effect.WeakOk children) n spends fit = record { key = fit.key; collection = fit.collection; failed = fit.failed; left = fit.left }
+  affected-fit key (Effect.Constrained demand) n spends fit = record { key = fit.key; collection = fit.collection; failed = fit.failed; left = fit.left }
+  affected-fit key Effect.Taken n spends fit = record { key = fit.key; collection = fit.collection; failed = fit.failed; left = fit.left }
+  affected-fit key Effect.Tracked n spends fit = record { key = fit.key; collection = fit.collection; failed = fit.failed; left = fit.left }
 
   -- nodes that a map keeps fit, one by one
   map-fit : (f : Node → Node) (nodes : List Node) → ((n : Node) → In n nodes → IsFit Known id leaving n → IsFit Known id leaving (f n)) →
@@ -188,18 +188,6 @@ mapped_once f same nodes once n m n_in m_in key =
     let y = In-map f nodes m m_in in
     let keys : x.0.key ≡ y.0.key = sym (ap (λ (k : Node). k.key) x.2 ∙ same x.0) ∙ (key ∙ (ap (λ (k : Node). k.key) y.2 ∙ same y.0)) in
     x.2 ∙ (ap f (once x.0 y.0 x.1 y.1 keys) ∙ sym y.2)
-
--- no call changes a key
-affected_key : (call : Call) (n : Node) → (affected call n).key ≡ n.key
-affected_key (Call.Release key) n = refl
-affected_key (Call.Bind key) n = refl
-affected_key (Call.SetDispensable key) n = refl
-affected_key (Call.SetWeak key) n = refl
-affected_key (Call.SetWeakOk key children) n = refl
-affected_key (Call.SetConstraints key demand) n = refl
-affected_key (Call.Take key) n = refl
-affected_key (Call.TrackNode key) n = refl
-affected_key _ n = refl
 
 module _ (Known : NodeKey → Type 0) (id : ℕ) (leaving : Option NodeKey) where
   -- nothing happened
@@ -317,11 +305,11 @@ module _ (Known : NodeKey → Type 0) (id : ℕ) (leaving : Option NodeKey) wher
   changed_keeps (Change.Birth None attached client event) key c here known spends = root_born key event client c here (known refl).0 (known refl).1
   changed_keeps (Change.Birth (Some above) attached client event) key c here known spends =
       child_born attached key event client c above (node_of c.nodes above) refl (known refl).0 (known refl).1
-  changed_keeps (Change.Effect call) key c here known spends = record {
+  changed_keeps (Change.Effect on effect) key c here known spends = record {
     same_id = refl;
-    fit = map-fit Known id leaving (affected call) c.nodes (λ n in_nodes fit. affected-fit Known id leaving call n spends fit);
-    keys = mapped (affected call) (affected_key call) c.nodes;
-    once = mapped_once (affected call) (affected_key call) c.nodes;
+    fit = map-fit Known id leaving (affected on effect) c.nodes (λ n in_nodes fit. affected-fit Known id leaving on effect n spends fit);
+    keys = mapped (affected on effect) (λ n. (same_affected on effect n).key) c.nodes;
+    once = mapped_once (affected on effect) (λ n. (same_affected on effect n).key) c.nodes;
   }
   changed_keeps (Change.Loss origin cause) key c here known spends = loses Known id leaving c (record { cause = cause; origin = origin })
   changed_keeps Change.Nothing key c here known spends = nothing Known id leaving c

@@ -23,6 +23,7 @@ use Rattle.sm_names.proofs.SamenessLaws.{none_or_some}
 use Rattle.sm_names.proofs.SettledLaws.{and_then-Some, map-Some}
 use Rattle.buffer_pool.specs.Holdings.{Holdings}
 use Rattle.alloc_event.specs.declared.change.Change.{Change}
+use Rattle.alloc_event.specs.declared.change.Effect.{Effect}
 use Rattle.alloc_event.specs.declared.node.Node.{Node}
 use Rattle.alloc_event.specs.Forest.{Collection, Forest, collection_at, kept, node_at}
 use Rattle.alloc_event.specs.Nodes.{is_spent}
@@ -144,15 +145,15 @@ module _ (limits : Bound) (s : State) (client : ℕ) (call : Call) (asked : Repl
       (named_so.node, named_so.at, is_in s.forest key named_so.node named_so.at gone, omega arith)
 
   -- a call that takes effect on its node
-  effect_well : (key : NodeKey) → is_refusal asked ≡ false → is_closed asked ≡ false → closing call ≡ None → key_of call ≡ Some key → new_key asked ≡ None →
-      ((k : NodeKey) → released_by (Change.Effect call) ≡ Some k → spent_by call asked ≡ Some k) →
-      ((k : NodeKey) (n : Node) → Change.Effect call ≡ Change.Effect (Call.TrackNode k) → node_at s.forest k ≡ Some n → n.trackers < 64) →
-      (w : Work) → at_node s.forest key (λ n. Change.Effect call) ≡ Some w → Well s call asked w
-  effect_well key stands_so alive going is none releases tracks w work =
+  effect_well : (key : NodeKey) (effect : Effect) → is_refusal asked ≡ false → is_closed asked ≡ false → closing call ≡ None → key_of call ≡ Some key → new_key asked ≡ None →
+      ((k : NodeKey) → released_by (Change.Effect key effect) ≡ Some k → spent_by call asked ≡ Some k) →
+      ((k : NodeKey) (n : Node) → Change.Effect key effect ≡ Change.Effect k Effect.Tracked → node_at s.forest k ≡ Some n → n.trackers < 64) →
+      (w : Work) → at_node s.forest key (λ n. Change.Effect key effect) ≡ Some w → Well s call asked w
+  effect_well key effect stands_so alive going is none releases tracks w work =
       let on = on_node key stands_so alive going is in
-      let w_is : record { collection = on.0.collection; change = Change.Effect call } ≡ w = some_is (rw on.1 at work) in
+      let w_is : record { collection = on.0.collection; change = Change.Effect key effect } ≡ w = some_is (rw on.1 at work) in
       subst (Well s call asked) w_is (record {
-        may = record { named = rw is on.2; room = λ h. cc; heads = refl; trackers = tracks };
+        may = record { named = on.2; room = λ h. cc; heads = refl; trackers = tracks };
         within = on.3;
         releases = releases;
         births = rw none refl;
@@ -306,12 +307,12 @@ few_trackers limits s client key id known n at =
 
 -- what a call that was answered Done changes
 done_well : (limits : Bound) (s : State) (client : ℕ) (call : Call) → Known limits s client call Reply.Done → (w : Work) → done_to s.forest call ≡ Some w → Well s call Reply.Done w
-done_well limits s client (Call.Bind key) known w work = effect_well limits s client (Call.Bind key) Reply.Done known key refl refl refl refl refl (λ k h. cc) (λ k n h. cc) w work
-done_well limits s client (Call.SetDispensable key) known w work = effect_well limits s client (Call.SetDispensable key) Reply.Done known key refl refl refl refl refl (λ k h. cc) (λ k n h. cc) w work
-done_well limits s client (Call.SetWeak key) known w work = effect_well limits s client (Call.SetWeak key) Reply.Done known key refl refl refl refl refl (λ k h. cc) (λ k n h. cc) w work
-done_well limits s client (Call.SetWeakOk key children) known w work = effect_well limits s client (Call.SetWeakOk key children) Reply.Done known key refl refl refl refl refl (λ k h. cc) (λ k n h. cc) w work
-done_well limits s client (Call.SetConstraints key demand) known w work = effect_well limits s client (Call.SetConstraints key demand) Reply.Done known key refl refl refl refl refl (λ k h. cc) (λ k n h. cc) w work
-done_well limits s client (Call.Release key) known w work = effect_well limits s client (Call.Release key) Reply.Done known key refl refl refl refl refl (λ k h. h) (λ k n h. cc) w work
+done_well limits s client (Call.Bind key) known w work = effect_well limits s client (Call.Bind key) Reply.Done known key Effect.Bound refl refl refl refl refl (λ k h. cc) (λ k n h. cc) w work
+done_well limits s client (Call.SetDispensable key) known w work = effect_well limits s client (Call.SetDispensable key) Reply.Done known key Effect.Dispensable refl refl refl refl refl (λ k h. cc) (λ k n h. cc) w work
+done_well limits s client (Call.SetWeak key) known w work = effect_well limits s client (Call.SetWeak key) Reply.Done known key Effect.Weak refl refl refl refl refl (λ k h. cc) (λ k n h. cc) w work
+done_well limits s client (Call.SetWeakOk key children) known w work = effect_well limits s client (Call.SetWeakOk key children) Reply.Done known key (Effect.WeakOk children) refl refl refl refl refl (λ k h. cc) (λ k n h. cc) w work
+done_well limits s client (Call.SetConstraints key demand) known w work = effect_well limits s client (Call.SetConstraints key demand) Reply.Done known key (Effect.Constrained demand) refl refl refl refl refl (λ k h. cc) (λ k n h. cc) w work
+done_well limits s client (Call.Release key) known w work = effect_well limits s client (Call.Release key) Reply.Done known key Effect.Released refl refl refl refl refl (λ k h. h) (λ k n h. cc) w work
 done_well limits s client (Call.Close key) known w work = close_well limits s client key known w work
 done_well limits s client (Call.DropHandle buffer strength) known w work = drop_well limits s client buffer strength known w work
 done_well limits s client _ known w work = none_some work
@@ -324,10 +325,10 @@ well limits s client (Call.AttachToken above) (Reply.Token key c) known w work =
 well limits s client call (Reply.Misused m) known w work = misused_well limits s client call m known w work
 well limits s client call Reply.Done known w work = done_well limits s client call known w work
 well limits s client (Call.Take key) (Reply.Taken c strength set) known w work =
-    effect_well limits s client (Call.Take key) (Reply.Taken c strength set) known key refl refl refl refl refl (λ k h. cc) (λ k n h. cc) w work
+    effect_well limits s client (Call.Take key) (Reply.Taken c strength set) known key Effect.Taken refl refl refl refl refl (λ k h. cc) (λ k n h. cc) w work
 well limits s client (Call.TrackNode key) (Reply.Tracker id) known w work =
-    effect_well limits s client (Call.TrackNode key) (Reply.Tracker id) known key refl refl refl refl refl (λ k h. cc) (λ k n is at. few k n is at) w work
+    effect_well limits s client (Call.TrackNode key) (Reply.Tracker id) known key Effect.Tracked refl refl refl refl refl (λ k h. cc) (λ k n is at. few k n is at) w work
   where
-    few : (k : NodeKey) (n : Node) → Change.Effect (Call.TrackNode key) ≡ Change.Effect (Call.TrackNode k) → node_at s.forest k ≡ Some n → n.trackers < 64
+    few : (k : NodeKey) (n : Node) → Change.Effect key Effect.Tracked ≡ Change.Effect k Effect.Tracked → node_at s.forest k ≡ Some n → n.trackers < 64
     few k n is at = let same : key ≡ k = cc in few_trackers limits s client key id known n (rw same at)
 well limits s client _ _ known w work = none_some work

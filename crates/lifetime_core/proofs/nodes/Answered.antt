@@ -1,5 +1,5 @@
 -- What an event that bears no node makes of the nodes of a collection.
-use Rattle.std.proofs.Common.{ℕ, ◌≡◌, ◌+◌, refl, ap, ◌∙◌, true, false, [], ◌∷◌, map, Option, Some, None}
+use Rattle.std.proofs.Common.{ℕ, ◌≡◌, ◌+◌, refl, ap, ◌∙◌, false, [], ◌∷◌, map, Option, Some, None}
 use Rattle.sm_names.specs.declared.keys.NodeKey.{NodeKey}
 use Rattle.sm_names.specs.declared.messages.Call.{Call}
 use Rattle.sm_names.specs.declared.messages.Reply.{Reply}
@@ -12,8 +12,9 @@ use Rattle.sm_names.specs.Reading.{readings}
 use Rattle.sm_names.specs.Sameness.{same_key}
 use Rattle.sm_names.specs.Timelines.{key_of}
 use Rattle.sm_names.proofs.GrowthLaws.{Grows}
+use Rattle.alloc_event.specs.declared.change.Effect.{Effect}
 use Rattle.alloc_event.specs.declared.node.Node.{Node}
-use Rattle.alloc_event.specs.Nodes.{affected}
+use Rattle.alloc_event.proofs.changes.Effecting.{alone_affected}
 use Rattle.lifetime_core.specs.declared.task.Place.{Place}
 use Rattle.lifetime_core.specs.Shown.{node_after, nodes_after}
 use Rattle.lifetime_core.specs.Steps.{end_by, place_of}
@@ -31,27 +32,18 @@ no_birth here there _ h = refl
 
 -- ---- a node that the call does not name
 
--- what the call sets is not set there
-affected_other : (call : Call) (n : Node) → ((key : NodeKey) → key_of call ≡ Some key → same_key key n.key ≡ false) → affected call n ≡ n
-affected_other (Call.Bind key) n other = let e : same_key key n.key ≡ false = other key refl in rw e refl
-affected_other (Call.SetDispensable key) n other = let e : same_key key n.key ≡ false = other key refl in rw e refl
-affected_other (Call.SetWeak key) n other = let e : same_key key n.key ≡ false = other key refl in rw e refl
-affected_other (Call.SetWeakOk key true) n other = let e : same_key key n.key ≡ false = other key refl in rw e refl
-affected_other (Call.SetWeakOk key false) n other = let e : same_key key n.key ≡ false = other key refl in rw e refl
-affected_other (Call.SetConstraints key demand) n other = let e : same_key key n.key ≡ false = other key refl in rw e refl
-affected_other (Call.Take key) n other = let e : same_key key n.key ≡ false = other key refl in rw e refl
-affected_other (Call.Release key) n other = let e : same_key key n.key ≡ false = other key refl in rw e refl
-affected_other (Call.TrackNode key) n other = let e : same_key key n.key ≡ false = other key refl in rw e refl
-affected_other call n other = refl
-
--- whatever the answer
+-- what the call sets is not set there, whatever the answer
 pub said_other : (reply : Reply) (call : Call) (n : Node) → ((key : NodeKey) → key_of call ≡ Some key → same_key key n.key ≡ false) → said call reply n ≡ n
-said_other Reply.Done (Call.Take key) n other = refl
-said_other Reply.Done (Call.TrackNode key) n other = refl
-said_other Reply.Done call n other = affected_other call n other
-said_other (Reply.Taken collection strength set) (Call.Take key) n other = affected_other (Call.Take key) n other
+said_other Reply.Done (Call.Bind key) n other = alone_affected key Effect.Bound n (other key refl)
+said_other Reply.Done (Call.SetDispensable key) n other = alone_affected key Effect.Dispensable n (other key refl)
+said_other Reply.Done (Call.SetWeak key) n other = alone_affected key Effect.Weak n (other key refl)
+said_other Reply.Done (Call.SetWeakOk key children) n other = alone_affected key (Effect.WeakOk children) n (other key refl)
+said_other Reply.Done (Call.SetConstraints key demand) n other = alone_affected key (Effect.Constrained demand) n (other key refl)
+said_other Reply.Done (Call.Release key) n other = alone_affected key Effect.Released n (other key refl)
+said_other Reply.Done call n other = refl
+said_other (Reply.Taken collection strength set) (Call.Take key) n other = alone_affected key Effect.Taken n (other key refl)
 said_other (Reply.Taken collection strength set) call n other = refl
-said_other (Reply.Tracker id) (Call.TrackNode key) n other = affected_other (Call.TrackNode key) n other
+said_other (Reply.Tracker id) (Call.TrackNode key) n other = alone_affected key Effect.Tracked n (other key refl)
 said_other (Reply.Tracker id) call n other = refl
 said_other reply call n other = refl
 

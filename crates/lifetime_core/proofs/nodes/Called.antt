@@ -21,8 +21,10 @@ use Rattle.sm_names.proofs.GrowthLaws.{Grows}
 use Rattle.event_laws.specs.ByEvent.{sends, delivers}
 use Rattle.event_laws.proofs.FreeEndLaws.{FreeEnd, sends_free}
 use Rattle.event_laws.proofs.TransitLaws.{EndAt, end_at, transit_mark, delivers_waited}
+use Rattle.alloc_event.specs.declared.change.Effect.{Effect}
 use Rattle.alloc_event.specs.declared.node.End.{End}
 use Rattle.alloc_event.specs.declared.node.Node.{Node}
+use Rattle.alloc_event.specs.Effects.{effect_of}
 use Rattle.alloc_event.specs.Nodes.{affected}
 use Rattle.lifetime_core.specs.declared.task.Place.{Place}
 use Rattle.lifetime_core.specs.Shown.{node_after, end_after}
@@ -31,27 +33,15 @@ use Rattle.lifetime_core.proofs.ends.NotRead.{placed_node}
 
 -- ---- words
 
--- what a call that was answered Done makes of a node, but for its end: a Take or a TrackNode is answered so never
-abbrev pub done_makes : Call → Node → Node
-done_makes (Call.Take key) n = n
-done_makes (Call.TrackNode key) n = n
-done_makes call n = affected call n
-
--- a Take that was answered Taken takes effect: no other call is answered so
-abbrev pub taken_makes : Call → Node → Node
-taken_makes (Call.Take key) n = affected (Call.Take key) n
-taken_makes _ n = n
-
--- a tracker of a node is counted there: those of lifetimes and buffers are not
-abbrev pub tracker_makes : Call → Node → Node
-tracker_makes (Call.TrackNode key) n = affected (Call.TrackNode key) n
-tracker_makes _ n = n
+-- what the effect of an answered call makes of a node
+abbrev pub effect_makes : Call → Reply → Node → Node
+effect_makes call reply n = option_map_or (λ (e : NodeKey × Effect). affected e.0 e.1 n) (effect_of call reply) n
 
 -- what an answered call makes of a node, but for its end: with any other answer it makes nothing of it
 abbrev pub said : Call → Reply → Node → Node
-said call Reply.Done n = done_makes call n
-said call (Reply.Taken collection strength set) n = taken_makes call n
-said call (Reply.Tracker id) n = tracker_makes call n
+said call Reply.Done n = effect_makes call Reply.Done n
+said call (Reply.Taken collection strength set) n = effect_makes call (Reply.Taken collection strength set) n
+said call (Reply.Tracker id) n = effect_makes call (Reply.Tracker id) n
 said call _ n = n
 
 -- what the event makes of a node that was there

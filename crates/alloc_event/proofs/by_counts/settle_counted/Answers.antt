@@ -1,4 +1,4 @@
--- A loss is one of its origin by its cause.
+-- A loss is one of its origin by its cause, and an effect one on its node.
 use Rattle.std.proofs.Common.{◌≡◌, Bool, ℕ, true, sym, subst, IfOk}
 use Rattle.alloc_event.specs.declared.change.Change.{Change}
 use Rattle.alloc_event.specs.Kept.{Finishes, forest_of, shelves_of}
@@ -14,3 +14,9 @@ returns-in-Loss-clause-ok c =
     subst (λ (change : Change). IfOk c.fail_in_place.result (λ (made : Bool). made ≡ true → (pool : ℕ) (handles : Handles) →
     Finishes pool handles c.args.table.now (shelves_of c.args.entries.now.items) c.fail_in_place.new.table (shelves_of c.fail_in_place.new.entries.items)
     (changed change no_key (collection_or_new (forest_of c.args.table.now (shelves_of c.args.entries.now.items)) c.args.id)))) (sym c.in-Loss.is) c.fail_in_place.ensures.ok
+
+pub returns-in-Effect-clause-ok : goal.returns-in-Effect-clause-ok
+returns-in-Effect-clause-ok c =
+    subst (λ (change : Change). IfOk c.settle_effect.result (λ (made : Bool). made ≡ true → (pool : ℕ) (handles : Handles) →
+    Finishes pool handles c.args.table.now (shelves_of c.args.entries.now.items) c.settle_effect.new.table (shelves_of c.settle_effect.new.entries.items)
+    (changed change no_key (collection_or_new (forest_of c.args.table.now (shelves_of c.args.entries.now.items)) c.args.id)))) (sym c.in-Effect.is) c.settle_effect.ensures.ok

@@ -2,6 +2,6 @@ use Rattle.std.proofs.Common.{◌≡◌, ◌++◌, map, take, drop}
 use Rattle.alloc_event.specs.Nodes.{affected}
 use Rattle.alloc_event.proofs.effects.affect.Given as goal
 
--- the call took effect on those so far
+-- the effect was made on those so far
 abbrev pub invariant-loop-node : goal.invariant-loop-node
-invariant-loop-node l = l.nodes ≡ map (affected l.call) (take l.node-index l.fn.nodes) ++ drop l.node-index l.fn.nodes
+invariant-loop-node l = l.nodes ≡ map (affected l.key l.effect) (take l.node-index l.fn.nodes) ++ drop l.node-index l.fn.nodes

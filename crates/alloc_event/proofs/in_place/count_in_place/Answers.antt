@@ -2,7 +2,6 @@
 use Rattle.std.proofs.Common.{◌≡◌, ◌+◌, ◌<◌, ◌⊎◌, false, inl, inr, is_some, List, map, length, Some, sym, ◌∙◌, ap, subst, arith}
 use Rattle.std.proofs.lemmas.Bool.{lt-ltb}
 use Rattle.sm_names.specs.Words.{times}
-use Rattle.sm_names.specs.Timelines.{key_of}
 use Rattle.node_table.specs.Table.{node_at}
 use Rattle.node_table.specs.Changes.{Writes}
 use Rattle.node_table.specs.Lending.{table_with_node}
@@ -17,22 +16,22 @@ use Rattle.alloc_event.specs.Kept.{is_strong, nodes_with}
 use Rattle.alloc_event.specs.Nodes.{affected}
 use Rattle.alloc_event.specs.Questions.{is_live_node}
 use Rattle.alloc_event.proofs.changes.Altering.{same_affected}
-use Rattle.alloc_event.proofs.changes.Effecting.{counted_made, counted_named, less_is, live_before, live_is, strong_before, strong_is, unready_before, unready_is}
+use Rattle.alloc_event.proofs.changes.Effecting.{counted_made, less_is, live_before, live_is, strong_before, strong_is, unready_before, unready_is}
 use Rattle.alloc_event.proofs.tables.Storing.{row_there}
 use Rattle.alloc_event.proofs.in_place.count_in_place.Goals.{else-is_unready-via-then-is_unready+then-unready-eq0+else-is_due, else-is_unready-via-then-is_unready+else-unready-eq0, else-is_unready-via-else-is_unready}
 use Rattle.alloc_event.proofs.in_place.count_in_place.Goals as goal
 
 pub write-requires : goal.write-requires
 write-requires c =
-    let n : Node = c.in-Some-copied.node in
-    let was : node_at c.args.table.now c.in-Some.key ≡ Some n = sym c.get.ensures ∙ sym c.copied.ensures ∙ c.in-Some-copied.is in
-    let own : c.affected_by-after.result.key ≡ c.in-Some.key =
-    ap (λ (m : Node). m.key) c.affected_by-after.ensures ∙ (same_affected c.args.call.now n).key ∙ c.requires.named c.in-Some.key n was in
+    let n : Node = c.in-Some.node in
+    let was : node_at c.args.table.now c.args.key ≡ Some n = sym c.get.ensures ∙ sym c.copied.ensures ∙ c.in-Some.is in
+    let own : c.affected_by-after.result.key ≡ c.args.key =
+    ap (λ (m : Node). m.key) c.affected_by-after.ensures ∙ (same_affected c.args.key c.args.effect.now n).key ∙ c.requires.named c.args.key n was in
     row_there c.args.table.now c.affected_by-after.result.key (ap is_some (ap (node_at c.args.table.now) own ∙ was))
 
 -- the unit does not get its buffers next, or waits for another, or did not wait for the node
-guard : (c : goal.After-put_unit) → (is_unready c.in-Some-copied.node ≡ false) ⊎ ((0 < c.less-unready.result)
-    ⊎ (is_due_at c.args.table.now c.in-Some-copied.node.head ≡ false))
+guard : (c : goal.After-put_unit) → (is_unready c.in-Some.node ≡ false) ⊎ ((0 < c.less-unready.result)
+    ⊎ (is_due_at c.args.table.now c.in-Some.node.head ≡ false))
 guard c = elim c.else-is_unready.branch [
   | else-is_unready-via-then-is_unready+then-unready-eq0+else-is_due w ↦ inr (inr (sym w.is_due.ensures ∙ w.if-is_due.false))
   | else-is_unready-via-then-is_unready+else-unready-eq0 w ↦ inr (inl (omega (arith, w.if-unready-eq0.false)))
@@ -41,34 +40,34 @@ guard c = elim c.else-is_unready.branch [
 
 pub returns-clause-some : goal.returns-clause-some
 returns-clause-some c ss s opens =
-    let n : Node = c.in-Some-copied.node in
+    let n : Node = c.in-Some.node in
     let t = c.args.table.now in
-    let call = c.args.call.now in
+    let key = c.args.key in
+    let effect = c.args.effect.now in
     let us = c.args.units.now.items in
-    let named : key_of call ≡ Some c.in-Some.key = counted_named call c.in-Some.key (sym c.counted_key.ensures ∙ c.in-Some.is) in
-    let was : node_at t c.in-Some.key ≡ Some n = sym c.get.ensures ∙ sym c.copied.ensures ∙ c.in-Some-copied.is in
-    let after : c.affected_by-after.result ≡ affected call n = c.affected_by-after.ensures in
-    let becomes : c.write.new.table ≡ table_with_node t (affected call n).key (affected call n) =
+    let was : node_at t c.args.key ≡ Some n = sym c.get.ensures ∙ sym c.copied.ensures ∙ c.in-Some.is in
+    let after : c.affected_by-after.result ≡ affected key effect n = c.affected_by-after.ensures in
+    let becomes : c.write.new.table ≡ table_with_node t (affected key effect n).key (affected key effect n) =
     subst (λ (m : Node). c.write.new.table ≡ table_with_node t m.key m) after c.write.ensures.becomes in
-    let writes : Writes t c.write.new.table (affected call n).key (affected call n) =
+    let writes : Writes t c.write.new.table (affected key effect n).key (affected key effect n) =
     subst (λ (m : Node). Writes t c.write.new.table m.key m) after c.write.ensures.writes in
     let within : n.head.slot < length us = omega (arith, c.if-slot-len.false, c.len.ensures) in
     let unit : c.unit_in-unit.result ≡ unit_at us n.head.slot = rw c.deref.ensures.value at c.unit_in-unit.ensures in
-    let left : c.less-left.result ≡ strong_count (map (affected call) (nodes_with t s.keys)) =
-    less_is c.args.strong c.less-left.result c.is_strong.result c.is_strong-2.result (is_strong n) (is_strong (affected call n))
-    c.less-left.ensures c.is_strong.ensures (c.is_strong-2.ensures ∙ ap is_strong after) (strong_before call n) _
-    (strong_is t c.write.new.table us call c.in-Some.key named n was becomes writes ss s c.args.strong opens) in
-    let live : c.less-live.result ≡ times (lives_in n.head) (map (affected call) (nodes_with t s.keys)) =
-    less_is c.unit_in-unit.result.live c.less-live.result c.is_live.result c.is_live-2.result (is_live_node n) (is_live_node (affected call n))
-    c.less-live.ensures c.is_live.ensures (c.is_live-2.ensures ∙ ap is_live_node after) (live_before call n) _
-    (live_is t c.write.new.table us call c.in-Some.key named n was becomes writes ss s c.args.strong opens within
-    ∙ ap (λ (u : Unit). u.live + bit (is_live_node (affected call n))) (sym unit)) in
-    let unready : c.less-unready.result ≡ times (waits_in n.head) (map (affected call) (nodes_with t s.keys)) =
-    less_is c.unit_in-unit.result.unready c.less-unready.result c.is_unready.result c.is_unready-2.result (is_unready n) (is_unready (affected call n))
-    c.less-unready.ensures c.is_unready.ensures (c.is_unready-2.ensures ∙ ap is_unready after) (unready_before call n) _
-    (unready_is t c.write.new.table us call c.in-Some.key named n was becomes writes ss s c.args.strong opens within
-    ∙ ap (λ (u : Unit). u.unready + bit (is_unready (affected call n))) (sym unit)) in
-    subst (λ (l : List Unit). IsMade t c.write.new.table l ss s (Change.Effect call) c.less-left.result) (sym c.put_unit.ensures)
-    (counted_made t c.write.new.table us call c.in-Some.key named n was becomes writes ss s c.args.strong opens within
+    let left : c.less-left.result ≡ strong_count (map (affected key effect) (nodes_with t s.keys)) =
+    less_is c.args.strong c.less-left.result c.is_strong.result c.is_strong-2.result (is_strong n) (is_strong (affected key effect n))
+    c.less-left.ensures c.is_strong.ensures (c.is_strong-2.ensures ∙ ap is_strong after) (strong_before key effect n) _
+    (strong_is t c.write.new.table us key effect n was becomes writes ss s c.args.strong opens) in
+    let live : c.less-live.result ≡ times (lives_in n.head) (map (affected key effect) (nodes_with t s.keys)) =
+    less_is c.unit_in-unit.result.live c.less-live.result c.is_live.result c.is_live-2.result (is_live_node n) (is_live_node (affected key effect n))
+    c.less-live.ensures c.is_live.ensures (c.is_live-2.ensures ∙ ap is_live_node after) (live_before key effect n) _
+    (live_is t c.write.new.table us key effect n was becomes writes ss s c.args.strong opens within
+    ∙ ap (λ (u : Unit). u.live + bit (is_live_node (affected key effect n))) (sym unit)) in
+    let unready : c.less-unready.result ≡ times (waits_in n.head) (map (affected key effect) (nodes_with t s.keys)) =
+    less_is c.unit_in-unit.result.unready c.less-unready.result c.is_unready.result c.is_unready-2.result (is_unready n) (is_unready (affected key effect n))
+    c.less-unready.ensures c.is_unready.ensures (c.is_unready-2.ensures ∙ ap is_unready after) (unready_before key effect n) _
+    (unready_is t c.write.new.table us key effect n was becomes writes ss s c.args.strong opens within
+    ∙ ap (λ (u : Unit). u.unready + bit (is_unready (affected key effect n))) (sym unit)) in
+    subst (λ (l : List Unit). IsMade t c.write.new.table l ss s (Change.Effect key effect) c.less-left.result) (sym c.put_unit.ensures)
+    (counted_made t c.write.new.table us key effect n was becomes writes ss s c.args.strong opens within
     (record { live = c.less-live.result; unready = c.less-unready.result }) live unready
     c.less-left.result (lt-ltb 0 c.less-left.result (omega (arith, c.if-left-eq0.false))) left (c.is_held.ensures c.if-not-is_held.false) (guard c))

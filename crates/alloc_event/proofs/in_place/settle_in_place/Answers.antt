@@ -25,9 +25,9 @@ index_mut-requires c =
     omega (arith, (place_is c.args.id c.args.entries.now.items c.in-Some.at told).within)
 
 pub change_in_place-requires-clause-room : goal.change_in_place-requires-clause-room
-change_in_place-requires-clause-room c call key n is found =
-    tracker_room c.args.table.now (shelves_of c.args.entries.now.items) c.requires.kept call
-    (λ k m e there. c.requires.change.trackers k m (is ∙ ap (λ x. Change.Effect x) e) there) key n found
+change_in_place-requires-clause-room c key effect at n is found =
+    tracker_room c.args.table.now (shelves_of c.args.entries.now.items) c.requires.kept key effect
+    (λ m e there. c.requires.change.trackers key m (is ∙ ap (Change.Effect key) e) there) at n found
 
 -- the entry that was read, and the place where it stands
 module _ (c : goal.After-entries-1) where
