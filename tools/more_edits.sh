@@ -1,8 +1,9 @@
 #!/usr/bin/env bash
 # Tries the wrong edits that the gate leaves out, crates/NAME/more-edits/*.edit: the prover must refuse each.
-#   tools/more_edits.sh [-j LANES] [NAME..]
-# With no NAME it tries those of every crate. Each crate is proved first, over what stands in out/; then LANES (2)
-# copies of the repository take the edits in turn, each over the kept work of its crate, in 10 to 40 seconds.
+#   tools/more_edits.sh [-j LANES] [NAME | NAME/EDIT.edit ..]
+# With no NAME it tries those of every crate; NAME/EDIT.edit is one edit, of more-edits/ or of must-fail/. Each crate is
+# proved first, over what stands in out/; then LANES (2) copies of the repository take the edits in turn, each over the
+# kept work of its crate, in 10 to 40 seconds.
 # The last line counts.
 set -eu
 cd "$(dirname "$0")/.."
@@ -11,12 +12,26 @@ if [ "${1-}" = -j ]; then
   lanes=$2
   shift 2
 fi
-names=("$@")
-if [ ${#names[@]} = 0 ]; then
-  for folder in crates/*/more-edits; do names+=("$(basename "$(dirname "$folder")")"); done
+asked=("$@")
+if [ ${#asked[@]} = 0 ]; then
+  for folder in crates/*/more-edits; do asked+=("$(basename "$(dirname "$folder")")"); done
 fi
 room=$(mktemp -d)
 trap 'rm -rf "$room"' EXIT
+
+# The edits that are asked for, each a crate and a file of it.
+for what in "${asked[@]}"; do
+  name=${what%%/*}
+  if [ "$name" = "$what" ]; then
+    for file in "crates/$name/more-edits"/*.edit; do echo "$name $file"; done
+  else
+    file="crates/$name/more-edits/${what#*/}"
+    [ -f "$file" ] || file="crates/$name/must-fail/${what#*/}"
+    [ -f "$file" ] || { echo "no edit $what" >&2; exit 2; }
+    echo "$name $file"
+  fi
+done >"$room/edits"
+mapfile -t names < <(cut -d ' ' -f 1 "$room/edits" | uniq)
 mkdir "$room/1"
 tar -c --exclude=.git . | tar -x -C "$room/1"
 for name in "${names[@]}"; do
@@ -27,9 +42,6 @@ for name in "${names[@]}"; do
   }
 done
 for ((lane = 2; lane <= lanes; lane++)); do cp -a "$room/1" "$room/$lane"; done
-for name in "${names[@]}"; do
-  for edit in "crates/$name/more-edits"/*.edit; do echo "$name $(basename "$edit")"; done
-done >"$room/edits"
 
 # Changes the texts that an edit names: each stands once in its file.
 apply() {
@@ -53,7 +65,7 @@ PYTHON
 try_edit() {
   local lane=$1 name=$2 edit=$3 crate="$room/$1/crates/$2" log="$room/$1.log" said
   tar -c -C "$crate" --exclude=./out . >"$room/$lane.tar"
-  if ! said=$(cd "$crate" && apply "more-edits/$edit" 2>&1); then
+  if ! said=$(cd "$crate" && apply "${edit#"crates/$name/"}" 2>&1); then
     said="BAD EDIT: $said"
   elif (cd "$crate" && rt check --jobs 1 >"$log" 2>&1); then
     said="NOT REFUSED"
@@ -64,7 +76,7 @@ try_edit() {
   fi
   (cd "$crate" && find . -mindepth 1 -maxdepth 1 ! -name out -exec rm -rf {} +)
   tar -x -C "$crate" -f "$room/$lane.tar"
-  echo "$name/$edit: $said"
+  echo "$name/$(basename "$edit"): $said"
 }
 
 # Each lane takes every LANESth edit, so that it goes from crate to crate once.
