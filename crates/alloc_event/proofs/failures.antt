@@ -1,5 +1,7 @@
 -- What a loss takes.
 pub mod Crossing
+pub mod Emptied
+pub mod Endings
 pub mod Fallen
 pub mod Goings
 pub mod Takings

@@ -1,6 +1,7 @@
 -- Nodes that go in their places. No public clause cites this module.
-use Rattle.std.specs.Prelude.{◌≡◌, ◌≢◌, ℕ, ◌-◌, Bool, true, false, ◌||◌, ◌&&◌, not, ◌==◌, nat_lt, if◌then◌else◌, List, [], ◌∷◌, set, Some}
+use Rattle.std.specs.Prelude.{◌≡◌, ◌≢◌, ℕ, ◌-◌, ⊤, Bool, true, false, ◌||◌, ◌&&◌, not, ◌==◌, nat_lt, if◌then◌else◌, List, [], ◌∷◌, set, Some}
 use Rattle.std.specs.List.{AllPairs, list_any}
+use Rattle.std.specs.List.Sorted.{IsSorted}
 use Rattle.std.specs.Option.{option_map_or}
 use Rattle.std.specs.Ordering.{nat_cmp, ordering_then}
 use Rattle.std.specs.declared.cmp.Ordering.{Ordering}
@@ -69,15 +70,33 @@ pub record IsTop (t : Table Node) (keys : List NodeKey) (head : NodeKey) (attach
 abbrev pub change_of : Going → Change
 change_of (Going.Fails fault) = Change.Loss fault.origin fault.cause
 change_of (Going.Leaves key) = Change.Effect key Effect.Released
+change_of (Going.Ends fault keys) = Change.Loss fault.origin fault.cause
 
 -- the node, gone so
 abbrev pub gone_by : Going → Node → Node
 gone_by (Going.Fails fault) n = lost (λ _. true) fault n
 gone_by (Going.Leaves key) n = record n { released = same_key key n.key || n.released; gone = true }
+gone_by (Going.Ends fault keys) n = record (lost (λ m. list_any (same_key m.key) keys.items) fault n) { gone = true }
+
+-- keys that are searched stand in order
+abbrev pub IsOrdered : Going → Type 0
+IsOrdered (Going.Fails fault) = ⊤
+IsOrdered (Going.Leaves key) = ⊤
+IsOrdered (Going.Ends fault keys) = IsSorted key_order keys.items
+
+-- those that fail are what the failure takes
+abbrev pub IsFailing : Table Node → Going → Type 0
+IsFailing t (Going.Fails fault) = ⊤
+IsFailing t (Going.Leaves key) = ⊤
+IsFailing t (Going.Ends fault keys) = IsFall t fault.origin keys.items
 
 -- the node is live, and stays so where the one with this key is released
 abbrev pub stays_live : NodeKey → Node → Bool
 stays_live key n = is_live_node n && not (same_key key n.key)
+
+-- the node is live, and not one of these
+abbrev pub is_spared : List NodeKey → Node → Bool
+is_spared keys n = is_live_node n && not (list_any (same_key n.key) keys)
 
 -- the key stands first
 abbrev pub is_first : NodeKey → List NodeKey → Bool
@@ -85,11 +104,14 @@ is_first key [] = false
 is_first key (k ∷ ks) = same_key k key
 
 -- nodes that a failure at this key takes, of which the highest is attached or not, may go so: they fail by it, or the
--- highest is attached, and none is live once one of them is released
+-- highest is attached, and none is live once one of them is released, or some below the highest failed
 abbrev pub may_go : Going → NodeKey → Bool → List NodeKey → List Node → Bool
 may_go (Going.Fails fault) origin attached keys nodes = same_key origin fault.origin
 may_go (Going.Leaves key) origin attached keys nodes =
     attached && (is_first origin keys && (list_any (same_key key) keys && not (list_any (stays_live key) nodes)))
+may_go (Going.Ends fault failing) origin attached keys nodes =
+    attached && (is_first origin keys && (list_any (same_key fault.origin) keys
+    && (not (list_any (same_key origin) failing.items) && not (list_any (is_spared failing.items) nodes))))
 
 -- a node of the unit lives, and the unit does not become ready by what falls, or has its buffers
 abbrev pub is_kept_up : Table Node → Unit → Unit → NodeKey → Bool → Bool

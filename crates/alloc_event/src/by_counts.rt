@@ -7,8 +7,8 @@ ghost use Rattle.alloc_event.specs.Kept.{IsKept, Finishes, SameTable, shelves_of
 ghost use Rattle.alloc_event.specs.Settling.{Handles, MayChange, changed, collection_or_new, no_key};
 
 use crate::change::{Change, Effect};
+use crate::emptied::{fail_in_place, leave_in_place};
 use crate::entry::Entry;
-use crate::falling::{fail_in_place, leave_in_place};
 use crate::in_place::settle_in_place;
 use crate::node::Node;
 use crate::units::Unit;

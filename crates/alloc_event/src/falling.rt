@@ -1,15 +1,13 @@
 //! Losses and ends in their places: what goes is found first, and then each node goes.
-ghost use Rattle.std.specs.Prelude.{◌≡◌, ◌⊎◌, ◌≢◌, ℕ, List, Some, None, true, false, IfOk, IfSome, IsSome, OnErr, map};
-ghost use Rattle.std.specs.List.{find, list_all, list_any};
+ghost use Rattle.std.specs.Prelude.{◌≡◌, ◌⊎◌, ℕ, List, Some, None, true, false, IfOk, IfSome, IsSome, OnErr, map};
+ghost use Rattle.std.specs.List.{list_any};
+ghost use Rattle.std.specs.List.Sorted.{IsSorted};
 ghost use Rattle.sm_names.specs.declared.keys.NodeKey.{NodeKey as Key};
-ghost use Rattle.sm_names.specs.Sameness.{same_key};
 ghost use Rattle.node_table.specs.Table.{node_at, row_at};
-ghost use Rattle.alloc_event.specs.declared.change.Change.{Change as Changed};
-ghost use Rattle.alloc_event.specs.declared.change.Effect.{Effect as Effected};
 ghost use Rattle.alloc_event.specs.declared.node.Node.{Node as Kept};
 ghost use Rattle.alloc_event.specs.Calm.{AreCounted, over_but};
 ghost use Rattle.alloc_event.specs.Counts.{AreUnitsBut, HaveUnits, unit_at};
-ghost use Rattle.alloc_event.specs.Falling.{IsLost, IsTaken, IsTop, change_of, gone_by, is_first, is_kept_up, lowered, may_go, stays_live, untallied, without_node};
+ghost use Rattle.alloc_event.specs.Falling.{IsFailing, IsLost, IsOrdered, IsTaken, IsTop, change_of, gone_by, is_first, is_kept_up, is_spared, key_order, lowered, may_go, stays_live, untallied, without_node};
 ghost use Rattle.alloc_event.specs.InPlace.{IsOpen};
 ghost use Rattle.alloc_event.specs.Kept.{Finishes, IsKept, SameTable, Shelf, all_of, collection_in, forest_of, nodes_with, shelves_of};
 ghost use Rattle.alloc_event.specs.Settling.{Handles, MayChange, changed, collection_or_new, no_key};
@@ -18,7 +16,7 @@ use crate::entry::{Entry, place_of};
 use crate::forgetting::is_listed;
 use crate::in_place::is_served;
 use crate::kept::{count_strong, is_over, is_some_over};
-use crate::losses::fail;
+use crate::losses::{fail, is_among, order};
 use crate::node::Node;
 use crate::questions::is_live;
 use crate::store::{load_nodes, store};
@@ -61,22 +59,31 @@ fn untally(units: &mut Vec<Unit>, nodes: &[Node])
 }
 
 /// How nodes go.
-#[derive(Clone, Copy)]
+#[derive(Drop)]
 pub(crate) enum Going {
     /// They fail.
     Fails(Fault),
     /// They leave with the unit that is left without a live node by the release of this one.
     Leaves(NodeKey),
+    /// Those with these keys, which stand in order, fail, and the others leave with the unit that is
+    /// left without a live node by it.
+    Ends(Fault, Vec<NodeKey>),
 }
 
 /// The node goes. One that is gone keeps its fault.
 fn go(node: &mut Node, going: &Going)
+    requires { IsOrdered going.now }
     ensures { node.new ≡ gone_by going.now node.old }
 {
-    match *going {
-        Going::Fails(fault) => fail(node, true, fault),
+    match going {
+        Going::Fails(fault) => fail(node, true, *fault),
         Going::Leaves(key) => {
-            node.released = key == node.key || node.released;
+            node.released = *key == node.key || node.released;
+            node.gone = true;
+        }
+        Going::Ends(fault, keys) => {
+            let taken = is_among(keys, node.key);
+            fail(node, taken, *fault);
             node.gone = true;
         }
     }
@@ -84,6 +91,7 @@ fn go(node: &mut Node, going: &Going)
 
 /// Each node goes.
 fn go_each(nodes: &mut [Node], going: &Going)
+    requires { IsOrdered going.now }
     ensures { nodes.new ≡ map (gone_by going.now) nodes.old }
 {
     for node in nodes.iter_mut() {
@@ -108,18 +116,42 @@ fn is_some_staying(nodes: &[Node], key: NodeKey) -> bool
     nodes.iter().any(|node| is_live(node) && key != node.key)
 }
 
+/// Whether a node of these is live, and not one with these keys, which stand in order.
+fn is_some_spared(nodes: &[Node], keys: &[NodeKey]) -> bool
+    requires { IsSorted key_order keys.now }
+    ensures { result ≡ list_any (is_spared keys.now) nodes.now }
+{
+    let mut rest = nodes;
+    'on: while let Some((node, more)) = rest.split_first() {
+        if is_live(node) && !is_among(keys, node.key) {
+            return true;
+        }
+        rest = more;
+    }
+    false
+}
+
 /// Whether nodes that a failure at this key takes, of which the highest is attached or not, may go
-/// so: they fail by it, or the highest is attached, and none is live once one of them is released.
+/// so: they fail by it, or the highest is attached, and none is live once one of them is released,
+/// or some below the highest failed.
 fn may_go(going: &Going, origin: NodeKey, attached: bool, keys: &[NodeKey], nodes: &[Node]) -> bool
+    requires { IsOrdered going.now }
     ensures { result ≡ may_go going.now origin attached keys.now nodes.now }
 {
-    match *going {
+    match going {
         Going::Fails(fault) => origin == fault.origin,
         Going::Leaves(key) => {
             attached
                 && is_first(keys, origin)
-                && is_listed(keys, key)
-                && !is_some_staying(nodes, key)
+                && is_listed(keys, *key)
+                && !is_some_staying(nodes, *key)
+        }
+        Going::Ends(fault, failing) => {
+            attached
+                && is_first(keys, origin)
+                && is_listed(keys, fault.origin)
+                && !is_among(failing, origin)
+                && !is_some_spared(nodes, failing)
         }
     }
 }
@@ -133,7 +165,7 @@ fn are_of(nodes: &[Node], id: CollectionId) -> bool
 
 /// The head of the unit above what falls, and whether the highest node that falls heads a unit
 /// itself. `None` where that node has no parent.
-fn unit_above(table: &NodeTable<Node>, keys: &[NodeKey]) -> Option<(NodeKey, bool)>
+pub(crate) fn unit_above(table: &NodeTable<Node>, keys: &[NodeKey]) -> Option<(NodeKey, bool)>
     ensures { IfSome result (λ above. IsTop table.now keys.now above.0 above.1) }
 {
     let Some((key, _)) = keys.split_first() else {
@@ -200,6 +232,8 @@ fn fell(
     requires named { (key : Key) (n : Kept) → node_at table.old key ≡ Some n → n.key ≡ key }
     requires taken { IsTaken table.old origin keys.now }
     requires nodes { nodes.old ≡ nodes_with table.old keys.now }
+    requires ordered { IsOrdered going.now }
+    requires failing { IsFailing table.old going.now }
     ensures none { result ≡ None → table.new ≡ table.old }
     ensures none_units { result ≡ None → (ss : List Shelf) (s : Shelf) →
         IsOpen table.old units.old.items ss s (change_of going.now) strong → s.id ≡ id →
@@ -271,6 +305,8 @@ fn lose_nodes(
     requires change { MayChange (forest_of table.old (shelves_of entries.old.items)) id (change_of going.now) }
     requires taken { IsTaken table.old origin keys.now }
     requires nodes { nodes.old ≡ nodes_with table.old keys.now }
+    requires ordered { IsOrdered going.now }
+    requires failing { IsFailing table.old going.now }
     ensures no_table { result ≡ false → table.new ≡ table.old }
     ensures no_entries { result ≡ false → entries.new.items ≡ entries.old.items }
     ensures ok { result ≡ true → (pool : ℕ) (handles : Handles) →
@@ -298,14 +334,53 @@ fn lose_nodes(
     true
 }
 
-/// Makes the nodes go in their places that a failure at `origin` takes, if they may go so and the
-/// counts tell that nothing more is forced by it: a strong node of the collection is live after it,
-/// and one of the unit above what goes, which does not become ready by it, or has its buffers.
-/// Answers whether it did; if not, the table and the entries are as they were.
+/// Makes the nodes with these keys go in their places, which are what a failure at `origin` takes,
+/// if they may go so and the counts tell that nothing more is forced by it: a strong node of the
+/// collection is live after it, and one of the unit above what goes, which does not become ready by
+/// it, or has its buffers. Answers whether it did; if not, the table and the entries are as they
+/// were.
 ///
-/// `NoMemory` where the lists of what goes are refused room; then nothing changed but room. It
-/// costs what `fall` costs, and the number of what it takes; where it was not made, a count of the
-/// units of the collection besides.
+/// `NoMemory` where the list of what goes is refused room; then nothing changed. It costs the number
+/// of what goes, with a logarithm for each where some leave by a failure of the others; where it was
+/// not made, a count of the units of the collection besides.
+pub(crate) fn go_in_place(
+    table: &mut NodeTable<Node>,
+    entries: &mut Vec<Entry>,
+    units: &mut Vec<Unit>,
+    id: CollectionId,
+    origin: NodeKey,
+    keys: &[NodeKey],
+    going: &Going,
+) -> Result<bool, NoMemory>
+    requires kept { IsKept table.old (shelves_of entries.old.items) }
+    requires counted { AreCounted table.old entries.old.items }
+    requires units { HaveUnits units.old.items table.old entries.old.items }
+    requires change { MayChange (forest_of table.old (shelves_of entries.old.items)) id (change_of going.now) }
+    requires taken { IsTaken table.old origin keys.now }
+    requires ordered { IsOrdered going.now }
+    requires failing { IsFailing table.old going.now }
+    ensures err_table { OnErr result (table.new ≡ table.old) }
+    ensures err_entries { OnErr result (entries.new.items ≡ entries.old.items) }
+    ensures no_table { IfOk result (λ made. made ≡ false → table.new ≡ table.old) }
+    ensures no_entries { IfOk result (λ made. made ≡ false → entries.new.items ≡ entries.old.items) }
+    ensures ok { IfOk result (λ made. made ≡ true → (pool : ℕ) (handles : Handles) →
+        Finishes pool handles table.old (shelves_of entries.old.items) table.new (shelves_of entries.new.items)
+        (changed (change_of going.now) no_key (collection_or_new (forest_of table.old (shelves_of entries.old.items)) id))) }
+    ensures shelves { shelves_of entries.new.items ≡ shelves_of entries.old.items }
+    ensures kept { IfOk result (λ made. made ≡ true → IsKept table.new (shelves_of entries.old.items)) }
+    ensures counted { IfOk result (λ made. made ≡ true → AreCounted table.new entries.new.items) }
+    ensures units { HaveUnits units.new.items table.new entries.new.items }
+    ensures same { SameTable table.old table.new }
+{
+    let alloc = *entries.allocator();
+    let Ok(mut nodes) = load_nodes(alloc, table, keys) else {
+        return Err(NoMemory);
+    };
+    Ok(lose_nodes(table, entries, units, id, origin, keys, &mut nodes, going))
+}
+
+/// Finds what a failure at `origin` takes, and makes it go in its place, as `go_in_place` does. It
+/// costs what `fall` costs besides.
 pub(crate) fn lose_in_place(
     table: &mut NodeTable<Node>,
     entries: &mut Vec<Entry>,
@@ -319,6 +394,8 @@ pub(crate) fn lose_in_place(
     requires units { HaveUnits units.old.items table.old entries.old.items }
     requires change { MayChange (forest_of table.old (shelves_of entries.old.items)) id (change_of going.now) }
     requires there { IsSome (row_at table.old origin) }
+    requires ordered { IsOrdered going.now }
+    requires failing { IsFailing table.old going.now }
     ensures err_table { OnErr result (table.new ≡ table.old) }
     ensures err_entries { OnErr result (entries.new.items ≡ entries.old.items) }
     ensures no_table { IfOk result (λ made. made ≡ false → table.new ≡ table.old) }
@@ -334,133 +411,5 @@ pub(crate) fn lose_in_place(
 {
     let alloc = *entries.allocator();
     let fallen = fall(alloc, table, origin)?;
-    let Ok(mut nodes) = load_nodes(alloc, table, &fallen.keys) else {
-        return Err(NoMemory);
-    };
-    Ok(lose_nodes(
-        table,
-        entries,
-        units,
-        id,
-        origin,
-        &fallen.keys,
-        &mut nodes,
-        going,
-    ))
-}
-
-/// Makes a loss in its place, if the counts tell that nothing is forced by it, as `lose_in_place`
-/// does.
-pub(crate) fn fail_in_place(
-    table: &mut NodeTable<Node>,
-    entries: &mut Vec<Entry>,
-    units: &mut Vec<Unit>,
-    id: CollectionId,
-    fault: Fault,
-) -> Result<bool, NoMemory>
-    requires kept { IsKept table.old (shelves_of entries.old.items) }
-    requires counted { AreCounted table.old entries.old.items }
-    requires units { HaveUnits units.old.items table.old entries.old.items }
-    requires change { MayChange (forest_of table.old (shelves_of entries.old.items)) id (Changed.Loss fault.origin fault.cause) }
-    ensures err_table { OnErr result (table.new ≡ table.old) }
-    ensures err_entries { OnErr result (entries.new.items ≡ entries.old.items) }
-    ensures no_table { IfOk result (λ made. made ≡ false → table.new ≡ table.old) }
-    ensures no_entries { IfOk result (λ made. made ≡ false → entries.new.items ≡ entries.old.items) }
-    ensures ok { IfOk result (λ made. made ≡ true → (pool : ℕ) (handles : Handles) →
-        Finishes pool handles table.old (shelves_of entries.old.items) table.new (shelves_of entries.new.items)
-        (changed (Changed.Loss fault.origin fault.cause) no_key (collection_or_new (forest_of table.old (shelves_of entries.old.items)) id))) }
-    ensures shelves { shelves_of entries.new.items ≡ shelves_of entries.old.items }
-    ensures kept { IfOk result (λ made. made ≡ true → IsKept table.new (shelves_of entries.old.items)) }
-    ensures counted { IfOk result (λ made. made ≡ true → AreCounted table.new entries.new.items) }
-    ensures units { HaveUnits units.new.items table.new entries.new.items }
-    ensures same { SameTable table.old table.new }
-{
-    lose_in_place(
-        table,
-        entries,
-        units,
-        id,
-        fault.origin,
-        &Going::Fails(fault),
-    )
-}
-
-/// The head of the unit above the one with this head, if it is attached and the counts tell that no
-/// node of it is live.
-fn unit_over(table: &NodeTable<Node>, units: &[Unit], head: NodeKey) -> Option<NodeKey>
-    ensures { IfSome result (λ over. IsSome (row_at table.now over)) }
-{
-    let above = table.get(table.parent(head)?)?;
-    let over = table.get(above.head)?;
-    let unit = unit_in(units, above.head.slot as usize);
-    if over.attached && unit.live == 0 {
-        Some(above.head)
-    } else {
-        None
-    }
-}
-
-/// The highest of the units above one another of which no node is live, from this one on, by the
-/// counts. It costs their number.
-fn highest_over(table: &NodeTable<Node>, units: &[Unit], head: NodeKey) -> NodeKey
-    requires { IsSome (row_at table.now head) }
-    ensures { IsSome (row_at table.now result) }
-{
-    let mut top = head;
-    'up: for _ in 0..table.len() {
-        match unit_over(table, units, top) {
-            Some(over) => top = over,
-            None => return top,
-        }
-    }
-    top
-}
-
-/// The head of the unit that the release of the node with this key leaves without a live node, if
-/// the counts tell that it does and the head is attached; or of the highest of those above it of
-/// which no node is live.
-fn unit_left(table: &NodeTable<Node>, units: &[Unit], key: NodeKey) -> Option<NodeKey>
-    ensures { IfSome result (λ head. IsSome (row_at table.now head)) }
-{
-    let node = table.get(key)?;
-    let head = table.get(node.head)?;
-    let unit = unit_in(units, node.head.slot as usize);
-    if head.attached && is_live(node) && unit.live == 1 {
-        Some(highest_over(table, units, node.head))
-    } else {
-        None
-    }
-}
-
-/// Makes a release in its place that leaves a unit without a live node, and the end of the highest
-/// unit without one above it and of all below that, if none is live there and the counts tell that
-/// nothing more is forced, as `lose_in_place` does. It costs the climb over those units besides.
-pub(crate) fn leave_in_place(
-    table: &mut NodeTable<Node>,
-    entries: &mut Vec<Entry>,
-    units: &mut Vec<Unit>,
-    id: CollectionId,
-    key: NodeKey,
-) -> Result<bool, NoMemory>
-    requires kept { IsKept table.old (shelves_of entries.old.items) }
-    requires counted { AreCounted table.old entries.old.items }
-    requires units { HaveUnits units.old.items table.old entries.old.items }
-    requires change { MayChange (forest_of table.old (shelves_of entries.old.items)) id (Changed.Effect key Effected.Released) }
-    ensures err_table { OnErr result (table.new ≡ table.old) }
-    ensures err_entries { OnErr result (entries.new.items ≡ entries.old.items) }
-    ensures no_table { IfOk result (λ made. made ≡ false → table.new ≡ table.old) }
-    ensures no_entries { IfOk result (λ made. made ≡ false → entries.new.items ≡ entries.old.items) }
-    ensures ok { IfOk result (λ made. made ≡ true → (pool : ℕ) (handles : Handles) →
-        Finishes pool handles table.old (shelves_of entries.old.items) table.new (shelves_of entries.new.items)
-        (changed (Changed.Effect key Effected.Released) no_key (collection_or_new (forest_of table.old (shelves_of entries.old.items)) id))) }
-    ensures shelves { shelves_of entries.new.items ≡ shelves_of entries.old.items }
-    ensures kept { IfOk result (λ made. made ≡ true → IsKept table.new (shelves_of entries.old.items)) }
-    ensures counted { IfOk result (λ made. made ≡ true → AreCounted table.new entries.new.items) }
-    ensures units { HaveUnits units.new.items table.new entries.new.items }
-    ensures same { SameTable table.old table.new }
-{
-    let Some(head) = unit_left(table, units, key) else {
-        return Ok(false);
-    };
-    lose_in_place(table, entries, units, id, head, &Going::Leaves(key))
+    go_in_place(table, entries, units, id, origin, &fallen.keys, going)
 }

@@ -78,7 +78,8 @@ impl Forest {
     /// above has none either. A loss costs what `fall` costs and a binary search, where a node
     /// stays live of the unit above what it takes, and where that unit does not become ready by it
     /// or has its buffers. So does the release of the last live node at or below the head of an
-    /// attached unit, which ends, where a node of the unit above stays live.
+    /// attached unit, which ends, where a node of the unit above stays live; and a loss that leaves
+    /// no live node at or below the head of such a unit, with a logarithm for each node that goes.
     ///
     /// These and any other change cost a copy of the collection, a pass over its units, and the
     /// question for the next step after each that is made. A loss costs besides what `fall` costs,

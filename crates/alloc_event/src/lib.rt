@@ -12,6 +12,7 @@ mod changing;
 pub mod deciding;
 pub mod decision;
 pub mod effects;
+mod emptied;
 pub mod ending;
 mod entry;
 mod falling;

@@ -53,7 +53,7 @@ fn fail_all(nodes: &mut [Node], keys: &[NodeKey], fault: Fault)
 }
 
 /// Puts the keys in order.
-fn order(keys: &mut Vec<NodeKey>)
+pub(crate) fn order(keys: &mut Vec<NodeKey>)
     ensures sorted { IsSorted key_order keys.new.items }
     ensures same { (key : Key) → list_any (same_key key) keys.new.items ≡ list_any (same_key key) keys.old.items }
 {
@@ -61,7 +61,7 @@ fn order(keys: &mut Vec<NodeKey>)
 }
 
 /// Whether the key is one of these, which stand in order. A binary search.
-fn is_among(keys: &[NodeKey], key: NodeKey) -> bool
+pub(crate) fn is_among(keys: &[NodeKey], key: NodeKey) -> bool
     requires { IsSorted key_order keys.now }
     ensures { result ≡ list_any (same_key key) keys.now }
 {

@@ -43,7 +43,7 @@ module _ (c : Collection) (whole : IsWhole c) (falls : NodeKey → Bool) (top ab
     (takes : (n : Node) → In n c.nodes → n.gone ≡ false → falls n.key ≡ is_below c.nodes top.key n.key)
     (w : Node) (w_on : In w c.nodes) (w_lives : is_live_node w ≡ true) (w_below : is_below c.nodes above.head w.key ≡ true) (w_stays : falls w.key ≡ false)
     (none_before : list_any (is_deserted_node c.nodes) c.nodes ≡ false)
-    (g : Node → Node) (same : (n : Node) → IsSameNode (g n) n) (stays : (n : Node) → (g n).gone ≡ n.gone) (alone : (n : Node) → falls n.key ≡ false → g n ≡ n)
+    (g : Node → Node) (same : (n : Node) → IsSameNode (g n) n) (stays : (n : Node) → n.gone ≡ true → (g n).gone ≡ true) (top_stays : (g top).gone ≡ false) (alone : (n : Node) → falls n.key ≡ false → g n ≡ n)
     (dead : (n : Node) → In n c.nodes → falls n.key ≡ true → is_live_node (g n) ≡ false)
     (whole' : IsWhole (with_nodes (map g) c)) where
   abbrev nodes : List Node
@@ -61,6 +61,10 @@ module _ (c : Collection) (whole : IsWhole c) (falls : NodeKey → Bool) (top ab
 
   lives_here : (n : Node) → is_live_node n ≡ true → n.gone ≡ false
   lives_here n h = not-true n.gone (and_left (not n.gone) (not n.released) h)
+
+  -- who is there now was there
+  was_here : (n : Node) → (g n).gone ≡ false → n.gone ≡ false
+  was_here n h = false_if n.gone (λ e. both_ways (g n).gone (stays n e) h)
 
   -- who is live now and does not leave keeps those above it
   keeps : (y z : NodeKey) (x : Node) → In x nodes → falls x.key ≡ false → is_live_node x ≡ true → is_below nodes y x.key ≡ true →
@@ -124,7 +128,7 @@ module _ (c : Collection) (whole : IsWhole c) (falls : NodeKey → Bool) (top ab
   top_passes : is_deserted_node now (g top) ≡ true
   top_passes =
       and_both (is_head (g top)) _ (or_right (is_none (g top).parent) (g top).attached ((same top).attached ∙ attached))
-      (and_both (not (g top).gone) _ (ap not (stays top ∙ top_here))
+      (and_both (not (g top).gone) _ (ap not top_stays)
       (ap not (false_if (list_any (lives_below now (g top).key) now) (λ e.
       let x = In-list_any (lives_below now (g top).key) now e in
       let y = In-map g nodes x.0 x.1 in
@@ -132,7 +136,7 @@ module _ (c : Collection) (whole : IsWhole c) (falls : NodeKey → Bool) (top ab
       let live : is_live_node (g y.0) ≡ true = and_left (is_live_node (g y.0)) (is_below now (g top).key (g y.0).key) both in
       let below : is_below nodes top.key y.0.key ≡ true =
       sym (below_same top.key y.0.key) ∙ (λ i. is_below now (sym (same top).key i) (sym (same y.0).key i)) ∙ and_right (is_live_node (g y.0)) (is_below now (g top).key (g y.0).key) both in
-      let here : y.0.gone ≡ false = sym (stays y.0) ∙ lives_here (g y.0) live in
+      let here : y.0.gone ≡ false = was_here y.0 (lives_here (g y.0) live) in
       both_ways (is_live_node (g y.0)) live (dead y.0 y.1 (takes y.0 y.1 here ∙ below))))))
 
   -- and so are only those below it
@@ -144,7 +148,7 @@ module _ (c : Collection) (whole : IsWhole c) (falls : NodeKey → Bool) (top ab
       let rest = and_right (is_head (g x.0)) _ d in
       let gone : (g x.0).gone ≡ false = not-true (g x.0).gone (and_left (not (g x.0).gone) _ rest) in
       let none : list_any (lives_below now (g x.0).key) now ≡ false = not-true _ (and_right (not (g x.0).gone) _ rest) in
-      let here : x.0.gone ≡ false = sym (stays x.0) ∙ gone in
+      let here : x.0.gone ≡ false = was_here x.0 gone in
       elim (either_way (falls x.0.key)) [
         | inl e ↦ (
           ap (λ (n : Node). n.gone) x.2 ∙ gone,
@@ -182,14 +186,14 @@ module _ (c : Collection) (whole : IsWhole c) (falls : NodeKey → Bool) (top ab
 
       one : (n : Node) → In n nodes → (falls n.key ≡ true) ⊎ (falls n.key ≡ false) → (n.gone ≡ true) ⊎ (n.gone ≡ false) → ended now top.key (g n) ≡ leaves n
       one n on (inl e) (inl gone) =
-          let went : (is_below now top.key (g n).key || (g n).gone) ≡ true = ap (λ (b : Bool). is_below now top.key (g n).key || b) (stays n ∙ gone) ∙ or_true (is_below now top.key (g n).key) in
+          let went : (is_below now top.key (g n).key || (g n).gone) ≡ true = ap (λ (b : Bool). is_below now top.key (g n).key || b) (stays n gone) ∙ or_true (is_below now top.key (g n).key) in
           (λ i. record (g n) { gone = went i }) ∙ (λ i. if sym e i then record (g n) { gone = true } else n)
       one n on (inl e) (inr here) =
           let went : (is_below now top.key (g n).key || (g n).gone) ≡ true = ap (λ (b : Bool). b || (g n).gone) (under n ∙ sym (takes n on here) ∙ e) in
           (λ i. record (g n) { gone = went i }) ∙ (λ i. if sym e i then record (g n) { gone = true } else n)
       one n on (inr e) (inl gone) =
           let went : (is_below now top.key (g n).key || (g n).gone) ≡ (g n).gone =
-          ap (λ (b : Bool). is_below now top.key (g n).key || b) (stays n ∙ gone) ∙ or_true (is_below now top.key (g n).key) ∙ sym (stays n ∙ gone) in
+          ap (λ (b : Bool). is_below now top.key (g n).key || b) (stays n gone) ∙ or_true (is_below now top.key (g n).key) ∙ sym (stays n gone) in
           (λ i. record (g n) { gone = went i }) ∙ alone n e ∙ (λ i. if sym e i then record (g n) { gone = true } else n)
       one n on (inr e) (inr here) =
           let went : (is_below now top.key (g n).key || (g n).gone) ≡ (g n).gone = ap (λ (b : Bool). b || (g n).gone) (under n ∙ sym (takes n on here) ∙ e) in

@@ -50,14 +50,17 @@ use Rattle.alloc_event.proofs.tables.Writing.{IsSameNode, IsSound-map, kept-with
 pub gone_same : (going : Going) (n : Node) → IsSameNode (gone_by going n) n
 gone_same (Going.Fails fault) n = record { key = refl; parent = refl; attached = refl; collection = refl; head = refl }
 gone_same (Going.Leaves key) n = record { key = refl; parent = refl; attached = refl; collection = refl; head = refl }
+gone_same (Going.Ends fault keys) n = record { key = refl; parent = refl; attached = refl; collection = refl; head = refl }
 
 pub gone_is : (going : Going) (n : Node) → (gone_by going n).gone ≡ true
 gone_is (Going.Fails fault) n = refl
 gone_is (Going.Leaves key) n = refl
+gone_is (Going.Ends fault keys) n = refl
 
 pub gone_given : (going : Going) (n : Node) → (gone_by going n).allocated ≡ n.allocated
 gone_given (Going.Fails fault) n = refl
 gone_given (Going.Leaves key) n = refl
+gone_given (Going.Ends fault keys) n = refl
 
 -- the nodes with these keys go
 abbrev pub goes_of : Going → List NodeKey → Node → Node

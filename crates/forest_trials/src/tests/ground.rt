@@ -195,6 +195,11 @@ impl Ground {
         self.make(Call::Release(key))
     }
 
+    /// The node's failure goes no further up, once its unit has its buffers.
+    pub fn make_dispensable(&mut self, key: NodeKey) -> Result<(), Fail> {
+        self.make(Call::SetDispensable(key))
+    }
+
     /// The node fails.
     pub fn lose(&mut self, key: NodeKey) -> Result<(), Fail> {
         self.change(Change::Loss(key, Cause::Lost))?;

@@ -138,32 +138,39 @@ fn a_chain_of_units_is_allocated_from_above(rt: HostRuntime) -> Result<(), Fail>
     Ok(())
 }
 
-// One more node of the unit of each of these.
+// One more node of the unit of each of these but the first.
 fn bear_below_each(
     alloc: Global,
     ground: &mut Ground,
     keys: &[NodeKey],
 ) -> Result<Vec<NodeKey>, Fail> {
     let mut more = Vec::new(alloc);
-    for key in keys {
-        let below = ground.bear(Some(*key), false)?;
-        more.push(below)?;
+    if let Some((_, heads)) = keys.split_first() {
+        for key in heads {
+            let below = ground.bear(Some(*key), false)?;
+            more.push(below)?;
+        }
     }
     Ok(more)
+}
+
+// Whether the heads ask and the others are released, and nothing is allocated before the root asks.
+fn wait_for_root(ground: &mut Ground, keys: &[NodeKey], others: &[NodeKey]) -> Result<bool, Fail> {
+    let Some((root, heads)) = keys.split_first() else {
+        return Ok(false);
+    };
+    ask_each(ground, heads)?;
+    release_each(ground, others)?;
+    let waited = are_allocated(ground, keys, false);
+    ground.ask(*root, demand(0, 1, 4096)?)?;
+    Ok(waited && are_allocated(ground, keys, true))
 }
 
 #[test]
 fn units_that_a_release_makes_ready_wait_for_the_root(rt: HostRuntime) -> Result<(), Fail> {
     let (mut ground, keys) = family(rt.alloc(), 200, true)?;
-    let Some((root, heads)) = keys.split_first() else {
-        return Err(Fail::from("no root"));
-    };
-    let others = bear_below_each(rt.alloc(), &mut ground, heads)?;
-    ask_each(&mut ground, heads)?;
-    release_each(&mut ground, &others)?;
-    assert!(rt; are_allocated(&ground, &keys, false));
-    ground.ask(*root, demand(0, 1, 4096)?)?;
-    assert!(rt; are_allocated(&ground, &keys, true));
+    let others = bear_below_each(rt.alloc(), &mut ground, &keys)?;
+    assert!(rt; wait_for_root(&mut ground, &keys, &others)?);
     Ok(())
 }
 
@@ -300,6 +307,64 @@ fn a_chain_of_units_ends_at_once_below_the_root(rt: HostRuntime) -> Result<(), F
     };
     assert!(rt; end_at_once(&mut ground, others)?);
     assert!(rt; !left(&ground, *root));
+    Ok(())
+}
+
+// Whether the units that were released leave without a fault as the last one fails, below the root.
+fn end_with_loss(ground: &mut Ground, keys: &[NodeKey]) -> Result<bool, Fail> {
+    let Some((root, below)) = keys.split_first() else {
+        return Ok(false);
+    };
+    let Some((last, others)) = below.split_last() else {
+        return Ok(false);
+    };
+    release_each(ground, others)?;
+    let stayed = have_left(ground, keys, false);
+    ground.lose(*last)?;
+    let stays = !left(ground, *root) && !failed(ground, *root);
+    Ok(stayed && stays && failed(ground, *last) && have_left(ground, others, true))
+}
+
+#[test]
+fn a_loss_ends_a_chain_of_units_below_the_root(rt: HostRuntime) -> Result<(), Fail> {
+    let (mut ground, keys) = chain(rt.alloc(), 200, true)?;
+    assert!(rt; end_with_loss(&mut ground, &keys)?);
+    Ok(())
+}
+
+// Whether the head leaves as the dispensable node of its unit fails.
+fn ends_by(ground: &mut Ground, head: NodeKey, other: NodeKey) -> Result<bool, Fail> {
+    ground.lose(other)?;
+    Ok(failed(ground, other) && left(ground, head))
+}
+
+// Whether units end one by one: their heads are released, and of each a dispensable node fails.
+fn end_by_dispensable(
+    ground: &mut Ground,
+    keys: &[NodeKey],
+    others: &[NodeKey],
+) -> Result<bool, Fail> {
+    let Some((root, heads)) = keys.split_first() else {
+        return Ok(false);
+    };
+    for key in others {
+        ground.make_dispensable(*key)?;
+    }
+    ask_each(ground, others)?;
+    release_each(ground, heads)?;
+    ground.ask(*root, demand(0, 1, 4096)?)?;
+    let mut all = are_allocated(ground, others, true);
+    for at in 0..heads.len().min(others.len()) {
+        all = ends_by(ground, heads[at], others[at])? && all;
+    }
+    Ok(all && !left(ground, *root) && !failed(ground, *root))
+}
+
+#[test]
+fn units_end_as_their_dispensable_nodes_fail(rt: HostRuntime) -> Result<(), Fail> {
+    let (mut ground, keys) = family(rt.alloc(), 30, true)?;
+    let others = bear_below_each(rt.alloc(), &mut ground, &keys)?;
+    assert!(rt; end_by_dispensable(&mut ground, &keys, &others)?);
     Ok(())
 }
 

@@ -61,5 +61,5 @@ returns-clause-some c ss s opens id =
     subst (λ (ns : List Node). IsLost t c.store.new.table c.lower.new.units.items ss s (change_of c.args.going.now) (c.args.strong - c.count_strong-lost.result) ns) (sym nodes)
     (subst (λ (l : List Unit). IsLost t c.store.new.table l ss s (change_of c.args.going.now) (c.args.strong - c.count_strong-lost.result) (map (gone_by c.args.going.now) (nodes_with t keys))) (sym units)
     (lost_made t us ss s c.args.going.now c.args.strong opens c.args.origin keys c.requires.taken own
-    c.in-Some.head c.in-Some.attached c.in-Some.ensures inside kept_up may c.store.new.table stores
+    c.in-Some.head c.in-Some.attached c.in-Some.ensures inside kept_up may c.requires.failing c.store.new.table stores
     (c.args.strong - c.count_strong-lost.result) (lt-ltb 0 (c.args.strong - c.count_strong-lost.result) some) count))

@@ -6,14 +6,14 @@ use Rattle.alloc_event.specs.declared.node.Node.{Node}
 use Rattle.alloc_event.specs.Kept.{shelves_of}
 use Rattle.alloc_event.proofs.shelves.Showing.{node_is}
 use Rattle.alloc_event.proofs.tables.Storing.{row_there}
-use Rattle.alloc_event.proofs.falling.fail_in_place.Goals as goal
+use Rattle.alloc_event.proofs.emptied.fail_in_place.Goals as goal
 
 some_if : (p : Node → Bool) (o : Option Node) → option_map_or p o false ≡ true → is_some o ≡ true
 some_if p None h = cc
 some_if p (Some n) h = refl
 
-pub lose_in_place-requires-clause-there : goal.lose_in_place-requires-clause-there
-lose_in_place-requires-clause-there c =
+pub fall-requires : goal.fall-requires
+fall-requires c =
     let t = c.args.table.now in
     let test : Node → Bool = λ n. n.collection == c.args.id && not n.gone in
     row_there t c.args.fault.origin (some_if test (node_at t c.args.fault.origin)

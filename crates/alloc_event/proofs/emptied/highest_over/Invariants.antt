@@ -1,6 +1,6 @@
 use Rattle.std.proofs.Common.{IsSome}
 use Rattle.node_table.specs.Table.{row_at}
-use Rattle.alloc_event.proofs.falling.highest_over.Given as goal
+use Rattle.alloc_event.proofs.emptied.highest_over.Given as goal
 
 -- the unit is there
 abbrev pub invariant-up : goal.invariant-up
