@@ -4,7 +4,7 @@ ghost use Rattle.event_laws.specs.HandleSums.{count_if, indices_in};
 
 use sm_names::{Strength, has_buffer};
 
-/// One, where the strengths are the same, and else none.
+/// One, where the strengths are the same, and else none. Takes a constant time.
 pub fn count_one(strength: Strength, other: Strength) -> u64
     ensures { result ≡ count_if strength other 1 }
 {
