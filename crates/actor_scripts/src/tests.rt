@@ -88,7 +88,8 @@ fn check(
             assert_eq!(rt; cast.labels.len(), labels.len(), "{script}");
             assert_eq!(rt; cast.scripts.len(), scripts.len(), "{script}");
             for (label, text) in cast.labels.iter().zip(labels) {
-                assert_eq!(rt; label.text(), text.as_bytes(), "{script}");
+                let (bytes, start) = label.spelled();
+                assert_eq!(rt; &bytes[start..], text.as_bytes(), "{script}");
             }
             for (played, steps) in cast.scripts.iter().zip(scripts) {
                 assert_eq!(rt; played.steps.as_slice(), *steps, "{script}");

@@ -1,7 +1,6 @@
 -- What a script calls its clients, nodes and trackers.
-use Rattle.std.specs.Prelude.{ℕ, ◌-◌, ◌==◌, Bool, false, ◌&&◌, ◌||◌, nat_le, if◌then◌else◌, List, [], ◌∷◌, ◌++◌, length, take, replicate, Option, Some, None}
-use Rattle.std.specs.List.{list_all}
-use Rattle.std.specs.Str.{bytes_eq}
+use Rattle.std.specs.Prelude.{ℕ, zero, suc, ◌+◌, ◌*◌, ◌/◌, ◌%◌, ◌==◌, Bool, false, ◌&&◌, ◌||◌, nat_le, if◌then◌else◌, List, [], ◌∷◌, length, Option, Some, None}
+use Rattle.std.specs.List.{list_all, fold}
 use Rattle.script_lines.specs.declared.label.Label.{Label}
 
 -- the byte is a letter from a to z
@@ -18,16 +17,26 @@ is_label [] = false
 is_label (first ∷ others) =
     is_letter first && nat_le (length others) 15 && list_all (λ byte. is_letter byte || is_digit byte) others
 
+-- the number, with one more byte as its lowest digit to the base 256
+abbrev pub with_byte : ℕ → ℕ → ℕ
+with_byte code byte = code * 256 + byte
+
+-- the bytes as digits to the base 256, the first the highest
+abbrev pub packed : List ℕ → ℕ
+packed bytes = fold with_byte 0 bytes
+
 -- the label that is spelled so
 abbrev pub label_of : List ℕ → Option Label
-label_of word =
-    if is_label word
-    then Some (record { bytes = word ++ replicate (16 - length word) 0; length = length word })
-    else None
+label_of word = if is_label word then Some (record { code = packed word }) else None
+
+-- so many of the lowest digits to the base 256, without zeros in front, before these
+abbrev pub spelled : ℕ → ℕ → List ℕ → List ℕ
+spelled zero code behind = behind
+spelled (suc most) code behind = if code == 0 then behind else spelled most (code / 256) (code % 256 ∷ behind)
 
 -- how the label is spelled
 abbrev pub text_of_label : Label → List ℕ
-text_of_label label = take label.length label.bytes
+text_of_label label = spelled 16 label.code []
 
 -- the label, if there is one
 abbrev pub label_text : Option Label → List ℕ
@@ -36,4 +45,4 @@ label_text (Some label) = text_of_label label
 
 -- the labels are one
 abbrev pub same_label : Label → Label → Bool
-same_label a b = bytes_eq a.bytes b.bytes && a.length == b.length
+same_label a b = a.code == b.code

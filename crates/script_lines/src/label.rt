@@ -1,17 +1,14 @@
 //! What a script calls its clients, nodes and trackers.
-ghost use Rattle.std.specs.Prelude.{◌≡◌, ◌||◌, IfSome};
+ghost use Rattle.std.specs.Prelude.{◌≡◌, ◌≤◌, ◌||◌, IfSome, drop, length};
 ghost use Rattle.std.specs.List.{list_all};
-ghost use Rattle.script_lines.specs.Labels.{is_label as is_label_word, is_letter as is_letter_byte, is_digit as is_digit_byte, label_of, text_of_label};
-
-use std::hash::{Hash, Hasher};
+ghost use Rattle.script_lines.specs.Labels.{is_label as is_label_word, is_letter as is_letter_byte, is_digit as is_digit_byte, label_of, packed as packed_word, text_of_label};
 
 /// A name of a client, a node or a tracker in a script: a letter from `a` to `z`, then up to
 /// fifteen letters or digits.
-#[derive(Clone, Copy, Debug, PartialEq, Eq)]
+#[derive(Clone, Copy, Debug, PartialEq, Eq, Hash)]
 pub struct Label {
-    // The text, filled up with zeros.
-    bytes: [u8; 16],
-    length: u8,
+    // The bytes of the text as digits to the base 256.
+    code: u128,
 }
 
 impl Label {
@@ -23,39 +20,36 @@ impl Label {
         if !is_label(word) {
             return None;
         }
-        let mut bytes = [0; 16];
-        bytes[..word.len()].copy_from_slice(word);
-        Some(Label {
-            bytes,
-            length: word.len() as u8,
-        })
+        Some(Label { code: packed(word) })
     }
 
-    /// How the label is spelled. Takes a constant time.
-    pub fn text(&self) -> &[u8]
-        ensures { result.now ≡ text_of_label self.now }
+    /// How the label is spelled: the bytes from the number on. Takes a constant time.
+    pub fn spelled(&self) -> ([u8; 16], usize)
+        ensures text { drop result.1 result.0 ≡ text_of_label self.now }
+        ensures within { result.1 ≤ 16 }
     {
-        let length = self.length as usize;
-        match self.bytes.get(..length) {
-            Some(text) => text,
-            None => &self.bytes,
+        let mut bytes = [0; 16];
+        let mut start = 16;
+        let mut code = self.code;
+        while 0 < start && code != 0 {
+            start -= 1;
+            bytes[start] = (code % 256) as u8;
+            code /= 256;
         }
+        (bytes, start)
     }
 }
 
-impl Hash for Label {
-    ghost use Rattle.std.proofs.Common.{rules};
-    ghost use Rattle.std.specs.Cmp.Rules.{hashing};
-    ghost use Rattle.std.specs.Prelude.{[], ◌∷◌};
-
-    ghost hash_input = { λ label. label.bytes ∷ [] };
-
-    ghost respects_eq = { Prim.search (hashing, rules) };
-
-    // All bytes at once: the zeros behind the text tell its length.
-    fn hash<H: Hasher>(&self, state: &mut H) {
-        state.write(&self.bytes);
+// The word's bytes as digits to the base 256, the first the highest.
+fn packed(word: &[u8]) -> u128
+    requires { length word.now ≤ 16 }
+    ensures { result ≡ packed_word word.now }
+{
+    let mut code: u128 = 0;
+    for byte in word {
+        code = code * 256 + *byte as u128;
     }
+    code
 }
 
 // Whether the byte is a letter from `a` to `z`.

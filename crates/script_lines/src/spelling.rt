@@ -27,7 +27,10 @@ pub fn push_label(text: &mut Vec<u8>, label: Option<Label>) -> Result<(), AllocE
     ensures { OnOk result (text.new.items ≡ text.old.items ++ label_text label) }
 {
     match label {
-        Some(label) => text.extend_from_slice(label.text()),
+        Some(label) => {
+            let (bytes, start) = label.spelled();
+            text.extend_from_slice(&bytes[start..])
+        }
         None => Ok(()),
     }
 }
