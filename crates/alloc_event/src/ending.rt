@@ -11,8 +11,8 @@ use crate::questions::{is_live, is_under, some_live_under};
 use sm_names::NodeKey;
 
 /// Of the roots and attached nodes that are not gone, with no live node at or below them, the one
-/// that was born first. It ends. One walk, and for each head of a unit that is released one more,
-/// or a walk for each live node.
+/// that was born first. It ends. One walk, and for each head of a unit that is released three more,
+/// or, where none of its unit or right below it is live, a walk for each live node.
 pub fn ending(nodes: &[Node]) -> Option<NodeKey>
     ensures { result ≡ option_map (λ n. n.key) (find (is_deserted_node nodes.now) nodes.now) }
 {

@@ -1,5 +1,5 @@
 //! Questions on the nodes of a collection. None of them takes memory.
-ghost use Rattle.std.specs.Prelude.{◌≡◌, ◌&&◌, ◌||◌, not, max};
+ghost use Rattle.std.specs.Prelude.{◌≡◌, ◌&&◌, ◌||◌, not, max, true};
 ghost use Rattle.std.specs.List.{list_any, list_all, find};
 ghost use Rattle.alloc_event.specs.Nodes.{is_of};
 ghost use Rattle.alloc_event.specs.Questions.{is_below, lives_below, is_live_at, is_live_node, is_root_left, is_ready_node, is_allocated_node, blocks_here};
@@ -49,8 +49,8 @@ fn is_live_at(nodes: &[Node], key: NodeKey) -> bool
     nodes.iter().any(|node| key == node.key && is_live(node))
 }
 
-/// Whether some live node is at the top one or below it. One walk where the top one is live, and
-/// else a walk for each node.
+/// Whether some live node is at the top one or below it. One walk where the top one is live, three
+/// where one of its unit or right below it is, and else a walk for each live node.
 #[tactic(auto, using(crate::proofs::calm::Alive::live_besides))]
 pub fn some_live_under(nodes: &[Node], top: NodeKey) -> bool
     ensures { result ≡ list_any (lives_below nodes.now top) nodes.now }
@@ -58,8 +58,33 @@ pub fn some_live_under(nodes: &[Node], top: NodeKey) -> bool
     is_live_at(nodes, top) || is_some_under(nodes, top)
 }
 
-/// Whether some live node is the top one or below it. A walk for each node.
+/// Whether some live node is the top one or below it. Two walks where one of its unit, or right
+/// below it, is live, and else a walk for each live node.
 fn is_some_under(nodes: &[Node], top: NodeKey) -> bool
+    ensures { result ≡ list_any (lives_below nodes.now top) nodes.now }
+{
+    is_some_near(nodes, top) || is_some_below(nodes, top)
+}
+
+/// Whether some live node of the unit with this head, or right below it, is the top one or below it.
+fn is_some_near(nodes: &[Node], top: NodeKey) -> bool
+    ensures { result ≡ true → list_any (lives_below nodes.now top) nodes.now ≡ true }
+{
+    for node in nodes {
+        if is_live(node) && is_near(node, top) && is_under(nodes, top, node.key) {
+            return true;
+        }
+    }
+    false
+}
+
+/// Whether the node is of the unit with this head, or right below it.
+fn is_near(node: &Node, head: NodeKey) -> bool {
+    node.head == head || node.parent == Some(head)
+}
+
+/// Whether some live node is the top one or below it. A walk for each live node.
+fn is_some_below(nodes: &[Node], top: NodeKey) -> bool
     ensures { result ≡ list_any (lives_below nodes.now top) nodes.now }
 {
     nodes

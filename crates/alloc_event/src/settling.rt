@@ -22,8 +22,8 @@ use sm_names::{Fault, NoMemory};
 /// `NoMemory` where a growth is refused: the pool is then as it was, and the scene may be thrown
 /// away. Only the allocation of a root unit takes memory.
 ///
-/// There are at most two steps a node. Each looks, for each head of a unit, once over the nodes
-/// where the head is live, and else for each live one.
+/// There are at most two steps a node. Each looks, for each released head of a unit, three times
+/// over the nodes where one of its unit or right below it is live, and else for each live one.
 pub fn settle_scene(scene: &mut Scene, pool: &mut Pool, holds: &Holds) -> Result<(), NoMemory>
     requires { IsSound (collection_of scene.old) }
     ensures settles { OnOk result (SettlesIn pool.old (total holds.now)

@@ -362,7 +362,7 @@ fn end_by_dispensable(
 
 #[test]
 fn units_end_as_their_dispensable_nodes_fail(rt: HostRuntime) -> Result<(), Fail> {
-    let (mut ground, keys) = family(rt.alloc(), 30, true)?;
+    let (mut ground, keys) = family(rt.alloc(), 60, true)?;
     let others = bear_below_each(rt.alloc(), &mut ground, &keys)?;
     assert!(rt; end_by_dispensable(&mut ground, &keys, &others)?);
     Ok(())
