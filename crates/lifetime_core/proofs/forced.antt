@@ -5,6 +5,7 @@ pub mod Change
 pub mod Fitting
 pub mod ForcedStep
 pub mod Forest
+pub mod Losing
 pub mod NothingForced
 pub mod Settled
 pub mod Starting

@@ -54,9 +54,12 @@ birth_by s client (Call.AttachToken above) collection =
     Some (record { collection = collection; change = Change.Birth (Some above) true client (s.events + 1) })
 birth_by s client _ collection = None
 
--- a loss of the node by this cause, unless it is gone
-abbrev pub losing : NodeKey → Cause → Node → Change
-losing key cause n = if n.gone then Change.Nothing else Change.Loss key cause
+-- a loss of the node with this key by this cause, unless it is gone
+abbrev pub loss_at : Forest → NodeKey → Cause → Option Work
+loss_at f key cause =
+    option_and_then
+    (λ (n : Node). if n.gone then None else Some (record { collection = n.collection; change = Change.Loss key cause }))
+    (node_at f key)
 
 -- the effect of the call, answered so, made on its node
 abbrev pub effect_at : Forest → Call → Reply → Option Work
@@ -66,7 +69,7 @@ effect_at f call reply =
 -- what a call that was answered Done changes: it loses its node, or drops a handle, after which a buffer may be kept no longer,
 -- or has an effect. The other calls ask, move an end or a handle, or open a handle beside another
 abbrev pub done_to : Forest → Call → Option Work
-done_to f (Call.Close key) = at_node f key (losing key Cause.Lost)
+done_to f (Call.Close key) = loss_at f key Cause.Lost
 done_to f (Call.DropHandle buffer strength) = at_collection f buffer.collection Change.Nothing
 done_to f call = effect_at f call Reply.Done
 

@@ -93,14 +93,14 @@ fn done(core: &Core, call: &Call, node: Option<&Node>) -> Option<Task>
     }
     let node = node?;
     let (change, spends) = match *call {
-        Call::Close(key) if node.gone => (Change::Nothing, Some(key)),
-        Call::Close(key) => (Change::Loss(key, Cause::Lost), Some(key)),
-        Call::Release(key) => (effect_of(call, &Reply::Done)?, Some(key)),
-        _ => (effect_of(call, &Reply::Done)?, None),
+        Call::Close(key) if node.gone => (None, Some(key)),
+        Call::Close(key) => (Some(Change::Loss(key, Cause::Lost)), Some(key)),
+        Call::Release(key) => (Some(effect_of(call, &Reply::Done)?), Some(key)),
+        _ => (Some(effect_of(call, &Reply::Done)?), None),
     };
     Some(Task {
         collection: node.collection,
-        change: Some(change),
+        change,
         spends,
     })
 }

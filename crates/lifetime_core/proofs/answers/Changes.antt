@@ -19,7 +19,7 @@ use Rattle.sm_names.specs.Reading.{readings}
 use Rattle.sm_names.specs.Timelines.{collection_of, key_of, own_loss}
 use Rattle.sm_names.specs.Words.{when}
 use Rattle.sm_names.proofs.AnswerLaws.{took_effect_all}
-use Rattle.sm_names.proofs.BirthLaws.{HasEnd}
+use Rattle.sm_names.proofs.BirthLaws.{HasEnd, birth_is}
 use Rattle.sm_names.proofs.CountLaws.{caller_joined, client-le-total, counted}
 use Rattle.sm_names.proofs.GrowthLaws.{Grows}
 use Rattle.sm_names.proofs.HandleLaws.{some_open}
@@ -35,14 +35,15 @@ use Rattle.alloc_event.specs.Nodes.{affected}
 use Rattle.alloc_event.specs.Settling.{no_key}
 use Rattle.lifetime_core.specs.Shown.{IsAfter, node_after}
 use Rattle.lifetime_core.specs.State.{State}
-use Rattle.lifetime_core.specs.Steps.{Work, at_collection, at_node, losing, done_to, work_of}
+use Rattle.lifetime_core.specs.Steps.{Work, at_collection, at_node, done_to, loss_at, work_of}
 use Rattle.lifetime_core.proofs.forced.Beginning.{IsFound, at_found, effect_starts, loss_starts, nothing_starts, root_starts, child_starts, attached_starts}
 use Rattle.lifetime_core.proofs.nodes.Called.{said}
 use Rattle.lifetime_core.proofs.forced.CallStep.{IsIdle}
+use Rattle.lifetime_core.proofs.forced.Losing.{IsLosing, losing}
 use Rattle.lifetime_core.proofs.collections.Elsewhere.{named_in}
 use Rattle.lifetime_core.proofs.handles.Counts.{opens_alike, alike_called}
 use Rattle.lifetime_core.proofs.ends.Forgotten.{open_kept}
-use Rattle.lifetime_core.proofs.views.Nodes.{collection_kept, collection_there, node_kept}
+use Rattle.lifetime_core.proofs.views.Nodes.{collection_kept, collection_there, node_kept, node_there}
 use Rattle.lifetime_core.proofs.collections.Roots.{HasRoot, kept_root}
 use Rattle.lifetime_core.proofs.nodes.Misused.{misused_here}
 use Rattle.lifetime_core.proofs.forced.Work.{Starts}
@@ -109,6 +110,25 @@ module _ (s : State) (marks : Timeline) (shown : IsAfter s marks) (limits : Boun
   changes_none client reply call answer bears says loses opens =
       record { bears_none = bears; says_nothing = says; loses_none = loses; opens_alike = alike_called s.pool limits marks grown client reply call answer opens }
 
+  -- a Close that is no work: its node is gone
+  idle_close : (client : ℕ) (key : NodeKey) → IsAnswer limits (readings marks) client (Call.Close key) Reply.Done → loss_at s.forest key Cause.Lost ≡ None →
+      IsIdle marks client Reply.Done (Call.Close key)
+  idle_close client key answer none =
+      let end : HasEnd marks key = not_refused_end limits marks client (Call.Close key) Reply.Done key answer refl refl in
+      let kept : is_kept marks key ≡ true = or_right (not (gone marks key)) _ (ap not end.unspent) in
+      let there : node_at s.forest key ≡ Some (node_after marks end.birth) = node_kept s marks shown limits grown key end.birth end.is kept in
+      let lost : Work = record { collection = end.birth.collection; change = Change.Loss key Cause.Lost } in
+      elim (either_way (gone marks end.birth.node)) [
+        | inl g ↦
+            let is : gone marks key ≡ true = ap (gone marks) (sym (birth_is marks key end.birth end.is).1) ∙ g in
+            changes_none client Reply.Done (Call.Close key) answer refl (λ n. refl) (ap (λ (b : Bool). when (not b) (Loss key Cause.Lost)) is) refl
+        | inr g ↦
+            let some : loss_at s.forest key Cause.Lost ≡ Some lost =
+            ap (option_and_then (λ (n : Node). cond n.gone None (Some (record { collection = n.collection; change = Change.Loss key Cause.Lost })))) there
+            ∙ ap (λ (b : Bool). cond b None (Some lost)) g in
+            no_work (sym none ∙ some)
+      ]
+
   -- a call that was answered Done and is no work changes no node
   idle_done : (client : ℕ) (call : Call) → IsAnswer limits (readings marks) client call Reply.Done → done_to s.forest call ≡ None → IsIdle marks client Reply.Done call
   idle_done client (Call.Bind key) answer none = absurd (work_there client Reply.Done (Call.Bind key) key (λ n. Change.Effect key Effect.Bound) answer refl refl none)
@@ -119,7 +139,7 @@ module _ (s : State) (marks : Timeline) (shown : IsAfter s marks) (limits : Boun
   idle_done client (Call.SetConstraints key demand) answer none =
       absurd (work_there client Reply.Done (Call.SetConstraints key demand) key (λ n. Change.Effect key (Effect.Constrained demand)) answer refl refl none)
   idle_done client (Call.Release key) answer none = absurd (work_there client Reply.Done (Call.Release key) key (λ n. Change.Effect key Effect.Released) answer refl refl none)
-  idle_done client (Call.Close key) answer none = absurd (work_there client Reply.Done (Call.Close key) key (losing key Cause.Lost) answer refl refl none)
+  idle_done client (Call.Close key) answer none = idle_close client key answer none
   idle_done client (Call.DropHandle buffer strength) answer none = absurd (drop_there client buffer strength answer none)
   idle_done client call answer none = changes_none client Reply.Done call answer refl (λ n. refl) refl refl
 
@@ -162,32 +182,22 @@ module _ (s : State) (marks : Timeline) (shown : IsAfter s marks) (limits : Boun
       subst (λ (w : Work). Starts s marks shown limits grown client reply call answer w) (sym f.work_is)
       (effect_starts s marks shown limits grown client reply call answer f.birth f.there of f.kept key effect says no_loss none)
 
-  -- a Close: it loses its node, unless that is gone
-  starts_close : (client : ℕ) (key : NodeKey) (answer : IsAnswer limits (readings marks) client (Call.Close key) Reply.Done) (work : Work) → at_node s.forest key (losing key Cause.Lost) ≡ Some work →
+  -- a Close that loses its node
+  starts_close : (client : ℕ) (key : NodeKey) (answer : IsAnswer limits (readings marks) client (Call.Close key) Reply.Done) (work : Work) → loss_at s.forest key Cause.Lost ≡ Some work →
       Starts s marks shown limits grown client Reply.Done (Call.Close key) answer work
   starts_close client key answer work e =
-      let f : IsFound s marks shown limits grown key (losing key Cause.Lost) work = at_found s marks shown limits grown key (losing key Cause.Lost) work e in
+      let l : IsLosing s.forest key Cause.Lost work = losing s.forest key Cause.Lost work e in
+      let f : IsFound s marks shown limits grown key (λ n. Change.Loss key Cause.Lost) work = at_found s marks shown limits grown key (λ n. Change.Loss key Cause.Lost) work l.work_at in
       let of : collection_of (Called client Reply.Done (Call.Close key) ∷ marks) (Call.Close key) Reply.Done ≡ Some f.birth.collection =
       named_in s.pool limits marks grown client Reply.Done (Call.Close key) answer f.birth f.there (ap Some (sym f.is)) in
-      elim (either_way (gone marks f.birth.node)) [
-        | inl g ↦
-            let there : gone marks key ≡ true = ap (gone marks) (sym f.is) ∙ g in
-            let none : own_loss marks (Call.Close key) Reply.Done ≡ None = ap (λ (b : Bool). when (not b) (Loss key Cause.Lost)) there in
-            let is : work ≡ record { collection = f.birth.collection; change = Change.Nothing } =
-            f.work_is ∙ ap (λ (b : Bool). record { collection = f.birth.collection; change = cond b Change.Nothing (Change.Loss key Cause.Lost) }) g in
-            subst (λ (w : Work). Starts s marks shown limits grown client Reply.Done (Call.Close key) answer w) (sym is)
-            (nothing_starts s marks shown limits grown client Reply.Done (Call.Close key) answer f.birth f.there of f.kept refl (λ n. refl) none)
-        | inr g ↦
-            let here : gone marks key ≡ false = ap (gone marks) (sym f.is) ∙ g in
-            let loss : own_loss marks (Call.Close key) Reply.Done ≡ Some (Loss f.birth.node Cause.Lost) =
-            ap (λ (b : Bool). when (not b) (Loss key Cause.Lost)) here ∙ ap (λ (k : NodeKey). Some (Loss k Cause.Lost)) (sym f.is) in
-            let is : work ≡ record { collection = f.birth.collection; change = Change.Loss f.birth.node Cause.Lost } =
-            f.work_is
-            ∙ (ap (λ (b : Bool). record { collection = f.birth.collection; change = cond b Change.Nothing (Change.Loss key Cause.Lost) }) g
-            ∙ ap (λ (k : NodeKey). record { collection = f.birth.collection; change = Change.Loss k Cause.Lost }) (sym f.is)) in
-            subst (λ (w : Work). Starts s marks shown limits grown client Reply.Done (Call.Close key) answer w) (sym is)
-            (loss_starts s marks shown limits grown client Reply.Done (Call.Close key) answer f.birth f.there of f.kept refl (λ n. refl) Cause.Lost g loss)
-      ]
+      let r = node_there s marks shown limits grown key l.node l.at in
+      let here : gone marks key ≡ false = ap (gone marks) (sym r.2) ∙ (ap (λ (n : Node). n.gone) (sym r.4) ∙ l.here) in
+      let loss : own_loss marks (Call.Close key) Reply.Done ≡ Some (Loss f.birth.node Cause.Lost) =
+      ap (λ (b : Bool). when (not b) (Loss key Cause.Lost)) here ∙ ap (λ (k : NodeKey). Some (Loss k Cause.Lost)) (sym f.is) in
+      let is : work ≡ record { collection = f.birth.collection; change = Change.Loss f.birth.node Cause.Lost } =
+      f.work_is ∙ ap (λ (k : NodeKey). record { collection = f.birth.collection; change = Change.Loss k Cause.Lost }) (sym f.is) in
+      subst (λ (w : Work). Starts s marks shown limits grown client Reply.Done (Call.Close key) answer w) (sym is)
+      (loss_starts s marks shown limits grown client Reply.Done (Call.Close key) answer f.birth f.there of f.kept refl (λ n. refl) Cause.Lost (ap (gone marks) f.is ∙ here) loss)
 
   -- a handle that is dropped: a buffer may be kept no longer
   starts_drop : (client : ℕ) (buffer : BufferName) (strength : Strength) (answer : IsAnswer limits (readings marks) client (Call.DropHandle buffer strength) Reply.Done) (work : Work) →

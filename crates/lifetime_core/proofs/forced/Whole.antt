@@ -30,9 +30,10 @@ use Rattle.alloc_event.specs.Nodes.{is_spent}
 use Rattle.alloc_event.specs.Settling.{MayChange, is_birth, is_there, no_key}
 use Rattle.lifetime_core.specs.Reads.{end_in, open_end_of, readings_of}
 use Rattle.lifetime_core.specs.State.{State}
-use Rattle.lifetime_core.specs.Steps.{Work, at_collection, at_node, done_to, losing, work_of}
+use Rattle.lifetime_core.specs.Steps.{Work, at_collection, at_node, done_to, loss_at, work_of}
 use Rattle.lifetime_core.specs.Tasks.{released_by, spent_by}
 use Rattle.lifetime_core.specs.Whole.{AreUpTo, IsSound, IsWhole}
+use Rattle.lifetime_core.proofs.forced.Losing.{IsLosing, losing}
 use Rattle.lifetime_core.proofs.answers.Passed.{Passed, is_closed, passed}
 use Rattle.lifetime_core.proofs.collections.ById.{found_by_id}
 use Rattle.lifetime_core.proofs.forced.Forest.{node_with_key}
@@ -172,34 +173,21 @@ module _ (limits : Bound) (s : State) (client : ℕ) (call : Call) (asked : Repl
         births = rw none refl;
       })
 
--- a Close, which fails the node unless it is gone
-close_well : (limits : Bound) (s : State) (client : ℕ) (key : NodeKey) → Known limits s client (Call.Close key) Reply.Done →
-    (w : Work) → at_node s.forest key (losing key Cause.Lost) ≡ Some w → Well s (Call.Close key) Reply.Done w
+-- a Close that fails its node
+close_well : (limits : Bound) (s : State) (client : ℕ) (key : NodeKey) → Known limits s client (Call.Close key) Reply.Done → (w : Work) → loss_at s.forest key Cause.Lost ≡ Some w → Well s (Call.Close key) Reply.Done w
 close_well limits s client key known w work =
-    let named_so : Named s (Call.Close key) Reply.Done key = named limits s client no_key (Call.Close key) Reply.Done key known.told refl refl in
-    let n : Node = named_so.node in
-    let stands_there : Stands s key n = stands s key n known.whole.sound named_so.at in
+    let l : IsLosing s.forest key Cause.Lost w = losing s.forest key Cause.Lost w work in
+    let n : Node = l.node in
+    let stands_there : Stands s key n = stands s key n known.whole.sound l.at in
     let less : stands_there.collection.id ≤ s.events = known.whole.opened stands_there.collection stands_there.there in
     let same : stands_there.collection.id ≡ n.collection = stands_there.id in
-    let w_is : record { collection = n.collection; change = losing key Cause.Lost n } ≡ w = some_is (rw named_so.at at work) in
-    let found : collection_at s.forest n.collection ≡ Some stands_there.collection =
-    found_by_id s.forest.collections stands_there.collection n.collection known.whole.sound.rising stands_there.there same in
-    subst (Well s (Call.Close key) Reply.Done) w_is (by n stands_there.collection named_so.at found (omega arith) n.gone refl)
-  where
-    by : (n : Node) (c : Collection) → node_at s.forest key ≡ Some n → collection_at s.forest n.collection ≡ Some c → n.collection ≤ s.events + 1 →
-        (gone : Bool) → n.gone ≡ gone → Well s (Call.Close key) Reply.Done (record { collection = n.collection; change = if gone then Change.Nothing else Change.Loss key Cause.Lost })
-    by n c at found within true gone = record {
-      may = record { named = rw found refl; room = λ h. cc; heads = refl; trackers = λ k n h. cc };
-      within = within;
+    let w_is : record { collection = n.collection; change = Change.Loss key Cause.Lost } ≡ w = some_is (rw l.at at l.work_at) in
+    subst (Well s (Call.Close key) Reply.Done) w_is (record {
+      may = record { named = is_in s.forest key n l.at l.here; room = λ h. cc; heads = refl; trackers = λ k n h. cc };
+      within = omega arith;
       releases = λ k h. cc;
       births = refl;
-    }
-    by n c at found within false here = record {
-      may = record { named = is_in s.forest key n at here; room = λ h. cc; heads = refl; trackers = λ k n h. cc };
-      within = within;
-      releases = λ k h. cc;
-      births = refl;
-    }
+    })
 
 -- what is answered under a test that does not hold
 not_met : (b : Bool) (reply : Reply) → when b reply ≡ None → b ≡ false
