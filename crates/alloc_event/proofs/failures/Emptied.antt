@@ -63,7 +63,8 @@ module _ (t : Table Node) (us : List Unit) (ss : List Shelf) (s : Shelf) (fault 
       let first : is_first origin keys ≡ true = and_left (is_first origin keys) _ (and_right attached _ may) in
       same_key-true top.key origin (subst (λ (ks : List NodeKey). is_first origin ks ≡ true) top.first first)
 
-  later : (among fault.origin && (not (list_any (same_key origin) failing.items) && not (list_any (is_spared failing.items) (nodes_with t keys)))) ≡ true
+  later : (among fault.origin
+      && (not (list_any (same_key origin) failing.items) && not (list_any (is_spared failing.items) (nodes_with t keys)))) ≡ true
   later = and_right (is_first origin keys) _ (and_right attached _ may)
 
   listed : among fault.origin ≡ true
@@ -122,8 +123,10 @@ module _ (t : Table Node) (us : List Unit) (ss : List Shelf) (s : Shelf) (fault 
 
   same_g : (n : Node) → IsSameNode (g n) n
   same_g n = elim (either_way (among n.key)) [
-    | inl e ↦ subst (λ (m : Node). IsSameNode m n) (sym (g_in n e)) (record { key = refl; parent = refl; attached = refl; collection = refl; head = refl })
-    | inr e ↦ subst (λ (m : Node). IsSameNode m n) (sym (g_out n e)) (record { key = refl; parent = refl; attached = refl; collection = refl; head = refl })
+    | inl e ↦ subst (λ (m : Node). IsSameNode m n) (sym (g_in n e))
+        (record { key = refl; parent = refl; attached = refl; collection = refl; head = refl })
+    | inr e ↦ subst (λ (m : Node). IsSameNode m n) (sym (g_out n e))
+        (record { key = refl; parent = refl; attached = refl; collection = refl; head = refl })
   ]
 
   stays_g : (n : Node) → n.gone ≡ true → (g n).gone ≡ true
@@ -140,10 +143,12 @@ module _ (t : Table Node) (us : List Unit) (ss : List Shelf) (s : Shelf) (fault 
 
   dead_g : (n : Node) → In n members → among n.key ≡ true → is_live_node (g n) ≡ false
   dead_g n on h =
-      let there : In n (nodes_with t keys) = in_looked t opens.kept.named ending keys n (at_key t us ss s ending strong opens origin keys taken own n on) h in
+      let there : In n (nodes_with t keys) =
+      in_looked t opens.kept.named ending keys n (at_key t us ss s ending strong opens origin keys taken own n on) h in
       ap is_live_node (g_in n h)
       ∙ elim (either_way (is_spared failing.items n)) [
-        | inl e ↦ both_ways (list_any (is_spared failing.items) (nodes_with t keys)) (In-any (is_spared failing.items) (nodes_with t keys) n there e) none_stays
+        | inl e ↦ both_ways (list_any (is_spared failing.items) (nodes_with t keys))
+            (In-any (is_spared failing.items) (nodes_with t keys) n there e) none_stays
         | inr e ↦ from n.gone n.released (fails n) e
       ]
     where
@@ -158,7 +163,8 @@ module _ (t : Table Node) (us : List Unit) (ss : List Shelf) (s : Shelf) (fault 
   g_is = map-In g (lost fails fault) members (λ n on. one n on (either_way (among n.key)) (either_way n.gone))
       ∙ losses_by_fall t members tied_e fault left_e failing.items fall
     where
-      one : (n : Node) → In n members → (among n.key ≡ true) ⊎ (among n.key ≡ false) → (n.gone ≡ true) ⊎ (n.gone ≡ false) → g n ≡ lost fails fault n
+      one : (n : Node) → In n members → (among n.key ≡ true) ⊎ (among n.key ≡ false) → (n.gone ≡ true) ⊎ (n.gone ≡ false) →
+          g n ≡ lost fails fault n
       one n on (inl e) h = g_in n e
       one n on (inr e) (inl gone) = g_out n e ∙ lost_gone (λ m. false) fails fault n gone
       one n on (inr e) (inr here) =
@@ -171,7 +177,8 @@ module _ (t : Table Node) (us : List Unit) (ss : List Shelf) (s : Shelf) (fault 
 
   pub ends_made : (now : Table Node) → Stores t now (map (gone_by ending) (nodes_with t keys)) →
       (lives : ℕ) → nat_lt 0 lives ≡ true → lives + strong_count (nodes_with t keys) ≡ strong →
-      IsLost t now (untallied (nodes_with t keys) us) ss s (Change.Loss fault.origin fault.cause) lives (map (gone_by ending) (nodes_with t keys))
+      IsLost t now (untallied (nodes_with t keys) us) ss s (Change.Loss fault.origin fault.cause) lives
+      (map (gone_by ending) (nodes_with t keys))
   ends_made now stores =
       ended_made t us ss s ending strong opens origin keys taken own head attached top inside kept_up is_attached stands_first
       g same_g stays_g top_stays g_out dead_g rooted_g (λ n e. λ i. record (sym (g_in n e) i) { gone = true }) now stores

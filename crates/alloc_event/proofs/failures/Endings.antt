@@ -40,7 +40,8 @@ use Rattle.alloc_event.proofs.tables.Writing.{IsSameNode, IsSound-map}
 use Rattle.alloc_event.proofs.tallies.Holding.{in_unit_below}
 
 -- the change to the collection of the shelf is one to its nodes
-pub change_nodes : (t : Table Node) (ss : List Shelf) (s : Shelf) (found : find (λ (x : Shelf). x.id == s.id) ss ≡ Some s) (change : Change) →
+pub change_nodes : (t : Table Node) (ss : List Shelf) (s : Shelf) (found : find (λ (x : Shelf). x.id == s.id) ss ≡ Some s)
+    (change : Change) →
     changed change no_key (collection_or_new (forest_of t ss) s.id) ≡ changed change no_key (collection_in t s)
 change_nodes t ss s found change =
     ap (λ (o : Option Collection). changed change no_key (unwrap_or o (record { id = s.id; nodes = []; buffers = None; held = [] })))
@@ -86,14 +87,17 @@ module _ (t : Table Node) (us : List Unit) (ss : List Shelf) (s : Shelf) (going 
 
   pub takes : (n : Node) → In n members → n.gone ≡ false → among n.key ≡ is_below members top.node.key n.key
   takes n on here =
-      fall_below t members tied_members origin (subst (λ (k : NodeKey). is_left_of members k ≡ true) key_is (left_in members top.node on_top top.here)) blocks keys taken.fall n on here
+      fall_below t members tied_members origin
+      (subst (λ (k : NodeKey). is_left_of members k ≡ true) key_is (left_in members top.node on_top top.here))
+      blocks keys taken.fall n on here
       ∙ ap (λ (k : NodeKey). is_below members k n.key) (sym key_is)
 
   -- ---- who stays live in the unit above
 
   staying : (w : Node) × In w members × (is_live_node w ≡ true) × (is_below members top.above.head w.key ≡ true) × (among w.key ≡ false)
   staying =
-      let some : 0 < times (lives_in top.above.head) (map goes members) = lives t us ss s going strong opens origin keys taken own head attached top inside kept_up in
+      let some : 0 < times (lives_in top.above.head) (map goes members) =
+      lives t us ss s going strong opens origin keys taken own head attached top inside kept_up in
       let x = In-list_any (lives_in top.above.head) (map goes members) (some_pass (lives_in top.above.head) (map goes members) some) in
       let y = In-map goes members x.0 x.1 in
       let is : lives_in top.above.head (goes y.0) ≡ true = ap (lives_in top.above.head) (sym y.2) ∙ x.2 in
@@ -105,12 +109,14 @@ module _ (t : Table Node) (us : List Unit) (ss : List Shelf) (s : Shelf) (going 
       ] in
       let same : goes y.0 ≡ y.0 = goes_not going keys y.0 out in
       let lives_y : is_live_node y.0 ≡ true = ap is_live_node (sym same) ∙ live in
-      let unit : y.0.head ≡ top.above.head = ap (λ (m : Node). m.head) (sym same) ∙ same_key-true (goes y.0).head top.above.head (and_right (is_live_node (goes y.0)) _ is) in (
+      let unit : y.0.head ≡ top.above.head =
+      ap (λ (m : Node). m.head) (sym same) ∙ same_key-true (goes y.0).head top.above.head (and_right (is_live_node (goes y.0)) _ is) in (
         y.0,
         y.1,
         lives_y,
         subst (λ (k : NodeKey). is_below members k y.0.key ≡ true) unit
-            (in_unit_below members entire.sound.distinct entire.sound.heads entire.rooted entire.united y.0 y.1 (not-true y.0.gone (and_left (not y.0.gone) _ lives_y))),
+            (in_unit_below members entire.sound.distinct entire.sound.heads entire.rooted entire.united y.0 y.1
+            (not-true y.0.gone (and_left (not y.0.gone) _ lives_y))),
         out,
       )
 
@@ -119,14 +125,19 @@ module _ (t : Table Node) (us : List Unit) (ss : List Shelf) (s : Shelf) (going 
 
   -- ---- what the change itself makes of the nodes
 
-  module _ (g : Node → Node) (same : (n : Node) → IsSameNode (g n) n) (stays : (n : Node) → n.gone ≡ true → (g n).gone ≡ true) (top_stays : (g top.node).gone ≡ false)
-      (alone : (n : Node) → among n.key ≡ false → g n ≡ n) (dead : (n : Node) → In n members → among n.key ≡ true → is_live_node (g n) ≡ false)
-      (rooted : IsRooted (map g members)) (leaves_so : (n : Node) → among n.key ≡ true → gone_by going n ≡ record (g n) { gone = true }) where
+  module _ (g : Node → Node) (same : (n : Node) → IsSameNode (g n) n) (stays : (n : Node) → n.gone ≡ true → (g n).gone ≡ true)
+      (top_stays : (g top.node).gone ≡ false)
+      (alone : (n : Node) → among n.key ≡ false → g n ≡ n)
+      (dead : (n : Node) → In n members → among n.key ≡ true → is_live_node (g n) ≡ false)
+      (rooted : IsRooted (map g members))
+      (leaves_so : (n : Node) → among n.key ≡ true → gone_by going n ≡ record (g n) { gone = true }) where
     whole_g : IsWhole (with_nodes (map g) (collection_in t s))
     whole_g = record {
       sound = IsSound-map g same (collection_in t s) entire.sound;
       rooted = rooted.rooted;
-      united = united_mapped g (record { key = λ n. (same n).key; parent = λ n. (same n).parent; attached = λ n. (same n).attached; head = λ n. (same n).head }) members ∙ entire.united;
+      united = united_mapped g
+          (record { key = λ n. (same n).key; parent = λ n. (same n).parent; attached = λ n. (same n).attached; head = λ n. (same n).head })
+          members ∙ entire.united;
     }
 
     abbrev leaves : Node → Node
@@ -148,17 +159,21 @@ module _ (t : Table Node) (us : List Unit) (ss : List Shelf) (s : Shelf) (going 
         ∙ goes_so
 
     rooted_leaves : are_rooted (reverse (map goes members)) ≡ true
-    rooted_leaves = ap (λ (ns : List Node). are_rooted (reverse ns)) (sym leaves_is) ∙ (rooted_end (map g members) rooted top.node.key).rooted
+    rooted_leaves =
+        ap (λ (ns : List Node). are_rooted (reverse ns)) (sym leaves_is)
+        ∙ (rooted_end (map g members) rooted top.node.key).rooted
 
     module _ (now : Table Node) (stores : Stores t now (map (gone_by going) (nodes_with t keys))) where
       leaves_now : collection_in now s ≡ with_nodes (map goes) (collection_in t s)
       leaves_now = now_is t us ss s going strong opens origin keys taken own head attached top inside kept_up now stores rooted_leaves
 
-      pub ended_made : changed (change_of going) no_key (collection_or_new (forest_of t ss) s.id) ≡ record (collection_in t s) { nodes = map g members } →
+      pub ended_made : changed (change_of going) no_key (collection_or_new (forest_of t ss) s.id)
+          ≡ record (collection_in t s) { nodes = map g members } →
           (lives : ℕ) → nat_lt 0 lives ≡ true → lives + strong_count (nodes_with t keys) ≡ strong →
           IsLost t now (untallied (nodes_with t keys) us) ss s (change_of going) lives (map (gone_by going) (nodes_with t keys))
       ended_made change_is =
-          made_by t us ss s going strong opens origin keys taken own head attached top inside kept_up now stores rooted_leaves (map g members) change_is
+          made_by t us ss s going strong opens origin keys taken own head attached top inside kept_up now stores rooted_leaves
+          (map g members) change_is
           (λ pool handles others rest.
           settled_end (collection_in t s) entire among top.node top.above on_top top.here (sym top.attached_is ∙ is_attached)
           (top_up t us ss s going strong opens origin keys taken own head attached top inside kept_up)
