@@ -27,7 +27,7 @@ if [ $# -gt 0 ] || [ -n "$features" ]; then
     exec "$target/release/core-bench" --rounds "$rounds" "$@"
 fi
 target/release/core-bench --rounds "$rounds" --keep out/seconds
-if command -v valgrind > out/valgrind; then
+if command -v valgrind > /dev/null; then
     ./profile.sh
     target/release/core-bench --table out/seconds out/instructions > out/TABLE.md
 else

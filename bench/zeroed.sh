@@ -47,10 +47,10 @@ RATTLE_KIT=$kit CORE_FOLDER=$room \
 count() { # program, names
     program=$1
     shift
-    rm -f "$room"/counted*
+    rm -f out/zeroed/counted*
     timeout 600 valgrind --tool=callgrind --toggle-collect=core_calls::play_timed \
-        --callgrind-out-file="$room/counted" "$program" --only ours --count "$@" > "$room/log" 2>&1
-    for file in $(ls "$room"/counted.[0-9]* | sort -t. -k2 -n); do
+        --callgrind-out-file=out/zeroed/counted "$program" --only ours --count "$@" > "$room/log" 2>&1
+    for file in $(ls out/zeroed/counted.[0-9]* | sort -t. -k2 -n); do
         echo "$(sed -n 's/^desc: Trigger: Client Request: //p' "$file")|$(sed -n 's/^totals: //p' "$file")"
     done
 }
