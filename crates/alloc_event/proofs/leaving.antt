@@ -5,5 +5,6 @@ pub mod Ends
 pub mod Forgotten
 pub mod Leaving
 pub mod Noted
+pub mod Places
 pub mod Thinning
 pub mod Tidying

@@ -1,6 +1,6 @@
 -- What the table and the shelves are once nodes are forgotten. No public clause cites this module.
-use Rattle.std.specs.Prelude.{◌≡◌, ◌≢◌, ℕ, ◌+◌, Bool, true, false, ◌==◌, ◌&&◌, not, if◌then◌else◌, List, [], map, length, Option, Some, None, is_some, IsSome, Contains}
-use Rattle.std.specs.List.{filter, list_any}
+use Rattle.std.specs.Prelude.{◌≡◌, ◌≢◌, ℕ, ◌+◌, ◌<◌, Bool, true, false, ◌==◌, ◌&&◌, not, if◌then◌else◌, List, [], map, length, get_or, Option, Some, None, is_some, IsSome, Contains}
+use Rattle.std.specs.List.{filter, list_any, remove}
 use Rattle.std.specs.Option.{option_map_or}
 use Rattle.sm_names.specs.declared.keys.NodeKey.{NodeKey}
 use Rattle.sm_names.specs.Sameness.{same_key}
@@ -62,21 +62,27 @@ is_bare s = length s.keys == 0 && length s.held == 0
 abbrev pub without_bare : ℕ → List Shelf → List Shelf
 without_bare id ss = filter (λ (s : Shelf). not (s.id == id && is_bare s)) ss
 
--- the node with this key is over, one of the entry's, and noted as the only one that is
-pub record IsNoted (t : Table Node) (e : Entry) (key : NodeKey) : Type 0 where
+-- the key stands at this place
+pub record IsPlace (keys : List NodeKey) (key : NodeKey) (at : ℕ) : Type 0 where
+  pub within : at < length keys
+  pub is : get_or keys at key ≡ key
+
+-- the node with this key is over, the entry's at this place, and noted as the only one that is
+pub record IsNoted (t : Table Node) (e : Entry) (key : NodeKey) (at : ℕ) : Type 0 where
   pub tidy : e.tidy ≡ true
   pub one : e.one ≡ Some key
   pub over : option_map_or is_over (node_at t key) false ≡ true
-  pub listed : list_any (same_key key) e.keys.items ≡ true
+  pub place : IsPlace e.keys.items key at
 
 -- of the nodes with these keys it is the only one that is over
 pub record IsAlone (t : Table Node) (keys : List NodeKey) (key : NodeKey) : Type 0 where
   pub listed : list_any (same_key key) keys ≡ true
   pub alone : list_any (over_but (Some key)) (nodes_with t keys) ≡ false
 
--- the table has all of these keys but this one
-abbrev pub IsMissing : Table Node → List NodeKey → NodeKey → Type 0
-IsMissing t keys key = filter (is_found t) keys ≡ filter (λ other. not (same_key key other)) keys
+-- the table has all of these keys but the one at this place
+pub record IsMissing (t : Table Node) (keys : List NodeKey) (at : ℕ) : Type 0 where
+  pub within : at < length keys
+  pub others : filter (is_found t) keys ≡ remove keys at
 
 -- the key is noted, or nothing is known
 abbrev pub IsNotedOr : Entry → NodeKey → Type 0

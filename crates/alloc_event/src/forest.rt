@@ -229,8 +229,8 @@ impl Forest {
     /// Forgets the nodes of the collection that are over, and the collection where nothing is left
     /// of it. Without such a collection nothing changes. It takes no memory, and costs a binary
     /// search. Where since the last call one node alone went whose end was spent, or the end of one
-    /// gone node was spent, it costs a pass over the keys of the collection besides, and where
-    /// several did, a pass over its nodes.
+    /// gone node was spent, it costs a binary search among the collection's nodes and a shift of
+    /// their keys besides, and where several did, a pass over its nodes.
     pub fn forget_over(&mut self, id: CollectionId)
         ensures collections { self.new.collections ≡ without_over_in id self.old.collections }
         ensures keys { SameKeys self.old self.new }

@@ -1,6 +1,6 @@
 //! Forgetting: nodes that are taken out of the table with their keys, and collections of which
 //! nothing is left.
-ghost use Rattle.std.specs.Prelude.{IfSome, Some, None, not, ◌≡◌, ◌==◌, [], map, IsSome, is_some, MatchOption, List, true, false};
+ghost use Rattle.std.specs.Prelude.{IfSome, Some, None, not, ◌≡◌, ◌==◌, [], map, IsSome, is_some, MatchOption, length, nat_lt, ◌≤◌, List, true, false};
 ghost use Rattle.std.specs.List.{filter, find, list_any, AllByRecursion};
 ghost use Rattle.std.specs.Option.{option_map_or};
 ghost use Rattle.sm_names.specs.declared.keys.NodeKey.{NodeKey as Key};
@@ -11,7 +11,7 @@ ghost use Rattle.alloc_event.specs.declared.node.Node.{Node as Kept};
 ghost use Rattle.alloc_event.specs.declared.entry.Entry.{Entry as KeptEntry};
 ghost use Rattle.alloc_event.specs.Calm.{AreCounted, AreTidy};
 ghost use Rattle.alloc_event.specs.Forest.{without_over_in};
-ghost use Rattle.alloc_event.specs.Forgetting.{IsAlone, IsChild, IsMissing, IsNoted, IsNotedOr, Unlinks, TakesOut, is_found, left_at, thinned, thin_in, without_bare};
+ghost use Rattle.alloc_event.specs.Forgetting.{IsAlone, IsChild, IsMissing, IsNoted, IsNotedOr, IsPlace, Unlinks, TakesOut, is_found, left_at, thinned, thin_in, without_bare};
 ghost use Rattle.alloc_event.specs.Kept.{AreRising, IsKept, Shelf, collection_in, shelf_of, shelves_of};
 ghost use Rattle.alloc_event.specs.Nodes.{is_over};
 
@@ -108,13 +108,45 @@ fn is_tidy(entry: &Entry) -> bool
     entry.tidy && entry.one.is_none()
 }
 
-/// The one node of the collection that is over, if that is known.
-fn only_over(table: &NodeTable<Node>, entry: &Entry) -> Option<NodeKey>
-    ensures { IfSome result (λ key. IsNoted table.now entry.now key) }
+/// Whether the table has a node of the key that was born before this event.
+fn is_born_before(table: &NodeTable<Node>, key: NodeKey, event: u64) -> bool
+    ensures { result ≡ option_map_or (λ (n : Kept). nat_lt n.event event) (node_at table.now key) false }
+{
+    match table.get(key) {
+        Some(node) => node.event < event,
+        None => false,
+    }
+}
+
+/// How many of the keys, which stand by birth, are of nodes that were born before this event. A
+/// binary search.
+fn born_before(table: &NodeTable<Node>, keys: &[NodeKey], event: u64) -> usize
+    ensures { result ≤ length keys.now }
+{
+    keys.partition_point(|key| is_born_before(table, *key, event))
+}
+
+/// The place of the key among these, which stand by birth. A binary search.
+fn place_by_birth(table: &NodeTable<Node>, keys: &[NodeKey], key: NodeKey) -> Option<usize>
+    ensures { IfSome result (λ at. IsPlace keys.now key at) }
+{
+    let node = table.get(key)?;
+    let at = born_before(table, keys, node.event);
+    if at < keys.len() && keys[at] == key {
+        Some(at)
+    } else {
+        None
+    }
+}
+
+/// The one node of the collection that is over, and the place of its key, if that is known.
+fn only_over(table: &NodeTable<Node>, entry: &Entry) -> Option<(NodeKey, usize)>
+    ensures { IfSome result (λ one. IsNoted table.now entry.now one.0 one.1) }
 {
     let key = entry.one?;
-    if entry.tidy && is_over_at(table, key) && is_listed(&entry.keys, key) {
-        Some(key)
+    if entry.tidy && is_over_at(table, key) {
+        let at = place_by_birth(table, &entry.keys, key)?;
+        Some((key, at))
     } else {
         None
     }
@@ -122,40 +154,42 @@ fn only_over(table: &NodeTable<Node>, entry: &Entry) -> Option<NodeKey>
 
 /// Takes those of the nodes with these keys out of the table that are over: this one, if it is
 /// known to be the only one. It takes no memory.
-fn take_out_noted(table: &mut NodeTable<Node>, keys: &[NodeKey], one: Option<NodeKey>)
+fn take_out_noted(table: &mut NodeTable<Node>, keys: &[NodeKey], one: Option<(NodeKey, usize)>)
     requires named { (key : Key) (n : Kept) → node_at table.old key ≡ Some n → n.key ≡ key }
-    requires one { IfSome one (λ key. IsAlone table.old keys.now key) }
+    requires one { IfSome one (λ one. IsAlone table.old keys.now one.0) }
     ensures look { (k : Key) → node_at table.new k ≡ left_at table.old keys.now k }
     ensures kept { (ss : List Shelf) → IsKept table.old ss → IsKept table.new (map (thinned table.new) ss) }
     ensures keys { SameKeys table.old table.new }
 {
     match one {
-        Some(key) => take_out_over(table, &[key]),
+        Some((key, _)) => take_out_over(table, &[key]),
         None => take_out_over(table, keys),
     }
 }
 
-/// Keeps those of the keys that the table has: all but this one, if that is known.
-fn keep(keys: &mut Vec<NodeKey>, table: &NodeTable<Node>, one: Option<NodeKey>)
-    requires { IfSome one (λ key. IsMissing table.now keys.old.items key) }
+/// Keeps those of the keys that the table has: all but the one at this place, if that is known.
+fn keep(keys: &mut Vec<NodeKey>, table: &NodeTable<Node>, one: Option<(NodeKey, usize)>)
+    requires { IfSome one (λ one. IsMissing table.now keys.old.items one.1) }
     ensures { keys.new.items ≡ filter (is_found table.now) keys.old.items }
 {
     match one {
-        Some(key) => forget_key(keys, key),
+        Some((_, at)) => {
+            keys.remove(at);
+        }
         None => keep_found(keys, table),
     }
 }
 
-/// Keeps those of the collection's keys that the table has, which are all but this one, if that is
-/// known: none of their nodes is over.
+/// Keeps those of the collection's keys that the table has, which are all but the one at this
+/// place, if that is known: none of their nodes is over.
 pub(crate) fn thin(
     entries: &mut Vec<Entry>,
     table: &NodeTable<Node>,
     id: CollectionId,
-    one: Option<NodeKey>,
+    one: Option<(NodeKey, usize)>,
 )
     requires rising { AreRising (shelves_of entries.old.items) }
-    requires one { IfSome one (λ key. AllByRecursion (λ (e : KeptEntry). e.id ≡ id → IsMissing table.now e.keys.items key) entries.old.items) }
+    requires one { IfSome one (λ one. AllByRecursion (λ (e : KeptEntry). e.id ≡ id → IsMissing table.now e.keys.items one.1) entries.old.items) }
     ensures shelves { shelves_of entries.new.items ≡ thin_in table.now id (shelves_of entries.old.items) }
     ensures counted { AreCounted table.now entries.old.items → AreTidy table.now id entries.old.items
         → AreCounted table.now entries.new.items }
@@ -181,9 +215,9 @@ pub(crate) fn drop_bare(entries: &mut Vec<Entry>, id: CollectionId)
     }
 }
 
-/// Forgets the nodes of the collection that are over. It costs a pass over its nodes, a pass over
-/// their keys where it is known which one is over, and a binary search alone where it is known that
-/// none is.
+/// Forgets the nodes of the collection that are over. It costs a pass over its nodes. Where it is
+/// known which one is over, it costs a binary search among them and a shift of their keys instead,
+/// and where it is known that none is, a binary search of the collection alone.
 fn forget_nodes(table: &mut NodeTable<Node>, entries: &mut Vec<Entry>, id: CollectionId)
     requires kept { IsKept table.old (shelves_of entries.old.items) }
     requires counted { AreCounted table.old entries.old.items }

@@ -10,7 +10,7 @@ use Rattle.sm_names.proofs.StandingLaws.{In-any}
 use Rattle.node_table.specs.Table.{Table, node_at}
 use Rattle.alloc_event.specs.declared.node.Node.{Node}
 use Rattle.alloc_event.specs.Calm.{over_but}
-use Rattle.alloc_event.specs.Forgetting.{IsAlone, IsMissing, is_found, left_at, unless_over}
+use Rattle.alloc_event.specs.Forgetting.{IsAlone, is_found, left_at, unless_over}
 use Rattle.alloc_event.specs.Kept.{is_filed, nodes_with}
 use Rattle.alloc_event.specs.Nodes.{is_over}
 use Rattle.alloc_event.proofs.leaving.Forgotten.{in_nodes}
@@ -65,7 +65,7 @@ module _ (t : Table Node) (named : (k : NodeKey) (n : Node) → node_at t k ≡ 
 
   -- and the table has all the others then
   pub alone_missing : (now : Table Node) → ((k : NodeKey) → node_at now k ≡ left_at t keys k) → (id : ℕ) → list_all (is_filed t id) keys ≡ true →
-      option_map_or is_over (node_at t key) false ≡ true → IsMissing now keys key
+      option_map_or is_over (node_at t key) false ≡ true → filter (is_found now) keys ≡ filter (λ other. not (same_key key other)) keys
   alone_missing now look id filed over = filter-same (is_found now) (λ other. not (same_key key other)) keys (λ k on. one k on (either_way (same_key key k)))
     where
       is_there : (o : Option Node) → option_map_or (λ (n : Node). n.collection == id) o false ≡ true → is_some o ≡ true

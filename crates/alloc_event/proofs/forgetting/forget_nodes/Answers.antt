@@ -13,6 +13,7 @@ use Rattle.alloc_event.proofs.shelves.Counted.{dropped_all, drops_over, each_own
 use Rattle.alloc_event.proofs.leaving.Alone.{alone_missing}
 use Rattle.alloc_event.proofs.changes.Altering.{found_filed}
 use Rattle.alloc_event.proofs.leaving.Forgotten.{thin_filed, thinned_filed, tidy_left}
+use Rattle.alloc_event.proofs.leaving.Places.{found_apart, listed_at, without_at}
 use Rattle.alloc_event.proofs.shelves.Showing.{shelf_found}
 use Rattle.alloc_event.proofs.calm.Watched.{found_counted}
 use Rattle.alloc_event.proofs.forgetting.forget_nodes.Goals as goal
@@ -51,30 +52,39 @@ returns-then-is_tidy-clause-kept c =
 
 -- the one node of the entry that is over
 alone_of : (t : Table Node) (id : ℕ) (es : List Entry) (entry : Entry) → AreCounted t es → find (λ (e : Entry). e.id == id) es ≡ Some entry →
-    (key : NodeKey) → IsNoted t entry key → IsAlone t entry.keys.items key
-alone_of t id es entry counted found key noted = record {
-  listed = noted.listed;
+    (key : NodeKey) (at : ℕ) → IsNoted t entry key at → IsAlone t entry.keys.items key
+alone_of t id es entry counted found key at noted = record {
+  listed = listed_at key entry.keys.items at noted.place.within noted.place.is;
   alone = ap (λ (o : Option NodeKey). list_any (over_but o) (nodes_with t entry.keys.items)) (sym noted.one) ∙ (found_counted t id es entry counted found).tidy noted.tidy;
 }
 
 -- so it is, if there is one
 alone_if : (t : Table Node) (id : ℕ) (es : List Entry) (entry : Entry) → AreCounted t es → find (λ (e : Entry). e.id == id) es ≡ Some entry →
-    (o : Option NodeKey) → IfSome o (λ key. IsNoted t entry key) → IfSome o (λ key. IsAlone t entry.keys.items key)
+    (o : Option (NodeKey × ℕ)) → IfSome o (λ one. IsNoted t entry one.0 one.1) → IfSome o (λ one. IsAlone t entry.keys.items one.0)
 alone_if t id es entry counted found None noted = tt
-alone_if t id es entry counted found (Some key) noted = alone_of t id es entry counted found key noted
+alone_if t id es entry counted found (Some one) noted = alone_of t id es entry counted found one.0 one.1 noted
 
 -- and then the table has all others of the entry
 missing_if : (t now : Table Node) (id : ℕ) (es : List Entry) (entry : Entry) → IsKept t (shelves_of es) → AreCounted t es → find (λ (e : Entry). e.id == id) es ≡ Some entry →
-    ((k : NodeKey) → node_at now k ≡ left_at t entry.keys.items k) → (o : Option NodeKey) → IfSome o (λ key. IsNoted t entry key) →
-    IfSome o (λ key. AllByRecursion (λ (e : Entry). e.id ≡ id → IsMissing now e.keys.items key) es)
+    ((k : NodeKey) → node_at now k ≡ left_at t entry.keys.items k) →
+    (o : Option (NodeKey × ℕ)) → IfSome o (λ one. IsNoted t entry one.0 one.1) →
+    IfSome o (λ one. AllByRecursion (λ (e : Entry). e.id ≡ id → IsMissing now e.keys.items one.1) es)
 missing_if t now id es entry kept counted found look None noted = tt
-missing_if t now id es entry kept counted found look (Some key) noted =
-    each_own (λ (e : Entry). IsMissing now e.keys.items key) id es kept.rising (λ e is.
+missing_if t now id es entry kept counted found look (Some one) noted =
+    let key = one.0 in
+    let at = one.1 in
+    let shelf = shelf_found id es ∙ ap (option_map shelf_of) found in
+    let apart = found_apart id (shelves_of es) (shelf_of entry) kept.apart shelf in
+    let missing : IsMissing now entry.keys.items at = record {
+      within = noted.place.within;
+      others = alone_missing t kept.named entry.keys.items key (alone_of t id es entry counted found key at noted) now look entry.id
+          (found_filed t id (shelves_of es) (shelf_of entry) kept.filed shelf) noted.over
+          ∙ without_at key entry.keys.items at apart noted.place.within noted.place.is;
+    } in
+    each_own (λ (e : Entry). IsMissing now e.keys.items at) id es kept.rising (λ e is.
     let same : Some entry ≡ Some e = sym found ∙ is in
-    let one : entry ≡ e = cc in
-    subst (λ (x : Entry). IsMissing now x.keys.items key) one
-    (alone_missing t kept.named entry.keys.items key (alone_of t id es entry counted found key noted) now look entry.id
-    (found_filed t id (shelves_of es) (shelf_of entry) kept.filed (shelf_found id es ∙ ap (option_map shelf_of) found)) noted.over))
+    let own : entry ≡ e = cc in
+    subst (λ (x : Entry). IsMissing now x.keys.items at) own missing)
 
 pub take_out_noted-requires-clause-one : goal.take_out_noted-requires-clause-one
 take_out_noted-requires-clause-one c =

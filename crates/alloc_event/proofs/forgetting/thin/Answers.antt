@@ -30,15 +30,18 @@ keep-requires c = from c.args.one c.requires.one
     old : Entry
     old = c.index_mut-entry.result.now
 
-    from : (o : Option NodeKey) → IfSome o (λ (key : NodeKey). AllByRecursion (λ (e : Entry). e.id ≡ c.args.id → IsMissing c.args.table.now e.keys.items key) c.args.entries.now.items) →
-        IfSome o (IsMissing c.args.table.now old.keys.items)
+    from : (o : Option (NodeKey × ℕ)) →
+        IfSome o (λ (one : NodeKey × ℕ).
+        AllByRecursion (λ (e : Entry). e.id ≡ c.args.id → IsMissing c.args.table.now e.keys.items one.1) c.args.entries.now.items) →
+        IfSome o (λ (one : NodeKey × ℕ). IsMissing c.args.table.now old.keys.items one.1)
     from None h = tt
-    from (Some key) h =
+    from (Some one) h =
         let told : place_in c.args.id c.args.entries.now.items ≡ Some c.in-Some.at = sym (rw c.deref.ensures.value at c.place_of.ensures) ∙ c.in-Some.is in
         let place = place_is c.args.id c.args.entries.now.items c.in-Some.at told in
-        let at = each_at (λ (e : Entry). e.id ≡ c.args.id → IsMissing c.args.table.now e.keys.items key) c.args.entries.now.items c.in-Some.at old h place.within in
+        let at = each_at (λ (e : Entry). e.id ≡ c.args.id → IsMissing c.args.table.now e.keys.items one.1)
+        c.args.entries.now.items c.in-Some.at old h place.within in
         let is : old ≡ get_or c.args.entries.now.items c.in-Some.at old = c.index_mut-entry.ensures.value in
-        subst (λ (e : Entry). IsMissing c.args.table.now e.keys.items key) (sym is) (at (place.id_is old))
+        subst (λ (e : Entry). IsMissing c.args.table.now e.keys.items one.1) (sym is) (at (place.id_is old))
 
 pub returns-in-Some-clause-shelves : goal.returns-in-Some-clause-shelves
 returns-in-Some-clause-shelves c =
