@@ -400,8 +400,8 @@ fn a_long_chain_falls(rt: HostRuntime) -> Result<(), Fail> {
     Ok(())
 }
 
-// Whether each node is forgotten once its end is spent, from the first to the last, and the
-// collection with the last.
+// Whether each node is forgotten once its end is spent, in this order, and the collection with the
+// last.
 fn forget_in_turn(mut forest: Forest, keys: &[NodeKey]) -> bool {
     let count = keys.len();
     for at in 0..count {
@@ -422,6 +422,24 @@ fn forget_in_turn(mut forest: Forest, keys: &[NodeKey]) -> bool {
 fn many_that_fell_are_forgotten_in_turn(rt: HostRuntime) -> Result<(), Fail> {
     let (mut ground, keys) = family(rt.alloc(), 999, false)?;
     assert!(rt; fall_together(&mut ground, &keys)?);
+    assert!(rt; forget_in_turn(ground.into_forest(), &keys));
+    Ok(())
+}
+
+#[test]
+fn many_that_fell_are_forgotten_from_the_last(rt: HostRuntime) -> Result<(), Fail> {
+    let (mut ground, mut keys) = family(rt.alloc(), 999, false)?;
+    assert!(rt; fall_together(&mut ground, &keys)?);
+    keys.reverse();
+    assert!(rt; forget_in_turn(ground.into_forest(), &keys));
+    Ok(())
+}
+
+#[test]
+fn many_that_fell_are_forgotten_from_the_middle(rt: HostRuntime) -> Result<(), Fail> {
+    let (mut ground, mut keys) = family(rt.alloc(), 999, false)?;
+    assert!(rt; fall_together(&mut ground, &keys)?);
+    keys.rotate_left(500);
     assert!(rt; forget_in_turn(ground.into_forest(), &keys));
     Ok(())
 }
