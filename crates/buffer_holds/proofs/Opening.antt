@@ -8,10 +8,13 @@ use Rattle.buffer_holds.specs.Sound.{IsSound, tally_at}
 use Rattle.buffer_holds.specs.Stored.{one_more, Opens}
 use Rattle.buffer_holds.proofs.Steps.{Step, Step-raised}
 
-module _ (limit : ℕ) (rows rows' : List (Hold × ℕ)) (tallies tallies' : List (HandleKind × Tally)) (sound : IsSound limit rows tallies) (hold : Hold)
-    (raises : Raises rows rows' hold) (opens : Opens rows rows' tallies tallies' hold.kind) (room : (tally_at tallies hold.kind).total ≢ limit) where
+module _ (limit : ℕ) (rows rows' : List (Hold × ℕ)) (tallies tallies' : List (HandleKind × Tally)) (sound : IsSound limit rows tallies)
+    (hold : Hold)
+    (raises : Raises rows rows' hold) (opens : Opens rows rows' tallies tallies' hold.kind) (room : (tally_at tallies hold.kind).total ≢
+    limit) where
   -- the row and the tally change together
-  pub Step-opened : Step limit rows rows' tallies tallies' hold (Some (count_at rows hold + 1)) (Some (one_more (tally_at tallies hold.kind) (length rows' - length rows)))
+  pub Step-opened : Step limit rows rows' tallies tallies' hold (Some (count_at rows hold + 1))
+      (Some (one_more (tally_at tallies hold.kind) (length rows' - length rows)))
   Step-opened =
       Step-raised limit rows rows' tallies tallies' sound hold (one_more (tally_at tallies hold.kind) (length rows' - length rows)) opens
       raises (omega arith) (omega (arith, room, (sound.tallied hold.kind).within)) (omega arith)

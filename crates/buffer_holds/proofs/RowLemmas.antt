@@ -15,10 +15,12 @@ use Rattle.buffer_holds.specs.Rows.{weight_at, Resets}
 -- ---- sums over the entries
 module _ {K X : Type 0} (weight : K × X → ℕ) (test : K → Bool) (key : K) (one : (other : K) → test other ≡ true → key ≡ other) where
   -- after a new value
-  sum_by-set_value-key : (es : List (K × X)) (v w : X) → lookup test es ≡ Some v → sum_by weight (set_value test es w) + weight (key, v) ≡ sum_by weight es + weight (key, w)
+  sum_by-set_value-key : (es : List (K × X)) (v w : X) → lookup test es ≡ Some v →
+      sum_by weight (set_value test es w) + weight (key, v) ≡ sum_by weight es + weight (key, w)
   sum_by-set_value-key [] v w found = cc
   sum_by-set_value-key (e ∷ es) v w found =
-      elim (test e.0) as (λ b. test e.0 ≡ b → cond b (Some e.1) (lookup test es) ≡ Some v → sum_by weight (cond b ((e.0, w) ∷ es) (e ∷ set_value test es w)) + weight (key, v) ≡ sum_by weight (e ∷ es) + weight (key, w)) [
+      elim (test e.0) as (λ b. test e.0 ≡ b → cond b (Some e.1) (lookup test es) ≡ Some v →
+      sum_by weight (cond b ((e.0, w) ∷ es) (e ∷ set_value test es w)) + weight (key, v) ≡ sum_by weight (e ∷ es) + weight (key, w)) [
         | true ↦ λ hit is.
             let here : key ≡ e.0 = one e.0 hit in
             let value : e.1 ≡ v = cc in
@@ -30,10 +32,13 @@ module _ {K X : Type 0} (weight : K × X → ℕ) (test : K → Bool) (key : K) 
       ] refl found
 
   -- without the entry
-  sum_by-remove_entry-key : (es : List (K × X)) → sum_by weight (remove_entry test es) + weight_at weight key (lookup test es) ≡ sum_by weight es
+  sum_by-remove_entry-key : (es : List (K × X)) → sum_by weight (remove_entry test es) + weight_at weight key (lookup test es) ≡ sum_by
+      weight es
   sum_by-remove_entry-key [] = refl
   sum_by-remove_entry-key (e ∷ es) =
-      elim (test e.0) as (λ b. test e.0 ≡ b → sum_by weight (cond b es (e ∷ remove_entry test es)) + weight_at weight key (cond b (Some e.1) (lookup test es)) ≡ sum_by weight (e ∷ es)) [
+      elim (test e.0) as (λ b. test e.0 ≡ b →
+      sum_by weight (cond b es (e ∷ remove_entry test es)) + weight_at weight key (cond b (Some e.1) (lookup test es)) ≡ sum_by weight
+      (e ∷ es)) [
         | true ↦ λ hit.
             let here : key ≡ e.0 = one e.0 hit in
             let old : weight (key, e.1) ≡ weight e = λ i. weight (here i, e.1) in
@@ -46,11 +51,14 @@ module _ {K X : Type 0} (weight : K × X → ℕ) (test : K → Bool) (key : K) 
   weight_at-le-sum_by es = omega (arith, sum_by-remove_entry-key es)
 
 -- ---- calls of a map, whose test of keys is the specs' own
-module _ {K X S : Type 0} (eq same : K → K → Bool) (is : eq ≡ same) (one : (a b : K) → same a b ≡ true → a ≡ b) (m n : HashMap K X S) (key : K) where
+module _ {K X S : Type 0} (eq same : K → K → Bool) (is : eq ≡ same) (one : (a b : K) → same a b ≡ true →
+    a ≡ b) (m n : HashMap K X S) (key : K) where
   -- by the map's test, and so by the specs' own
-  told : (was now : Option X) → Resets eq m.entries n.entries key was now → Resets same m.entries n.entries key (lookup (same key) m.entries) now
+  told : (was now : Option X) → Resets eq m.entries n.entries key was now →
+      Resets same m.entries n.entries key (lookup (same key) m.entries) now
   told was now resets =
-      subst (λ s. Resets s m.entries n.entries key (lookup (s key) m.entries) now) is (subst (λ o. Resets eq m.entries n.entries key o now) (sym resets.had) resets)
+      subst (λ s. Resets s m.entries n.entries key (lookup (s key) m.entries) now) is (subst (λ o. Resets eq m.entries n.entries key o now)
+      (sym resets.had) resets)
 
   -- what the map's own search finds
   pub lookup_found : (found : Option X) → found ≡ get eq m key → lookup (same key) m.entries ≡ found
@@ -61,13 +69,15 @@ module _ {K X S : Type 0} (eq same : K → K → Bool) (is : eq ≡ same) (one :
   key_one other e = one key other (subst (λ s. s key other ≡ true) is e)
 
   -- a value written through `get_mut`
-  pub resets_written : (v w : X) → Some v ≡ get eq m key → WritesThrough eq (eq key) m w n → Resets same m.entries n.entries key (lookup (same key) m.entries) (Some w)
+  pub resets_written : (v w : X) → Some v ≡ get eq m key → WritesThrough eq (eq key) m w n →
+      Resets same m.entries n.entries key (lookup (same key) m.entries) (Some w)
   resets_written v w found written =
       let updates : UpdatesBy eq (eq key) m n (Some w) = written.3 (subst IsSome found refl) in
       told (Some v) (Some w) (record {
         had = sym found;
         finds = updates.0;
-        weighs = λ weight. subst (λ es. sum_by weight es + weight (key, v) ≡ sum_by weight m.entries + weight (key, w)) (sym written.0) (sum_by-set_value-key weight (eq key) key key_one m.entries v w (sym found));
+        weighs = λ weight. subst (λ es. sum_by weight es + weight (key, v) ≡ sum_by weight m.entries + weight (key, w)) (sym written.0)
+            (sum_by-set_value-key weight (eq key) key key_one m.entries v w (sym found));
         distinct = written.4;
       })
 
@@ -87,12 +97,15 @@ module _ {K X : Type 0} where
   set_value_at-get_or (e ∷ es) zero d = refl
   set_value_at-get_or (e ∷ es) (suc place) d = ap (λ rest. e ∷ rest) (set_value_at-get_or es place d)
 
-  pub set_value_at-same : (es : List (K × X)) (place : ℕ) (key : K) (v : X) → slice_get es place ≡ Some (key, v) → set_value_at es place v ≡ es
+  pub set_value_at-same : (es : List (K × X)) (place : ℕ) (key : K) (v : X) → slice_get es place ≡ Some (key, v) →
+      set_value_at es place v ≡ es
   set_value_at-same es place key v stands =
-      subst (λ (e : K × X). set_value_at es place e.1 ≡ es) (get_or_from_slice_get es place (key, v) (key, v) stands) (set_value_at-get_or es place (key, v))
+      subst (λ (e : K × X). set_value_at es place e.1 ≡ es) (get_or_from_slice_get es place (key, v) (key, v) stands)
+      (set_value_at-get_or es place (key, v))
 
 -- what is lent at a place
-module _ {K X S : Type 0} (m : HashMap K X S) (place : ℕ) (key : K) (v : X) (stands : slice_get m.entries place ≡ Some (key, v)) (lent : Option (MutBor X))
+module _ {K X S : Type 0} (m : HashMap K X S) (place : ℕ) (key : K) (v : X) (stands : slice_get m.entries place ≡ Some (key, v))
+    (lent : Option (MutBor X))
     (value : option_copied_mut lent ≡ slice_get (values m) place) where
   is_value : option_copied_mut lent ≡ Some v
   is_value = value ∙ slice_get-map (λ (e : K × X). e.1) m.entries place ∙ ap (option_map (λ (e : K × X). e.1)) stands
@@ -110,11 +123,13 @@ module _ {K X S : Type 0} (m : HashMap K X S) (place : ℕ) (key : K) (v : X) (s
       injected : Some r.now ≡ Some v → r.now ≡ v
       injected e = cc
 
-module _ {K X S : Type 0} (eq same : K → K → Bool) (is : eq ≡ same) (one : (a b : K) → same a b ≡ true → a ≡ b) (itself : (a : K) → same a a ≡ true) (m n : HashMap K X S) (key : K) where
+module _ {K X S : Type 0} (eq same : K → K → Bool) (is : eq ≡ same) (one : (a b : K) → same a b ≡ true → a ≡ b) (itself : (a : K) →
+    same a a ≡ true) (m n : HashMap K X S) (key : K) where
   laws : IsEquivalence eq
   laws = subst IsEquivalence (sym is) (record {
     refl = itself;
-    symm = λ a b. alike (same a b) (same b a) (λ e. subst (λ x. same x a ≡ true) (one a b e) (itself a)) (λ e. subst (λ x. same x b ≡ true) (one b a e) (itself b));
+    symm = λ a b. alike (same a b) (same b a) (λ e. subst (λ x. same x a ≡ true) (one a b e) (itself a)) (λ e.
+        subst (λ x. same x b ≡ true) (one b a e) (itself b));
     congr = λ a b c e. ap (λ x. same x c) (one a b e);
   })
     where
@@ -146,7 +161,8 @@ module _ {K X S : Type 0} (eq same : K → K → Bool) (is : eq ≡ same) (one :
           told eq same is one m written key (Some v) (Some w) (record {
             had = found;
             finds = (updates-with_value_at m place w laws unique key v stands).0;
-            weighs = λ weight. subst (λ (e : K × X). sum_by weight (set_value_at m.entries place w) + weight e ≡ sum_by weight m.entries + weight (e.0, w)) here (sum_by-set_value_at weight m.entries place w (key, v) within);
+            weighs = λ weight. subst (λ (e : K × X). sum_by weight (set_value_at m.entries place w) + weight e ≡ sum_by weight
+                m.entries + weight (e.0, w)) here (sum_by-set_value_at weight m.entries place w (key, v) within);
             distinct = subst (IsDistinct eq) (sym (keys-with_value_at m place w)) unique;
           })
 
@@ -167,7 +183,8 @@ module _ {K X S : Type 0} (eq same : K → K → Bool) (is : eq ≡ same) (one :
         })
 
   -- a new entry
-  pub resets_added : (w : X) → lookup (same key) m.entries ≡ None → n.entries ≡ insert_entry eq m.entries key w → Updates eq m n key (Some w) → IsUnique eq n
+  pub resets_added : (w : X) → lookup (same key) m.entries ≡ None → n.entries ≡ insert_entry eq m.entries key w →
+      Updates eq m n key (Some w) → IsUnique eq n
       → Resets same m.entries n.entries key (lookup (same key) m.entries) (Some w)
   resets_added w absent added updates distinct =
       let none : lookup (eq key) m.entries ≡ None = subst (λ s. lookup (s key) m.entries ≡ None) (sym is) absent in

@@ -22,12 +22,14 @@ one_row None = 0
 one_row (Some count) = 1
 
 -- what a row weighs, by whether it is of the kind
-pub weight_at-share : (kind : HandleKind) (hold : Hold) (row : Option ℕ) (b : Bool) → same_kind hold.kind kind ≡ b → weight_at (share kind) hold row ≡ cond b (unwrap_or row 0) 0
+pub weight_at-share : (kind : HandleKind) (hold : Hold) (row : Option ℕ) (b : Bool) → same_kind hold.kind kind ≡ b →
+    weight_at (share kind) hold row ≡ cond b (unwrap_or row 0) 0
 weight_at-share kind hold None true e = refl
 weight_at-share kind hold None false e = refl
 weight_at-share kind hold (Some count) b e = ap (λ v. cond v count 0) e
 
-pub weight_at-one_of : (kind : HandleKind) (hold : Hold) (row : Option ℕ) (b : Bool) → same_kind hold.kind kind ≡ b → weight_at (one_of kind) hold row ≡ cond b (one_row row) 0
+pub weight_at-one_of : (kind : HandleKind) (hold : Hold) (row : Option ℕ) (b : Bool) → same_kind hold.kind kind ≡ b →
+    weight_at (one_of kind) hold row ≡ cond b (one_row row) 0
 weight_at-one_of kind hold None true e = refl
 weight_at-one_of kind hold None false e = refl
 weight_at-one_of kind hold (Some count) b e = ap (λ v. cond v 1 0) e
@@ -40,17 +42,20 @@ counts_of limit rows tallies = record { limit = limit; rows = rows; parcels = pa
 pub moving_is : (limit : ℕ) (rows : List (Hold × ℕ)) (tallies : List (HandleKind × Tally)) (buffer : BufferName) (strength : Strength)
     → moving (counts_of limit rows tallies) buffer strength ≡ (tally_at tallies (kind_of buffer strength)).moving
 moving_is limit rows tallies buffer strength =
-    ap (λ o. unwrap_or o 0) (lookup-map_values (λ (t : Tally). t.moving) (same_kind (kind_of buffer strength)) tallies) ∙ mapped (lookup (same_kind (kind_of buffer strength)) tallies)
+    ap (λ o. unwrap_or o 0) (lookup-map_values (λ (t : Tally). t.moving) (same_kind (kind_of buffer strength)) tallies)
+    ∙ mapped (lookup (same_kind (kind_of buffer strength)) tallies)
   where
     mapped : (o : Option Tally) → unwrap_or (option_map (λ (t : Tally). t.moving) o) 0 ≡ (unwrap_or o no_tally).moving
     mapped None = refl
     mapped (Some t) = refl
 
 -- how many are open, by the tally
-pub total_is : (limit : ℕ) (rows : List (Hold × ℕ)) (tallies : List (HandleKind × Tally)) (sound : IsSound limit rows tallies) (buffer : BufferName) (strength : Strength)
+pub total_is : (limit : ℕ) (rows : List (Hold × ℕ)) (tallies : List (HandleKind × Tally)) (sound : IsSound limit rows tallies)
+    (buffer : BufferName) (strength : Strength)
     → total (counts_of limit rows tallies) buffer strength ≡ (tally_at tallies (kind_of buffer strength)).total
 total_is limit rows tallies sound buffer strength =
-    ap (λ n. sum_by (share (kind_of buffer strength)) rows + n) (moving_is limit rows tallies buffer strength) ∙ sym (sound.tallied (kind_of buffer strength)).total
+    ap (λ n. sum_by (share (kind_of buffer strength)) rows + n) (moving_is limit rows tallies buffer strength)
+    ∙ sym (sound.tallied (kind_of buffer strength)).total
 
 -- a row with a count is one row
 pub one_row-some : (row : Option ℕ) → 0 < unwrap_or row 0 → one_row row ≡ 1

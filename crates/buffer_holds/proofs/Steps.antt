@@ -21,14 +21,16 @@ pub record KeepsUp (limit : ℕ) (row row' : Option ℕ) (tally tally' : Tally) 
   pub within : tally'.total ≤ limit
 
 -- the client's row of these handles becomes row', and the tally of the kind tally'
-pub record Step (limit : ℕ) (rows rows' : List (Hold × ℕ)) (tallies tallies' : List (HandleKind × Tally)) (hold : Hold) (row' : Option ℕ) (tally' : Option Tally) : Type 0 where
+pub record Step (limit : ℕ) (rows rows' : List (Hold × ℕ)) (tallies tallies' : List (HandleKind × Tally)) (hold : Hold) (row' : Option ℕ)
+    (tally' : Option Tally) : Type 0 where
   pub sound : IsSound limit rows tallies
   pub resets : Resets same_hold rows rows' hold (row_at rows hold) row'
   pub retallies : Resets same_kind tallies tallies' hold.kind (tally_row tallies hold.kind) tally'
   pub keeps : KeepsUp limit (row_at rows hold) row' (tally_at tallies hold.kind) (unwrap_or tally' no_tally)
   pub needed : IsSome tally' → 0 < (unwrap_or tally' no_tally).clients + (unwrap_or tally' no_tally).moving
 
-module _ (limit : ℕ) (rows rows' : List (Hold × ℕ)) (tallies tallies' : List (HandleKind × Tally)) (sound : IsSound limit rows tallies) (hold : Hold) (tally' : Tally)
+module _ (limit : ℕ) (rows rows' : List (Hold × ℕ)) (tallies tallies' : List (HandleKind × Tally)) (sound : IsSound limit rows tallies)
+    (hold : Hold) (tally' : Tally)
     (retallies : Resets same_kind tallies tallies' hold.kind (tally_row tallies hold.kind) (Some tally')) where
   -- one handle of the client less
   pub Step-lowered : 0 < count_at rows hold → Resets same_hold rows rows' hold (row_at rows hold) (Some (count_at rows hold - 1))
@@ -48,7 +50,8 @@ module _ (limit : ℕ) (rows rows' : List (Hold × ℕ)) (tallies tallies' : Lis
   }
 
   -- one handle of the client more
-  pub Step-raised : Raises rows rows' hold → tally'.clients ≡ (tally_at tallies hold.kind).clients + (length rows' - length rows) → tally'.total ≤ limit
+  pub Step-raised : Raises rows rows' hold → tally'.clients ≡ (tally_at tallies hold.kind).clients + (length rows' - length rows) →
+      tally'.total ≤ limit
       → tally'.total + (tally_at tallies hold.kind).moving ≡ ((tally_at tallies hold.kind).total + 1) + tally'.moving
       → Step limit rows rows' tallies tallies' hold (Some (count_at rows hold + 1)) (Some tally')
   Step-raised raises more_clients within equation = record {
@@ -64,23 +67,27 @@ module _ (limit : ℕ) (rows rows' : List (Hold × ℕ)) (tallies tallies' : Lis
   }
 
 -- a row of 0 goes, and with it a tally that says nothing
-module _ (limit : ℕ) (rows rows' : List (Hold × ℕ)) (tallies tallies' : List (HandleKind × Tally)) (sound : IsSound limit rows tallies) (hold : Hold)
+module _ (limit : ℕ) (rows rows' : List (Hold × ℕ)) (tallies tallies' : List (HandleKind × Tally)) (sound : IsSound limit rows tallies)
+    (hold : Hold)
     (idle : row_at rows hold ≡ Some 0) (resets : Resets same_hold rows rows' hold (row_at rows hold) None)
-    (retallies : Resets same_kind tallies tallies' hold.kind (tally_row tallies hold.kind) (without_client (tally_at tallies hold.kind))) where
+    (retallies : Resets same_kind tallies tallies' hold.kind (tally_row tallies hold.kind)
+    (without_client (tally_at tallies hold.kind))) where
   -- the other clients' rows of the kind
   others : sum_by (one_of hold.kind) rows' + 1 ≡ sum_by (one_of hold.kind) rows
   others = omega (arith, resets.weighs (one_of hold.kind), weight_at-one_of hold.kind hold (row_at rows hold) true (same_kind-refl hold.kind), ap one_row idle)
 
   -- what they have is what all have
   same_share : sum_by (share hold.kind) rows' ≡ sum_by (share hold.kind) rows
-  same_share = omega (arith, resets.weighs (share hold.kind), weight_at-share hold.kind hold (row_at rows hold) true (same_kind-refl hold.kind), ap (λ o. unwrap_or o 0) idle)
+  same_share =
+      omega (arith, resets.weighs (share hold.kind), weight_at-share hold.kind hold (row_at rows hold) true (same_kind-refl hold.kind), ap (λ o. unwrap_or o 0) idle)
 
   -- the tally with one client less that has a row
   abbrev left : Tally
   left = record { total = (tally_at tallies hold.kind).total; moving = (tally_at tallies hold.kind).moving; clients = (tally_at tallies hold.kind).clients - 1 }
 
   -- a tally that says nothing has nothing open
-  nothing_left : is_idle left ≡ true → ((tally_at tallies hold.kind).total ≡ 0) × ((tally_at tallies hold.kind).moving ≡ 0) × ((tally_at tallies hold.kind).clients ≡ 1)
+  nothing_left : is_idle left ≡ true → ((tally_at tallies hold.kind).total ≡ 0) × ((tally_at tallies hold.kind).moving ≡ 0) ×
+      ((tally_at tallies hold.kind).clients ≡ 1)
   nothing_left is =
       let tallied = sound.tallied hold.kind in
       let both = and-both (left.clients == 0) (left.moving == 0) is in
@@ -100,7 +107,9 @@ module _ (limit : ℕ) (rows rows' : List (Hold × ℕ)) (tallies tallies' : Lis
 
   pub Step-forgotten : Step limit rows rows' tallies tallies' hold None (without_client (tally_at tallies hold.kind))
   Step-forgotten =
-      elim (is_idle left) as (λ b. is_idle left ≡ b → Resets same_kind tallies tallies' hold.kind (tally_row tallies hold.kind) (cond b None (Some left)) → Step limit rows rows' tallies tallies' hold None (cond b None (Some left))) [
+      elim (is_idle left) as (λ b. is_idle left ≡ b →
+      Resets same_kind tallies tallies' hold.kind (tally_row tallies hold.kind) (cond b None (Some left)) →
+      Step limit rows rows' tallies tallies' hold None (cond b None (Some left))) [
         | true ↦ λ e changed.
             let nothing = nothing_left e in
             record {
@@ -130,24 +139,29 @@ module _ (limit : ℕ) (rows rows' : List (Hold × ℕ)) (tallies tallies' : Lis
   -- it leaves the other numbers alone
   pub forgotten_moving : (unwrap_or (without_client (tally_at tallies hold.kind)) no_tally).moving ≡ (tally_at tallies hold.kind).moving
   forgotten_moving =
-      elim (is_idle left) as (λ b. is_idle left ≡ b → (unwrap_or (cond b None (Some left)) no_tally).moving ≡ (tally_at tallies hold.kind).moving) [
+      elim (is_idle left) as (λ b. is_idle left ≡ b →
+      (unwrap_or (cond b None (Some left)) no_tally).moving ≡ (tally_at tallies hold.kind).moving) [
         | true ↦ λ e. sym (nothing_left e).1
         | false ↦ λ e. refl
       ] refl
 
   pub forgotten_total : (unwrap_or (without_client (tally_at tallies hold.kind)) no_tally).total ≡ (tally_at tallies hold.kind).total
   forgotten_total =
-      elim (is_idle left) as (λ b. is_idle left ≡ b → (unwrap_or (cond b None (Some left)) no_tally).total ≡ (tally_at tallies hold.kind).total) [
+      elim (is_idle left) as (λ b. is_idle left ≡ b →
+      (unwrap_or (cond b None (Some left)) no_tally).total ≡ (tally_at tallies hold.kind).total) [
         | true ↦ λ e. sym (nothing_left e).0
         | false ↦ λ e. refl
       ] refl
 
-module _ {limit : ℕ} {rows rows' : List (Hold × ℕ)} {tallies tallies' : List (HandleKind × Tally)} {hold : Hold} {row' : Option ℕ} {tally' : Option Tally} (step : Step limit rows rows' tallies tallies' hold row' tally') where
+module _ {limit : ℕ} {rows rows' : List (Hold × ℕ)} {tallies tallies' : List (HandleKind × Tally)} {hold : Hold} {row' : Option ℕ}
+    {tally' : Option Tally} (step : Step limit rows rows' tallies tallies' hold row' tally') where
   -- the tally of each kind, by whether it is this one
-  tally_after : (kind : HandleKind) → tally_at tallies' kind ≡ cond (same_kind hold.kind kind) (unwrap_or tally' no_tally) (tally_at tallies kind)
+  tally_after : (kind : HandleKind) → tally_at tallies' kind ≡ cond (same_kind hold.kind kind) (unwrap_or tally' no_tally)
+      (tally_at tallies kind)
   tally_after kind = ap (λ o. unwrap_or o no_tally) (step.retallies.finds kind) ∙ inside (same_kind hold.kind kind)
     where
-      inside : (b : Bool) → unwrap_or (cond b tally' (lookup (same_kind kind) tallies)) no_tally ≡ cond b (unwrap_or tally' no_tally) (tally_at tallies kind)
+      inside : (b : Bool) → unwrap_or (cond b tally' (lookup (same_kind kind) tallies)) no_tally ≡ cond b (unwrap_or tally' no_tally)
+          (tally_at tallies kind)
       inside true = refl
       inside false = refl
 
@@ -175,15 +189,19 @@ module _ {limit : ℕ} {rows rows' : List (Hold × ℕ)} {tallies tallies' : Lis
   tallied_after : (kind : HandleKind) → Tallies limit rows' kind (tally_at tallies' kind)
   tallied_after kind =
       subst (Tallies limit rows' kind) (sym (tally_after kind))
-      (elim (same_kind hold.kind kind) as (λ b. same_kind hold.kind kind ≡ b → Tallies limit rows' kind (cond b (unwrap_or tally' no_tally) (tally_at tallies kind))) [
+      (elim (same_kind hold.kind kind) as (λ b. same_kind hold.kind kind ≡ b →
+      Tallies limit rows' kind (cond b (unwrap_or tally' no_tally) (tally_at tallies kind))) [
         | true ↦ λ e. subst (λ k. Tallies limit rows' k (unwrap_or tally' no_tally)) (same_kind-one hold.kind kind e) tallied_here
         | false ↦ λ e. tallied_there kind e
       ] refl)
 
-  needed_after : (kind : HandleKind) → IsSome (lookup (same_kind kind) tallies') → 0 < (tally_at tallies' kind).clients + (tally_at tallies' kind).moving
+  needed_after : (kind : HandleKind) → IsSome (lookup (same_kind kind) tallies') →
+      0 < (tally_at tallies' kind).clients + (tally_at tallies' kind).moving
   needed_after kind =
       subst (λ o. IsSome o → 0 < (unwrap_or o no_tally).clients + (unwrap_or o no_tally).moving) (sym (step.retallies.finds kind))
-      (elim (same_kind hold.kind kind) as (λ b. IsSome (cond b tally' (lookup (same_kind kind) tallies)) → 0 < (unwrap_or (cond b tally' (lookup (same_kind kind) tallies)) no_tally).clients + (unwrap_or (cond b tally' (lookup (same_kind kind) tallies)) no_tally).moving) [
+      (elim (same_kind hold.kind kind) as (λ b. IsSome (cond b tally' (lookup (same_kind kind) tallies)) →
+      0 < (unwrap_or (cond b tally' (lookup (same_kind kind) tallies)) no_tally).clients + (unwrap_or
+      (cond b tally' (lookup (same_kind kind) tallies)) no_tally).moving) [
         | true ↦ step.needed
         | false ↦ step.sound.needed kind
       ])
@@ -194,33 +212,41 @@ module _ {limit : ℕ} {rows rows' : List (Hold × ℕ)} {tallies tallies' : Lis
 
   -- what each client has open
   pub of_after : (c : ℕ) (b : BufferName) (s : Strength)
-      → of (counts_of limit rows' tallies') c b s ≡ cond (same_hold hold (hold_of c b s)) (unwrap_or row' 0) (of (counts_of limit rows tallies) c b s)
+      → of (counts_of limit rows' tallies') c b s ≡ cond (same_hold hold (hold_of c b s)) (unwrap_or row' 0)
+      (of (counts_of limit rows tallies) c b s)
   of_after c b s = ap (λ o. unwrap_or o 0) (step.resets.finds (hold_of c b s)) ∙ inside (same_hold hold (hold_of c b s))
     where
-      inside : (here : Bool) → unwrap_or (cond here row' (lookup (same_hold (hold_of c b s)) rows)) 0 ≡ cond here (unwrap_or row' 0) (of (counts_of limit rows tallies) c b s)
+      inside : (here : Bool) → unwrap_or (cond here row' (lookup (same_hold (hold_of c b s)) rows)) 0 ≡ cond here (unwrap_or row' 0)
+          (of (counts_of limit rows tallies) c b s)
       inside true = refl
       inside false = refl
 
   -- which clients have room
   pub has_room_after : (c : ℕ) (b : BufferName) (s : Strength)
-      → has_room (counts_of limit rows' tallies') c b s ≡ cond (same_hold hold (hold_of c b s)) (is_some row') (has_room (counts_of limit rows tallies) c b s)
+      → has_room (counts_of limit rows' tallies') c b s ≡ cond (same_hold hold (hold_of c b s)) (is_some row')
+      (has_room (counts_of limit rows tallies) c b s)
   has_room_after c b s = ap is_some (step.resets.finds (hold_of c b s)) ∙ inside (same_hold hold (hold_of c b s))
     where
-      inside : (here : Bool) → is_some (cond here row' (lookup (same_hold (hold_of c b s)) rows)) ≡ cond here (is_some row') (has_room (counts_of limit rows tallies) c b s)
+      inside : (here : Bool) → is_some (cond here row' (lookup (same_hold (hold_of c b s)) rows)) ≡ cond here (is_some row')
+          (has_room (counts_of limit rows tallies) c b s)
       inside true = refl
       inside false = refl
 
   -- a number of the tally of each kind
-  number_after : (number : Tally → ℕ) (kind : HandleKind) → number (tally_at tallies' kind) ≡ cond (same_kind hold.kind kind) (number (unwrap_or tally' no_tally)) (number (tally_at tallies kind))
+  number_after : (number : Tally → ℕ) (kind : HandleKind) →
+      number (tally_at tallies' kind) ≡ cond (same_kind hold.kind kind) (number (unwrap_or tally' no_tally))
+      (number (tally_at tallies kind))
   number_after number kind = ap number (tally_after kind) ∙ inside (same_kind hold.kind kind)
     where
-      inside : (here : Bool) → number (cond here (unwrap_or tally' no_tally) (tally_at tallies kind)) ≡ cond here (number (unwrap_or tally' no_tally)) (number (tally_at tallies kind))
+      inside : (here : Bool) → number (cond here (unwrap_or tally' no_tally) (tally_at tallies kind)) ≡ cond here
+          (number (unwrap_or tally' no_tally)) (number (tally_at tallies kind))
       inside true = refl
       inside false = refl
 
   -- what is in parcels
   pub moving_after : (b : BufferName) (s : Strength)
-      → moving (counts_of limit rows' tallies') b s ≡ cond (same_kind hold.kind (kind_of b s)) (unwrap_or tally' no_tally).moving (moving (counts_of limit rows tallies) b s)
+      → moving (counts_of limit rows' tallies') b s ≡ cond (same_kind hold.kind (kind_of b s)) (unwrap_or tally' no_tally).moving
+      (moving (counts_of limit rows tallies) b s)
   moving_after b s =
       moving_is limit rows' tallies' b s
       ∙ number_after (λ t. t.moving) (kind_of b s)
@@ -228,27 +254,37 @@ module _ {limit : ℕ} {rows rows' : List (Hold × ℕ)} {tallies tallies' : Lis
 
   -- what is open
   pub total_after : (b : BufferName) (s : Strength)
-      → total (counts_of limit rows' tallies') b s ≡ cond (same_kind hold.kind (kind_of b s)) (unwrap_or tally' no_tally).total (total (counts_of limit rows tallies) b s)
+      → total (counts_of limit rows' tallies') b s ≡ cond (same_kind hold.kind (kind_of b s)) (unwrap_or tally' no_tally).total
+      (total (counts_of limit rows tallies) b s)
   total_after b s =
       total_is limit rows' tallies' sound_after b s
       ∙ number_after (λ t. t.total) (kind_of b s)
       ∙ ap (cond (same_kind hold.kind (kind_of b s)) (unwrap_or tally' no_tally).total) (sym (total_is limit rows tallies step.sound b s))
 
 -- what contracts see of a step
-module _ {limit : ℕ} {rows rows' : List (Hold × ℕ)} {tallies tallies' : List (HandleKind × Tally)} {row' : Option ℕ} {tally' : Option Tally} (client : ℕ) (buffer : BufferName) (strength : Strength)
-    (step : Step limit rows rows' tallies tallies' (hold_of client buffer strength) row' tally') (old : Counts) (view : counts_of limit rows tallies ≡ old) where
+module _ {limit : ℕ} {rows rows' : List (Hold × ℕ)} {tallies tallies' : List (HandleKind × Tally)} {row' : Option ℕ} {tally' : Option Tally}
+    (client : ℕ) (buffer : BufferName) (strength : Strength)
+    (step : Step limit rows rows' tallies tallies' (hold_of client buffer strength) row' tally') (old : Counts)
+    (view : counts_of limit rows tallies ≡ old) where
   -- a row with a new count, each number by a function of the old
   pub sets_by : (held in_parcels in_all : ℕ → ℕ) → row' ≡ Some (held (count_at rows (hold_of client buffer strength)))
-      → (unwrap_or tally' no_tally).moving ≡ in_parcels (tally_at tallies (kind_of buffer strength)).moving → (unwrap_or tally' no_tally).total ≡ in_all (tally_at tallies (kind_of buffer strength)).total
-      → Sets old (counts_of limit rows' tallies') client buffer strength (held (of old client buffer strength)) (in_parcels (moving old buffer strength)) (in_all (total old buffer strength))
+      → (unwrap_or tally' no_tally).moving ≡ in_parcels (tally_at tallies (kind_of buffer strength)).moving →
+      (unwrap_or tally' no_tally).total ≡ in_all (tally_at tallies (kind_of buffer strength)).total
+      → Sets old (counts_of limit rows' tallies') client buffer strength (held (of old client buffer strength))
+      (in_parcels (moving old buffer strength)) (in_all (total old buffer strength))
   sets_by held in_parcels in_all is_held is_moving is_total =
       let before = counts_of limit rows tallies in
-      subst (λ counts. Sets counts (counts_of limit rows' tallies') client buffer strength (held (of counts client buffer strength)) (in_parcels (moving counts buffer strength)) (in_all (total counts buffer strength))) view (record {
+      subst (λ counts. Sets counts (counts_of limit rows' tallies') client buffer strength (held (of counts client buffer strength))
+      (in_parcels (moving counts buffer strength)) (in_all (total counts buffer strength))) view (record {
         limit = refl;
-        counts = λ c b s. of_after step c b s ∙ ap (λ o. cond (same_hold (hold_of client buffer strength) (hold_of c b s)) (unwrap_or o 0) (of before c b s)) is_held;
-        parcels = λ b s. moving_after step b s ∙ ap (λ n. cond (same_kind (kind_of buffer strength) (kind_of b s)) n (moving before b s)) (is_moving ∙ ap in_parcels (sym (moving_is limit rows tallies buffer strength)));
-        totals = λ b s. total_after step b s ∙ ap (λ n. cond (same_kind (kind_of buffer strength) (kind_of b s)) n (total before b s)) (is_total ∙ ap in_all (sym (total_is limit rows tallies step.sound buffer strength)));
-        rooms = λ c b s. has_room_after step c b s ∙ ap (λ o. cond (same_hold (hold_of client buffer strength) (hold_of c b s)) (is_some o) (has_room before c b s)) is_held
+        counts = λ c b s. of_after step c b s
+            ∙ ap (λ o. cond (same_hold (hold_of client buffer strength) (hold_of c b s)) (unwrap_or o 0) (of before c b s)) is_held;
+        parcels = λ b s. moving_after step b s ∙ ap (λ n. cond (same_kind (kind_of buffer strength) (kind_of b s)) n (moving before b s))
+            (is_moving ∙ ap in_parcels (sym (moving_is limit rows tallies buffer strength)));
+        totals = λ b s. total_after step b s ∙ ap (λ n. cond (same_kind (kind_of buffer strength) (kind_of b s)) n (total before b s))
+            (is_total ∙ ap in_all (sym (total_is limit rows tallies step.sound buffer strength)));
+        rooms = λ c b s. has_room_after step c b s
+            ∙ ap (λ o. cond (same_hold (hold_of client buffer strength) (hold_of c b s)) (is_some o) (has_room before c b s)) is_held
             ∙ gains (same_hold (hold_of client buffer strength) (hold_of c b s)) (has_room before c b s);
       })
     where
@@ -257,20 +293,26 @@ module _ {limit : ℕ} {rows rows' : List (Hold × ℕ)} {tallies tallies' : Lis
       gains false had = refl
 
   module _ (idle : row_at rows (hold_of client buffer strength) ≡ Some 0) (gone : row' ≡ None)
-      (same_moving : (unwrap_or tally' no_tally).moving ≡ (tally_at tallies (kind_of buffer strength)).moving) (same_total : (unwrap_or tally' no_tally).total ≡ (tally_at tallies (kind_of buffer strength)).total) where
+      (same_moving : (unwrap_or tally' no_tally).moving ≡ (tally_at tallies (kind_of buffer strength)).moving)
+      (same_total : (unwrap_or tally' no_tally).total ≡ (tally_at tallies (kind_of buffer strength)).total) where
     -- a number of the tallies that the step leaves alone
-    same_number : (number : Tally → ℕ) → number (unwrap_or tally' no_tally) ≡ number (tally_at tallies (kind_of buffer strength)) → (kind : HandleKind) → number (tally_at tallies' kind) ≡ number (tally_at tallies kind)
+    same_number : (number : Tally → ℕ) → number (unwrap_or tally' no_tally) ≡ number (tally_at tallies (kind_of buffer strength)) →
+        (kind : HandleKind) → number (tally_at tallies' kind) ≡ number (tally_at tallies kind)
     same_number number same kind =
-        number_after step number kind ∙ (elim (same_kind (kind_of buffer strength) kind) as (λ b. same_kind (kind_of buffer strength) kind ≡ b → cond b (number (unwrap_or tally' no_tally)) (number (tally_at tallies kind)) ≡ number (tally_at tallies kind)) [
+        number_after step number kind ∙ (elim (same_kind (kind_of buffer strength) kind) as (λ b.
+        same_kind (kind_of buffer strength) kind ≡ b →
+        cond b (number (unwrap_or tally' no_tally)) (number (tally_at tallies kind)) ≡ number (tally_at tallies kind)) [
           | true ↦ λ e. same ∙ ap (λ k. number (tally_at tallies k)) (same_kind-one (kind_of buffer strength) kind e)
           | false ↦ λ e. refl
         ] refl)
 
     -- the client has none of these handles
     none_here : (other : Hold) → same_hold (hold_of client buffer strength) other ≡ true → count_at rows other ≡ 0
-    none_here other e = subst (λ hold. count_at rows hold ≡ 0) (same_hold-one (hold_of client buffer strength) other e) (ap (λ o. unwrap_or o 0) idle)
+    none_here other e = subst (λ hold. count_at rows hold ≡ 0) (same_hold-one (hold_of client buffer strength) other e) (ap (λ o.
+        unwrap_or o 0) idle)
 
-    same_count : (other : Hold) (here : Bool) → same_hold (hold_of client buffer strength) other ≡ here → cond here (unwrap_or row' 0) (count_at rows other) ≡ count_at rows other
+    same_count : (other : Hold) (here : Bool) → same_hold (hold_of client buffer strength) other ≡ here →
+        cond here (unwrap_or row' 0) (count_at rows other) ≡ count_at rows other
     same_count other true e = ap (λ o. unwrap_or o 0) gone ∙ sym (none_here other e)
     same_count other false e = refl
 
@@ -284,7 +326,10 @@ module _ {limit : ℕ} {rows rows' : List (Hold × ℕ)} {tallies tallies' : Lis
     tidies_after = subst (λ counts. Tidies counts (counts_of limit rows' tallies') client buffer strength) view (record {
       limit = refl;
       counts = λ c b s. of_after step c b s ∙ same_count (hold_of c b s) (same_hold (hold_of client buffer strength) (hold_of c b s)) refl;
-      parcels = λ b s. moving_is limit rows' tallies' b s ∙ same_number (λ t. t.moving) same_moving (kind_of b s) ∙ sym (moving_is limit rows tallies b s);
-      totals = λ b s. total_is limit rows' tallies' (sound_after step) b s ∙ same_number (λ t. t.total) same_total (kind_of b s) ∙ sym (total_is limit rows tallies step.sound b s);
-      rooms = λ c b s. has_room_after step c b s ∙ room_left (hold_of c b s) (same_hold (hold_of client buffer strength) (hold_of c b s)) refl;
+      parcels = λ b s. moving_is limit rows' tallies' b s ∙ same_number (λ t. t.moving) same_moving (kind_of b s)
+          ∙ sym (moving_is limit rows tallies b s);
+      totals = λ b s. total_is limit rows' tallies' (sound_after step) b s ∙ same_number (λ t. t.total) same_total (kind_of b s)
+          ∙ sym (total_is limit rows tallies step.sound b s);
+      rooms = λ c b s. has_room_after step c b s ∙ room_left (hold_of c b s) (same_hold (hold_of client buffer strength) (hold_of c b s))
+          refl;
     })

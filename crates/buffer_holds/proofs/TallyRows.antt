@@ -29,7 +29,8 @@ module _ {S : Type 0} (tallies : HashMap HandleKind Tally S) (kind : HandleKind)
       of_copied None some = some
       of_copied (Some x) some = refl
 
-  module _ (lent : Option (MutBor Tally)) (tally : MutBor Tally) (is : lent ≡ Some tally) (value : option_copied_mut lent ≡ get derived.it tallies kind) where
+  module _ (lent : Option (MutBor Tally)) (tally : MutBor Tally) (is : lent ≡ Some tally) (value : option_copied_mut lent ≡ get derived.it
+      tallies kind) where
     -- the tally that was lent is the one that is kept
     kept : Some tally.now ≡ get derived.it tallies kind
     kept = subst (λ o. option_copied_mut o ≡ get derived.it tallies kind) is value
@@ -43,12 +44,15 @@ module _ {S : Type 0} (tallies : HashMap HandleKind Tally S) (kind : HandleKind)
     -- what was written through it
     pub row_written : (new : HashMap HandleKind Tally S) (after : Tally) → WritesThrough derived.it (derived.it kind) tallies after new
         → Resets same_kind tallies.entries new.entries kind (tally_row tallies.entries kind) (Some after)
-    row_written new after written = resets_written derived.it same_kind derived_kind same_kind-one tallies new kind tally.now after kept written
+    row_written new after written =
+        resets_written derived.it same_kind derived_kind same_kind-one tallies new kind tally.now after kept written
 
   -- a tally that is read at its place
-  module _ (searched : Option ℕ) (found : IfSome searched (λ place. StandsAt tallies.entries place kind)) (place : ℕ) (is_place : searched ≡ Some place)
+  module _ (searched : Option ℕ) (found : IfSome searched (λ place. StandsAt tallies.entries place kind)) (place : ℕ)
+      (is_place : searched ≡ Some place)
       (lent : Option (Bor HandleKind × Bor Tally)) (entry : option_map deref_pair lent ≡ slice_get tallies.entries place)
-      (value : IfSome lent (λ p. get derived.it tallies p.0.now ≡ Some p.1.now)) (read : Bor HandleKind × Bor Tally) (is_read : lent ≡ Some read) where
+      (value : IfSome lent (λ p. get derived.it tallies p.0.now ≡ Some p.1.now)) (read : Bor HandleKind ×
+      Bor Tally) (is_read : lent ≡ Some read) where
     there : StandsAt tallies.entries place kind
     there = subst (λ o. IfSome o (λ place. StandsAt tallies.entries place kind)) is_place found
 
@@ -63,14 +67,17 @@ module _ {S : Type 0} (tallies : HashMap HandleKind Tally S) (kind : HandleKind)
 
     pub found_read : lookup (derived.it kind) tallies.entries ≡ Some read.1.now
     found_read =
-        subst (λ k. lookup (derived.it k) tallies.entries ≡ Some read.1.now) this (subst (λ o. IfSome o (λ p. get derived.it tallies p.0.now ≡ Some p.1.now)) is_read value)
+        subst (λ k. lookup (derived.it k) tallies.entries ≡ Some read.1.now) this (subst (λ o.
+        IfSome o (λ p. get derived.it tallies p.0.now ≡ Some p.1.now)) is_read value)
 
     pub row_read : tally_row tallies.entries kind ≡ Some read.1.now
     row_read = row_found (Some read.1.now) (sym found_read)
 
   -- the tally that was lent at its place is the one that is kept
-  pub tally_lent_at : (place : ℕ) (there : StandsAt tallies.entries place kind) (lent : Option (MutBor Tally)) → option_copied_mut lent ≡ slice_get (values tallies) place
+  pub tally_lent_at : (place : ℕ) (there : StandsAt tallies.entries place kind) (lent : Option (MutBor Tally)) →
+      option_copied_mut lent ≡ slice_get (values tallies) place
       → IsUnique derived.it tallies → (tally : MutBor Tally) → lent ≡ Some tally → tally_at tallies.entries kind ≡ tally.now
   tally_lent_at place there lent value unique tally is =
-      ap (λ o. unwrap_or o no_tally) (lookup_placed derived.it same_kind derived_kind same_kind-one same_kind-refl tallies tallies kind place there.0 there.1 unique)
+      ap (λ o. unwrap_or o no_tally) (lookup_placed derived.it same_kind derived_kind same_kind-one same_kind-refl tallies tallies kind
+      place there.0 there.1 unique)
       ∙ sym (value_lent_at tallies place kind there.0 there.1 lent value tally is)

@@ -48,4 +48,5 @@ pub record Tallies (limit : ℕ) (rows : List (Hold × ℕ)) (kind : HandleKind)
 pub record IsSound (limit : ℕ) (rows : List (Hold × ℕ)) (tallies : List (HandleKind × Tally)) : Type 0 where
   pub distinct : IsDistinct same_hold (keys_of rows)
   pub tallied : (kind : HandleKind) → Tallies limit rows kind (tally_at tallies kind)
-  pub needed : (kind : HandleKind) → IsSome (lookup (same_kind kind) tallies) → 0 < (tally_at tallies kind).clients + (tally_at tallies kind).moving
+  pub needed : (kind : HandleKind) → IsSome (lookup (same_kind kind) tallies) →
+      0 < (tally_at tallies kind).clients + (tally_at tallies kind).moving

@@ -18,7 +18,8 @@ begins-later page low [] lt s = refl
 begins-later page low (h ∷ hs) lt s = let f = first_spaced low h hs s in ne_eqb _ _ (λ e. absurd (omega (arith, f.from)))
 
 -- what comes back before all holes is joined with the first, if they touch
-released-first : (back : Interval) (low : ℕ) (hs : List Interval) → back.start < low → spaced low hs ≡ true → released back hs ≡ joined back hs
+released-first : (back : Interval) (low : ℕ) (hs : List Interval) → back.start < low → spaced low hs ≡ true →
+    released back hs ≡ joined back hs
 released-first back low [] lt s = refl
 released-first back low (h ∷ hs) lt s =
     let f = first_spaced low h hs s in
@@ -27,7 +28,8 @@ released-first back low (h ∷ hs) lt s =
     rw (behind, apart) refl
 
 -- a gap that is joined with pages before it is a longer gap
-joined-gap : (low pages end to : ℕ) (rest : List Interval) → 0 < pages → low + pages ≡ end → end ≤ to → first_begins end rest ≡ false → joined (record { start = low; pages = pages }) (gap end to ++ rest) ≡ gap low to ++ rest
+joined-gap : (low pages end to : ℕ) (rest : List Interval) → 0 < pages → low + pages ≡ end → end ≤ to → first_begins end rest ≡ false →
+    joined (record { start = low; pages = pages }) (gap end to ++ rest) ≡ gap low to ++ rest
 joined-gap low pages end to rest some is le apart =
     let wide = gap_some low to (omega arith) in
     elim (cases_lt end to) [
@@ -38,16 +40,19 @@ joined-gap low pages end to rest some is le apart =
       | inr none ↦
           let same : pages ≡ to - low = omega arith in
           let lone : first_begins (low + pages) rest ≡ false = rw is apart in
-          rw (gap_none end to none, wide) (joined_apart (record { start = low; pages = pages }) rest lone ∙ (λ k. record { start = low; pages = same k } ∷ rest))
+          rw (gap_none end to none, wide) (joined_apart (record { start = low; pages = pages }) rest lone
+          ∙ (λ k. record { start = low; pages = same k } ∷ rest))
     ]
 
-joined-holes : (low pages end size : ℕ) (is : List Interval) → 0 < pages → low + pages ≡ end → in_order end size is ≡ true → joined (record { start = low; pages = pages }) (holes_from end size is) ≡ holes_from low size is
+joined-holes : (low pages end size : ℕ) (is : List Interval) → 0 < pages → low + pages ≡ end → in_order end size is ≡ true →
+    joined (record { start = low; pages = pages }) (holes_from end size is) ≡ holes_from low size is
 joined-holes low pages end size [] some same h =
     let le : end ≤ size = leb-true _ _ h in simp append-nil at (joined-gap low pages end size [] some same le refl)
 joined-holes low pages end size (i ∷ is) some same h =
     let f = first_in_order end size i is h in
     joined-gap low pages end i.start (holes_from (end_of i) size is) some same f.from
-    (begins-later end (end_of i) (holes_from (end_of i) size is) (omega (arith, f.from, f.has_pages)) (spaced-holes (end_of i) size is f.rest))
+    (begins-later end (end_of i) (holes_from (end_of i) size is) (omega (arith, f.from, f.has_pages)) (spaced-holes (end_of i) size is
+    f.rest))
 
 -- what is so once the interval went back
 pub record GoesBack (low size : ℕ) (back : Interval) (is : List Interval) : Type 0 where
@@ -82,13 +87,15 @@ first_back low size i is h =
     ] in
     record {
       holes = ap (holes_from low size) gone ∙ sym holes;
-      in_order = subst (λ xs. in_order low size xs ≡ true) (sym gone) (in_order-wider (end_of i) size low size is (omega (arith, f.from)) (omega arith) f.rest);
+      in_order = subst (λ xs. in_order low size xs ≡ true) (sym gone) (in_order-wider (end_of i) size low size is (omega (arith, f.from))
+          (omega arith) f.rest);
       pages = ap (λ xs. i.pages + pages_in xs) gone ∙ sym (sum_by-cons (λ (x : Interval). x.pages) i is);
       fewer = ap (λ xs. length xs + 1) gone ∙ add-one (length is);
     }
 
 -- a later interval goes back
-later_back : (low size : ℕ) (back i : Interval) (is : List Interval) → in_order low size (i ∷ is) ≡ true → end_of i ≤ back.start → GoesBack (end_of i) size back is → GoesBack low size back (i ∷ is)
+later_back : (low size : ℕ) (back i : Interval) (is : List Interval) → in_order low size (i ∷ is) ≡ true → end_of i ≤ back.start →
+    GoesBack (end_of i) size back is → GoesBack low size back (i ∷ is)
 later_back low size back i is h from r =
     let f = first_in_order low size i is h in
     let rest : List Interval = holes_from (end_of i) size is in
@@ -102,18 +109,21 @@ later_back low size back i is h from r =
       | inr none ↦ rw (gap_none low i.start none) refl
     ] in
     let more : pages_in (i ∷ is) ≡ i.pages + pages_in is = sum_by-cons (λ (x : Interval). x.pages) i is in
-    let more' : pages_in (i ∷ without back.start is) ≡ i.pages + pages_in (without back.start is) = sum_by-cons (λ (x : Interval). x.pages) i (without back.start is) in
+    let more' : pages_in (i ∷ without back.start is) ≡ i.pages + pages_in (without back.start is) =
+    sum_by-cons (λ (x : Interval). x.pages) i (without back.start is) in
     let pages : back.pages + pages_in (i ∷ without back.start is) ≡ pages_in (i ∷ is) = omega (arith, r.pages) in
     let fewer : length (i ∷ without back.start is) + 1 ≡ length (i ∷ is) = omega (arith, r.fewer) in
     record {
       holes = ap (holes_from low size) stays ∙ ap (λ hs. gap low i.start ++ hs) r.holes ∙ sym passes;
-      in_order = subst (λ xs. in_order low size xs ≡ true) (sym stays) (in_order-cons low size i (without back.start is) (record { from = f.from; has_pages = f.has_pages; rest = r.in_order }));
+      in_order = subst (λ xs. in_order low size xs ≡ true) (sym stays) (in_order-cons low size i (without back.start is)
+          (record { from = f.from; has_pages = f.has_pages; rest = r.in_order }));
       pages = ap (λ xs. back.pages + pages_in xs) stays ∙ pages;
       fewer = ap (λ xs. length xs + 1) stays ∙ fewer;
     }
 
 -- any interval of an order goes back
-goes_back : (low size : ℕ) (back : Interval) (is : List Interval) → in_order low size is ≡ true → (k : ℕ) → k < length is → get_or is k back ≡ back → GoesBack low size back is
+goes_back : (low size : ℕ) (back : Interval) (is : List Interval) → in_order low size is ≡ true → (k : ℕ) → k < length is →
+    get_or is k back ≡ back → GoesBack low size back is
 goes_back low size back [] h k lt at = absurd (omega arith)
 goes_back low size back (i ∷ is) h zero lt at = subst (λ b. GoesBack low size b (i ∷ is)) at (first_back low size i is h)
 goes_back low size back (i ∷ is) h (suc k) lt at =
@@ -122,7 +132,8 @@ goes_back low size back (i ∷ is) h (suc k) lt at =
     let from : end_of i ≤ back.start = rw at at (in_order-at (end_of i) size is f.rest k back within).0 in
     later_back low size back i is h from (goes_back (end_of i) size back is f.rest k within at)
 
-pub goes_back-of : (size : ℕ) (back : Interval) (is : List Interval) → in_order 0 size is ≡ true → Contains is back → GoesBack 0 size back is
+pub goes_back-of : (size : ℕ) (back : Interval) (is : List Interval) → in_order 0 size is ≡ true → Contains is back →
+    GoesBack 0 size back is
 goes_back-of size back is h there = goes_back 0 size back is h there.0 there.1 there.2
 
 -- what the fields give for an interval that goes back, and keep
@@ -134,7 +145,8 @@ pub record KeepsBack (size free : ℕ) (holes held : List Interval) (capacity : 
   pub room : length (released back holes) ≤ capacity
   pub kept : IsKept size (free + back.pages) (released back holes) (without back.start held) capacity
 
-pub keeps_back : (size free : ℕ) (holes held : List Interval) (capacity : ℕ) (back : Interval) → IsKept size free holes held capacity → Contains held back → KeepsBack size free holes held capacity back
+pub keeps_back : (size free : ℕ) (holes held : List Interval) (capacity : ℕ) (back : Interval) → IsKept size free holes held capacity →
+    Contains held back → KeepsBack size free holes held capacity back
 keeps_back size free holes held capacity back k there =
     let g = goes_back-of size back held k.in_order there in
     let end : end_of back ≤ size = rw there.2 at (in_order-at 0 size held k.in_order there.0 back there.1).2 in
@@ -144,7 +156,8 @@ keeps_back size free holes held capacity back k there =
     record {
       up = in_order-wider 0 size 0 1048576 held (omega arith) small k.in_order;
       spaced = subst (λ hs. spaced 0 hs ≡ true) (sym k.holes_are) (spaced-holes 0 size held k.in_order);
-      fits = subst (All (λ (h : Interval). end_of h < 4294967296)) (sym k.holes_are) (λ j d lt. let at = holes-end 0 size held k.in_order j d lt in omega (arith, at));
+      fits = subst (All (λ (h : Interval). end_of h < 4294967296)) (sym k.holes_are) (λ j d lt. let at =
+          holes-end 0 size held k.in_order j d lt in omega (arith, at));
       back_fits = omega arith;
       room = subst (λ hs. length hs ≤ capacity) (sym released_is) (omega (arith, g.fewer, k.has_capacity));
       kept = record {

@@ -13,12 +13,14 @@ use Rattle.buffer_pool.proofs.Placing.{length-taken, rooms-some, rooms-taken}
 use Rattle.buffer_pool.specs.Fitting.{too_small, rooms, first_fit, taken, starts_in, left_in, looks_in}
 
 -- so many buffers of the count are left, and what is so far makes with them what the whole makes
-pub record IsFilling (pages_each count left : ℕ) (holes0 held0 : List Interval) (at looks : ℕ) (starts : List ℕ) (holes held : List Interval) (capacity0 starts_capacity holes_capacity held_capacity : ℕ) : Type 0 where
+pub record IsFilling (pages_each count left : ℕ) (holes0 held0 : List Interval) (at looks : ℕ) (starts : List ℕ)
+    (holes held : List Interval) (capacity0 starts_capacity holes_capacity held_capacity : ℕ) : Type 0 where
   pub has_rooms : left ≤ rooms pages_each holes
   pub starts_are : starts ++ starts_in pages_each left holes ≡ starts_in pages_each count holes0
   pub looks_are : looks + looks_in pages_each left holes ≡ looks_in pages_each count holes0
   pub holes_are : left_in pages_each left holes ≡ left_in pages_each count holes0
-  pub held_are : with_buffers pages_each (starts_in pages_each left holes) held ≡ with_buffers pages_each (starts_in pages_each count holes0) held0
+  pub held_are : with_buffers pages_each (starts_in pages_each left holes) held ≡ with_buffers pages_each
+      (starts_in pages_each count holes0) held0
   pub passed : at ≤ prefix_len (too_small pages_each) holes
   pub fits : All (λ (h : Interval). end_of h < 4294967296) holes
   pub few : length holes ≤ 1048576
@@ -38,7 +40,8 @@ prefix_len-taken pages (h ∷ hs) =
     ]
 
 -- no hole ends later
-pub ends-taken : (bound pages : ℕ) (hs : List Interval) → All (λ (h : Interval). end_of h < bound) hs → All (λ (h : Interval). end_of h < bound) (taken pages hs)
+pub ends-taken : (bound pages : ℕ) (hs : List Interval) → All (λ (h : Interval). end_of h < bound) hs →
+    All (λ (h : Interval). end_of h < bound) (taken pages hs)
 ends-taken bound pages [] all = all
 ends-taken bound pages (h ∷ hs) all =
     let first : end_of h < bound = all 0 h (omega arith) in
@@ -53,14 +56,21 @@ ends-taken bound pages (h ∷ hs) all =
           ]
     ]
   where
-    behind : (x : Interval) (xs : List Interval) → end_of x < bound → All (λ (h : Interval). end_of h < bound) xs → All (λ (h : Interval). end_of h < bound) (x ∷ xs)
+    behind : (x : Interval) (xs : List Interval) → end_of x < bound → All (λ (h : Interval). end_of h < bound) xs →
+        All (λ (h : Interval). end_of h < bound) (x ∷ xs)
     behind x xs here rest zero d lt = here
     behind x xs here rest (suc k) d lt = rest k d (omega arith)
 
 -- one buffer is placed
-pub filling_more : (pages count left next : ℕ) (holes0 held0 : List Interval) (at looks : ℕ) (starts : List ℕ) (holes held : List Interval) (c0 cs ch cd at' cs' ch' cd' : ℕ) → 1 ≤ pages → left ≡ suc next → at' ≡ prefix_len (too_small pages) holes → cs ≤ cs' → ch' ≡ ch → cd ≤ cd' → IsFilling pages count left holes0 held0 at looks starts holes held c0 cs ch cd → IsFilling pages count next holes0 held0 at' (looks + (at' + 1)) (starts ++ first_fit pages holes ∷ []) (taken pages holes) (with_interval (record { start = first_fit pages holes; pages = pages }) held) c0 cs' ch' cd'
-filling_more pages count left next holes0 held0 at looks starts holes held c0 cs ch cd at' cs' ch' cd' one is found more_s same_h more_d f0 =
-    let f : IsFilling pages count (suc next) holes0 held0 at looks starts holes held c0 cs ch cd = subst (λ n. IsFilling pages count n holes0 held0 at looks starts holes held c0 cs ch cd) is f0 in
+pub filling_more : (pages count left next : ℕ) (holes0 held0 : List Interval) (at looks : ℕ) (starts : List ℕ) (holes held : List Interval)
+    (c0 cs ch cd at' cs' ch' cd' : ℕ) → 1 ≤ pages → left ≡ suc next → at' ≡ prefix_len (too_small pages) holes → cs ≤ cs' → ch' ≡ ch →
+    cd ≤ cd' → IsFilling pages count left holes0 held0 at looks starts holes held c0 cs ch cd →
+    IsFilling pages count next holes0 held0 at' (looks + (at' + 1)) (starts ++ first_fit pages holes ∷ []) (taken pages holes)
+    (with_interval (record { start = first_fit pages holes; pages = pages }) held) c0 cs' ch' cd'
+filling_more pages count left next holes0 held0 at looks starts holes held c0 cs ch cd at' cs' ch' cd' one is found more_s same_h more_d
+    f0 =
+    let f : IsFilling pages count (suc next) holes0 held0 at looks starts holes held c0 cs ch cd =
+    subst (λ n. IsFilling pages count n holes0 held0 at looks starts holes held c0 cs ch cd) is f0 in
     let some : prefix_len (too_small pages) holes < length holes = rooms-some pages holes one (omega (arith, f.has_rooms)) in
     let new : Interval = record { start = first_fit pages holes; pages = pages } in
     record {
@@ -80,6 +90,8 @@ filling_more pages count left next holes0 held0 at looks starts holes held c0 cs
     }
 
 -- some hole is long enough while a buffer is left, and its look fits
-pub filling_some : (pages count left : ℕ) (holes0 held0 : List Interval) (at looks : ℕ) (starts : List ℕ) (holes held : List Interval) (c0 cs ch cd : ℕ) → 1 ≤ pages → 0 < left → IsFilling pages count left holes0 held0 at looks starts holes held c0 cs ch cd → (prefix_len (too_small pages) holes < length holes) × (looks + 1048576 ≤ count * 1048576)
+pub filling_some : (pages count left : ℕ) (holes0 held0 : List Interval) (at looks : ℕ) (starts : List ℕ) (holes held : List Interval)
+    (c0 cs ch cd : ℕ) → 1 ≤ pages → 0 < left → IsFilling pages count left holes0 held0 at looks starts holes held c0 cs ch cd →
+    (prefix_len (too_small pages) holes < length holes) × (looks + 1048576 ≤ count * 1048576)
 filling_some pages count left holes0 held0 at looks starts holes held c0 cs ch cd one some f =
     (rooms-some pages holes one (omega (arith, f.has_rooms)), omega (arith, f.looks_fit))

@@ -14,7 +14,8 @@ pub record IsFit (pages : ℕ) (hs : List Interval) (at : ℕ) (hole : Interval)
   pub start : first_fit pages hs ≡ hole.start
   pub taken : taken pages hs ≡ take at hs ++ shortened pages hole (drop (suc at) hs)
 
-pub fit_at : (pages : ℕ) (hs : List Interval) (d : Interval) → prefix_len (too_small pages) hs < length hs → IsFit pages hs (prefix_len (too_small pages) hs) (get_or hs (prefix_len (too_small pages) hs) d)
+pub fit_at : (pages : ℕ) (hs : List Interval) (d : Interval) → prefix_len (too_small pages) hs < length hs →
+    IsFit pages hs (prefix_len (too_small pages) hs) (get_or hs (prefix_len (too_small pages) hs) d)
 fit_at pages [] d lt = absurd (omega arith)
 fit_at pages (h ∷ hs) d lt =
     elim (cases_Bool (too_small pages h)) [
@@ -26,28 +27,36 @@ fit_at pages (h ∷ hs) d lt =
     ]
 
 -- the same of the place and the hole that a search found
-pub fit_is : (pages : ℕ) (hs : List Interval) (at : ℕ) (hole : Interval) → at ≡ prefix_len (too_small pages) hs → at < length hs → hole ≡ get_or hs at hole → IsFit pages hs at hole
+pub fit_is : (pages : ℕ) (hs : List Interval) (at : ℕ) (hole : Interval) → at ≡ prefix_len (too_small pages) hs → at < length hs →
+    hole ≡ get_or hs at hole → IsFit pages hs at hole
 fit_is pages hs at hole found lt is =
-    let f : IsFit pages hs at (get_or hs at hole) = subst (λ n. IsFit pages hs n (get_or hs n hole)) (sym found) (fit_at pages hs hole (subst (λ n. n < length hs) found lt)) in
+    let f : IsFit pages hs at (get_or hs at hole) =
+    subst (λ n. IsFit pages hs n (get_or hs n hole)) (sym found) (fit_at pages hs hole (subst (λ n. n < length hs) found lt)) in
     subst (IsFit pages hs at) (sym is) f
 
 -- the two ways of taking: the hole goes, or is shortened
-pub taken_whole : (pages : ℕ) (hs : List Interval) (at : ℕ) (hole : Interval) → IsFit pages hs at hole → hole.pages ≡ pages → remove hs at ≡ taken pages hs
+pub taken_whole : (pages : ℕ) (hs : List Interval) (at : ℕ) (hole : Interval) → IsFit pages hs at hole → hole.pages ≡ pages →
+    remove hs at ≡ taken pages hs
 taken_whole pages hs at hole f same = let e : (hole.pages == pages) ≡ true = eq-eqb _ _ same in sym (rw e at f.taken)
 
-pub taken_part : (pages : ℕ) (hs : List Interval) (at : ℕ) (hole : Interval) → IsFit pages hs at hole → (hole.pages ≡ pages → ⊥) → at < length hs → set hs at (record { start = hole.start + pages; pages = hole.pages - pages }) ≡ taken pages hs
-taken_part pages hs at hole f other lt = let e : (hole.pages == pages) ≡ false = ne_eqb _ _ other in set_split hs at _ lt ∙ sym (rw e at f.taken)
+pub taken_part : (pages : ℕ) (hs : List Interval) (at : ℕ) (hole : Interval) → IsFit pages hs at hole → (hole.pages ≡ pages → ⊥) →
+    at < length hs → set hs at (record { start = hole.start + pages; pages = hole.pages - pages }) ≡ taken pages hs
+taken_part pages hs at hole f other lt =
+    let e : (hole.pages == pages) ≡ false = ne_eqb _ _ other in set_split hs at _ lt ∙ sym (rw e at f.taken)
 
 -- where a search for the first hole that is not too small stops
-pub search_stops : (pages at : ℕ) (hs : List Interval) (d : Interval) → at ≤ prefix_len (too_small pages) hs → pages ≤ (get_or hs at d).pages → at ≡ prefix_len (too_small pages) hs
+pub search_stops : (pages at : ℕ) (hs : List Interval) (d : Interval) → at ≤ prefix_len (too_small pages) hs →
+    pages ≤ (get_or hs at d).pages → at ≡ prefix_len (too_small pages) hs
 search_stops pages at hs d le big =
     elim (cases_lt at (prefix_len (too_small pages) hs)) [
-      | inl less ↦ let small : (get_or hs at d).pages < pages = ltb-true _ _ (prefix_len_passes (too_small pages) hs at d less) in absurd (omega arith)
+      | inl less ↦ let small : (get_or hs at d).pages < pages =
+          ltb-true _ _ (prefix_len_passes (too_small pages) hs at d less) in absurd (omega arith)
       | inr more ↦ omega arith
     ]
 
 -- a search that passes many
-pub search_passes_many : (pages at to : ℕ) (hs : List Interval) (d : Interval) → at ≤ prefix_len (too_small pages) hs → at ≤ to → to ≤ length hs → AreSmall pages at to hs → to ≤ prefix_len (too_small pages) hs
+pub search_passes_many : (pages at to : ℕ) (hs : List Interval) (d : Interval) → at ≤ prefix_len (too_small pages) hs → at ≤ to →
+    to ≤ length hs → AreSmall pages at to hs → to ≤ prefix_len (too_small pages) hs
 search_passes_many pages at to hs d le up within small =
     let P : ℕ = prefix_len (too_small pages) hs in
     elim (cases_lt P to) [
@@ -58,17 +67,21 @@ search_passes_many pages at to hs d le up within small =
     ]
 
 -- a search that passes one
-pub search_passes_here : (pages at : ℕ) (hs : List Interval) (d : Interval) → at ≤ prefix_len (too_small pages) hs → at < length hs → (get_or hs at d).pages < pages → at + 1 ≤ prefix_len (too_small pages) hs
+pub search_passes_here : (pages at : ℕ) (hs : List Interval) (d : Interval) → at ≤ prefix_len (too_small pages) hs → at < length hs →
+    (get_or hs at d).pages < pages → at + 1 ≤ prefix_len (too_small pages) hs
 search_passes_here pages at hs d le within small =
     search_passes_many pages at (at + 1) hs d le (omega arith) (omega arith)
-    (λ k e from to. let same : k ≡ at = omega arith in rw same (subst (λ (h : Interval). h.pages < pages) (get_or_default hs at d e within) small))
+    (λ k e from to. let same : k ≡ at = omega arith in
+    rw same (subst (λ (h : Interval). h.pages < pages) (get_or_default hs at d e within) small))
 
 -- a search that ends at a hole that is not too small, or behind them all
-pub search_ends_all : (pages at : ℕ) (hs : List Interval) → at ≤ prefix_len (too_small pages) hs → length hs ≤ at → at ≡ prefix_len (too_small pages) hs
+pub search_ends_all : (pages at : ℕ) (hs : List Interval) → at ≤ prefix_len (too_small pages) hs → length hs ≤ at →
+    at ≡ prefix_len (too_small pages) hs
 search_ends_all pages at hs le more = omega (arith, prefix_len-le-length (too_small pages) hs)
 
 -- a search in two parts, one after the other, ends in the first
-pub search_front : (pages : ℕ) (hs ks : List Interval) → prefix_len (too_small pages) hs < length hs → prefix_len (too_small pages) (hs ++ ks) ≡ prefix_len (too_small pages) hs
+pub search_front : (pages : ℕ) (hs ks : List Interval) → prefix_len (too_small pages) hs < length hs →
+    prefix_len (too_small pages) (hs ++ ks) ≡ prefix_len (too_small pages) hs
 search_front pages [] ks lt = absurd (omega arith)
 search_front pages (h ∷ hs) ks lt =
     elim (cases_Bool (too_small pages h)) [
@@ -80,26 +93,30 @@ search_front pages (h ∷ hs) ks lt =
     ]
 
 -- or in the second
-pub search_back : (pages : ℕ) (hs ks : List Interval) → length hs ≤ prefix_len (too_small pages) hs → prefix_len (too_small pages) (hs ++ ks) ≡ length hs + prefix_len (too_small pages) ks
+pub search_back : (pages : ℕ) (hs ks : List Interval) → length hs ≤ prefix_len (too_small pages) hs →
+    prefix_len (too_small pages) (hs ++ ks) ≡ length hs + prefix_len (too_small pages) ks
 search_back pages [] ks le = omega arith
 search_back pages (h ∷ hs) ks le =
     elim (cases_Bool (too_small pages h)) [
       | inl y ↦
           let within : length (h ∷ hs) ≤ 1 + prefix_len (too_small pages) hs = rw y at le in
-          let r : prefix_len (too_small pages) (hs ++ ks) ≡ length hs + prefix_len (too_small pages) ks = search_back pages hs ks (omega arith) in
+          let r : prefix_len (too_small pages) (hs ++ ks) ≡ length hs + prefix_len (too_small pages) ks =
+          search_back pages hs ks (omega arith) in
           rw y (omega arith)
       | inr n ↦ let none : length (h ∷ hs) ≤ 0 = rw n at le in absurd (omega arith)
     ]
 
 -- where it goes on in either part
-pub search_from_front : (pages from : ℕ) (hs ks : List Interval) → from ≤ prefix_len (too_small pages) (hs ++ ks) → from < length hs → from ≤ prefix_len (too_small pages) hs
+pub search_from_front : (pages from : ℕ) (hs ks : List Interval) → from ≤ prefix_len (too_small pages) (hs ++ ks) → from < length hs →
+    from ≤ prefix_len (too_small pages) hs
 search_from_front pages from hs ks le lt =
     elim (cases_lt (prefix_len (too_small pages) hs) (length hs)) [
       | inl less ↦ omega (arith, search_front pages hs ks less)
       | inr more ↦ omega arith
     ]
 
-pub search_from_back : (pages from : ℕ) (hs ks : List Interval) → from ≤ prefix_len (too_small pages) (hs ++ ks) → length hs ≤ from → (from - length hs ≤ prefix_len (too_small pages) ks) × (length hs ≤ prefix_len (too_small pages) hs)
+pub search_from_back : (pages from : ℕ) (hs ks : List Interval) → from ≤ prefix_len (too_small pages) (hs ++ ks) → length hs ≤ from →
+    (from - length hs ≤ prefix_len (too_small pages) ks) × (length hs ≤ prefix_len (too_small pages) hs)
 search_from_back pages from hs ks le past =
     elim (cases_lt (prefix_len (too_small pages) hs) (length hs)) [
       | inl less ↦ let same = search_front pages hs ks less in absurd (omega arith)
@@ -116,7 +133,8 @@ rooms-small pages (h ∷ hs) one =
           let none : h.pages / pages ≡ 0 = div-eq_of_lt few in
           let n : ℕ = prefix_len (too_small pages) hs in
           let r : rooms pages (take n hs) ≡ 0 = rooms-small pages hs one in
-          let sum : rooms pages (h ∷ take n hs) ≡ h.pages / pages + rooms pages (take n hs) = sum_by-cons (λ (x : Interval). x.pages / pages) h (take n hs) in
+          let sum : rooms pages (h ∷ take n hs) ≡ h.pages / pages + rooms pages (take n hs) =
+          sum_by-cons (λ (x : Interval). x.pages / pages) h (take n hs) in
           rw (y, one-add) (omega arith)
       | inr n ↦ rw n refl
     ]

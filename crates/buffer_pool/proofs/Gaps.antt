@@ -20,7 +20,8 @@ pub gap_none : (from to : ℕ) → to ≤ from → gap from to ≡ []
 gap_none from to le = let n : nat_lt from to ≡ false = le-ltb _ _ le in rw n refl
 
 -- holes of intervals in order are spaced
-spaced_behind : (low to next : ℕ) (rest : List Interval) → low ≤ to → to < next → spaced next rest ≡ true → spaced low (gap low to ++ rest) ≡ true
+spaced_behind : (low to next : ℕ) (rest : List Interval) → low ≤ to → to < next → spaced next rest ≡ true →
+    spaced low (gap low to ++ rest) ≡ true
 spaced_behind low to next rest le lt s =
     elim (cases_lt low to) [
       | inl some ↦
@@ -35,38 +36,47 @@ spaced-holes low size [] h =
     elim (cases_lt low size) [
       | inl some ↦
           rw (gap_some low size some)
-          (spaced-cons low (record { start = low; pages = size - low }) [] (record { from = omega arith; has_pages = omega arith; rest = refl }))
+          (spaced-cons low (record { start = low; pages = size - low }) []
+          (record { from = omega arith; has_pages = omega arith; rest = refl }))
       | inr none ↦ rw (gap_none low size none) refl
     ]
 spaced-holes low size (i ∷ is) h =
     let f = first_in_order low size i is h in
-    spaced_behind low i.start (end_of i) (holes_from (end_of i) size is) f.from (omega (arith, f.has_pages)) (spaced-holes (end_of i) size is f.rest)
+    spaced_behind low i.start (end_of i) (holes_from (end_of i) size is) f.from (omega (arith, f.has_pages)) (spaced-holes (end_of i) size
+    is f.rest)
 
 -- each hole lies in the pool
-pub holes-end : (low size : ℕ) (is : List Interval) → in_order low size is ≡ true → (k : ℕ) (d : Interval) → k < length (holes_from low size is) → end_of (get_or (holes_from low size is) k d) ≤ size
+pub holes-end : (low size : ℕ) (is : List Interval) → in_order low size is ≡ true → (k : ℕ) (d : Interval) →
+    k < length (holes_from low size is) → end_of (get_or (holes_from low size is) k d) ≤ size
 holes-end low size [] h k d lt =
     elim (cases_lt low size) [
       | inl some ↦ rw (gap_some low size some) (one k (rw (gap_some low size some) at lt) some)
       | inr none ↦ let no : k < 0 = rw (gap_none low size none) at lt in absurd (omega arith)
     ]
   where
-    one : (k : ℕ) → k < length {A = Interval} (record { start = low; pages = size - low } ∷ []) → low < size → end_of (get_or {A = Interval} (record { start = low; pages = size - low } ∷ []) k d) ≤ size
+    one : (k : ℕ) → k < length {A = Interval} (record { start = low; pages = size - low } ∷ []) → low < size →
+        end_of (get_or {A = Interval} (record { start = low; pages = size - low } ∷ []) k d) ≤ size
     one zero lt some = omega arith
     one (suc k) lt some = absurd (omega arith)
 holes-end low size (i ∷ is) h k d lt =
     let f = first_in_order low size i is h in
     let later : end_of i ≤ size = in_order-low-le (end_of i) size is f.rest in
     elim (cases_lt low i.start) [
-      | inl some ↦ rw (gap_some low i.start some) (more k (rw (gap_some low i.start some) at lt) some later (λ k lt. holes-end (end_of i) size is f.rest k d lt))
+      | inl some ↦ rw (gap_some low i.start some) (more k (rw (gap_some low i.start some) at lt) some later (λ k lt.
+          holes-end (end_of i) size is f.rest k d lt))
       | inr none ↦ rw (gap_none low i.start none) (holes-end (end_of i) size is f.rest k d (rw (gap_none low i.start none) at lt))
     ]
   where
-    more : (k : ℕ) → k < length {A = Interval} (record { start = low; pages = i.start - low } ∷ holes_from (end_of i) size is) → low < i.start → end_of i ≤ size → ((k : ℕ) → k < length (holes_from (end_of i) size is) → end_of (get_or (holes_from (end_of i) size is) k d) ≤ size) → end_of (get_or {A = Interval} (record { start = low; pages = i.start - low } ∷ holes_from (end_of i) size is) k d) ≤ size
+    more : (k : ℕ) → k < length {A = Interval} (record { start = low; pages = i.start - low } ∷ holes_from (end_of i) size is) →
+        low < i.start → end_of i ≤ size → ((k : ℕ) → k < length (holes_from (end_of i) size is) →
+        end_of (get_or (holes_from (end_of i) size is) k d) ≤ size) →
+        end_of (get_or {A = Interval} (record { start = low; pages = i.start - low } ∷ holes_from (end_of i) size is) k d) ≤ size
     more zero lt some later rest = omega arith
     more (suc k) lt some later rest = rest k (omega arith)
 
 -- there are at most as many holes as pages, and at most one more than intervals
-pub length-holes : (low size : ℕ) (is : List Interval) → in_order low size is ≡ true → (low + length (holes_from low size is) ≤ size) × (length (holes_from low size is) ≤ length is + 1)
+pub length-holes : (low size : ℕ) (is : List Interval) → in_order low size is ≡ true → (low + length (holes_from low size is) ≤ size) ×
+    (length (holes_from low size is) ≤ length is + 1)
 length-holes low size [] h =
     let le : low ≤ size = in_order-low-le low size [] h in
     elim (cases_lt low size) [
@@ -82,7 +92,9 @@ length-holes low size (i ∷ is) h =
     ]
 
 -- a gap that is long enough is the first fit
-pub gap_fits : (low to pages : ℕ) (rest : List Interval) → 1 ≤ pages → low + pages ≤ to → (first_fit pages (gap low to ++ rest) ≡ low) × (taken pages (gap low to ++ rest) ≡ gap (low + pages) to ++ rest) × (prefix_len (too_small pages) (gap low to ++ rest) < length (gap low to ++ rest))
+pub gap_fits : (low to pages : ℕ) (rest : List Interval) → 1 ≤ pages → low + pages ≤ to → (first_fit pages (gap low to ++ rest) ≡ low) ×
+    (taken pages (gap low to ++ rest) ≡ gap (low + pages) to ++ rest) ×
+    (prefix_len (too_small pages) (gap low to ++ rest) < length (gap low to ++ rest))
 gap_fits low to pages rest one fits =
     let hole : Interval = record { start = low; pages = to - low } in
     let n : nat_lt (to - low) pages ≡ false = le-ltb _ _ (omega arith) in
@@ -104,7 +116,8 @@ gap_fits low to pages rest one fits =
 pub record Passes (low to pages : ℕ) (rest : List Interval) : Type 0 where
   pub first_fit : first_fit pages (gap low to ++ rest) ≡ first_fit pages rest
   pub taken : taken pages (gap low to ++ rest) ≡ gap low to ++ taken pages rest
-  pub some : prefix_len (too_small pages) rest < length rest → prefix_len (too_small pages) (gap low to ++ rest) < length (gap low to ++ rest)
+  pub some : prefix_len (too_small pages) rest < length rest →
+      prefix_len (too_small pages) (gap low to ++ rest) < length (gap low to ++ rest)
   pub rooms : rooms pages (gap low to ++ rest) ≡ rooms pages rest
 
 pub gap_passes : (low to pages : ℕ) (rest : List Interval) → 1 ≤ pages → low ≤ to → to < low + pages → Passes low to pages rest

@@ -14,7 +14,8 @@ use Rattle.buffer_pool.proofs.Orders.{first_in_order}
 use Rattle.buffer_pool.proofs.Spaces.{first_spaced, spaced-at}
 
 -- a hole of the list is behind those before it
-spaced-apart : (low : ℕ) (hs : List Interval) → spaced low hs ≡ true → (j k : ℕ) (d e : Interval) → j < k → k < length hs → end_of (get_or hs j d) < (get_or hs k e).start
+spaced-apart : (low : ℕ) (hs : List Interval) → spaced low hs ≡ true → (j k : ℕ) (d e : Interval) → j < k → k < length hs →
+    end_of (get_or hs j d) < (get_or hs k e).start
 spaced-apart low [] s j k d e less lt = absurd (omega arith)
 spaced-apart low (h ∷ hs) s j zero d e less lt = absurd (omega arith)
 spaced-apart low (h ∷ hs) s zero (suc k) d e less lt =
@@ -30,7 +31,8 @@ spaced-apart low (h ∷ hs) s (suc j) (suc k) d e less lt =
 spaced-pages : (low : ℕ) (hs : List Interval) → spaced low hs ≡ true → (k : ℕ) (d : Interval) → k < length hs → 0 < (get_or hs k d).pages
 spaced-pages low [] s k d lt = absurd (omega arith)
 spaced-pages low (h ∷ hs) s zero d lt = (first_spaced low h hs s).has_pages
-spaced-pages low (h ∷ hs) s (suc k) d lt = let within : k < length hs = omega arith in spaced-pages (end_of h + 1) hs (first_spaced low h hs s).rest k d within
+spaced-pages low (h ∷ hs) s (suc k) d lt =
+    let within : k < length hs = omega arith in spaced-pages (end_of h + 1) hs (first_spaced low h hs s).rest k d within
 
 -- where a list has an interval
 abbrev pub HasAt : (Interval → Type 0) → List Interval → Interval → Type 0
@@ -45,7 +47,8 @@ has_behind P low to rest d at =
     ]
 
 -- each part of room
-room_parts : (size : ℕ) (a i : Interval) (is : List Interval) → has_room size (i ∷ is) a ≡ true → (meets a i ≡ false) × (has_room size is a ≡ true)
+room_parts : (size : ℕ) (a i : Interval) (is : List Interval) → has_room size (i ∷ is) a ≡ true → (meets a i ≡ false) ×
+    (has_room size is a ≡ true)
 room_parts size a i is h =
     elim (cases_Bool (meets a i)) [
       | inl over ↦ absurd (both_ways _ (has_room-over size a i is over) h)
@@ -57,7 +60,8 @@ abbrev pub Covers : Interval → Interval → Type 0
 Covers a hole = (hole.start ≤ a.start) × (end_of a ≤ end_of hole)
 
 -- a free interval lies in a hole
-covered : (low size : ℕ) (a : Interval) (is : List Interval) → in_order low size is ≡ true → 0 < a.pages → low ≤ a.start → has_room size is a ≡ true → HasAt (Covers a) (holes_from low size is) a
+covered : (low size : ℕ) (a : Interval) (is : List Interval) → in_order low size is ≡ true → 0 < a.pages → low ≤ a.start →
+    has_room size is a ≡ true → HasAt (Covers a) (holes_from low size is) a
 covered low size a [] h some from room =
     let p = and_parts (nat_le (end_of a) size) true room in
     let inside : end_of a ≤ size = leb-true _ _ p.0 in
@@ -70,26 +74,33 @@ covered low size a (i ∷ is) h some from room =
       | inl reaches ↦
           elim (cases_lt a.start (end_of i)) [
             | inl over ↦ absurd (both_ways _ p.0 (meets-over a i over reaches))
-            | inr behind ↦ has_behind (Covers a) low i.start (holes_from (end_of i) size is) a (covered (end_of i) size a is f.rest some behind p.1)
+            | inr behind ↦ has_behind (Covers a) low i.start (holes_from (end_of i) size is) a (covered (end_of i) size a is f.rest some
+                behind p.1)
           ]
     ]
 
 -- each hole is free
-room_in_gap : (low to : ℕ) (P : Interval → Type 0) (rest : List Interval) → (low < to → P (record { start = low; pages = to - low })) → ((k : ℕ) (d : Interval) → k < length rest → P (get_or rest k d)) → (k : ℕ) (d : Interval) → k < length (gap low to ++ rest) → P (get_or (gap low to ++ rest) k d)
+room_in_gap : (low to : ℕ) (P : Interval → Type 0) (rest : List Interval) → (low < to → P (record { start = low; pages = to - low })) →
+    ((k : ℕ) (d : Interval) → k < length rest → P (get_or rest k d)) → (k : ℕ) (d : Interval) → k < length (gap low to ++ rest) →
+    P (get_or (gap low to ++ rest) k d)
 room_in_gap low to P rest here behind k d lt =
     elim (cases_lt low to) [
       | inl some ↦ rw (gap_some low to some) (both k (here some) (rw (gap_some low to some) at lt))
       | inr none ↦ rw (gap_none low to none) (behind k d (rw (gap_none low to none) at lt))
     ]
   where
-    both : (k : ℕ) → P (record { start = low; pages = to - low }) → k < length {A = Interval} (record { start = low; pages = to - low } ∷ rest) → P (get_or {A = Interval} (record { start = low; pages = to - low } ∷ rest) k d)
+    both : (k : ℕ) → P (record { start = low; pages = to - low }) →
+        k < length {A = Interval} (record { start = low; pages = to - low } ∷ rest) →
+        P (get_or {A = Interval} (record { start = low; pages = to - low } ∷ rest) k d)
     both zero first lt = first
     both (suc k) first lt = behind k d (omega arith)
 
-holes-free : (low size : ℕ) (is : List Interval) → in_order low size is ≡ true → (k : ℕ) (d : Interval) → k < length (holes_from low size is) → has_room size is (get_or (holes_from low size is) k d) ≡ true
+holes-free : (low size : ℕ) (is : List Interval) → in_order low size is ≡ true → (k : ℕ) (d : Interval) →
+    k < length (holes_from low size is) → has_room size is (get_or (holes_from low size is) k d) ≡ true
 holes-free low size [] h k d lt =
     simp append-nil at
-    (room_in_gap low size (λ a. has_room size [] a ≡ true) [] (λ some. and_from (nat_le (low + (size - low)) size) true (le-leb _ _ (omega arith)) refl) (λ k d lt. absurd (omega arith)) k d
+    (room_in_gap low size (λ a. has_room size [] a ≡ true) [] (λ some.
+    and_from (nat_le (low + (size - low)) size) true (le-leb _ _ (omega arith)) refl) (λ k d lt. absurd (omega arith)) k d
     (subst (λ hs. k < length hs) (sym (append-nil (gap low size))) lt))
 holes-free low size (i ∷ is) h k d lt =
     let f = first_in_order low size i is h in
@@ -108,7 +119,8 @@ same_interval : (a b : Interval) → a.start ≡ b.start → end_of a ≡ end_of
 same_interval a b s e = let p : a.pages ≡ b.pages = omega arith in λ k. record { start = s k; pages = p k }
 
 -- a hole of the list is a greatest free interval
-pub hole_from : (size : ℕ) (held : List Interval) (i : Interval) → in_order 0 size held ≡ true → Contains (holes_of size held) i → IsHole size held i
+pub hole_from : (size : ℕ) (held : List Interval) (i : Interval) → in_order 0 size held ≡ true → Contains (holes_of size held) i →
+    IsHole size held i
 hole_from size held i order there =
     let hs : List Interval = holes_of size held in
     let k : ℕ = there.0 in
@@ -133,17 +145,20 @@ hole_from size held i order there =
             | inr apart ↦
                 elim apart [
                   | inl before ↦
-                      let gap : end_of i < other.start = subst (λ h. end_of h < other.start) is (spaced-apart 0 hs s k c.0 i a before c.1) in
+                      let gap : end_of i < other.start =
+                      subst (λ h. end_of h < other.start) is (spaced-apart 0 hs s k c.0 i a before c.1) in
                       absurd (omega arith)
                   | inr behind ↦
-                      let gap : end_of other < i.start = subst (λ (h : Interval). end_of other < h.start) is (spaced-apart 0 hs s c.0 k a i behind lt) in
+                      let gap : end_of other < i.start =
+                      subst (λ (h : Interval). end_of other < h.start) is (spaced-apart 0 hs s c.0 k a i behind lt) in
                       absurd (omega arith)
                 ]
           ];
     }
 
 -- and each greatest free interval is in the list
-pub hole_in : (size : ℕ) (held : List Interval) (i : Interval) → in_order 0 size held ≡ true → IsHole size held i → Contains (holes_of size held) i
+pub hole_in : (size : ℕ) (held : List Interval) (i : Interval) → in_order 0 size held ≡ true → IsHole size held i →
+    Contains (holes_of size held) i
 hole_in size held i order h =
     let c = covered 0 size i held order h.has_pages (omega arith) h.is_free in
     let hole : Interval = get_or (holes_of size held) c.0 i in

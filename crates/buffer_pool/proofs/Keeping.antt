@@ -25,10 +25,12 @@ pub lists_of : (size free : ℕ) (holes held : List Interval) (capacity : ℕ) �
 lists_of size free holes held capacity k =
     let small = k.sized.1 in
     record {
-      fits = subst (All (λ (h : Interval). end_of h < 4294967296)) (sym k.holes_are) (λ j d lt. let at = holes-end 0 size held k.in_order j d lt in omega (arith, at));
+      fits = subst (All (λ (h : Interval). end_of h < 4294967296)) (sym k.holes_are) (λ j d lt. let at =
+          holes-end 0 size held k.in_order j d lt in omega (arith, at));
       few = subst (λ hs. length hs ≤ 1048576) (sym k.holes_are) (omega (arith, (length-holes 0 size held k.in_order).0));
       rises = in_order-rises 0 size held k.in_order;
-      begins = subst (IsNonDecreasingBy (λ (h : Interval). h.start)) (sym k.holes_are) (spaced-begins 0 (holes_of size held) (spaced-holes 0 size held k.in_order));
+      begins = subst (IsNonDecreasingBy (λ (h : Interval). h.start)) (sym k.holes_are) (spaced-begins 0 (holes_of size held)
+          (spaced-holes 0 size held k.in_order));
     }
 
 -- what is so where all buffers have room
@@ -38,12 +40,15 @@ pub record KeepsRun (size free count pages : ℕ) (holes held : List Interval) :
   pub few : looks_in pages count holes ≤ count * length (holes_of size held)
   pub small : count * pages < 4294967296
   pub taken : count * pages ≤ free
-  pub kept : (capacity : ℕ) → length held + count ≤ capacity → IsKept size (free - count * pages) (left_in pages count holes) (with_buffers pages (starts_in pages count holes) held) capacity
+  pub kept : (capacity : ℕ) → length held + count ≤ capacity →
+      IsKept size (free - count * pages) (left_in pages count holes) (with_buffers pages (starts_in pages count holes) held) capacity
 
-pub keeps_run : (size free count pages : ℕ) (holes held : List Interval) (capacity : ℕ) → 1 ≤ pages → IsKept size free holes held capacity → count ≤ rooms pages holes → KeepsRun size free count pages holes held
+pub keeps_run : (size free count pages : ℕ) (holes held : List Interval) (capacity : ℕ) → 1 ≤ pages → IsKept size free holes held capacity →
+    count ≤ rooms pages holes → KeepsRun size free count pages holes held
 keeps_run size free count pages holes held capacity one k room =
     let room' : count ≤ rooms pages (holes_of size held) = subst (λ hs. count ≤ rooms pages hs) k.holes_are room in
-    let r : Run size pages count held holes = subst (Run size pages count held) (sym k.holes_are) (run_of size pages count held one k.in_order room') in
+    let r : Run size pages count held holes =
+    subst (Run size pages count held) (sym k.holes_are) (run_of size pages count held one k.in_order room') in
     let bounds = looks_in-bounds pages count (holes_of size held) one room' in
     let inside = pages_in-le 0 size (with_buffers pages (starts_in pages count holes) held) r.in_order in
     let taken : count * pages ≤ free = omega (arith, inside, r.pages_are, k.free_are) in
@@ -64,12 +69,16 @@ keeps_run size free count pages holes held capacity one k room =
     }
 
 -- what callers learn of buffers that are placed
-pub places_buffers : (size free count pages : ℕ) (holes held holes' held' new : List Interval) (starts : List ℕ) (looks : ℕ) → KeepsRun size free count pages holes held → holes' ≡ holes → held' ≡ held → starts ≡ starts_in pages count holes' → looks ≡ looks_in pages count holes' → new ≡ with_buffers pages (starts_in pages count holes') held' → PlacesBuffers (record { size = size; held = held }) (record { size = size; held = new }) count pages starts looks
+pub places_buffers : (size free count pages : ℕ) (holes held holes' held' new : List Interval) (starts : List ℕ) (looks : ℕ) →
+    KeepsRun size free count pages holes held → holes' ≡ holes → held' ≡ held → starts ≡ starts_in pages count holes' →
+    looks ≡ looks_in pages count holes' → new ≡ with_buffers pages (starts_in pages count holes') held' →
+    PlacesBuffers (record { size = size; held = held }) (record { size = size; held = new }) count pages starts looks
 places_buffers size free count pages holes held holes' held' new starts looks k same_holes same_held s l n =
     let starts_are : starts ≡ starts_in pages count holes = s ∙ ap (starts_in pages count) same_holes in
     let looks_are : looks ≡ looks_in pages count holes = l ∙ ap (looks_in pages count) same_holes in
     let held_are : new ≡ with_buffers pages starts held =
-    n ∙ (λ i. with_buffers pages (starts_in pages count (same_holes i)) (same_held i)) ∙ ap (λ ss. with_buffers pages ss held) (sym starts_are) in
+    n ∙ (λ i. with_buffers pages (starts_in pages count (same_holes i)) (same_held i))
+    ∙ ap (λ ss. with_buffers pages ss held) (sym starts_are) in
     record {
       starts_are = k.run.places_are ∙ ap Some (sym starts_are);
       held_are = λ i. record { size = size; held = held_are i };
@@ -79,9 +88,12 @@ places_buffers size free count pages holes held holes' held' new starts looks k 
     }
 
 -- where all have a place the pool is not full
-pub not_full : (size pages count : ℕ) (held : List Interval) (starts : List ℕ) (Q : Type 0) → places size pages count held ≡ Some starts → places size pages count held ≡ None → Q
+pub not_full : (size pages count : ℕ) (held : List Interval) (starts : List ℕ) (Q : Type 0) → places size pages count held ≡ Some starts →
+    places size pages count held ≡ None → Q
 not_full size pages count held starts Q some none = cc
 
 -- where some buffer has no place it is
-pub is_full : (size free count pages : ℕ) (holes held : List Interval) (capacity : ℕ) → 1 ≤ pages → IsKept size free holes held capacity → rooms pages holes < count → places size pages count held ≡ None
-is_full size free count pages holes held capacity one k lt = places-none size pages count held one k.in_order (subst (λ hs. rooms pages hs < count) k.holes_are lt)
+pub is_full : (size free count pages : ℕ) (holes held : List Interval) (capacity : ℕ) → 1 ≤ pages → IsKept size free holes held capacity →
+    rooms pages holes < count → places size pages count held ≡ None
+is_full size free count pages holes held capacity one k lt =
+    places-none size pages count held one k.in_order (subst (λ hs. rooms pages hs < count) k.holes_are lt)

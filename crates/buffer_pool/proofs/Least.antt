@@ -35,8 +35,10 @@ has_room-over size a i is over = rw over (and_right (nat_le (end_of a) size) fal
 pub has_room-beyond : (size : ℕ) (a : Interval) (is : List Interval) → size < end_of a → has_room size is a ≡ false
 has_room-beyond size a is lt = and_left (nat_le (end_of a) size) (not (list_any (meets a) is)) (lt-leb _ _ lt)
 
-pub has_room-before : (low size : ℕ) (a : Interval) (is : List Interval) → in_order low size is ≡ true → end_of a ≤ low → has_room size is a ≡ true
-has_room-before low size a [] h le = let r : low ≤ size = leb-true _ _ h in and_from (nat_le (end_of a) size) true (le-leb _ _ (omega arith)) refl
+pub has_room-before : (low size : ℕ) (a : Interval) (is : List Interval) → in_order low size is ≡ true → end_of a ≤ low →
+    has_room size is a ≡ true
+has_room-before low size a [] h le =
+    let r : low ≤ size = leb-true _ _ h in and_from (nat_le (end_of a) size) true (le-leb _ _ (omega arith)) refl
 has_room-before low size a (i ∷ is) h le =
     let f = first_in_order low size i is h in
     has_room-past size a i is (meets-before a i (omega (arith, f.from)))
@@ -51,7 +53,8 @@ pub record IsLeast (low size pages : ℕ) (is : List Interval) (start : ℕ) : T
 -- what the first fit is, where some hole is long enough
 pub record Fit (low size pages : ℕ) (is : List Interval) : Type 0 where
   pub least : IsLeast low size pages is (first_fit pages (holes_from low size is))
-  pub holes : holes_from low size (with_interval (pages_at pages (first_fit pages (holes_from low size is))) is) ≡ taken pages (holes_from low size is)
+  pub holes : holes_from low size (with_interval (pages_at pages (first_fit pages (holes_from low size is))) is) ≡ taken pages
+      (holes_from low size is)
   pub in_order : in_order low size (with_interval (pages_at pages (first_fit pages (holes_from low size is))) is) ≡ true
   pub some : prefix_len (too_small pages) (holes_from low size is) < length (holes_from low size is)
 
@@ -63,7 +66,8 @@ pub record NoFit (low size pages : ℕ) (is : List Interval) : Type 0 where
 -- a gap at the end that is long enough
 fit_at_end : (low size pages : ℕ) → 1 ≤ pages → low + pages ≤ size → Fit low size pages []
 fit_at_end low size pages one fits =
-    let g : (first_fit pages (gap low size) ≡ low) × (taken pages (gap low size) ≡ gap (low + pages) size) × (prefix_len (too_small pages) (gap low size) < length (gap low size)) =
+    let g : (first_fit pages (gap low size) ≡ low) × (taken pages (gap low size) ≡ gap (low + pages) size) ×
+    (prefix_len (too_small pages) (gap low size) < length (gap low size)) =
     simp append-nil at (gap_fits low size pages [] one fits) in
     let empty = gap_none low low (omega arith) in
     let least : IsLeast low size pages [] low =
@@ -75,19 +79,22 @@ fit_at_end low size pages one fits =
     record {
       least = rw g.0 least;
       holes = rw (g.0, g.1, empty) refl;
-      in_order = rw g.0 (and_from (nat_le low low) _ (le-leb _ _ (omega arith)) (and_from (nat_lt 0 pages) _ (lt-ltb _ _ one) (le-leb _ _ fits)));
+      in_order = rw g.0 (and_from (nat_le low low) _ (le-leb _ _ (omega arith)) (and_from (nat_lt 0 pages) _ (lt-ltb _ _ one)
+          (le-leb _ _ fits)));
       some = g.2;
     }
 
 -- a gap before an interval that is long enough
-fit_before : (low size pages : ℕ) (i : Interval) (is : List Interval) → 1 ≤ pages → low + pages ≤ i.start → IsFirst low size i is → Fit low size pages (i ∷ is)
+fit_before : (low size pages : ℕ) (i : Interval) (is : List Interval) → 1 ≤ pages → low + pages ≤ i.start → IsFirst low size i is →
+    Fit low size pages (i ∷ is)
 fit_before low size pages i is one fits f =
     let rest : List Interval = holes_from (end_of i) size is in
     let g = gap_fits low i.start pages rest one fits in
     let empty = gap_none low low (omega arith) in
     let behind : nat_lt i.start low ≡ false = le-ltb _ _ (omega arith) in
     let apart = meets-before (pages_at pages low) i fits in
-    let room : has_room size is (pages_at pages low) ≡ true = has_room-before (end_of i) size (pages_at pages low) is f.rest (omega arith) in
+    let room : has_room size is (pages_at pages low) ≡ true =
+    has_room-before (end_of i) size (pages_at pages low) is f.rest (omega arith) in
     let least : IsLeast low size pages (i ∷ is) low =
     record {
       from = omega arith;
@@ -109,7 +116,9 @@ fit_before low size pages i is one fits f =
     }
 
 -- a start from a page on lies over the interval, or behind it
-room_behind : (low size pages t : ℕ) (i : Interval) (is : List Interval) → i.start < low + pages → low ≤ t → (has_room size (i ∷ is) (pages_at pages t) ≡ false) ⊎ ((end_of i ≤ t) × (has_room size (i ∷ is) (pages_at pages t) ≡ has_room size is (pages_at pages t)))
+room_behind : (low size pages t : ℕ) (i : Interval) (is : List Interval) → i.start < low + pages → low ≤ t →
+    (has_room size (i ∷ is) (pages_at pages t) ≡ false) ⊎
+    ((end_of i ≤ t) × (has_room size (i ∷ is) (pages_at pages t) ≡ has_room size is (pages_at pages t)))
 room_behind low size pages t i is small from =
     elim (cases_lt t (end_of i)) [
       | inl over ↦ inl (has_room-over size (pages_at pages t) i is (meets-over (pages_at pages t) i over (omega arith)))
@@ -117,7 +126,8 @@ room_behind low size pages t i is small from =
     ]
 
 -- the first fit lies behind an interval whose gap is not long enough
-fit_behind : (low size pages : ℕ) (i : Interval) (is : List Interval) → 1 ≤ pages → i.start < low + pages → IsFirst low size i is → Fit (end_of i) size pages is → Fit low size pages (i ∷ is)
+fit_behind : (low size pages : ℕ) (i : Interval) (is : List Interval) → 1 ≤ pages → i.start < low + pages → IsFirst low size i is →
+    Fit (end_of i) size pages is → Fit low size pages (i ∷ is)
 fit_behind low size pages i is one small f r =
     let rest : List Interval = holes_from (end_of i) size is in
     let start : ℕ = first_fit pages rest in
@@ -134,18 +144,21 @@ fit_behind low size pages i is one small f r =
           ];
     } in
     let order : in_order low size (i ∷ with_interval (pages_at pages start) is) ≡ true =
-    in_order-cons low size i (with_interval (pages_at pages start) is) (record { from = f.from; has_pages = f.has_pages; rest = r.in_order }) in
+    in_order-cons low size i (with_interval (pages_at pages start) is)
+    (record { from = f.from; has_pages = f.has_pages; rest = r.in_order }) in
     let holes : holes_from low size (with_interval (pages_at pages start) (i ∷ is)) ≡ taken pages (gap low i.start ++ rest) =
     rw (before, g.taken) (ap (λ hs. gap low i.start ++ hs) r.holes) in
     let ordered : in_order low size (with_interval (pages_at pages start) (i ∷ is)) ≡ true = rw before order in
     record {
       least = subst (IsLeast low size pages (i ∷ is)) (sym g.first_fit) least;
-      holes = subst (λ s. holes_from low size (with_interval (pages_at pages s) (i ∷ is)) ≡ taken pages (gap low i.start ++ rest)) (sym g.first_fit) holes;
+      holes = subst (λ s. holes_from low size (with_interval (pages_at pages s) (i ∷ is)) ≡ taken pages (gap low i.start ++ rest))
+          (sym g.first_fit) holes;
       in_order = subst (λ s. in_order low size (with_interval (pages_at pages s) (i ∷ is)) ≡ true) (sym g.first_fit) ordered;
       some = g.some r.some;
     }
 
-no_fit_behind : (low size pages : ℕ) (i : Interval) (is : List Interval) → 1 ≤ pages → i.start < low + pages → IsFirst low size i is → NoFit (end_of i) size pages is → NoFit low size pages (i ∷ is)
+no_fit_behind : (low size pages : ℕ) (i : Interval) (is : List Interval) → 1 ≤ pages → i.start < low + pages → IsFirst low size i is →
+    NoFit (end_of i) size pages is → NoFit low size pages (i ∷ is)
 no_fit_behind low size pages i is one small f r =
     let g = gap_passes low i.start pages (holes_from (end_of i) size is) one f.from small in
     record {
@@ -158,7 +171,8 @@ no_fit_behind low size pages i is one small f r =
     }
 
 -- there is a first fit, or none
-pub fit_or_none : (low size pages : ℕ) (is : List Interval) → 1 ≤ pages → in_order low size is ≡ true → Fit low size pages is ⊎ NoFit low size pages is
+pub fit_or_none : (low size pages : ℕ) (is : List Interval) → 1 ≤ pages → in_order low size is ≡ true → Fit low size pages is ⊎
+    NoFit low size pages is
 fit_or_none low size pages [] one h =
     let le : low ≤ size = leb-true _ _ h in
     elim (cases_lt size (low + pages)) [
@@ -180,7 +194,8 @@ fit_or_none low size pages (i ∷ is) one h =
     ]
 
 -- what a search over a range finds
-find_least : (p : ℕ → Bool) (a n s : ℕ) → a ≤ s → s < a + n → p s ≡ true → ((t : ℕ) → a ≤ t → t < s → p t ≡ false) → find p (range_with_len a n) ≡ Some s
+find_least : (p : ℕ → Bool) (a n s : ℕ) → a ≤ s → s < a + n → p s ≡ true → ((t : ℕ) → a ≤ t → t < s → p t ≡ false) →
+    find p (range_with_len a n) ≡ Some s
 find_least p a zero s from to here before = absurd (omega arith)
 find_least p a (suc n) s from to here before =
     elim (cases_eq a s) [
@@ -196,7 +211,8 @@ find_none p a (suc n) none =
     let no : p a ≡ false = none a (omega arith) in rw no (find_none p (a + 1) n (λ t from. none t (omega arith)))
 
 -- the least start is the first fit
-pub least_start-fit : (size pages : ℕ) (is : List Interval) → 1 ≤ pages → Fit 0 size pages is → least_start size pages is ≡ Some (first_fit pages (holes_from 0 size is))
+pub least_start-fit : (size pages : ℕ) (is : List Interval) → 1 ≤ pages → Fit 0 size pages is →
+    least_start size pages is ≡ Some (first_fit pages (holes_from 0 size is))
 least_start-fit size pages is one f =
     let start : ℕ = first_fit pages (holes_from 0 size is) in
     let inside : start + pages ≤ size = leb-true _ _ (and_parts (nat_le (start + pages) size) _ f.least.is_free).0 in

@@ -17,20 +17,23 @@ abbrev Suits : Mark → Interval → Type 0
 Suits m h = h.start < m.page → h.pages < m.pages
 
 -- another hole in the place of one
-pub marks-set : (marks : List Mark) (holes : List Interval) (at : ℕ) (new : Interval) → AreMarks marks (new ∷ holes) → AreMarks marks (set holes at new)
+pub marks-set : (marks : List Mark) (holes : List Interval) (at : ℕ) (new : Interval) → AreMarks marks (new ∷ holes) →
+    AreMarks marks (set holes at new)
 marks-set marks holes at new all = λ k d lt.
     let m : Mark = get_or marks k d in
     All-set (Suits m) holes at new (All-head (Suits m) new holes (all k d lt)) (All-tail (Suits m) new holes (all k d lt))
 
 -- what is left of a hole in its place
-pub marks-shortened : (marks : List Mark) (holes : List Interval) (at : ℕ) (rest : Interval) → at < length holes → (get_or holes at rest).start ≤ rest.start → rest.pages ≤ (get_or holes at rest).pages
+pub marks-shortened : (marks : List Mark) (holes : List Interval) (at : ℕ) (rest : Interval) → at < length holes →
+    (get_or holes at rest).start ≤ rest.start → rest.pages ≤ (get_or holes at rest).pages
     → AreMarks marks holes → AreMarks marks (set holes at rest)
 marks-shortened marks holes at rest within later less all = λ k d lt.
     let m : Mark = get_or marks k d in
     All-set (Suits m) holes at rest (λ before. omega (arith, all k d lt at rest within (omega (arith, before, later)), less)) (all k d lt)
 
 -- a hole more
-pub marks-insert : (marks : List Mark) (holes : List Interval) (at : ℕ) (new : Interval) → AreMarks marks (new ∷ holes) → AreMarks marks (insert holes at new)
+pub marks-insert : (marks : List Mark) (holes : List Interval) (at : ℕ) (new : Interval) → AreMarks marks (new ∷ holes) →
+    AreMarks marks (insert holes at new)
 marks-insert marks holes at new all = λ k d lt.
     let m : Mark = get_or marks k d in
     let rest : All (Suits m) holes = All-tail (Suits m) new holes (all k d lt) in
@@ -41,14 +44,17 @@ marks-insert marks holes at new all = λ k d lt.
 pub marks-remove : (marks : List Mark) (holes : List Interval) (at : ℕ) → AreMarks marks holes → AreMarks marks (remove holes at)
 marks-remove marks holes at all = λ k d lt.
     let m : Mark = get_or marks k d in
-    All-append (Suits m) (take at holes) (drop (suc at) holes) (All-take (Suits m) at holes (all k d lt)) (All-drop (Suits m) (suc at) holes (all k d lt))
+    All-append (Suits m) (take at holes) (drop (suc at) holes) (All-take (Suits m) at holes (all k d lt)) (All-drop (Suits m) (suc at) holes
+    (all k d lt))
 
 -- a mark is replaced
-pub marks-learned : (marks : List Mark) (holes : List Interval) (slot : ℕ) (mark : Mark) → Passes mark.pages mark.page holes → AreMarks marks holes → AreMarks (set marks slot mark) holes
+pub marks-learned : (marks : List Mark) (holes : List Interval) (slot : ℕ) (mark : Mark) → Passes mark.pages mark.page holes →
+    AreMarks marks holes → AreMarks (set marks slot mark) holes
 marks-learned marks holes slot mark new all = All-set (λ (m : Mark). Passes m.pages m.page holes) marks slot mark new all
 
 -- what a search passed lies before the hole at which it ended
-pub passes-before : (holes : List Interval) (at pages : ℕ) (hole : Interval) → IsNonDecreasingBy (λ (h : Interval). h.start) holes → at ≤ prefix_len (too_small pages) holes → at < length holes → hole ≡ get_or holes at hole → Passes pages hole.start holes
+pub passes-before : (holes : List Interval) (at pages : ℕ) (hole : Interval) → IsNonDecreasingBy (λ (h : Interval). h.start) holes →
+    at ≤ prefix_len (too_small pages) holes → at < length holes → hole ≡ get_or holes at hole → Passes pages hole.start holes
 passes-before holes at pages hole up passed within is = λ k d lt before.
     elim (cases_lt k at) [
       | inl less ↦ ltb-true _ _ (prefix_len_passes (too_small pages) holes k d (omega arith))
@@ -59,11 +65,13 @@ passes-before holes at pages hole up passed within is = λ k d lt before.
     ]
 
 -- and where it passed all
-pub passes-all : (holes : List Interval) (at pages page : ℕ) → at ≤ prefix_len (too_small pages) holes → length holes ≤ at → Passes pages page holes
+pub passes-all : (holes : List Interval) (at pages page : ℕ) → at ≤ prefix_len (too_small pages) holes → length holes ≤ at →
+    Passes pages page holes
 passes-all holes at pages page passed more = λ k d lt before. ltb-true _ _ (prefix_len_passes (too_small pages) holes k d (omega arith))
 
 -- what begins before the page is passed
-pub passes-prefix : (pages page : ℕ) (holes : List Interval) → Passes pages page holes → prefix_len (λ (h : Interval). nat_lt h.start page) holes ≤ prefix_len (too_small pages) holes
+pub passes-prefix : (pages page : ℕ) (holes : List Interval) → Passes pages page holes →
+    prefix_len (λ (h : Interval). nat_lt h.start page) holes ≤ prefix_len (too_small pages) holes
 passes-prefix pages page [] all = omega arith
 passes-prefix pages page (h ∷ hs) all =
     elim (cases_Bool (nat_lt h.start page)) [

@@ -6,7 +6,9 @@ use lib.Seq.{paste}
 use Rattle.std.proofs.lemmas.List.Edits.{take-paste, drop-paste, remove-append_right}
 
 -- the gap moves up by so many
-pub moved_up : {X : Type 0} (xs : List X) (front n g at back to : ℕ) → at ≡ front + n → back ≡ front + g → to ≡ back + n → to ≤ length xs → take at (paste xs front (drop back xs) (to - back)) ++ drop to (paste xs front (drop back xs) (to - back)) ≡ take front xs ++ drop back xs
+pub moved_up : {X : Type 0} (xs : List X) (front n g at back to : ℕ) → at ≡ front + n → back ≡ front + g → to ≡ back + n → to ≤ length xs →
+    take at (paste xs front (drop back xs) (to - back)) ++ drop to (paste xs front (drop back xs) (to - back)) ≡ take front xs ++ drop back
+    xs
 moved_up {X} xs front n g at back to a b t within =
     let rest : List X = drop back xs in
     let new : List X = paste xs front rest n in
@@ -17,14 +19,17 @@ moved_up {X} xs front n g at back to a b t within =
     let end : to ≡ front + n + g = omega arith in
     let end' : to ≡ back + n = t in
     let last : drop to new ≡ drop n rest =
-    ap (λ k. drop k new) end ∙ sym (drop-drop g (front + n) new) ∙ ap (drop g) tail ∙ drop-drop g (front + n) xs ∙ ap (λ k. drop k xs) (sym end ∙ end') ∙ sym (drop-drop n back xs) in
+    ap (λ k. drop k new) end ∙ sym (drop-drop g (front + n) new) ∙ ap (drop g) tail ∙ drop-drop g (front + n) xs
+    ∙ ap (λ k. drop k xs) (sym end ∙ end') ∙ sym (drop-drop n back xs) in
     let all : take (front + n) new ++ drop to new ≡ take front xs ++ rest =
-    (λ i. head i ++ last i) ∙ append_assoc (take front xs) (take n rest) (drop n rest) ∙ ap (λ r. take front xs ++ r) (take-append-drop n rest) in
+    (λ i. head i ++ last i) ∙ append_assoc (take front xs) (take n rest) (drop n rest)
+    ∙ ap (λ r. take front xs ++ r) (take-append-drop n rest) in
     subst (λ k. take at (paste xs front rest k) ++ drop to (paste xs front rest k) ≡ take front xs ++ rest) (sym size)
     (subst (λ k. take k new ++ drop to new ≡ take front xs ++ rest) (sym a) all)
 
 -- the gap moves down by so many
-pub moved_down : {X : Type 0} (xs : List X) (front n at back to : ℕ) → front ≡ at + n → back ≡ to + n → at ≤ to → back ≤ length xs → take at (paste xs to (drop at xs) (front - at)) ++ drop to (paste xs to (drop at xs) (front - at)) ≡ take front xs ++ drop back xs
+pub moved_down : {X : Type 0} (xs : List X) (front n at back to : ℕ) → front ≡ at + n → back ≡ to + n → at ≤ to → back ≤ length xs →
+    take at (paste xs to (drop at xs) (front - at)) ++ drop to (paste xs to (drop at xs) (front - at)) ≡ take front xs ++ drop back xs
 moved_down {X} xs front n at back to f b le within =
     let rest : List X = drop at xs in
     let new : List X = paste xs to rest n in
@@ -51,14 +56,16 @@ take-set (suc n) (x ∷ xs) zero y lt = refl
 take-set (suc n) (x ∷ xs) (suc at) y lt = ap (λ r. x ∷ r) (take-set n xs at y (omega arith))
 
 -- a write before the gap
-pub set_before : {X : Type 0} (xs : List X) (front back at : ℕ) (y : X) → at < front → front ≤ back → back ≤ length xs → take front (set xs at y) ++ drop back (set xs at y) ≡ set (take front xs ++ drop back xs) at y
+pub set_before : {X : Type 0} (xs : List X) (front back at : ℕ) (y : X) → at < front → front ≤ back → back ≤ length xs →
+    take front (set xs at y) ++ drop back (set xs at y) ≡ set (take front xs ++ drop back xs) at y
 set_before xs front back at y lt le within =
     let low : length (take front xs) ≡ front = length-take-le front xs (omega arith) in
     (λ i. take-set front xs at y lt i ++ drop-set-lt back xs at y (omega arith) i)
     ∙ sym (set-append_left (take front xs) (drop back xs) at y (omega arith))
 
 -- a write behind the gap
-pub set_behind : {X : Type 0} (xs : List X) (front back at : ℕ) (y : X) → front ≤ at → front ≤ back → back ≤ length xs → take front (set xs (at + (back - front)) y) ++ drop back (set xs (at + (back - front)) y) ≡ set (take front xs ++ drop back xs) at y
+pub set_behind : {X : Type 0} (xs : List X) (front back at : ℕ) (y : X) → front ≤ at → front ≤ back → back ≤ length xs →
+    take front (set xs (at + (back - front)) y) ++ drop back (set xs (at + (back - front)) y) ≡ set (take front xs ++ drop back xs) at y
 set_behind xs front back at y le order within =
     let low : length (take front xs) ≡ front = length-take-le front xs (omega arith) in
     let place : at + (back - front) ≡ back + (at - front) = omega arith in
@@ -67,7 +74,8 @@ set_behind xs front back at y le order within =
     ∙ sym (set-append_right (take front xs) (drop back xs) front at y low le)
 
 -- what lies right behind the gap goes
-pub removed_behind : {X : Type 0} (whole xs : List X) (at back : ℕ) → take at xs ++ drop back xs ≡ whole → at ≤ length xs → take at xs ++ drop (back + 1) xs ≡ remove whole at
+pub removed_behind : {X : Type 0} (whole xs : List X) (at back : ℕ) → take at xs ++ drop back xs ≡ whole → at ≤ length xs →
+    take at xs ++ drop (back + 1) xs ≡ remove whole at
 removed_behind whole xs at back is within =
     let low : length (take at xs) ≡ at = length-take-le at xs within in
     let none : at - at ≡ 0 = omega arith in
@@ -77,6 +85,7 @@ removed_behind whole xs at back is within =
     ∙ ap (λ ws. remove ws at) is
 
 -- the parts and the gap are the whole
-pub length-parts : {X : Type 0} (xs : List X) (front back : ℕ) → front ≤ back → back ≤ length xs → length (take front xs ++ drop back xs) + (back - front) ≡ length xs
+pub length-parts : {X : Type 0} (xs : List X) (front back : ℕ) → front ≤ back → back ≤ length xs →
+    length (take front xs ++ drop back xs) + (back - front) ≡ length xs
 length-parts xs front back le within =
     omega (arith, length-append (take front xs) (drop back xs), length-take-le front xs (omega arith), length-drop back xs)

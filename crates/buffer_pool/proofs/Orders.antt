@@ -34,7 +34,8 @@ in_order-low-le low high (i ∷ is) h =
     let r = in_order-low-le (end_of i) high is f.rest in omega (arith, f.from)
 
 -- an order may begin earlier, and end later
-pub in_order-wider : (low high low' high' : ℕ) (is : List Interval) → low' ≤ low → high ≤ high' → in_order low high is ≡ true → in_order low' high' is ≡ true
+pub in_order-wider : (low high low' high' : ℕ) (is : List Interval) → low' ≤ low → high ≤ high' → in_order low high is ≡ true →
+    in_order low' high' is ≡ true
 in_order-wider low high low' high' [] l u h = let r : low ≤ high = leb-true _ _ h in le-leb _ _ (omega arith)
 in_order-wider low high low' high' (i ∷ is) l u h =
     let f = first_in_order low high i is h in
@@ -42,7 +43,8 @@ in_order-wider low high low' high' (i ∷ is) l u h =
     (record { from = omega (arith, f.from); has_pages = f.has_pages; rest = in_order-wider (end_of i) high (end_of i) high' is (omega arith) u f.rest })
 
 -- where each interval of an order lies
-pub in_order-at : (low high : ℕ) (is : List Interval) → in_order low high is ≡ true → (k : ℕ) (d : Interval) → k < length is → (low ≤ (get_or is k d).start) × (0 < (get_or is k d).pages) × (end_of (get_or is k d) ≤ high)
+pub in_order-at : (low high : ℕ) (is : List Interval) → in_order low high is ≡ true → (k : ℕ) (d : Interval) → k < length is →
+    (low ≤ (get_or is k d).start) × (0 < (get_or is k d).pages) × (end_of (get_or is k d) ≤ high)
 in_order-at low high [] h k d lt = absurd (omega arith)
 in_order-at low high (i ∷ is) h zero d lt =
     let f = first_in_order low high i is h in
@@ -54,7 +56,8 @@ in_order-at low high (i ∷ is) h (suc k) d lt =
     (omega (arith, f.from, r.0), r.1, r.2)
 
 -- one interval ends before a later one begins
-pub in_order-apart : (low high : ℕ) (is : List Interval) → in_order low high is ≡ true → (j k : ℕ) (d : Interval) → j < k → k < length is → end_of (get_or is j d) ≤ (get_or is k d).start
+pub in_order-apart : (low high : ℕ) (is : List Interval) → in_order low high is ≡ true → (j k : ℕ) (d : Interval) → j < k → k < length is →
+    end_of (get_or is j d) ≤ (get_or is k d).start
 in_order-apart low high [] h j k d less lt = absurd (omega arith)
 in_order-apart low high (i ∷ is) h j zero d less lt = absurd (omega arith)
 in_order-apart low high (i ∷ is) h zero (suc k) d less lt =
@@ -92,7 +95,8 @@ pages_in-with_interval new (i ∷ is) =
     elim (cases_Bool (nat_lt i.start new.start)) [
       | inl y ↦
           let r : pages_in (with_interval new is) ≡ new.pages + pages_in is = pages_in-with_interval new is in
-          let t : pages_in (i ∷ with_interval new is) ≡ i.pages + pages_in (with_interval new is) = sum_by-cons (λ (i : Interval). i.pages) i (with_interval new is) in
+          let t : pages_in (i ∷ with_interval new is) ≡ i.pages + pages_in (with_interval new is) =
+          sum_by-cons (λ (i : Interval). i.pages) i (with_interval new is) in
           rw y (omega arith)
       | inr n ↦ rw n (sum_by-cons (λ (i : Interval). i.pages) new (i ∷ is))
     ]
@@ -107,7 +111,8 @@ length-with_interval new (i ∷ is) =
     ]
 
 -- an insert behind those that begin earlier puts an interval in its place
-pub insert_in_place : (new : Interval) (is : List Interval) → insert is (prefix_len (λ (i : Interval). nat_lt i.start new.start) is) new ≡ with_interval new is
+pub insert_in_place : (new : Interval) (is : List Interval) →
+    insert is (prefix_len (λ (i : Interval). nat_lt i.start new.start) is) new ≡ with_interval new is
 insert_in_place new [] = refl
 insert_in_place new (i ∷ is) =
     elim (cases_Bool (nat_lt i.start new.start)) [
@@ -125,7 +130,9 @@ without-later start low high (i ∷ is) lt h =
     rw other (ap (λ r. i ∷ r) (without-later start (end_of i) high is later f.rest))
 
 -- a remove behind those that begin earlier takes the interval away
-pub remove_in_place : (back : Interval) (low high : ℕ) (is : List Interval) → in_order low high is ≡ true → (k : ℕ) → k < length is → get_or is k back ≡ back → (prefix_len (λ (i : Interval). nat_lt i.start back.start) is < length is) × (remove is (prefix_len (λ (i : Interval). nat_lt i.start back.start) is) ≡ without back.start is)
+pub remove_in_place : (back : Interval) (low high : ℕ) (is : List Interval) → in_order low high is ≡ true → (k : ℕ) → k < length is →
+    get_or is k back ≡ back → (prefix_len (λ (i : Interval). nat_lt i.start back.start) is < length is) ×
+    (remove is (prefix_len (λ (i : Interval). nat_lt i.start back.start) is) ≡ without back.start is)
 remove_in_place back low high [] h k lt at = absurd (omega arith)
 remove_in_place back low high (i ∷ is) h zero lt at =
     let f = first_in_order low high i is h in
@@ -145,13 +152,15 @@ remove_in_place back low high (i ∷ is) h (suc k) lt at =
     rw (y, e, one-add) (omega (arith, r.0), ap (λ r. i ∷ r) r.1)
 
 -- what is so at the place that a search for the interval's start found
-pub removed_in_place : (back : Interval) (high at : ℕ) (xs is : List Interval) → in_order 0 high is ≡ true → Contains is back → xs ≡ is → at ≡ prefix_len (λ (i : Interval). nat_lt i.start back.start) xs → (at < length is) × (remove is at ≡ without back.start is)
+pub removed_in_place : (back : Interval) (high at : ℕ) (xs is : List Interval) → in_order 0 high is ≡ true → Contains is back → xs ≡ is →
+    at ≡ prefix_len (λ (i : Interval). nat_lt i.start back.start) xs → (at < length is) × (remove is at ≡ without back.start is)
 removed_in_place back high at xs is h there same found =
     let place : at ≡ prefix_len (λ (i : Interval). nat_lt i.start back.start) is = rw same at found in
     rw place (remove_in_place back 0 high is h there.0 there.1 there.2)
 
 -- an interval put in its place keeps the starts rising
-pub with_interval-rises : (new : Interval) (is : List Interval) → IsNonDecreasingBy (λ (i : Interval). i.start) is → IsNonDecreasingBy (λ (i : Interval). i.start) (with_interval new is)
+pub with_interval-rises : (new : Interval) (is : List Interval) → IsNonDecreasingBy (λ (i : Interval). i.start) is →
+    IsNonDecreasingBy (λ (i : Interval). i.start) (with_interval new is)
 with_interval-rises new is h =
     let p = λ (i : Interval). nat_lt i.start new.start in
     let at : ℕ = prefix_len p is in

@@ -18,7 +18,8 @@ use Rattle.buffer_pool.proofs.Gaps.{spaced-holes}
 use Rattle.buffer_pool.proofs.Least.{pages_at, Fit, fit_or_none, least_start-fit, least_start-none}
 
 -- where a buffer is taken from, there was room for one more
-pub rooms-taken : (pages : ℕ) (hs : List Interval) → 1 ≤ pages → prefix_len (too_small pages) hs < length hs → rooms pages hs ≡ 1 + rooms pages (taken pages hs)
+pub rooms-taken : (pages : ℕ) (hs : List Interval) → 1 ≤ pages → prefix_len (too_small pages) hs < length hs →
+    rooms pages hs ≡ 1 + rooms pages (taken pages hs)
 rooms-taken pages [] one lt = absurd (omega arith)
 rooms-taken pages (h ∷ hs) one lt =
     let quotient : Interval → ℕ = λ h. h.pages / pages in
@@ -27,7 +28,8 @@ rooms-taken pages (h ∷ hs) one lt =
       | inl y ↦
           let within : 1 + prefix_len (too_small pages) hs < length (h ∷ hs) = rw y at lt in
           let r : rooms pages hs ≡ 1 + rooms pages (taken pages hs) = rooms-taken pages hs one (omega arith) in
-          let left : rooms pages (h ∷ taken pages hs) ≡ h.pages / pages + rooms pages (taken pages hs) = sum_by-cons quotient h (taken pages hs) in
+          let left : rooms pages (h ∷ taken pages hs) ≡ h.pages / pages + rooms pages (taken pages hs) =
+          sum_by-cons quotient h (taken pages hs) in
           rw y (omega arith)
       | inr n ↦
           let fits : pages ≤ h.pages = ltb-false _ _ n in
@@ -65,11 +67,13 @@ looks_at-before start low (h ∷ hs) lt s =
     let no : nat_le h.start start ≡ false = lt-leb _ _ (omega (arith, f.from)) in
     let r : looks_at start hs ≡ 0 = looks_at-before start (end_of h + 1) hs (omega (arith, f.from)) f.rest in
     let zeroes : cond {A = ℕ} (nat_le h.start start) 1 0 ≡ 0 = rw no refl in
-    let sum : looks_at start (h ∷ hs) ≡ cond {A = ℕ} (nat_le h.start start) 1 0 + looks_at start hs = sum_by-cons (λ (x : Interval). cond (nat_le x.start start) 1 0) h hs in
+    let sum : looks_at start (h ∷ hs) ≡ cond {A = ℕ} (nat_le h.start start) 1 0 + looks_at start hs =
+    sum_by-cons (λ (x : Interval). cond (nat_le x.start start) 1 0) h hs in
     omega arith
 
 -- the holes that begin at or before the first fit are those that a search looks at
-pub looks_at-first_fit : (pages low : ℕ) (hs : List Interval) → spaced low hs ≡ true → prefix_len (too_small pages) hs < length hs → (low ≤ first_fit pages hs) × (looks_at (first_fit pages hs) hs ≡ prefix_len (too_small pages) hs + 1)
+pub looks_at-first_fit : (pages low : ℕ) (hs : List Interval) → spaced low hs ≡ true → prefix_len (too_small pages) hs < length hs →
+    (low ≤ first_fit pages hs) × (looks_at (first_fit pages hs) hs ≡ prefix_len (too_small pages) hs + 1)
 looks_at-first_fit pages low [] s lt = absurd (omega arith)
 looks_at-first_fit pages low (h ∷ hs) s lt =
     let f = first_spaced low h hs s in
@@ -80,14 +84,17 @@ looks_at-first_fit pages low (h ∷ hs) s lt =
           let start : ℕ = first_fit pages hs in
           let yes : nat_le h.start start ≡ true = le-leb _ _ (omega (arith, r.0)) in
           let one : cond {A = ℕ} (nat_le h.start start) 1 0 ≡ 1 = rw yes refl in
-          let sum : looks_at start (h ∷ hs) ≡ cond {A = ℕ} (nat_le h.start start) 1 0 + looks_at start hs = sum_by-cons (λ (x : Interval). cond (nat_le x.start start) 1 0) h hs in
+          let sum : looks_at start (h ∷ hs) ≡ cond {A = ℕ} (nat_le h.start start) 1 0 + looks_at start hs =
+          sum_by-cons (λ (x : Interval). cond (nat_le x.start start) 1 0) h hs in
           let same : first_fit pages (h ∷ hs) ≡ start = rw y refl in
           let further : prefix_len (too_small pages) (h ∷ hs) ≡ 1 + prefix_len (too_small pages) hs = rw y refl in
-          subst (λ s. (low ≤ s) × (looks_at s (h ∷ hs) ≡ prefix_len (too_small pages) (h ∷ hs) + 1)) (sym same) (omega (arith, r.0, f.from), omega (arith, r.1))
+          subst (λ s. (low ≤ s) × (looks_at s (h ∷ hs) ≡ prefix_len (too_small pages) (h ∷ hs) + 1)) (sym same)
+          (omega (arith, r.0, f.from), omega (arith, r.1))
       | inr n ↦
           let yes : nat_le h.start h.start ≡ true = le-leb _ _ (omega arith) in
           let one : cond {A = ℕ} (nat_le h.start h.start) 1 0 ≡ 1 = rw yes refl in
-          let sum : looks_at h.start (h ∷ hs) ≡ cond {A = ℕ} (nat_le h.start h.start) 1 0 + looks_at h.start hs = sum_by-cons (λ (x : Interval). cond (nat_le x.start h.start) 1 0) h hs in
+          let sum : looks_at h.start (h ∷ hs) ≡ cond {A = ℕ} (nat_le h.start h.start) 1 0 + looks_at h.start hs =
+          sum_by-cons (λ (x : Interval). cond (nat_le x.start h.start) 1 0) h hs in
           let none : looks_at h.start hs ≡ 0 = looks_at-before h.start (end_of h + 1) hs (omega arith) f.rest in
           let same : first_fit pages (h ∷ hs) ≡ h.start = rw n refl in
           let nearest : prefix_len (too_small pages) (h ∷ hs) ≡ 0 = rw n refl in
@@ -95,7 +102,8 @@ looks_at-first_fit pages low (h ∷ hs) s lt =
     ]
 
 -- an interval in its place passes what it would pass at the front
-pub list_any-with_interval : (p : Interval → Bool) (new : Interval) (is : List Interval) → list_any p (with_interval new is) ≡ (p new || list_any p is)
+pub list_any-with_interval : (p : Interval → Bool) (new : Interval) (is : List Interval) →
+    list_any p (with_interval new is) ≡ (p new || list_any p is)
 list_any-with_interval p new [] = refl
 list_any-with_interval p new (i ∷ is) =
     elim (cases_Bool (nat_lt i.start new.start)) [
@@ -109,12 +117,14 @@ list_any-with_interval p new (i ∷ is) =
     turned false b c = refl
 
 -- where buffers go does not depend on the order of what is held
-pub places-same : (size pages count : ℕ) (held other : List Interval) → ((p : Interval → Bool) → list_any p held ≡ list_any p other) → places size pages count held ≡ places size pages count other
+pub places-same : (size pages count : ℕ) (held other : List Interval) → ((p : Interval → Bool) → list_any p held ≡ list_any p other) →
+    places size pages count held ≡ places size pages count other
 places-same size pages zero held other same = refl
 places-same size pages (suc count) held other same =
     λ k. option_and_then
     (λ start. option_map (λ starts. start ∷ starts)
-    (places-same size pages count (record { start = start; pages = pages } ∷ held) (record { start = start; pages = pages } ∷ other) (λ p j. p (record { start = start; pages = pages }) || same p j) k))
+    (places-same size pages count (record { start = start; pages = pages } ∷ held) (record { start = start; pages = pages } ∷ other) (λ p j.
+    p (record { start = start; pages = pages }) || same p j) k))
     (find (λ start. nat_le (start + pages) size && not (same (meets (record { start = start; pages = pages })) k)) (range_with_len 0 size))
 
 -- where some buffer has room, some hole is long enough
@@ -132,7 +142,8 @@ rooms-some pages (h ∷ hs) one some =
     ]
 
 -- each buffer looks at one hole at least, and at all of them at most
-pub looks_in-bounds : (pages count : ℕ) (hs : List Interval) → 1 ≤ pages → count ≤ rooms pages hs → (count ≤ looks_in pages count hs) × (looks_in pages count hs ≤ count * length hs)
+pub looks_in-bounds : (pages count : ℕ) (hs : List Interval) → 1 ≤ pages → count ≤ rooms pages hs → (count ≤ looks_in pages count hs) ×
+    (looks_in pages count hs ≤ count * length hs)
 looks_in-bounds pages zero hs one le = (omega arith, omega arith)
 looks_in-bounds pages (suc count) hs one le =
     let some : prefix_len (too_small pages) hs < length hs = rooms-some pages hs one (omega arith) in
@@ -153,15 +164,20 @@ pub record Run (size pages count : ℕ) (held hs : List Interval) : Type 0 where
   pub length_is : length (with_buffers pages (starts_in pages count hs) held) ≡ count + length held
 
 -- the places after the first are those beside it
-places-more : (size pages count : ℕ) (held : List Interval) → 1 ≤ pages → (f : Fit 0 size pages held) → places size pages (suc count) held ≡ option_map (λ starts. first_fit pages (holes_of size held) ∷ starts) (places size pages count (with_interval (pages_at pages (first_fit pages (holes_of size held))) held))
+places-more : (size pages count : ℕ) (held : List Interval) → 1 ≤ pages → (f : Fit 0 size pages held) →
+    places size pages (suc count) held ≡ option_map (λ starts. first_fit pages (holes_of size held) ∷ starts)
+    (places size pages count (with_interval (pages_at pages (first_fit pages (holes_of size held))) held))
 places-more size pages count held one f =
     let start : ℕ = first_fit pages (holes_of size held) in
     let new : Interval = pages_at pages start in
     rw (least_start-fit size pages held one f)
-    (ap (option_map (λ starts. start ∷ starts)) (places-same size pages count (new ∷ held) (with_interval new held) (λ p. sym (list_any-with_interval p new held))))
+    (ap (option_map (λ starts. start ∷ starts)) (places-same size pages count (new ∷ held) (with_interval new held) (λ p.
+    sym (list_any-with_interval p new held))))
 
 -- one more buffer before others
-run_more : (size pages count : ℕ) (held : List Interval) → 1 ≤ pages → in_order 0 size held ≡ true → Fit 0 size pages held → Run size pages count (with_interval (pages_at pages (first_fit pages (holes_of size held))) held) (taken pages (holes_of size held)) → Run size pages (suc count) held (holes_of size held)
+run_more : (size pages count : ℕ) (held : List Interval) → 1 ≤ pages → in_order 0 size held ≡ true → Fit 0 size pages held →
+    Run size pages count (with_interval (pages_at pages (first_fit pages (holes_of size held))) held) (taken pages (holes_of size held)) →
+    Run size pages (suc count) held (holes_of size held)
 run_more size pages count held one order f r =
     let hs : List Interval = holes_of size held in
     let new : Interval = pages_at pages (first_fit pages hs) in
@@ -178,21 +194,25 @@ run_more size pages count held one order f r =
     }
 
 -- buffers that all have room
-pub run_of : (size pages count : ℕ) (held : List Interval) → 1 ≤ pages → in_order 0 size held ≡ true → count ≤ rooms pages (holes_of size held) → Run size pages count held (holes_of size held)
-run_of size pages zero held one order le = record { places_are = refl; holes_are = refl; looks_are = refl; in_order = order; pages_are = omega arith; length_is = omega arith }
+pub run_of : (size pages count : ℕ) (held : List Interval) → 1 ≤ pages → in_order 0 size held ≡ true →
+    count ≤ rooms pages (holes_of size held) → Run size pages count held (holes_of size held)
+run_of size pages zero held one order le =
+    record { places_are = refl; holes_are = refl; looks_are = refl; in_order = order; pages_are = omega arith; length_is = omega arith }
 run_of size pages (suc count) held one order le =
     let hs : List Interval = holes_of size held in
     elim (fit_or_none 0 size pages held one order) [
       | inl f ↦
           let held' : List Interval = with_interval (pages_at pages (first_fit pages hs)) held in
           let left : count ≤ rooms pages (taken pages hs) = omega (arith, rooms-taken pages hs one f.some) in
-          let r : Run size pages count held' (holes_of size held') = run_of size pages count held' one f.in_order (subst (λ hs. count ≤ rooms pages hs) (sym f.holes) left) in
+          let r : Run size pages count held' (holes_of size held') =
+          run_of size pages count held' one f.in_order (subst (λ hs. count ≤ rooms pages hs) (sym f.holes) left) in
           run_more size pages count held one order f (subst (Run size pages count held') f.holes r)
       | inr n ↦ absurd (omega (arith, n.rooms))
     ]
 
 -- and where some buffer has none
-pub places-none : (size pages count : ℕ) (held : List Interval) → 1 ≤ pages → in_order 0 size held ≡ true → rooms pages (holes_of size held) < count → places size pages count held ≡ None
+pub places-none : (size pages count : ℕ) (held : List Interval) → 1 ≤ pages → in_order 0 size held ≡ true →
+    rooms pages (holes_of size held) < count → places size pages count held ≡ None
 places-none size pages zero held one order lt = absurd (omega arith)
 places-none size pages (suc count) held one order lt =
     let hs : List Interval = holes_of size held in
@@ -200,7 +220,8 @@ places-none size pages (suc count) held one order lt =
       | inl f ↦
           let held' : List Interval = with_interval (pages_at pages (first_fit pages hs)) held in
           let left : rooms pages (taken pages hs) < count = omega (arith, rooms-taken pages hs one f.some) in
-          let r : places size pages count held' ≡ None = places-none size pages count held' one f.in_order (subst (λ hs. rooms pages hs < count) (sym f.holes) left) in
+          let r : places size pages count held' ≡ None =
+          places-none size pages count held' one f.in_order (subst (λ hs. rooms pages hs < count) (sym f.holes) left) in
           places-more size pages count held one f ∙ ap (option_map (λ starts. first_fit pages hs ∷ starts)) r
       | inr n ↦ rw (least_start-none size pages held n) refl
     ]

@@ -14,7 +14,8 @@ pub record IsSearch (f : Interval → ℕ) (page low high : ℕ) (xs : List Inte
   pub below : (k : ℕ) (d : Interval) → k < low → f (get_or xs k d) < page
   pub above : (d : Interval) → high < length xs → page ≤ f (get_or xs high d)
 
-pub search_upper : (f : Interval → ℕ) (page low high middle : ℕ) (xs : List Interval) (x : Interval) → IsNonDecreasingBy f xs → low ≤ middle → middle < high → x ≡ get_or xs middle x → f x < page → IsSearch f page low high xs → IsSearch f page (middle + 1) high xs
+pub search_upper : (f : Interval → ℕ) (page low high middle : ℕ) (xs : List Interval) (x : Interval) → IsNonDecreasingBy f xs →
+    low ≤ middle → middle < high → x ≡ get_or xs middle x → f x < page → IsSearch f page low high xs → IsSearch f page (middle + 1) high xs
 search_upper f page low high middle xs x up le lt is less s =
     record {
       order = omega arith;
@@ -27,7 +28,8 @@ search_upper f page low high middle xs x up le lt is less s =
       above = s.above;
     }
 
-pub search_ends : (f : Interval → ℕ) (page low high : ℕ) (xs : List Interval) → high ≤ low → IsSearch f page low high xs → low ≡ prefix_len (λ (i : Interval). nat_lt (f i) page) xs
+pub search_ends : (f : Interval → ℕ) (page low high : ℕ) (xs : List Interval) → high ≤ low → IsSearch f page low high xs →
+    low ≡ prefix_len (λ (i : Interval). nat_lt (f i) page) xs
 search_ends f page low high xs le s =
     let same : low ≡ high = omega (arith, s.order) in
     let none : Interval = record { start = 0; pages = 0 } in

@@ -5,7 +5,8 @@ use Rattle.buffer_pool.specs.Holdings.{in_order, IsSound}
 use Rattle.buffer_pool.proofs.Orders.{in_order-at, in_order-apart}
 use Rattle.buffer_pool.proofs.Least.{meets-before}
 
-pub sound_from : (size : ℕ) (held : List Interval) → (1 ≤ size) × (size ≤ 1048576) → in_order 0 size held ≡ true → IsSound (record { size = size; held = held })
+pub sound_from : (size : ℕ) (held : List Interval) → (1 ≤ size) × (size ≤ 1048576) → in_order 0 size held ≡ true →
+    IsSound (record { size = size; held = held })
 sound_from size held sized order =
     record {
       sized = sized;

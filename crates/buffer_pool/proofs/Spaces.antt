@@ -72,7 +72,8 @@ spaced-begins low (h ∷ hs) s (suc j) (suc k) d le lt =
     spaced-begins (end_of h + 1) hs f.rest j k d before within
 
 -- what comes back is merged behind the holes that end before it
-pub released_at : (i : Interval) (hs : List Interval) → released i hs ≡ take (prefix_len (λ (h : Interval). nat_lt (end_of h) i.start) hs) hs ++ merged i (drop (prefix_len (λ (h : Interval). nat_lt (end_of h) i.start) hs) hs)
+pub released_at : (i : Interval) (hs : List Interval) → released i hs ≡ take (prefix_len (λ (h : Interval). nat_lt (end_of h) i.start) hs)
+    hs ++ merged i (drop (prefix_len (λ (h : Interval). nat_lt (end_of h) i.start) hs) hs)
 released_at i [] = refl
 released_at i (h ∷ hs) =
     elim (cases_Bool (nat_lt (end_of h) i.start)) [
@@ -89,20 +90,25 @@ first_within test at hs none some =
     ]
 
 -- the three ways of merging
-pub merged_behind : (i hole : Interval) (at : ℕ) (hs : List Interval) → at < length hs → hole ≡ get_or hs at hole → first_ends i.start (drop at hs) ≡ true → (end_of hole ≡ i.start) × (merged i (drop at hs) ≡ joined (record { start = hole.start; pages = hole.pages + i.pages }) (drop (at + 1) hs))
+pub merged_behind : (i hole : Interval) (at : ℕ) (hs : List Interval) → at < length hs → hole ≡ get_or hs at hole →
+    first_ends i.start (drop at hs) ≡ true → (end_of hole ≡ i.start) ×
+    (merged i (drop at hs) ≡ joined (record { start = hole.start; pages = hole.pages + i.pages }) (drop (at + 1) hs))
 merged_behind i hole at hs lt is ends =
     let parts : drop at hs ≡ hole ∷ drop (at + 1) hs = rw (sym is) at (drop_more hs at hole lt) in
     let e : (end_of hole == i.start) ≡ true = rw parts at ends in
     (eqb-true _ _ e, rw parts (rw e refl))
 
-pub merged_before : (i hole : Interval) (at : ℕ) (hs : List Interval) → at < length hs → hole ≡ get_or hs at hole → first_ends i.start (drop at hs) ≡ false → first_begins (end_of i) (drop at hs) ≡ true → (hole.start ≡ end_of i) × (merged i (drop at hs) ≡ record { start = i.start; pages = i.pages + hole.pages } ∷ drop (at + 1) hs)
+pub merged_before : (i hole : Interval) (at : ℕ) (hs : List Interval) → at < length hs → hole ≡ get_or hs at hole →
+    first_ends i.start (drop at hs) ≡ false → first_begins (end_of i) (drop at hs) ≡ true → (hole.start ≡ end_of i) ×
+    (merged i (drop at hs) ≡ record { start = i.start; pages = i.pages + hole.pages } ∷ drop (at + 1) hs)
 merged_before i hole at hs lt is ends begins =
     let parts : drop at hs ≡ hole ∷ drop (at + 1) hs = rw (sym is) at (drop_more hs at hole lt) in
     let n : (end_of hole == i.start) ≡ false = rw parts at ends in
     let e : (hole.start == end_of i) ≡ true = rw parts at begins in
     (eqb-true _ _ e, rw parts (rw (n, e) refl))
 
-pub merged_apart : (i : Interval) (ys : List Interval) → first_ends i.start ys ≡ false → first_begins (end_of i) ys ≡ false → merged i ys ≡ i ∷ ys
+pub merged_apart : (i : Interval) (ys : List Interval) → first_ends i.start ys ≡ false → first_begins (end_of i) ys ≡ false →
+    merged i ys ≡ i ∷ ys
 merged_apart i [] ends begins = refl
 merged_apart i (h ∷ hs) ends begins = rw (ends, begins) refl
 
@@ -112,18 +118,24 @@ joined_apart i [] begins = refl
 joined_apart i (h ∷ hs) begins = rw begins refl
 
 -- the two ways of joining a hole with the next
-pub join_apart : (hole : Interval) (at : ℕ) (hs : List Interval) → at < length hs → first_begins (end_of hole) (drop (at + 1) hs) ≡ false → set hs at hole ≡ take at hs ++ joined hole (drop (at + 1) hs)
+pub join_apart : (hole : Interval) (at : ℕ) (hs : List Interval) → at < length hs → first_begins (end_of hole) (drop (at + 1) hs) ≡ false →
+    set hs at hole ≡ take at hs ++ joined hole (drop (at + 1) hs)
 join_apart hole at hs lt begins = rw (joined_apart hole (drop (at + 1) hs) begins, add-one) (set_split hs at hole lt)
 
-pub join_touching : (hole next : Interval) (at : ℕ) (hs : List Interval) → next ≡ get_or hs (at + 1) next → first_begins (end_of hole) (drop (at + 1) hs) ≡ true → set (remove hs (at + 1)) at (record { start = hole.start; pages = hole.pages + next.pages }) ≡ take at hs ++ joined hole (drop (at + 1) hs)
+pub join_touching : (hole next : Interval) (at : ℕ) (hs : List Interval) → next ≡ get_or hs (at + 1) next →
+    first_begins (end_of hole) (drop (at + 1) hs) ≡ true →
+    set (remove hs (at + 1)) at (record { start = hole.start; pages = hole.pages + next.pages }) ≡ take at hs ++ joined hole
+    (drop (at + 1) hs)
 join_touching hole next at hs is begins =
     let lt : at + 1 < length hs = first_within (first_begins (end_of hole)) (at + 1) hs refl begins in
     let parts : drop (at + 1) hs ≡ next ∷ drop (at + 1 + 1) hs = rw (sym is) at (drop_more hs (at + 1) next lt) in
     let e : (next.start == end_of hole) ≡ true = rw parts at begins in
     let front : length (take (at + 1) hs) ≡ suc at = length-take-le (at + 1) hs (omega arith) ∙ add-one at in
     let whole : at < length (remove hs (at + 1)) = omega (arith, length-remove hs (at + 1) lt) in
-    let fronts : take at (remove hs (at + 1)) ≡ take at hs = take-append-le at (take (at + 1) hs) _ (omega arith) ∙ take-take at (at + 1) hs (omega arith) in
-    let backs : drop (suc at) (remove hs (at + 1)) ≡ drop (at + 1 + 1) hs = drop_at (take (at + 1) hs) _ (suc at) front ∙ ap (λ n. drop n hs) (sym (add-one (at + 1))) in
+    let fronts : take at (remove hs (at + 1)) ≡ take at hs =
+    take-append-le at (take (at + 1) hs) _ (omega arith) ∙ take-take at (at + 1) hs (omega arith) in
+    let backs : drop (suc at) (remove hs (at + 1)) ≡ drop (at + 1 + 1) hs =
+    drop_at (take (at + 1) hs) _ (suc at) front ∙ ap (λ n. drop n hs) (sym (add-one (at + 1))) in
     set_split (remove hs (at + 1)) at _ whole
     ∙ (λ k. fronts k ++ record { start = hole.start; pages = hole.pages + next.pages } ∷ backs k)
     ∙ sym (rw parts (rw e refl))
@@ -133,22 +145,26 @@ module _ (i : Interval) (hs : List Interval) (at : ℕ) (found : at ≡ prefix_l
   placed_at : released i hs ≡ take at hs ++ merged i (drop at hs)
   placed_at = subst (λ n. released i hs ≡ take n hs ++ merged i (drop n hs)) (sym found) (released_at i hs)
 
-  pub released_behind : (hole : Interval) → hole ≡ get_or hs at hole → first_ends i.start (drop at hs) ≡ true → take at hs ++ joined (record { start = hole.start; pages = hole.pages + i.pages }) (drop (at + 1) hs) ≡ released i hs
+  pub released_behind : (hole : Interval) → hole ≡ get_or hs at hole → first_ends i.start (drop at hs) ≡ true →
+      take at hs ++ joined (record { start = hole.start; pages = hole.pages + i.pages }) (drop (at + 1) hs) ≡ released i hs
   released_behind hole is ends =
       let m = merged_behind i hole at hs (first_within (first_ends i.start) at hs refl ends) is ends in
       sym (placed_at ∙ ap (λ r. take at hs ++ r) m.1)
 
-  pub released_before : (hole : Interval) → hole ≡ get_or hs at hole → first_ends i.start (drop at hs) ≡ false → first_begins (end_of i) (drop at hs) ≡ true → set hs at (record { start = i.start; pages = i.pages + hole.pages }) ≡ released i hs
+  pub released_before : (hole : Interval) → hole ≡ get_or hs at hole → first_ends i.start (drop at hs) ≡ false →
+      first_begins (end_of i) (drop at hs) ≡ true → set hs at (record { start = i.start; pages = i.pages + hole.pages }) ≡ released i hs
   released_before hole is ends begins =
       let lt : at < length hs = first_within (first_begins (end_of i)) at hs refl begins in
       let m = merged_before i hole at hs lt is ends begins in
       set_split hs at _ lt ∙ sym (placed_at ∙ ap (λ r. take at hs ++ r) (rw (sym (add-one at)) m.1))
 
-  pub released_apart : first_ends i.start (drop at hs) ≡ false → first_begins (end_of i) (drop at hs) ≡ false → insert hs at i ≡ released i hs
+  pub released_apart : first_ends i.start (drop at hs) ≡ false → first_begins (end_of i) (drop at hs) ≡ false →
+      insert hs at i ≡ released i hs
   released_apart ends begins = sym (placed_at ∙ ap (λ r. take at hs ++ r) (merged_apart i (drop at hs) ends begins))
 
   -- there is room for it where it lies apart
-  pub room_apart : (capacity : ℕ) → first_ends i.start (drop at hs) ≡ false → first_begins (end_of i) (drop at hs) ≡ false → length (released i hs) ≤ capacity → (at ≤ length hs) × (length hs < capacity)
+  pub room_apart : (capacity : ℕ) → first_ends i.start (drop at hs) ≡ false → first_begins (end_of i) (drop at hs) ≡ false →
+      length (released i hs) ≤ capacity → (at ≤ length hs) × (length hs < capacity)
   room_apart capacity ends begins room =
       let le : at ≤ length hs = omega (arith, prefix_len-le-length (λ (h : Interval). nat_lt (end_of h) i.start) hs) in
       (le, omega (arith, length-insert hs at i le, ap length (released_apart ends begins)))

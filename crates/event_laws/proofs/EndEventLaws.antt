@@ -31,47 +31,63 @@ use Rattle.event_laws.proofs.TransitLaws.{EndAt, end_at, transit_mark, delivers_
 -- ---- who holds an end
 
 -- a birth does not change that of an older node
-birth_stays : (limits : Bound) (marks : Timeline) (caller : ℕ) (reply : Reply) (call : Call) (node : NodeKey) → IsAnswer limits (readings marks) caller call reply → was_born (births marks) node ≡ true →
+birth_stays : (limits : Bound) (marks : Timeline) (caller : ℕ) (reply : Reply) (call : Call) (node : NodeKey) →
+    IsAnswer limits (readings marks) caller call reply → was_born (births marks) node ≡ true →
     birth_of (Called caller reply call ∷ marks) node ≡ birth_of marks node
 birth_stays limits marks caller reply call node answer born = from (birth_at (events marks + 1) (Called caller reply call)) refl
   where
-    from : (o : Option Birth) → birth_at (events marks + 1) (Called caller reply call) ≡ o → find (λ b. same_key b.node node) (cons_option o (births marks)) ≡ find (λ b. same_key b.node node) (births marks)
+    from : (o : Option Birth) → birth_at (events marks + 1) (Called caller reply call) ≡ o →
+        find (λ b. same_key b.node node) (cons_option o (births marks)) ≡ find (λ b. same_key b.node node) (births marks)
     from None e = refl
     from (Some b) e =
-        let other : same_key b.node node ≡ false = other_key (births marks) node b.node born (comes limits marks caller (events marks + 1) reply call b answer e).fresh in
+        let other : same_key b.node node ≡ false =
+        other_key (births marks) node b.node born (comes limits marks caller (events marks + 1) reply call b answer e).fresh in
         rw other refl
 
 -- the end of a node is its collector's, once it is collected
-holder_mark : (limits : Bound) (marks : Timeline) (caller : ℕ) (reply : Reply) (call : Call) (node : NodeKey) → IsAnswer limits (readings marks) caller call reply → was_born (births marks) node ≡ true →
-    holder (Called caller reply call ∷ marks) node ≡ option_map_or (λ c. c) (collector_at node (Called caller reply call)) (holder marks node)
+holder_mark : (limits : Bound) (marks : Timeline) (caller : ℕ) (reply : Reply) (call : Call) (node : NodeKey) →
+    IsAnswer limits (readings marks) caller call reply → was_born (births marks) node ≡ true →
+    holder (Called caller reply call ∷ marks) node ≡ option_map_or (λ c. c) (collector_at node (Called caller reply call))
+    (holder marks node)
 holder_mark limits marks caller reply call node answer born = from (collector_at node (Called caller reply call))
   where
-    from : (o : Option ℕ) → option_map_or (λ c. c) (option_map_or Some o (collector marks node)) (option_map_or (λ (b : Birth). b.client) (birth_of (Called caller reply call ∷ marks) node) 0) ≡ option_map_or (λ c. c) o (holder marks node)
+    from : (o : Option ℕ) → option_map_or (λ c. c) (option_map_or Some o (collector marks node)) (option_map_or (λ (b : Birth).
+        b.client) (birth_of (Called caller reply call ∷ marks) node) 0) ≡ option_map_or (λ c. c) o (holder marks node)
     from (Some c) = refl
-    from None = ap (λ (o : Option Birth). option_map_or (λ c. c) (collector marks node) (option_map_or (λ (b : Birth). b.client) o 0)) (birth_stays limits marks caller reply call node answer born)
+    from None = ap (λ (o : Option Birth). option_map_or (λ c. c) (collector marks node) (option_map_or (λ (b : Birth). b.client) o 0))
+        (birth_stays limits marks caller reply call node answer born)
 
 -- a node is born to its caller
-born_to_caller : (event caller : ℕ) (reply : Reply) (call : Call) (b : Birth) → birth_at event (Called caller reply call) ≡ Some b → b.client ≡ caller
+born_to_caller : (event caller : ℕ) (reply : Reply) (call : Call) (b : Birth) → birth_at event (Called caller reply call) ≡ Some b →
+    b.client ≡ caller
 born_to_caller event caller (Reply.Token key collection) Call.OpenRoot b h =
-    let same : Some (record { node = key; parent = None; attached = false; collection = collection; event = event; client = caller }) ≡ Some b = h in
+    let same : Some (record { node = key; parent = None; attached = false; collection = collection; event = event; client = caller }) ≡ Some
+    b = h in
     let is : record { node = key; parent = None; attached = false; collection = collection; event = event; client = caller } ≡ b = cc in
     ap (λ (c : Birth). c.client) (sym is)
 born_to_caller event caller (Reply.Token key collection) (Call.Duplicate parent) b h =
-    let same : Some (record { node = key; parent = Some parent; attached = false; collection = collection; event = event; client = caller }) ≡ Some b = h in
-    let is : record { node = key; parent = Some parent; attached = false; collection = collection; event = event; client = caller } ≡ b = cc in
+    let same : Some (record { node = key; parent = Some parent; attached = false; collection = collection; event = event; client = caller })
+    ≡ Some b = h in
+    let is : record { node = key; parent = Some parent; attached = false; collection = collection; event = event; client = caller } ≡ b =
+    cc in
     ap (λ (c : Birth). c.client) (sym is)
 born_to_caller event caller (Reply.Token key collection) (Call.AttachToken parent) b h =
-    let same : Some (record { node = key; parent = Some parent; attached = true; collection = collection; event = event; client = caller }) ≡ Some b = h in
-    let is : record { node = key; parent = Some parent; attached = true; collection = collection; event = event; client = caller } ≡ b = cc in
+    let same : Some (record { node = key; parent = Some parent; attached = true; collection = collection; event = event; client = caller })
+    ≡ Some b = h in
+    let is : record { node = key; parent = Some parent; attached = true; collection = collection; event = event; client = caller } ≡ b =
+    cc in
     ap (λ (c : Birth). c.client) (sym is)
 born_to_caller event caller reply call b h = cc
 
 -- and it is the caller's
-born_held : (limits : Bound) (marks : Timeline) (caller : ℕ) (reply : Reply) (call : Call) (b : Birth) → IsAnswer limits (readings marks) caller call reply → birth_at (events marks + 1) (Called caller reply call) ≡ Some b →
+born_held : (limits : Bound) (marks : Timeline) (caller : ℕ) (reply : Reply) (call : Call) (b : Birth) →
+    IsAnswer limits (readings marks) caller call reply → birth_at (events marks + 1) (Called caller reply call) ≡ Some b →
     collector (Called caller reply call ∷ marks) b.node ≡ None → holder (Called caller reply call ∷ marks) b.node ≡ caller
 born_held limits marks caller reply call b answer h nobody =
-    let found : birth_of (Called caller reply call ∷ marks) b.node ≡ Some b = ap (λ (o : Option Birth). find (λ x. same_key x.node b.node) (cons_option o (births marks))) h ∙ first in
-    (λ i. option_map_or (λ c. c) (nobody i) (option_map_or (λ (x : Birth). x.client) (found i) 0)) ∙ born_to_caller (events marks + 1) caller reply call b h
+    let found : birth_of (Called caller reply call ∷ marks) b.node ≡ Some b =
+    ap (λ (o : Option Birth). find (λ x. same_key x.node b.node) (cons_option o (births marks))) h ∙ first in
+    (λ i. option_map_or (λ c. c) (nobody i) (option_map_or (λ (x : Birth). x.client) (found i) 0))
+    ∙ born_to_caller (events marks + 1) caller reply call b h
   where
     first : find (λ x. same_key x.node b.node) (b ∷ births marks) ≡ Some b
     first = rw (same_key-refl b.node) refl
@@ -79,27 +95,33 @@ born_held limits marks caller reply call b answer h nobody =
 -- ---- a legal history
 
 -- an end is in one parcel at most
-pub at_most_one : (pool : ℕ) (limits : Bound) (marks : Timeline) → Grows pool limits [] marks → (node : NodeKey) → sum_by (λ c. times (is_end_of node) (parcels marks c)) (clients marks) ≡ one_if (in_transit marks node)
+pub at_most_one : (pool : ℕ) (limits : Bound) (marks : Timeline) → Grows pool limits [] marks → (node : NodeKey) →
+    sum_by (λ c. times (is_end_of node) (parcels marks c)) (clients marks) ≡ one_if (in_transit marks node)
 at_most_one pool limits marks g node =
     let e : EndAt marks node = end_at pool limits marks g node in
-    sum_by-same (λ c. times (is_end_of node) (parcels marks c)) (λ c. one_if (e.place == c && in_transit marks node)) (clients marks) e.waits
+    sum_by-same (λ c. times (is_end_of node) (parcels marks c)) (λ c. one_if (e.place == c && in_transit marks node)) (clients marks)
+    e.waits
     ∙ sum_once e.place (in_transit marks node) (clients marks) (counted pool limits marks g).clients_are.once e.joined
 
 -- what is in a parcel is under way
-pub waits_in_transit : (pool : ℕ) (limits : Bound) (marks : Timeline) → Grows pool limits [] marks → (node : NodeKey) (client : ℕ) → list_any (is_end_of node) (parcels marks client) ≡ true → in_transit marks node ≡ true
+pub waits_in_transit : (pool : ℕ) (limits : Bound) (marks : Timeline) → Grows pool limits [] marks → (node : NodeKey) (client : ℕ) →
+    list_any (is_end_of node) (parcels marks client) ≡ true → in_transit marks node ≡ true
 waits_in_transit pool limits marks g node client h =
     let e : EndAt marks node = end_at pool limits marks g node in
-    and_right (e.place == client) (in_transit marks node) (sym (any_one (is_end_of node) (parcels marks client) (e.place == client && in_transit marks node) (e.waits client)) ∙ h)
+    and_right (e.place == client) (in_transit marks node)
+    (sym (any_one (is_end_of node) (parcels marks client) (e.place == client && in_transit marks node) (e.waits client)) ∙ h)
 
 -- and is the end of a node
-pub in_transit_born : (pool : ℕ) (limits : Bound) (marks : Timeline) → Grows pool limits [] marks → (node : NodeKey) → in_transit marks node ≡ true → was_born (births marks) node ≡ true
+pub in_transit_born : (pool : ℕ) (limits : Bound) (marks : Timeline) → Grows pool limits [] marks → (node : NodeKey) →
+    in_transit marks node ≡ true → was_born (births marks) node ≡ true
 in_transit_born pool limits marks g node h = elim (either_way (was_born (births marks) node)) [
   | inl b ↦ b
   | inr n ↦ both_ways (in_transit marks node) h ((end_at pool limits marks g node).unborn n).2
 ]
 
 -- that is not spent
-pub in_transit_unspent : (pool : ℕ) (limits : Bound) (marks : Timeline) → Grows pool limits [] marks → (node : NodeKey) → in_transit marks node ≡ true → spent marks node ≡ false
+pub in_transit_unspent : (pool : ℕ) (limits : Bound) (marks : Timeline) → Grows pool limits [] marks → (node : NodeKey) →
+    in_transit marks node ≡ true → spent marks node ≡ false
 in_transit_unspent pool limits marks g node h = (end_at pool limits marks g node).unspent h
 
 -- ---- one event of it
@@ -118,19 +140,26 @@ module _ (pool : ℕ) (limits : Bound) (history : List Entry) (entry : Entry) (l
   was_at = end_at pool limits (timeline pool history) next.grown
 
   -- a Close or a Release spends
-  pub spent_event : (node : NodeKey) → spent (timeline pool (history ++ entry ∷ [])) node ≡ (spends node (mark_of entry) || spent (timeline pool history) node)
+  pub spent_event : (node : NodeKey) →
+      spent (timeline pool (history ++ entry ∷ [])) node ≡ (spends node (mark_of entry) || spent (timeline pool history) node)
   spent_event node = λ i. next.same.over i node
 
   -- a Give puts into a parcel, and a Collect takes out
-  pub transit_event : (node : NodeKey) → in_transit (timeline pool (history ++ entry ∷ [])) node ≡ (sends node (mark_of entry) || (in_transit (timeline pool history) node && not (delivers node (mark_of entry))))
-  transit_event node = (λ i. next.same.under_way i node) ∙ transit_mark limits old entry.0 entry.2 entry.1 next.answer drawn node (was_at node)
+  pub transit_event : (node : NodeKey) →
+      in_transit (timeline pool (history ++ entry ∷ [])) node ≡ (sends node (mark_of entry) || (in_transit (timeline pool history)
+      node && not (delivers node (mark_of entry))))
+  transit_event node = (λ i. next.same.under_way i node)
+      ∙ transit_mark limits old entry.0 entry.2 entry.1 next.answer drawn node (was_at node)
 
   -- a Collect changes who holds
-  pub holder_event : (node : NodeKey) → was_born (births (timeline pool history)) node ≡ true → holder (timeline pool (history ++ entry ∷ [])) node ≡ option_map_or (λ c. c) (collector_at node (mark_of entry)) (holder (timeline pool history) node)
+  pub holder_event : (node : NodeKey) → was_born (births (timeline pool history)) node ≡ true →
+      holder (timeline pool (history ++ entry ∷ [])) node ≡ option_map_or (λ c. c) (collector_at node (mark_of entry))
+      (holder (timeline pool history) node)
   holder_event node born = (λ i. next.same.holders i node) ∙ holder_mark limits old entry.0 entry.2 entry.1 node next.answer born
 
   -- a Bind makes a collection of a token
-  pub kind_event : (node : NodeKey) → kind (timeline pool (history ++ entry ∷ [])) node ≡ cond (binds node (mark_of entry)) Kind.Collection (kind (timeline pool history) node)
+  pub kind_event : (node : NodeKey) → kind (timeline pool (history ++ entry ∷ [])) node ≡ cond (binds node (mark_of entry)) Kind.Collection
+      (kind (timeline pool history) node)
   kind_event node = (λ i. next.same.kinds i node) ∙ from (binds node (mark_of entry)) (list_any (binds node) old)
     where
       from : (b o : Bool) → cond (b || o) Kind.Collection Kind.Token ≡ cond b Kind.Collection (cond o Kind.Collection Kind.Token)
@@ -138,29 +167,39 @@ module _ (pool : ℕ) (limits : Bound) (history : List Entry) (entry : Entry) (l
       from false o = refl
 
   -- what was done is as it should be
-  pub given_was : (node : NodeKey) → sends node (mark_of entry) ≡ true → (spent (timeline pool history) node ≡ false) × (in_transit (timeline pool history) node ≡ false) × (holder (timeline pool history) node ≡ entry.0)
-  given_was node h = let f : FreeEnd old entry.0 node = sends_free limits old entry.0 entry.2 entry.1 node next.answer h in (f.unspent, f.resting, f.held)
+  pub given_was : (node : NodeKey) → sends node (mark_of entry) ≡ true → (spent (timeline pool history) node ≡ false) ×
+      (in_transit (timeline pool history) node ≡ false) × (holder (timeline pool history) node ≡ entry.0)
+  given_was node h = let f : FreeEnd old entry.0 node =
+      sends_free limits old entry.0 entry.2 entry.1 node next.answer h in (f.unspent, f.resting, f.held)
 
   -- so too where it is spent
-  pub spent_was : (node : NodeKey) → spends node (mark_of entry) ≡ true → (spent (timeline pool history) node ≡ false) × (in_transit (timeline pool history) node ≡ false) × (holder (timeline pool history) node ≡ entry.0)
-  spent_was node h = let f : FreeEnd old entry.0 node = spends_free limits old entry.0 entry.2 entry.1 node next.answer h in (f.unspent, f.resting, f.held)
+  pub spent_was : (node : NodeKey) → spends node (mark_of entry) ≡ true → (spent (timeline pool history) node ≡ false) ×
+      (in_transit (timeline pool history) node ≡ false) × (holder (timeline pool history) node ≡ entry.0)
+  spent_was node h = let f : FreeEnd old entry.0 node =
+      spends_free limits old entry.0 entry.2 entry.1 node next.answer h in (f.unspent, f.resting, f.held)
 
   -- and where it is delivered
-  pub delivered_was : (node : NodeKey) → delivers node (mark_of entry) ≡ true → (spent (timeline pool history) node ≡ false) × (in_transit (timeline pool history) node ≡ true)
+  pub delivered_was : (node : NodeKey) → delivers node (mark_of entry) ≡ true → (spent (timeline pool history) node ≡ false) ×
+      (in_transit (timeline pool history) node ≡ true)
   delivered_was node h =
       let t = (delivers_waited limits old entry.0 entry.2 entry.1 next.answer drawn node (was_at node) h).1 in
       ((was_at node).unspent t, t)
 
   -- a birth is to its caller
   pub born_event : (b : Birth) → birth_at (events (timeline pool history) + 1) (mark_of entry) ≡ Some b →
-      (spent (timeline pool (history ++ entry ∷ [])) b.node ≡ false) × (in_transit (timeline pool (history ++ entry ∷ [])) b.node ≡ false) × (holder (timeline pool (history ++ entry ∷ [])) b.node ≡ entry.0) × (kind (timeline pool (history ++ entry ∷ [])) b.node ≡ Kind.Token)
+      (spent (timeline pool (history ++ entry ∷ [])) b.node ≡ false) × (in_transit (timeline pool (history ++ entry ∷ [])) b.node ≡ false) ×
+      (holder (timeline pool (history ++ entry ∷ [])) b.node ≡ entry.0) ×
+      (kind (timeline pool (history ++ entry ∷ [])) b.node ≡ Kind.Token)
   born_event b h =
       let k : Comes old entry.0 entry.2 entry.1 b = comes limits old entry.0 (events old + 1) entry.2 entry.1 b next.answer h in
       let u = (was_at b.node).unborn k.fresh in
       let idle = unborn_idle limits old entry.0 entry.2 entry.1 next.answer drawn b.node (was_at b.node) k.fresh in
-      let nobody : collector (mark_of entry ∷ old) b.node ≡ None = ap (λ (o : Option ℕ). option_map_or Some o (collector old b.node)) idle.2 ∙ u.1 in (
+      let nobody : collector (mark_of entry ∷ old) b.node ≡ None =
+      ap (λ (o : Option ℕ). option_map_or Some o (collector old b.node)) idle.2 ∙ u.1 in (
         spent_event b.node ∙ or_both (spends b.node (mark_of entry)) (spent old b.node) idle.0 u.0,
-        transit_event b.node ∙ or_both (sends b.node (mark_of entry)) _ idle.1 (ap (λ (t : Bool). t && not (delivers b.node (mark_of entry))) u.2),
+        transit_event b.node ∙ or_both (sends b.node (mark_of entry)) _ idle.1 (ap (λ (t : Bool).
+            t && not (delivers b.node (mark_of entry))) u.2),
         (λ i. next.same.holders i b.node) ∙ born_held limits old entry.0 entry.2 entry.1 b next.answer h nobody,
-        (λ i. next.same.kinds i b.node) ∙ ap (λ (t : Bool). cond t Kind.Collection Kind.Token) (or_both (binds b.node (mark_of entry)) (list_any (binds b.node) old) idle.3 u.3),
+        (λ i. next.same.kinds i b.node) ∙ ap (λ (t : Bool). cond t Kind.Collection Kind.Token) (or_both (binds b.node (mark_of entry))
+            (list_any (binds b.node) old) idle.3 u.3),
       )

@@ -29,7 +29,8 @@ fired_by marks t event h = from (last_match (fires_at t) (moments marks)) refl h
     from None e h = cc
     from (Some moment) e h =
         let is : events moment ≡ event = cc in
-        let few : events moment ≤ events marks = last_match-kept (λ m. events m ≤ events marks) (fires_at t) (moments marks) (λ m on _. (moment_earlier marks m on).few) moment e in
+        let few : events moment ≤ events marks = last_match-kept (λ m. events m ≤ events marks) (fires_at t) (moments marks) (λ m on _.
+        (moment_earlier marks m on).few) moment e in
         omega (arith, is, few)
 
 -- a tracker with an id that none has has not fired
@@ -50,7 +51,8 @@ none_fired marks t other = from (last_match (fires_at t) (moments marks)) refl
 -- a tracker that was attached passes where what it waits for holds
 passes : (marks : Timeline) (t : Tracked) → In t (tracked marks) → fires_at t marks ≡ is_due (world marks) t
 passes marks t on =
-    let attached : list_any (λ (u : Tracked). u.id == t.id) (tracked marks) ≡ true = In-any (λ (u : Tracked). u.id == t.id) (tracked marks) t on (eq-eqb t.id t.id refl) in
+    let attached : list_any (λ (u : Tracked). u.id == t.id) (tracked marks) ≡ true =
+    In-any (λ (u : Tracked). u.id == t.id) (tracked marks) t on (eq-eqb t.id t.id refl) in
     rw attached refl
 
 -- so what a tracker that has not fired waits for does not hold
@@ -66,14 +68,17 @@ not_due marks t on h = sym (passes marks t on) ∙ from (last_match (fires_at t)
 
 -- it fired before, or fires now if what it waits for holds
 pub fired_next : (pool : ℕ) (marks : Timeline) (entry : Entry) (t : Tracked) → In t (tracked (after pool marks entry)) →
-    fired_at (after pool marks entry) t ≡ option_map_or Some (fired_at marks t) (cond (is_due (world (after pool marks entry)) t) (Some (events (after pool marks entry))) None)
+    fired_at (after pool marks entry) t ≡ option_map_or Some (fired_at marks t) (cond (is_due (world (after pool marks entry)) t)
+    (Some (events (after pool marks entry))) None)
 fired_next pool marks entry t on =
     ap (λ (ms : List Timeline). option_map events (last_match (fires_at t) (after pool marks entry ∷ ms))) (earlier_after pool marks entry)
     ∙ (from (last_match (fires_at t) (moments marks)) (fires_at t (after pool marks entry))
-    ∙ ap (λ (b : Bool). option_map_or Some (fired_at marks t) (cond b (Some (events (after pool marks entry))) None)) (passes (after pool marks entry) t on))
+    ∙ ap (λ (b : Bool). option_map_or Some (fired_at marks t) (cond b (Some (events (after pool marks entry))) None))
+    (passes (after pool marks entry) t on))
   where
     from : (o : Option Timeline) (b : Bool) →
-        option_map events (option_map_or Some o (cond b (Some (after pool marks entry)) None)) ≡ option_map_or Some (option_map events o) (cond b (Some (events (after pool marks entry))) None)
+        option_map events (option_map_or Some o (cond b (Some (after pool marks entry)) None)) ≡ option_map_or Some (option_map events o)
+        (cond b (Some (events (after pool marks entry))) None)
     from (Some m) b = refl
     from None true = refl
     from None false = refl
@@ -81,16 +86,19 @@ fired_next pool marks entry t on =
 -- it waits on if it waited, and is not due
 pub waits_next : (pool : ℕ) (marks : Timeline) (entry : Entry) (t : Tracked) → In t (tracked (after pool marks entry)) →
     is_none (fired_at (after pool marks entry) t) ≡ (is_none (fired_at marks t) && not (is_due (world (after pool marks entry)) t))
-waits_next pool marks entry t on = ap is_none (fired_next pool marks entry t on) ∙ from (fired_at marks t) (is_due (world (after pool marks entry)) t)
+waits_next pool marks entry t on =
+    ap is_none (fired_next pool marks entry t on) ∙ from (fired_at marks t) (is_due (world (after pool marks entry)) t)
   where
-    from : (o : Option ℕ) (b : Bool) → is_none (option_map_or Some o (cond b (Some (events (after pool marks entry))) None)) ≡ (is_none o && not b)
+    from : (o : Option ℕ) (b : Bool) → is_none (option_map_or Some o (cond b (Some (events (after pool marks entry))) None)) ≡ (is_none
+        o && not b)
     from (Some event) b = refl
     from None true = refl
     from None false = refl
 
 -- it fires at this event if it waited, and is due
 pub fires_now : (pool : ℕ) (marks : Timeline) (entry : Entry) (t : Tracked) → In t (tracked (after pool marks entry)) →
-    option_map_or (λ e. e == events (after pool marks entry)) (fired_at (after pool marks entry) t) false ≡ (is_none (fired_at marks t) && is_due (world (after pool marks entry)) t)
+    option_map_or (λ e. e == events (after pool marks entry)) (fired_at (after pool marks entry) t)
+    false ≡ (is_none (fired_at marks t) && is_due (world (after pool marks entry)) t)
 fires_now pool marks entry t on =
     ap (λ (o : Option ℕ). option_map_or (λ e. e == events (after pool marks entry)) o false) (fired_next pool marks entry t on)
     ∙ from (fired_at marks t) refl (is_due (world (after pool marks entry)) t)
@@ -98,7 +106,8 @@ fires_now pool marks entry t on =
     now : ℕ
     now = events (after pool marks entry)
 
-    from : (o : Option ℕ) → fired_at marks t ≡ o → (b : Bool) → option_map_or (λ e. e == now) (option_map_or Some o (cond b (Some now) None)) false ≡ (is_none o && b)
+    from : (o : Option ℕ) → fired_at marks t ≡ o → (b : Bool) →
+        option_map_or (λ e. e == now) (option_map_or Some o (cond b (Some now) None)) false ≡ (is_none o && b)
     from (Some event) e b = false_if (event == now) (λ h.
         (let is : event ≡ now = eqb-true event now h in
         let early : event ≤ events marks = fired_by marks t event e in
@@ -108,7 +117,8 @@ fires_now pool marks entry t on =
     from None e false = refl
 
 -- and it fired at an earlier event if it did
-pub fired_then : (pool : ℕ) (marks : Timeline) (entry : Entry) (event : ℕ) → event ≤ events marks → (t : Tracked) → In t (tracked (after pool marks entry)) →
+pub fired_then : (pool : ℕ) (marks : Timeline) (entry : Entry) (event : ℕ) → event ≤ events marks → (t : Tracked) →
+    In t (tracked (after pool marks entry)) →
     option_map_or (λ e. e == event) (fired_at (after pool marks entry) t) false ≡ option_map_or (λ e. e == event) (fired_at marks t) false
 fired_then pool marks entry event early t on =
     ap (λ (o : Option ℕ). option_map_or (λ e. e == event) o false) (fired_next pool marks entry t on)
@@ -117,7 +127,8 @@ fired_then pool marks entry event early t on =
     now : ℕ
     now = events (after pool marks entry)
 
-    from : (o : Option ℕ) (b : Bool) → option_map_or (λ e. e == event) (option_map_or Some o (cond b (Some now) None)) false ≡ option_map_or (λ e. e == event) o false
+    from : (o : Option ℕ) (b : Bool) → option_map_or (λ e. e == event) (option_map_or Some o (cond b (Some now) None)) false ≡ option_map_or
+        (λ e. e == event) o false
     from (Some e) b = refl
     from None true = false_if (now == event) (λ h.
         (let is : now ≡ event = eqb-true now event h in
@@ -128,7 +139,8 @@ fired_then pool marks entry event early t on =
 -- ---- the tracker that the event attaches
 
 -- it has not fired before
-pub made_waits : (pool : ℕ) (limits : Bound) (marks : Timeline) (entry : Entry) (t : Tracked) → Grows pool limits [] marks → IsAnswer limits (readings marks) entry.0 entry.1 entry.2 →
+pub made_waits : (pool : ℕ) (limits : Bound) (marks : Timeline) (entry : Entry) (t : Tracked) → Grows pool limits [] marks →
+    IsAnswer limits (readings marks) entry.0 entry.1 entry.2 →
     tracked_at marks (Called entry.0 entry.2 entry.1) ≡ Some t → fired_at marks t ≡ None
 made_waits pool limits marks entry t g answer h =
     let is : t.id ≡ events marks + 1 = made_id limits marks entry.0 entry.2 entry.1 t answer h in

@@ -37,22 +37,28 @@ own false true h e = cc
 own false false h e = cc
 
 -- a call that is not refused names such an end, if it names one
-pub free_end : (limits : Bound) (marks : Timeline) (client : ℕ) (call : Call) (reply : Reply) (key : NodeKey) → IsAnswer limits (readings marks) client call reply →
+pub free_end : (limits : Bound) (marks : Timeline) (client : ℕ) (call : Call) (reply : Reply) (key : NodeKey) →
+    IsAnswer limits (readings marks) client call reply →
     is_refusal reply ≡ false → key_of call ≡ Some key → FreeEnd marks client key
 free_end limits marks client call reply key answer stands is =
     let r : Readings = readings marks in
     let e : Reply = effect r client (option_map_or (λ key. key) (new_key reply) (record { slot = 0; generation = 0 })) call in
-    let last : List (Option Reply) = closing call ∷ peer_closed r call ∷ wrong_kind r call ∷ misuse r call ∷ no_handle r client call ∷ limits_met limits r call in
-    let a = strip (unknown_client r client call) (shut_client r client call ∷ no_end r client call ∷ end_in_transit r call ∷ last) e reply (unknown_rejects r client call) stands answer.told in
-    let b = strip (shut_client r client call) (no_end r client call ∷ end_in_transit r call ∷ last) e reply (shut_rejects r client call) stands a.1 in
+    let last : List (Option Reply) =
+    closing call ∷ peer_closed r call ∷ wrong_kind r call ∷ misuse r call ∷ no_handle r client call ∷ limits_met limits r call in
+    let a = strip (unknown_client r client call) (shut_client r client call ∷ no_end r client call ∷ end_in_transit r call ∷ last) e reply
+    (unknown_rejects r client call) stands answer.told in
+    let b = strip (shut_client r client call) (no_end r client call ∷ end_in_transit r call ∷ last) e reply (shut_rejects r client call)
+    stands a.1 in
     let c = strip (no_end r client call) (end_in_transit r call ∷ last) e reply (no_end_rejects r client call) stands b.1 in
     let d = strip (end_in_transit r call) last e reply (in_transit_rejects r call) stands c.1 in
     let h : HasEnd marks key = has_end marks client call key c.0 is in
     let node_is : h.birth.node ≡ key = (birth_is marks key h.birth h.is).1 in
     let t : refused_if (in_transit marks h.birth.node) Refusal.InTransit ≡ None = rw (is, h.unspent, h.is) at d.0 in
     let resting : in_transit marks h.birth.node ≡ false = passed (in_transit marks h.birth.node) Refusal.InTransit t in
-    let o : refused_if (not (holder marks h.birth.node == client) && not (in_transit marks h.birth.node)) Refusal.NoSuchEnd ≡ None = rw (is, h.unspent, h.is) at c.0 in
-    let whose : (holder marks h.birth.node == client) ≡ true = own (holder marks h.birth.node == client) (in_transit marks h.birth.node) (passed _ Refusal.NoSuchEnd o) resting in
+    let o : refused_if (not (holder marks h.birth.node == client) && not (in_transit marks h.birth.node)) Refusal.NoSuchEnd ≡ None =
+    rw (is, h.unspent, h.is) at c.0 in
+    let whose : (holder marks h.birth.node == client) ≡ true =
+    own (holder marks h.birth.node == client) (in_transit marks h.birth.node) (passed _ Refusal.NoSuchEnd o) resting in
     record {
       born = birth_was_born marks key h.birth h.is;
       unspent = h.unspent;
@@ -61,13 +67,15 @@ free_end limits marks client call reply key answer stands is =
     }
 
 -- so is an end that is given
-pub sends_free : (limits : Bound) (marks : Timeline) (client : ℕ) (reply : Reply) (call : Call) (node : NodeKey) → IsAnswer limits (readings marks) client call reply → sends node (Called client reply call) ≡ true → FreeEnd marks client node
+pub sends_free : (limits : Bound) (marks : Timeline) (client : ℕ) (reply : Reply) (call : Call) (node : NodeKey) →
+    IsAnswer limits (readings marks) client call reply → sends node (Called client reply call) ≡ true → FreeEnd marks client node
 sends_free limits marks client Reply.Done (Call.Give key to) node answer h =
     free_end limits marks client (Call.Give key to) Reply.Done node answer refl (ap Some (same_key-true key node h))
 sends_free limits marks client _ _ node answer h = cc
 
 -- and one that is spent
-pub spends_free : (limits : Bound) (marks : Timeline) (client : ℕ) (reply : Reply) (call : Call) (node : NodeKey) → IsAnswer limits (readings marks) client call reply → spends node (Called client reply call) ≡ true → FreeEnd marks client node
+pub spends_free : (limits : Bound) (marks : Timeline) (client : ℕ) (reply : Reply) (call : Call) (node : NodeKey) →
+    IsAnswer limits (readings marks) client call reply → spends node (Called client reply call) ≡ true → FreeEnd marks client node
 spends_free limits marks client Reply.Done (Call.Close key) node answer h =
     free_end limits marks client (Call.Close key) Reply.Done node answer refl (ap Some (same_key-true key node h))
 spends_free limits marks client Reply.Done (Call.Release key) node answer h =
@@ -77,7 +85,8 @@ spends_free limits marks client (Reply.PeerClosed cause origin) (Call.Release ke
 spends_free limits marks client _ _ node answer h = cc
 
 -- and one that is bound
-pub binds_free : (limits : Bound) (marks : Timeline) (client : ℕ) (reply : Reply) (call : Call) (node : NodeKey) → IsAnswer limits (readings marks) client call reply → binds node (Called client reply call) ≡ true → FreeEnd marks client node
+pub binds_free : (limits : Bound) (marks : Timeline) (client : ℕ) (reply : Reply) (call : Call) (node : NodeKey) →
+    IsAnswer limits (readings marks) client call reply → binds node (Called client reply call) ≡ true → FreeEnd marks client node
 binds_free limits marks client Reply.Done (Call.Bind key) node answer h =
     free_end limits marks client (Call.Bind key) Reply.Done node answer refl (ap Some (same_key-true key node h))
 binds_free limits marks client _ _ node answer h = cc

@@ -42,31 +42,43 @@ first_of true b h = refl
 first_of false b h = cc
 
 -- who gets a handle has joined
-gains_joined : (limits : Bound) (marks : Timeline) (caller : ℕ) (reply : Reply) (call : Call) → IsAnswer limits (readings marks) caller call reply → (client : ℕ) (buffer : BufferName) (strength : Strength) →
+gains_joined : (limits : Bound) (marks : Timeline) (caller : ℕ) (reply : Reply) (call : Call) →
+    IsAnswer limits (readings marks) caller call reply → (client : ℕ) (buffer : BufferName) (strength : Strength) →
     gains (only client) buffer strength (Called caller reply call) ≡ true → has_joined marks client ≡ true
 gains_joined limits marks caller (Reply.Taken collection taken set) (Call.Take key) answer client buffer strength h =
-    subst (λ (c : ℕ). has_joined marks c ≡ true) (eqb-true caller client (first_of (caller == client) _ h)) (caller_joined limits marks caller (Reply.Taken collection taken set) (Call.Take key) answer refl)
+    subst (λ (c : ℕ). has_joined marks c ≡ true) (eqb-true caller client (first_of (caller == client) _ h))
+    (caller_joined limits marks caller (Reply.Taken collection taken set) (Call.Take key) answer refl)
 gains_joined limits marks caller Reply.Done (Call.DupHandle name dup) answer client buffer strength h =
-    subst (λ (c : ℕ). has_joined marks c ≡ true) (eqb-true caller client (first_of (caller == client) _ h)) (caller_joined limits marks caller Reply.Done (Call.DupHandle name dup) answer refl)
+    subst (λ (c : ℕ). has_joined marks c ≡ true) (eqb-true caller client (first_of (caller == client) _ h))
+    (caller_joined limits marks caller Reply.Done (Call.DupHandle name dup) answer refl)
 gains_joined limits marks caller (Reply.CollectedHandle name given) Call.Collect answer client buffer strength h =
-    subst (λ (c : ℕ). has_joined marks c ≡ true) (eqb-true caller client (and_left (caller == client) _ h)) (caller_joined limits marks caller (Reply.CollectedHandle name given) Call.Collect answer refl)
+    subst (λ (c : ℕ). has_joined marks c ≡ true) (eqb-true caller client (and_left (caller == client) _ h))
+    (caller_joined limits marks caller (Reply.CollectedHandle name given) Call.Collect answer refl)
 gains_joined limits marks caller _ _ answer client buffer strength h = cc
 
 -- so nobody else has any
-pub stranger_has_none : (pool : ℕ) (limits : Bound) (marks : Timeline) → Grows pool limits [] marks → (client : ℕ) (buffer : BufferName) (strength : Strength) → has_joined marks client ≡ false →
+pub stranger_has_none : (pool : ℕ) (limits : Bound) (marks : Timeline) → Grows pool limits [] marks →
+    (client : ℕ) (buffer : BufferName) (strength : Strength) → has_joined marks client ≡ false →
     open_of marks client buffer strength ≡ 0
 stranger_has_none pool limits _ Stays client buffer strength h = refl
-stranger_has_none pool limits _ (Loses before origin cause g born) client buffer strength h = stranger_has_none pool limits before g client buffer strength h
-stranger_has_none pool limits _ (Allocates before collection head g e) client buffer strength h = stranger_has_none pool limits before g client buffer strength h
-stranger_has_none pool limits _ (Ends before collection top g e) client buffer strength h = stranger_has_none pool limits before g client buffer strength h
+stranger_has_none pool limits _ (Loses before origin cause g born) client buffer strength h =
+    stranger_has_none pool limits before g client buffer strength h
+stranger_has_none pool limits _ (Allocates before collection head g e) client buffer strength h =
+    stranger_has_none pool limits before g client buffer strength h
+stranger_has_none pool limits _ (Ends before collection top g e) client buffer strength h =
+    stranger_has_none pool limits before g client buffer strength h
 stranger_has_none pool limits _ (Answers before caller reply call g answer) client buffer strength h =
     let mark : Mark = Called caller reply call in
-    let stranger : has_joined before client ≡ false = false_if (has_joined before client) (λ j. both_ways (has_joined (mark ∷ before) client) (still_joined before mark client j) h) in
+    let stranger : has_joined before client ≡ false =
+    false_if (has_joined before client) (λ j. both_ways (has_joined (mark ∷ before) client) (still_joined before mark client j) h) in
     let none : gains (only client) buffer strength mark ≡ false =
-    false_if (gains (only client) buffer strength mark) (λ y. both_ways (has_joined before client) (gains_joined limits before caller reply call answer client buffer strength y) stranger) in
+    false_if (gains (only client) buffer strength mark) (λ y.
+    both_ways (has_joined before client) (gains_joined limits before caller reply call answer client buffer strength y) stranger) in
     let had : open_of before client buffer strength ≡ 0 = stranger_has_none pool limits before g client buffer strength stranger in
-    let goes : GoesBy (open_of before client buffer strength) (open_of (mark ∷ before) client buffer strength) (gains (only client) buffer strength mark) (loses (only client) buffer strength mark) =
-    open_of_mark before mark (counted pool limits before g) (counted pool limits (mark ∷ before) (Answers before caller reply call g answer)) buffer strength client in
+    let goes : GoesBy (open_of before client buffer strength) (open_of (mark ∷ before) client buffer strength)
+    (gains (only client) buffer strength mark) (loses (only client) buffer strength mark) =
+    open_of_mark before mark (counted pool limits before g) (counted pool limits (mark ∷ before) (Answers before caller reply call g
+    answer)) buffer strength client in
     let zero : one_if (gains (only client) buffer strength mark) ≡ 0 = ap one_if none in
     omega (arith, had, goes.adds_up, zero)
 
@@ -77,15 +89,20 @@ abbrev IsNamed : Timeline → BufferName → Type 0
 IsNamed marks buffer = list_any (λ name. same_buffer name buffer) (buffer_names marks buffer.collection) ≡ true
 
 -- an allocation leaves the buffers that there are
-stays_named : (pool : ℕ) (before : Timeline) (mark : Mark) → Lays pool before mark → (buffer : BufferName) → IsNamed before buffer → IsNamed (mark ∷ before) buffer
+stays_named : (pool : ℕ) (before : Timeline) (mark : Mark) → Lays pool before mark → (buffer : BufferName) → IsNamed before buffer →
+    IsNamed (mark ∷ before) buffer
 stays_named pool before mark (Nothing_new none same) buffer h =
-    subst (λ (o : Option Buffers). list_any (λ name. same_buffer name buffer) (option_map_or (λ (b : Buffers). names buffer.collection b.count) o []) ≡ true) (sym (same buffer.collection)) h
+    subst (λ (o : Option Buffers). list_any (λ name. same_buffer name buffer) (option_map_or (λ (b : Buffers).
+    names buffer.collection b.count) o []) ≡ true) (sym (same buffer.collection)) h
 stays_named pool before mark (New collection buffers starts lays fit fresh same) buffer h =
-    subst (λ (o : Option Buffers). list_any (λ name. same_buffer name buffer) (option_map_or (λ (b : Buffers). names buffer.collection b.count) o []) ≡ true) (sym (same buffer.collection)) (elim (either_way (collection == buffer.collection)) [
+    subst (λ (o : Option Buffers). list_any (λ name. same_buffer name buffer) (option_map_or (λ (b : Buffers).
+    names buffer.collection b.count) o []) ≡ true) (sym (same buffer.collection)) (elim (either_way (collection == buffer.collection)) [
       | inl e ↦
           let c : collection ≡ buffer.collection = eqb-true collection buffer.collection e in
           let none : buffers_of before buffer.collection ≡ None = ap (buffers_of before) (sym c) ∙ fresh in
-          let empty : false ≡ true = subst (λ (o : Option Buffers). list_any (λ name. same_buffer name buffer) (option_map_or (λ (b : Buffers). names buffer.collection b.count) o []) ≡ true) none h in
+          let empty : false ≡ true =
+          subst (λ (o : Option Buffers). list_any (λ name. same_buffer name buffer) (option_map_or (λ (b : Buffers).
+          names buffer.collection b.count) o []) ≡ true) none h in
           cc
       | inr e ↦ rw e h
     ])
@@ -95,55 +112,70 @@ pub some_opened : (a b : ℕ) → 0 < a - b → 0 < a
 some_opened a b h = omega (arith, h)
 
 -- if it is opened now, it was there already
-opens_named : (pool : ℕ) (limits : Bound) (before : Timeline) → Grows pool limits [] before → (client : ℕ) (reply : Reply) (call : Call) → IsAnswer limits (readings before) client call reply → (buffer : BufferName) (strength : Strength) →
-    (0 < times (opens anyone buffer strength) before → IsNamed before buffer) → opens anyone buffer strength (Called client reply call) ≡ true → IsNamed before buffer
+opens_named : (pool : ℕ) (limits : Bound) (before : Timeline) → Grows pool limits [] before → (client : ℕ) (reply : Reply) (call : Call) →
+    IsAnswer limits (readings before) client call reply → (buffer : BufferName) (strength : Strength) →
+    (0 < times (opens anyone buffer strength) before → IsNamed before buffer) →
+    opens anyone buffer strength (Called client reply call) ≡ true → IsNamed before buffer
 opens_named pool limits before g client (Reply.Taken collection taken set) (Call.Take key) answer buffer strength old y =
     let c : collection ≡ buffer.collection = eqb-true collection buffer.collection (and_left (collection == buffer.collection) _ y) in
-    let s : taken ≡ strength = same_strength-true taken strength (and_left (same_strength taken strength) _ (and_right (collection == buffer.collection) _ y)) in
+    let s : taken ≡ strength =
+    same_strength-true taken strength (and_left (same_strength taken strength) _ (and_right (collection == buffer.collection) _ y)) in
     let y' : opens anyone buffer taken (Called client (Reply.Taken collection taken set) (Call.Take key)) ≡ true =
     subst (λ (k : Strength). opens anyone buffer k (Called client (Reply.Taken collection taken set) (Call.Take key)) ≡ true) (sym s) y in
-    let there = and_left (list_any (λ name. same_buffer name buffer) (buffer_names before collection)) _ (sym (take_opens limits before client collection taken set key answer buffer) ∙ y') in
+    let there = and_left (list_any (λ name. same_buffer name buffer) (buffer_names before collection)) _
+    (sym (take_opens limits before client collection taken set key answer buffer) ∙ y') in
     subst (λ (k : ℕ). list_any (λ name. same_buffer name buffer) (buffer_names before k) ≡ true) c there
 opens_named pool limits before g client Reply.Done (Call.DupHandle name dup) answer buffer strength old y =
     let b_is : name ≡ buffer = same_buffer-true name buffer (and_left _ _ y) in
     let d_is : dup ≡ strength = same_strength-true dup strength (and_right (same_buffer name buffer) _ y) in
     let was : 0 < open_of before client name dup = dup_was_open limits before client name dup answer in
-    let was' : 0 < open_of before client buffer strength = subst (λ (s : Strength). 0 < open_of before client buffer s) d_is (subst (λ (n : BufferName). 0 < open_of before client n dup) b_is was) in
+    let was' : 0 < open_of before client buffer strength =
+    subst (λ (s : Strength). 0 < open_of before client buffer s) d_is (subst (λ (n : BufferName). 0 < open_of before client n dup) b_is
+    was) in
     let le : open_of before client buffer strength ≤ open_total before buffer strength =
-    client-le-total before (counted pool limits before g) client buffer strength (caller_joined limits before client Reply.Done (Call.DupHandle name dup) answer refl) in
+    client-le-total before (counted pool limits before g) client buffer strength (caller_joined limits before client Reply.Done
+    (Call.DupHandle name dup) answer refl) in
     let all : 0 < open_total before buffer strength = omega (arith, was', le) in
     old (some_opened _ _ all)
 opens_named pool limits before g client _ _ answer buffer strength old y = cc
 
 -- a handle that is opened is on a buffer that is there
-pub opened_named : (pool : ℕ) (limits : Bound) (marks : Timeline) → Grows pool limits [] marks → (buffer : BufferName) (strength : Strength) → 0 < times (opens anyone buffer strength) marks → IsNamed marks buffer
+pub opened_named : (pool : ℕ) (limits : Bound) (marks : Timeline) → Grows pool limits [] marks →
+    (buffer : BufferName) (strength : Strength) → 0 < times (opens anyone buffer strength) marks → IsNamed marks buffer
 opened_named pool limits _ Stays buffer strength h = absurd (omega (arith, h))
 opened_named pool limits _ (Loses before origin cause g born) buffer strength h = opened_named pool limits before g buffer strength h
 opened_named pool limits _ (Ends before collection top g e) buffer strength h = opened_named pool limits before g buffer strength h
 opened_named pool limits _ (Allocates before collection head g e) buffer strength h =
-    stays_named pool before (Allocated head) (allocation_lays pool limits before collection g head (forced_why pool collection before (Allocated head) e)) buffer (opened_named pool limits before g buffer strength h)
+    stays_named pool before (Allocated head) (allocation_lays pool limits before collection g head (forced_why pool collection before
+    (Allocated head) e)) buffer (opened_named pool limits before g buffer strength h)
 opened_named pool limits _ (Answers before client reply call g answer) buffer strength h =
     elim (either_way (opens anyone buffer strength (Called client reply call))) [
-      | inl y ↦ opens_named pool limits before g client reply call answer buffer strength (opened_named pool limits before g buffer strength) y
+      | inl y ↦ opens_named pool limits before g client reply call answer buffer strength (opened_named pool limits before g buffer
+          strength) y
       | inr n ↦ opened_named pool limits before g buffer strength (rw n at h)
     ]
 
 -- so is one that is open
-pub open_named : (pool : ℕ) (limits : Bound) (marks : Timeline) → Grows pool limits [] marks → (buffer : BufferName) (strength : Strength) → 0 < open_total marks buffer strength → IsNamed marks buffer
+pub open_named : (pool : ℕ) (limits : Bound) (marks : Timeline) → Grows pool limits [] marks → (buffer : BufferName) (strength : Strength) →
+    0 < open_total marks buffer strength → IsNamed marks buffer
 open_named pool limits marks g buffer strength h = opened_named pool limits marks g buffer strength (some_opened _ _ h)
 
 -- or that a client has
-pub has_named : (pool : ℕ) (limits : Bound) (marks : Timeline) → Grows pool limits [] marks → (client : ℕ) (buffer : BufferName) (strength : Strength) → 0 < open_of marks client buffer strength → IsNamed marks buffer
+pub has_named : (pool : ℕ) (limits : Bound) (marks : Timeline) → Grows pool limits [] marks →
+    (client : ℕ) (buffer : BufferName) (strength : Strength) → 0 < open_of marks client buffer strength → IsNamed marks buffer
 has_named pool limits marks g client buffer strength h =
     elim (either_way (has_joined marks client)) [
       | inl j ↦
-          let le : open_of marks client buffer strength ≤ open_total marks buffer strength = client-le-total marks (counted pool limits marks g) client buffer strength j in
+          let le : open_of marks client buffer strength ≤ open_total marks buffer strength =
+          client-le-total marks (counted pool limits marks g) client buffer strength j in
           open_named pool limits marks g buffer strength (omega (arith, h, le))
-      | inr n ↦ let none : open_of marks client buffer strength ≡ 0 = stranger_has_none pool limits marks g client buffer strength n in absurd (omega (arith, h, none))
+      | inr n ↦ let none : open_of marks client buffer strength ≡ 0 =
+          stranger_has_none pool limits marks g client buffer strength n in absurd (omega (arith, h, none))
     ]
 
 -- or that is in a parcel
-pub moving_named : (pool : ℕ) (limits : Bound) (marks : Timeline) → Grows pool limits [] marks → (buffer : BufferName) (strength : Strength) → 0 < moving marks buffer strength → IsNamed marks buffer
+pub moving_named : (pool : ℕ) (limits : Bound) (marks : Timeline) → Grows pool limits [] marks →
+    (buffer : BufferName) (strength : Strength) → 0 < moving marks buffer strength → IsNamed marks buffer
 moving_named pool limits marks g buffer strength h =
     let t = total_is marks (counted pool limits marks g) buffer strength in
     open_named pool limits marks g buffer strength (omega (arith, h, t))

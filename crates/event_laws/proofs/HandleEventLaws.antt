@@ -46,16 +46,23 @@ module _ (who : ℕ → Bool) (buffer : BufferName) (strength : Strength) where
   lands_alone _ h = cc
 
   -- it is opened or taken out, not both
-  gains_one : (mark : Mark) → one_if (gains who buffer strength mark) ≡ one_if (opens who buffer strength mark) + one_if (lands who buffer strength mark)
-  gains_one (Called client (Reply.Taken collection taken set) (Call.Take key)) = left_one (opens who buffer strength (Called client (Reply.Taken collection taken set) (Call.Take key)))
-  gains_one (Called client Reply.Done (Call.DupHandle name dup)) = left_one (opens who buffer strength (Called client Reply.Done (Call.DupHandle name dup)))
-  gains_one (Called client (Reply.CollectedHandle name given) Call.Collect) = right_one (lands who buffer strength (Called client (Reply.CollectedHandle name given) Call.Collect))
+  gains_one : (mark : Mark) → one_if (gains who buffer strength mark) ≡ one_if (opens who buffer strength mark) + one_if
+      (lands who buffer strength mark)
+  gains_one (Called client (Reply.Taken collection taken set) (Call.Take key)) =
+      left_one (opens who buffer strength (Called client (Reply.Taken collection taken set) (Call.Take key)))
+  gains_one (Called client Reply.Done (Call.DupHandle name dup)) =
+      left_one (opens who buffer strength (Called client Reply.Done (Call.DupHandle name dup)))
+  gains_one (Called client (Reply.CollectedHandle name given) Call.Collect) =
+      right_one (lands who buffer strength (Called client (Reply.CollectedHandle name given) Call.Collect))
   gains_one _ = refl
 
   -- it is dropped or put in, not both
-  loses_one : (mark : Mark) → one_if (loses who buffer strength mark) ≡ one_if (drops who buffer strength mark) + one_if (lifts who buffer strength mark)
-  loses_one (Called client Reply.Done (Call.DropHandle name dropped)) = left_one (drops who buffer strength (Called client Reply.Done (Call.DropHandle name dropped)))
-  loses_one (Called client Reply.Done (Call.GiveHandle name given to)) = right_one (lifts who buffer strength (Called client Reply.Done (Call.GiveHandle name given to)))
+  loses_one : (mark : Mark) → one_if (loses who buffer strength mark) ≡ one_if (drops who buffer strength mark) + one_if
+      (lifts who buffer strength mark)
+  loses_one (Called client Reply.Done (Call.DropHandle name dropped)) =
+      left_one (drops who buffer strength (Called client Reply.Done (Call.DropHandle name dropped)))
+  loses_one (Called client Reply.Done (Call.GiveHandle name given to)) =
+      right_one (lifts who buffer strength (Called client Reply.Done (Call.GiveHandle name given to)))
   loses_one _ = refl
 
   -- a mark that is about no handles does nothing to them
@@ -94,13 +101,17 @@ module _ (who : ℕ → Bool) (buffer : BufferName) (strength : Strength) where
 
 -- ---- one mark after others
 
-module _ (old : Timeline) (mark : Mark) (was : IsCounted old) (is : IsCounted (mark ∷ old)) (buffer : BufferName) (strength : Strength) where
+module _ (old : Timeline) (mark : Mark) (was : IsCounted old) (is : IsCounted (mark ∷ old)) (buffer : BufferName)
+    (strength : Strength) where
   -- what a client has open
-  pub open_of_mark : (client : ℕ) → GoesBy (open_of old client buffer strength) (open_of (mark ∷ old) client buffer strength) (gains (only client) buffer strength mark) (loses (only client) buffer strength mark)
+  pub open_of_mark : (client : ℕ) → GoesBy (open_of old client buffer strength) (open_of (mark ∷ old) client buffer strength)
+      (gains (only client) buffer strength mark) (loses (only client) buffer strength mark)
   open_of_mark client =
-      let paid : times (drops (only client) buffer strength) old + times (lifts (only client) buffer strength) old ≤ times (opens (only client) buffer strength) old + times (lands (only client) buffer strength) old =
+      let paid : times (drops (only client) buffer strength) old + times (lifts (only client) buffer strength) old ≤ times
+      (opens (only client) buffer strength) old + times (lands (only client) buffer strength) old =
       was.paid client buffer strength in
-      let pays : times (drops (only client) buffer strength) (mark ∷ old) + times (lifts (only client) buffer strength) (mark ∷ old) ≤ times (opens (only client) buffer strength) (mark ∷ old) + times (lands (only client) buffer strength) (mark ∷ old) =
+      let pays : times (drops (only client) buffer strength) (mark ∷ old) + times (lifts (only client) buffer strength) (mark ∷ old) ≤ times
+      (opens (only client) buffer strength) (mark ∷ old) + times (lands (only client) buffer strength) (mark ∷ old) =
       is.paid client buffer strength in
       let o = times-cons (opens (only client) buffer strength) mark old in
       let d = times-cons (drops (only client) buffer strength) mark old in
@@ -118,7 +129,8 @@ module _ (old : Timeline) (mark : Mark) (was : IsCounted old) (is : IsCounted (m
       }
 
   -- what is open in all
-  open_total_mark : GoesBy (open_total old buffer strength) (open_total (mark ∷ old) buffer strength) (opens anyone buffer strength mark) (drops anyone buffer strength mark)
+  open_total_mark : GoesBy (open_total old buffer strength) (open_total (mark ∷ old) buffer strength) (opens anyone buffer strength mark)
+      (drops anyone buffer strength mark)
   open_total_mark =
       let few = drops-le-opens old was buffer strength in
       let fewer = drops-le-opens (mark ∷ old) is buffer strength in
@@ -133,7 +145,8 @@ module _ (old : Timeline) (mark : Mark) (was : IsCounted old) (is : IsCounted (m
       }
 
   -- what is in parcels
-  moving_mark : GoesBy (moving old buffer strength) (moving (mark ∷ old) buffer strength) (lifts anyone buffer strength mark) (lands anyone buffer strength mark)
+  moving_mark : GoesBy (moving old buffer strength) (moving (mark ∷ old) buffer strength) (lifts anyone buffer strength mark)
+      (lands anyone buffer strength mark)
   moving_mark =
       let few = lands-le-lifts old was buffer strength in
       let fewer = lands-le-lifts (mark ∷ old) is buffer strength in
@@ -151,7 +164,8 @@ module _ (old : Timeline) (mark : Mark) (was : IsCounted old) (is : IsCounted (m
 
 -- a count that is read the same
 goes_same : (old new there : ℕ) (gained lost : Bool) → there ≡ new → GoesBy old new gained lost → GoesBy old there gained lost
-goes_same old new there gained lost e g = record { adds_up = ap (λ n. n + one_if lost) e ∙ g.adds_up; was_there = g.was_there; not_both = g.not_both }
+goes_same old new there gained lost e g =
+    record { adds_up = ap (λ n. n + one_if lost) e ∙ g.adds_up; was_there = g.was_there; not_both = g.not_both }
 
 module _ (pool : ℕ) (limits : Bound) (history : List Entry) (entry : Entry) (legal : IsLegal pool limits (history ++ entry ∷ [])) where
   -- the marks before and after
@@ -168,28 +182,36 @@ module _ (pool : ℕ) (limits : Bound) (history : List Entry) (entry : Entry) (l
   was_counted = counted pool limits (timeline pool history) next.grown
 
   is_counted : IsCounted (mark_of entry ∷ timeline pool history)
-  is_counted = counted pool limits (mark_of entry ∷ timeline pool history) (Answers (timeline pool history) entry.0 entry.2 entry.1 next.grown next.answer)
+  is_counted = counted pool limits (mark_of entry ∷ timeline pool history) (Answers (timeline pool history) entry.0 entry.2 entry.1
+      next.grown next.answer)
 
   -- what a client has open
   pub open_of_event : (client : ℕ) (buffer : BufferName) (strength : Strength) →
-      GoesBy (open_of (timeline pool history) client buffer strength) (open_of (timeline pool (history ++ entry ∷ [])) client buffer strength) (gains (only client) buffer strength (mark_of entry)) (loses (only client) buffer strength (mark_of entry))
+      GoesBy (open_of (timeline pool history) client buffer strength) (open_of (timeline pool (history ++ entry ∷ [])) client buffer
+      strength) (gains (only client) buffer strength (mark_of entry)) (loses (only client) buffer strength (mark_of entry))
   open_of_event client buffer strength =
-      goes_same (open_of old client buffer strength) (open_of (mark_of entry ∷ old) client buffer strength) (open_of new client buffer strength) (gains (only client) buffer strength (mark_of entry)) (loses (only client) buffer strength (mark_of entry))
+      goes_same (open_of old client buffer strength) (open_of (mark_of entry ∷ old) client buffer strength)
+      (open_of new client buffer strength) (gains (only client) buffer strength (mark_of entry)) (loses (only client) buffer strength
+      (mark_of entry))
       (λ i. next.same.had i client buffer strength)
       (open_of_mark old (mark_of entry) was_counted is_counted buffer strength client)
 
   -- what is open in all
   pub open_total_event : (buffer : BufferName) (strength : Strength) →
-      GoesBy (open_total (timeline pool history) buffer strength) (open_total (timeline pool (history ++ entry ∷ [])) buffer strength) (opens anyone buffer strength (mark_of entry)) (drops anyone buffer strength (mark_of entry))
+      GoesBy (open_total (timeline pool history) buffer strength) (open_total (timeline pool (history ++ entry ∷ [])) buffer strength)
+      (opens anyone buffer strength (mark_of entry)) (drops anyone buffer strength (mark_of entry))
   open_total_event buffer strength =
-      goes_same (open_total old buffer strength) (open_total (mark_of entry ∷ old) buffer strength) (open_total new buffer strength) (opens anyone buffer strength (mark_of entry)) (drops anyone buffer strength (mark_of entry))
+      goes_same (open_total old buffer strength) (open_total (mark_of entry ∷ old) buffer strength) (open_total new buffer strength)
+      (opens anyone buffer strength (mark_of entry)) (drops anyone buffer strength (mark_of entry))
       (λ i. next.same.in_all i buffer strength)
       (open_total_mark old (mark_of entry) was_counted is_counted buffer strength)
 
   -- what is in parcels
   pub moving_event : (buffer : BufferName) (strength : Strength) →
-      GoesBy (moving (timeline pool history) buffer strength) (moving (timeline pool (history ++ entry ∷ [])) buffer strength) (lifts anyone buffer strength (mark_of entry)) (lands anyone buffer strength (mark_of entry))
+      GoesBy (moving (timeline pool history) buffer strength) (moving (timeline pool (history ++ entry ∷ [])) buffer strength)
+      (lifts anyone buffer strength (mark_of entry)) (lands anyone buffer strength (mark_of entry))
   moving_event buffer strength =
-      goes_same (moving old buffer strength) (moving (mark_of entry ∷ old) buffer strength) (moving new buffer strength) (lifts anyone buffer strength (mark_of entry)) (lands anyone buffer strength (mark_of entry))
+      goes_same (moving old buffer strength) (moving (mark_of entry ∷ old) buffer strength) (moving new buffer strength)
+      (lifts anyone buffer strength (mark_of entry)) (lands anyone buffer strength (mark_of entry))
       (λ i. next.same.in_parcels i buffer strength)
       (moving_mark old (mark_of entry) was_counted is_counted buffer strength)

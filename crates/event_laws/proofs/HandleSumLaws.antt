@@ -123,7 +123,8 @@ module _ (cs is : List ℕ) where
   grid-add f g =
       let fc : ℕ → ℕ = λ c. sum_by (λ i. f (record { collection = c; index = i })) is in
       let gc : ℕ → ℕ = λ c. sum_by (λ i. g (record { collection = c; index = i })) is in
-      sum_by-same (λ c. sum_by (λ i. f (record { collection = c; index = i }) + g (record { collection = c; index = i })) is) (λ c. fc c + gc c) cs
+      sum_by-same (λ c. sum_by (λ i. f (record { collection = c; index = i }) + g (record { collection = c; index = i })) is) (λ c.
+      fc c + gc c) cs
       (λ c. sum_by-add (λ i. f (record { collection = c; index = i })) (λ i. g (record { collection = c; index = i })) is)
       ∙ sum_by-add fc gc cs
 
@@ -141,72 +142,91 @@ module _ (cs is : List ℕ) where
   of_set w collection g once on =
       swap_sums (λ c i. one (w && (collection == c && g i))) cs is
       ∙ sum_by-same (λ i. sum_by (λ c. one (w && (collection == c && g i))) cs) (λ i. one (w && g i)) is
-      (λ i. sum_by-same (λ c. one (w && (collection == c && g i))) (λ c. one (collection == c && (w && g i))) cs (λ c. ap one (middle_first w (collection == c) (g i)))
+      (λ i. sum_by-same (λ c. one (w && (collection == c && g i))) (λ c. one (collection == c && (w && g i))) cs (λ c.
+      ap one (middle_first w (collection == c) (g i)))
       ∙ sum_once collection (w && g i) cs once (on i))
 
   -- and what passes at one buffer alone is counted once
   of_buffer : (w s : Bool) (name : BufferName) → AreOnce cs → AreOnce is → ((w && s) ≡ true → IsListed name) →
       grid (λ b. one (w && (same_buffer name b && s))) ≡ cond (w && s) 1 0
   of_buffer w s name once once_is on =
-      grid-same (λ b. one (w && (same_buffer name b && s))) (λ b. one (w && (name.collection == b.collection && (name.index == b.index && s))))
+      grid-same (λ b. one (w && (same_buffer name b && s))) (λ b.
+      one (w && (name.collection == b.collection && (name.index == b.index && s))))
       (λ b. ap one (one_by_one w (name.collection == b.collection) (name.index == b.index) s))
-      ∙ (of_set w name.collection (λ i. name.index == i && s) once (λ i h. (on (and_both w s (and_left w _ h) (and_right (name.index == i) s (and_right w _ h)))).0)
-      ∙ (sum_by-same (λ i. one (w && (name.index == i && s))) (λ i. one (name.index == i && (w && s))) is (λ i. ap one (middle_first w (name.index == i) s))
+      ∙ (of_set w name.collection (λ i. name.index == i && s) once (λ i h.
+      (on (and_both w s (and_left w _ h) (and_right (name.index == i) s (and_right w _ h)))).0)
+      ∙ (sum_by-same (λ i. one (w && (name.index == i && s))) (λ i. one (name.index == i && (w && s))) is (λ i.
+      ap one (middle_first w (name.index == i) s))
       ∙ sum_once name.index (w && s) is once_is (λ h. (on h).1)))
 
 -- ---- one mark
 
-module _ (cs is : List ℕ) (once : AreOnce cs) (once_is : AreOnce is) (same_set : (set : ℕ) → length (filter (λ i. bit_at set i == 1) is) ≡ length (indices_in set)) (who : ℕ → Bool) (strength : Strength) where
+module _ (cs is : List ℕ) (once : AreOnce cs) (once_is : AreOnce is) (same_set : (set : ℕ) →
+    length (filter (λ i. bit_at set i == 1) is) ≡ length (indices_in set)) (who : ℕ → Bool) (strength : Strength) where
   -- a test of one buffer passes at it
   at_itself : (w s : Bool) (name : BufferName) → (w && s) ≡ true → (w && (same_buffer name name && s)) ≡ true
-  at_itself w s name h = and_both w (same_buffer name name && s) (and_left w s h) (and_both (same_buffer name name) s (same_buffer-self name) (and_right w s h))
+  at_itself w s name h =
+      and_both w (same_buffer name name && s) (and_left w s h) (and_both (same_buffer name name) s (same_buffer-self name)
+      (and_right w s h))
 
   -- what it opens
-  opens_add : (mark : Mark) → ((b : BufferName) → opens who b strength mark ≡ true → IsListed cs is b) → grid cs is (λ b. one (opens who b strength mark)) ≡ opened_at who strength mark
+  opens_add : (mark : Mark) → ((b : BufferName) → opens who b strength mark ≡ true → IsListed cs is b) →
+      grid cs is (λ b. one (opens who b strength mark)) ≡ opened_at who strength mark
   opens_add (Called client (Reply.Taken collection taken set) (Call.Take key)) on =
       of_set cs is (who client) collection (λ i. same_strength taken strength && bit_at set i == 1) once
       (λ i h. (on (record { collection = collection; index = i }) (rw (eq-eqb collection collection refl) h)).0)
       ∙ (set_size (who client) (same_strength taken strength) (λ i. bit_at set i == 1) is
       ∙ ap (λ n. cond (who client && same_strength taken strength) n 0) (same_set set))
   opens_add (Called client Reply.Done (Call.DupHandle name dup)) on =
-      of_buffer cs is (who client) (same_strength dup strength) name once once_is (λ h. on name (at_itself (who client) (same_strength dup strength) name h))
+      of_buffer cs is (who client) (same_strength dup strength) name once once_is (λ h.
+      on name (at_itself (who client) (same_strength dup strength) name h))
   opens_add _ on = grid-zero cs is
 
   -- what it drops
-  drops_add : (mark : Mark) → ((b : BufferName) → drops who b strength mark ≡ true → IsListed cs is b) → grid cs is (λ b. one (drops who b strength mark)) ≡ dropped_at who strength mark
+  drops_add : (mark : Mark) → ((b : BufferName) → drops who b strength mark ≡ true → IsListed cs is b) →
+      grid cs is (λ b. one (drops who b strength mark)) ≡ dropped_at who strength mark
   drops_add (Called client Reply.Done (Call.DropHandle name dropped)) on =
-      of_buffer cs is (who client) (same_strength dropped strength) name once once_is (λ h. on name (at_itself (who client) (same_strength dropped strength) name h))
+      of_buffer cs is (who client) (same_strength dropped strength) name once once_is (λ h.
+      on name (at_itself (who client) (same_strength dropped strength) name h))
   drops_add _ on = grid-zero cs is
 
   -- what it puts into parcels
-  lifts_add : (mark : Mark) → ((b : BufferName) → lifts who b strength mark ≡ true → IsListed cs is b) → grid cs is (λ b. one (lifts who b strength mark)) ≡ sent_at who strength mark
+  lifts_add : (mark : Mark) → ((b : BufferName) → lifts who b strength mark ≡ true → IsListed cs is b) →
+      grid cs is (λ b. one (lifts who b strength mark)) ≡ sent_at who strength mark
   lifts_add (Called client Reply.Done (Call.GiveHandle name given to)) on =
-      of_buffer cs is (who client) (same_strength given strength) name once once_is (λ h. on name (at_itself (who client) (same_strength given strength) name h))
+      of_buffer cs is (who client) (same_strength given strength) name once once_is (λ h.
+      on name (at_itself (who client) (same_strength given strength) name h))
   lifts_add _ on = grid-zero cs is
 
   -- what it takes out
-  lands_add : (mark : Mark) → ((b : BufferName) → lands who b strength mark ≡ true → IsListed cs is b) → grid cs is (λ b. one (lands who b strength mark)) ≡ got_at who strength mark
+  lands_add : (mark : Mark) → ((b : BufferName) → lands who b strength mark ≡ true → IsListed cs is b) →
+      grid cs is (λ b. one (lands who b strength mark)) ≡ got_at who strength mark
   lands_add (Called client (Reply.CollectedHandle name given) Call.Collect) on =
-      of_buffer cs is (who client) (same_strength given strength) name once once_is (λ h. on name (at_itself (who client) (same_strength given strength) name h))
+      of_buffer cs is (who client) (same_strength given strength) name once once_is (λ h.
+      on name (at_itself (who client) (same_strength given strength) name h))
   lands_add _ on = grid-zero cs is
 
 -- marks that are no event open nothing
-opens_quiet : (who : ℕ → Bool) (strength : Strength) (b : BufferName) (mark : Mark) → is_event mark ≡ false → opens who b strength mark ≡ false
+opens_quiet : (who : ℕ → Bool) (strength : Strength) (b : BufferName) (mark : Mark) → is_event mark ≡ false →
+    opens who b strength mark ≡ false
 opens_quiet who strength b (Called client reply call) h = cc
 opens_quiet who strength b _ h = refl
 
 -- and drop nothing
-drops_quiet : (who : ℕ → Bool) (strength : Strength) (b : BufferName) (mark : Mark) → is_event mark ≡ false → drops who b strength mark ≡ false
+drops_quiet : (who : ℕ → Bool) (strength : Strength) (b : BufferName) (mark : Mark) → is_event mark ≡ false →
+    drops who b strength mark ≡ false
 drops_quiet who strength b (Called client reply call) h = cc
 drops_quiet who strength b _ h = refl
 
 -- nor put in anything
-lifts_quiet : (who : ℕ → Bool) (strength : Strength) (b : BufferName) (mark : Mark) → is_event mark ≡ false → lifts who b strength mark ≡ false
+lifts_quiet : (who : ℕ → Bool) (strength : Strength) (b : BufferName) (mark : Mark) → is_event mark ≡ false →
+    lifts who b strength mark ≡ false
 lifts_quiet who strength b (Called client reply call) h = cc
 lifts_quiet who strength b _ h = refl
 
 -- nor take it out
-lands_quiet : (who : ℕ → Bool) (strength : Strength) (b : BufferName) (mark : Mark) → is_event mark ≡ false → lands who b strength mark ≡ false
+lands_quiet : (who : ℕ → Bool) (strength : Strength) (b : BufferName) (mark : Mark) → is_event mark ≡ false →
+    lands who b strength mark ≡ false
 lands_quiet who strength b (Called client reply call) h = cc
 lands_quiet who strength b _ h = refl
 
@@ -214,31 +234,38 @@ lands_quiet who strength b _ h = refl
 
 module _ (cs is : List ℕ) (test : BufferName → Mark → Bool) (amount : Mark → ℕ)
     (quiet : (b : BufferName) (mark : Mark) → is_event mark ≡ false → test b mark ≡ false)
-    (adds : (mark : Mark) → ((b : BufferName) → test b mark ≡ true → IsListed cs is b) → grid cs is (λ b. one (test b mark)) ≡ amount mark) where
+    (adds : (mark : Mark) → ((b : BufferName) → test b mark ≡ true → IsListed cs is b) →
+    grid cs is (λ b. one (test b mark)) ≡ amount mark) where
   -- an event adds its own mark
-  count_after : (pool : ℕ) (b : BufferName) (marks : Timeline) (e : Entry) → times (test b) (after pool marks e) ≡ times (test b) marks + one (test b (mark_of e))
+  count_after : (pool : ℕ) (b : BufferName) (marks : Timeline) (e : Entry) →
+      times (test b) (after pool marks e) ≡ times (test b) marks + one (test b (mark_of e))
   count_after pool b marks e =
-      kept-after (λ (m : Timeline). times (test b) m ≡ times (test b) marks + one (test b (mark_of e))) same pool marks e (times-cons (test b) (mark_of e) marks)
+      kept-after (λ (m : Timeline). times (test b) m ≡ times (test b) marks + one (test b (mark_of e))) same pool marks e
+      (times-cons (test b) (mark_of e) marks)
     where
       same : (m : Timeline) (mark : Mark) → is_event mark ≡ false → times (test b) m ≡ times (test b) marks + one (test b (mark_of e)) →
           times (test b) (mark ∷ m) ≡ times (test b) marks + one (test b (mark_of e))
       same m mark forced so = let none : test b mark ≡ false = quiet b mark forced in rw none so
 
   -- so counts only grow
-  count_grows : (pool : ℕ) (b : BufferName) (marks : Timeline) (history : List Entry) → times (test b) marks ≤ times (test b) (fold (after pool) marks history)
+  count_grows : (pool : ℕ) (b : BufferName) (marks : Timeline) (history : List Entry) →
+      times (test b) marks ≤ times (test b) (fold (after pool) marks history)
   count_grows pool b marks [] = omega arith
   count_grows pool b marks (e ∷ es) = omega (arith, count_after pool b marks e, count_grows pool b (after pool marks e) es)
 
   -- where each buffer that is ever counted is listed, the counts add up to what the events did
-  count_fold : (pool : ℕ) (marks : Timeline) (history : List Entry) → ((b : BufferName) → 0 < times (test b) (fold (after pool) marks history) → IsListed cs is b) →
-      grid cs is (λ b. times (test b) (fold (after pool) marks history)) ≡ grid cs is (λ b. times (test b) marks) + sum_by (λ (e : Entry). amount (mark_of e)) history
+  count_fold : (pool : ℕ) (marks : Timeline) (history : List Entry) →
+      ((b : BufferName) → 0 < times (test b) (fold (after pool) marks history) → IsListed cs is b) →
+      grid cs is (λ b. times (test b) (fold (after pool) marks history)) ≡ grid cs is (λ b. times (test b) marks) + sum_by (λ (e : Entry).
+      amount (mark_of e)) history
   count_fold pool marks [] on = omega arith
   count_fold pool marks (e ∷ es) on =
       let on_mark : (b : BufferName) → test b (mark_of e) ≡ true → IsListed cs is b = λ b h.
       let this : one (test b (mark_of e)) ≡ 1 = ap one h in
       on b (omega (arith, this, count_after pool b marks e, count_grows pool b (after pool marks e) es)) in
       let next : grid cs is (λ b. times (test b) (after pool marks e)) ≡ grid cs is (λ b. times (test b) marks + one (test b (mark_of e))) =
-      grid-same cs is (λ b. times (test b) (after pool marks e)) (λ b. times (test b) marks + one (test b (mark_of e))) (λ b. count_after pool b marks e) in
+      grid-same cs is (λ b. times (test b) (after pool marks e)) (λ b. times (test b) marks + one (test b (mark_of e))) (λ b.
+      count_after pool b marks e) in
       omega (
         arith,
         count_fold pool (after pool marks e) es on,
@@ -260,7 +287,8 @@ same_indices : (set : ℕ) → length (filter (λ i. bit_at set i == 1) (range_w
 unfolding indices_in
 same_indices set = refl
 
-module _ (pool : ℕ) (limits : Bound) (history : List Entry) (legal : IsLegal pool limits history) (collections : List ℕ) (lists : ListsAllocated (timeline pool history) collections) (strength : Strength) where
+module _ (pool : ℕ) (limits : Bound) (history : List Entry) (legal : IsLegal pool limits history) (collections : List ℕ)
+    (lists : ListsAllocated (timeline pool history) collections) (strength : Strength) where
   -- the marks
   abbrev marks : Timeline
   marks = timeline pool history
@@ -308,26 +336,33 @@ module _ (pool : ℕ) (limits : Bound) (history : List Entry) (legal : IsLegal p
         pool history (λ b h. listed b (lands_there pool limits marks grown who b strength h))
 
   -- two counts of each buffer, of which one adds to the third
-  two_sums : (f g h : BufferName → ℕ) → ((b : BufferName) → f b + g b ≡ h b) → over_buffers collections f + over_buffers collections g ≡ over_buffers collections h
+  two_sums : (f g h : BufferName → ℕ) → ((b : BufferName) → f b + g b ≡ h b) →
+      over_buffers collections f + over_buffers collections g ≡ over_buffers collections h
   two_sums f g h adds =
       sym (grid-add collections (range_with_len 0 64) f g) ∙ grid-same collections (range_with_len 0 64) (λ b. f b + g b) h adds
 
   -- what is open in all
-  pub total_adds : over_buffers collections (λ b. open_total (timeline pool history) b strength) + dropped anyone strength history ≡ opened anyone strength history
+  pub total_adds : over_buffers collections (λ b. open_total (timeline pool history) b strength) + dropped anyone strength history ≡ opened
+      anyone strength history
   total_adds =
-      let sums = two_sums (λ b. open_total marks b strength) (λ b. times (drops anyone b strength) marks) (λ b. times (opens anyone b strength) marks)
+      let sums = two_sums (λ b. open_total marks b strength) (λ b. times (drops anyone b strength) marks) (λ b.
+      times (opens anyone b strength) marks)
       (λ b. omega (arith, drops-le-opens marks are_counted b strength)) in
       ap (λ n. over_buffers collections (λ b. open_total marks b strength) + n) (sym (dropped_sum anyone)) ∙ (sums ∙ opened_sum anyone)
 
   -- what is in parcels
-  pub moving_adds : over_buffers collections (λ b. moving (timeline pool history) b strength) + got anyone strength history ≡ sent anyone strength history
+  pub moving_adds : over_buffers collections (λ b. moving (timeline pool history) b strength) + got anyone strength history ≡ sent anyone
+      strength history
   moving_adds =
-      let sums = two_sums (λ b. moving marks b strength) (λ b. times (lands anyone b strength) marks) (λ b. times (lifts anyone b strength) marks)
+      let sums = two_sums (λ b. moving marks b strength) (λ b. times (lands anyone b strength) marks) (λ b.
+      times (lifts anyone b strength) marks)
       (λ b. omega (arith, lands-le-lifts marks are_counted b strength)) in
       ap (λ n. over_buffers collections (λ b. moving marks b strength) + n) (sym (got_sum anyone)) ∙ (sums ∙ sent_sum anyone)
 
   -- what a client has open
-  pub client_adds : (client : ℕ) → over_buffers collections (λ b. open_of (timeline pool history) client b strength) + (dropped (only client) strength history + sent (only client) strength history) ≡ opened (only client) strength history + got (only client) strength history
+  pub client_adds : (client : ℕ) → over_buffers collections (λ b. open_of (timeline pool history) client b strength) + (dropped
+      (only client) strength history + sent (only client) strength history) ≡ opened (only client) strength history + got (only client)
+      strength history
   client_adds client =
       let has : BufferName → ℕ = λ b. open_of marks client b strength in
       let o : BufferName → ℕ = λ b. times (opens (only client) b strength) marks in
@@ -336,7 +371,8 @@ module _ (pool : ℕ) (limits : Bound) (history : List Entry) (legal : IsLegal p
       let l : BufferName → ℕ = λ b. times (lands (only client) b strength) marks in
       let each : (b : BufferName) → has b + (d b + u b) ≡ o b + l b =
       λ b. let paid : d b + u b ≤ o b + l b = are_counted.paid client b strength in omega (arith, paid) in
-      let sums : over_buffers collections has + over_buffers collections (λ b. d b + u b) ≡ over_buffers collections (λ b. o b + l b) = two_sums has (λ b. d b + u b) (λ b. o b + l b) each in
+      let sums : over_buffers collections has + over_buffers collections (λ b. d b + u b) ≡ over_buffers collections (λ b. o b + l b) =
+      two_sums has (λ b. d b + u b) (λ b. o b + l b) each in
       omega (
         arith,
         sums,
@@ -364,6 +400,8 @@ module _ (pool : ℕ) (limits : Bound) (history : List Entry) (legal : IsLegal p
   all_moving_adds = moving_adds pool limits history legal (allocated_collections (timeline pool history)) as_told strength
 
   -- what a client has open on all
-  pub all_client_adds : (client : ℕ) → all_open_of (timeline pool history) client strength + (dropped (only client) strength history + sent (only client) strength history) ≡ opened (only client) strength history + got (only client) strength history
+  pub all_client_adds : (client : ℕ) →
+      all_open_of (timeline pool history) client strength + (dropped (only client) strength history + sent (only client) strength
+      history) ≡ opened (only client) strength history + got (only client) strength history
   unfolding all_open_of
   all_client_adds = client_adds pool limits history legal (allocated_collections (timeline pool history)) as_told strength

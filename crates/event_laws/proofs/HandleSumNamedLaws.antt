@@ -60,7 +60,8 @@ none_on h a (suc m) none =
     omega (arith, sum_by-cons h a (range_with_len (a + 1) m), none a (omega arith), none_on h (a + 1) m (λ i le. none i (omega (arith, le))))
 
 -- so a longer range adds up to no more
-longer_range : (h : ℕ → ℕ) (a n m : ℕ) → n ≤ m → ((i : ℕ) → a + n ≤ i → h i ≡ 0) → sum_by h (range_with_len a m) ≡ sum_by h (range_with_len a n)
+longer_range : (h : ℕ → ℕ) (a n m : ℕ) → n ≤ m → ((i : ℕ) → a + n ≤ i → h i ≡ 0) →
+    sum_by h (range_with_len a m) ≡ sum_by h (range_with_len a n)
 longer_range h a zero m le none = none_on h a m (λ i low. none i (omega (arith, low)))
 longer_range h a (suc n) zero le none = absurd (omega (arith, le))
 longer_range h a (suc n) (suc m) le none =
@@ -85,8 +86,10 @@ sum_of_names count c (i ∷ is) =
 
 module _ (pool : ℕ) (limits : Bound) where
   -- an allocation gives no more
-  few_after : (before : Timeline) (collection : ℕ) (head : NodeKey) → Grows pool limits [] before → Why pool collection before (Allocated head) →
-      ((c : ℕ) (w : Buffers) → buffers_of before c ≡ Some w → w.count ≤ 64) → (c : ℕ) (w : Buffers) → buffers_of (Allocated head ∷ before) c ≡ Some w → w.count ≤ 64
+  few_after : (before : Timeline) (collection : ℕ) (head : NodeKey) → Grows pool limits [] before →
+      Why pool collection before (Allocated head) →
+      ((c : ℕ) (w : Buffers) → buffers_of before c ≡ Some w → w.count ≤ 64) → (c : ℕ) (w : Buffers) →
+      buffers_of (Allocated head ∷ before) c ≡ Some w → w.count ≤ 64
   few_after before collection _ g (Initial b on ours root free waits found fits) old c w h =
       let ord : IsOrdered before = ordered pool limits before g in
       let is : birth_of before b.node ≡ Some b = find_birth (births before) b ord.sound on in
@@ -95,9 +98,12 @@ module _ (pool : ℕ) (limits : Bound) where
             let same : collection ≡ c = sym (eqb-true b.collection collection ours) ∙ eqb-true b.collection c e in
             let v : Buffers = asked (members before c) in
             let told : Some (asked (members before c)) ≡ Some w = rw (is, root, e) at h in
-            let fits' : initial_failure pool (standing pool before c) (asked (members before c)) ≡ None = subst (λ (k : ℕ). initial_failure pool (standing pool before k) (asked (members before k)) ≡ None) same fits in
+            let fits' : initial_failure pool (standing pool before c) (asked (members before c)) ≡ None =
+            subst (λ (k : ℕ). initial_failure pool (standing pool before k) (asked (members before k)) ≡ None) same fits in
             let most : nat_lt 64 v.count ≡ false =
-            not_many (not (some_strong_live (members before c))) (v.count == 0) (nat_lt 64 v.count) (is_none (places pool (pages_of v.size) v.count (standing pool before c).held)) Failure.NoStrong Failure.NoBuffers Failure.TooManyBuffers Failure.PoolFull fits' in
+            not_many (not (some_strong_live (members before c))) (v.count == 0) (nat_lt 64 v.count)
+            (is_none (places pool (pages_of v.size) v.count (standing pool before c).held)) Failure.NoStrong Failure.NoBuffers
+            Failure.TooManyBuffers Failure.PoolFull fits' in
             let is_it : asked (members before c) ≡ w = cc in
             subst (λ (x : Buffers). x.count ≤ 64) is_it (ltb-false 64 v.count most)
         | inr e ↦ old c w (rw (is, root, e) at h)
@@ -118,52 +124,67 @@ module _ (pool : ℕ) (limits : Bound) where
   few _ (Loses before origin cause g born) c w h = few before g c w h
   few _ (Ends before collection top g e) c w h = few before g c w h
   few _ (Answers before client reply call g answer) c w h = few before g c w h
-  few _ (Allocates before collection head g e) c w h = few_after before collection head g (forced_why pool collection before (Allocated head) e) (few before g) c w h
+  few _ (Allocates before collection head g e) c w h =
+      few_after before collection head g (forced_why pool collection before (Allocated head) e) (few before g) c w h
 
   -- a buffer that is there is of an allocated collection, and has an index below 64
-  pub named_there : (marks : Timeline) → Grows pool limits [] marks → (buffer : BufferName) → list_any (λ name. same_buffer name buffer) (buffer_names marks buffer.collection) ≡ true →
+  pub named_there : (marks : Timeline) → Grows pool limits [] marks → (buffer : BufferName) →
+      list_any (λ name. same_buffer name buffer) (buffer_names marks buffer.collection) ≡ true →
       (is_some (buffers_of marks buffer.collection) ≡ true) × (buffer.index < 64)
   named_there marks g buffer h = from (buffers_of marks buffer.collection) (few marks g buffer.collection) h
     where
-      from : (o : Option Buffers) → ((w : Buffers) → o ≡ Some w → w.count ≤ 64) → list_any (λ name. same_buffer name buffer) (option_map_or (λ (b : Buffers). names buffer.collection b.count) o []) ≡ true →
+      from : (o : Option Buffers) → ((w : Buffers) → o ≡ Some w → w.count ≤ 64) →
+          list_any (λ name. same_buffer name buffer) (option_map_or (λ (b : Buffers). names buffer.collection b.count) o []) ≡ true →
           (is_some o ≡ true) × (buffer.index < 64)
       from None most h = cc
       from (Some w) most h =
-          let below : nat_lt buffer.index w.count ≡ true = and_right (buffer.collection == buffer.collection) _ (sym (named_below buffer.collection w.count buffer) ∙ h) in
+          let below : nat_lt buffer.index w.count ≡ true =
+          and_right (buffer.collection == buffer.collection) _ (sym (named_below buffer.collection w.count buffer) ∙ h) in
           (refl, omega (arith, most w refl, ltb-true buffer.index w.count below))
 
   -- what is counted on the buffers that are there alone adds up over their names
-  pub by_name : (marks : Timeline) → Grows pool limits [] marks → (count : BufferName → ℕ) → ((b : BufferName) → 0 < count b → list_any (λ name. same_buffer name b) (buffer_names marks b.collection) ≡ true) →
+  pub by_name : (marks : Timeline) → Grows pool limits [] marks → (count : BufferName → ℕ) → ((b : BufferName) → 0 < count b →
+      list_any (λ name. same_buffer name b) (buffer_names marks b.collection) ≡ true) →
       (collections : List ℕ) → over_buffers collections count ≡ sum_by (λ c. sum_by count (buffer_names marks c)) collections
   by_name marks g count there collections =
-      sum_by-same (λ c. sum_by (λ i. count (record { collection = c; index = i })) (range_with_len 0 64)) (λ c. sum_by count (buffer_names marks c)) collections
+      sum_by-same (λ c. sum_by (λ i. count (record { collection = c; index = i })) (range_with_len 0 64)) (λ c.
+      sum_by count (buffer_names marks c)) collections
       (λ c. from c (buffers_of marks c) (few marks g c) (λ i some. there (record { collection = c; index = i }) some))
     where
       from : (c : ℕ) (o : Option Buffers) → ((w : Buffers) → o ≡ Some w → w.count ≤ 64) →
-          ((i : ℕ) → 0 < count (record { collection = c; index = i }) → list_any (λ name. same_buffer name (record { collection = c; index = i })) (option_map_or (λ (b : Buffers). names c b.count) o []) ≡ true) →
-          sum_by (λ i. count (record { collection = c; index = i })) (range_with_len 0 64) ≡ sum_by count (option_map_or (λ (b : Buffers). names c b.count) o [])
-      from c None most on = none_on (λ i. count (record { collection = c; index = i })) 0 64 (λ i low. zero_if (count (record { collection = c; index = i })) (λ some. let no : false ≡ true = on i some in cc))
+          ((i : ℕ) → 0 < count (record { collection = c; index = i }) →
+          list_any (λ name. same_buffer name (record { collection = c; index = i })) (option_map_or (λ (b : Buffers).
+          names c b.count) o []) ≡ true) →
+          sum_by (λ i. count (record { collection = c; index = i })) (range_with_len 0 64) ≡ sum_by count (option_map_or (λ (b : Buffers).
+          names c b.count) o [])
+      from c None most on = none_on (λ i. count (record { collection = c; index = i })) 0 64 (λ i low.
+          zero_if (count (record { collection = c; index = i })) (λ some. let no : false ≡ true = on i some in cc))
       from c (Some w) most on =
           longer_range (λ i. count (record { collection = c; index = i })) 0 w.count 64 (most w refl)
           (λ i high. zero_if (count (record { collection = c; index = i })) (λ some.
-          let below : nat_lt i w.count ≡ true = and_right (c == c) _ (sym (named_below c w.count (record { collection = c; index = i })) ∙ on i some) in
+          let below : nat_lt i w.count ≡ true =
+          and_right (c == c) _ (sym (named_below c w.count (record { collection = c; index = i })) ∙ on i some) in
           omega (arith, high, ltb-true i w.count below)))
           ∙ sym (sum_of_names count c (range_with_len 0 w.count))
 
   -- ---- the collections that were given buffers are each listed once
 
   -- an allocation gives buffers to a collection that had none, or to none
-  listed_after : (before : Timeline) (collection : ℕ) (head : NodeKey) → Grows pool limits [] before → Why pool collection before (Allocated head) →
+  listed_after : (before : Timeline) (collection : ℕ) (head : NodeKey) → Grows pool limits [] before →
+      Why pool collection before (Allocated head) →
       ((c : ℕ) → times (λ k. k == c) (allocated_collections before) ≡ one (is_some (buffers_of before c))) →
-      (c : ℕ) → times (λ k. k == c) (allocated_collections (Allocated head ∷ before)) ≡ one (is_some (buffers_of (Allocated head ∷ before) c))
+      (c : ℕ) → times (λ k. k == c) (allocated_collections (Allocated head ∷ before)) ≡ one
+      (is_some (buffers_of (Allocated head ∷ before) c))
   listed_after before collection _ g (Initial b on ours root free waits found fits) old c =
       let ord : IsOrdered before = ordered pool limits before g in
       let is : birth_of before b.node ≡ Some b = find_birth (births before) b ord.sound on in
       let none : is_some (buffers_of before b.collection) ≡ false =
-      false_if (is_some (buffers_of before b.collection)) (λ y. both_ways (allocated before b.node) (given_root pool limits before g b on root y) waits) in
+      false_if (is_some (buffers_of before b.collection)) (λ y.
+      both_ways (allocated before b.node) (given_root pool limits before g b on root y) waits) in
       elim (either_way (b.collection == c)) [
         | inl e ↦
-            let absent : one (is_some (buffers_of before c)) ≡ 0 = ap one (ap (λ k. is_some (buffers_of before k)) (sym (eqb-true b.collection c e)) ∙ none) in
+            let absent : one (is_some (buffers_of before c)) ≡ 0 =
+            ap one (ap (λ k. is_some (buffers_of before k)) (sym (eqb-true b.collection c e)) ∙ none) in
             rw (is, root, e) (omega (arith, old c, absent))
         | inr e ↦ rw (is, root, e) (old c)
       ]
@@ -178,12 +199,14 @@ module _ (pool : ℕ) (limits : Bound) where
       not_none (Some x) h = refl
 
   -- so the list has a collection once if it was given any, and else not
-  listed : (marks : Timeline) → Grows pool limits [] marks → (c : ℕ) → times (λ k. k == c) (allocated_collections marks) ≡ one (is_some (buffers_of marks c))
+  listed : (marks : Timeline) → Grows pool limits [] marks → (c : ℕ) →
+      times (λ k. k == c) (allocated_collections marks) ≡ one (is_some (buffers_of marks c))
   listed _ Stays c = refl
   listed _ (Loses before origin cause g born) c = listed before g c
   listed _ (Ends before collection top g e) c = listed before g c
   listed _ (Answers before client reply call g answer) c = listed before g c
-  listed _ (Allocates before collection head g e) c = listed_after before collection head g (forced_why pool collection before (Allocated head) e) (listed before g) c
+  listed _ (Allocates before collection head g e) c =
+      listed_after before collection head g (forced_why pool collection before (Allocated head) e) (listed before g) c
 
   -- as is wanted
   pub lists_allocated : (marks : Timeline) → Grows pool limits [] marks → ListsAllocated marks (allocated_collections marks)
@@ -199,23 +222,29 @@ module _ (pool : ℕ) (limits : Bound) where
   -- ---- what was moved was opened
 
   -- what a client has was opened
-  had_opened : (marks : Timeline) → Grows pool limits [] marks → (client : ℕ) (buffer : BufferName) (strength : Strength) → 0 < open_of marks client buffer strength → 0 < times (opens anyone buffer strength) marks
+  had_opened : (marks : Timeline) → Grows pool limits [] marks → (client : ℕ) (buffer : BufferName) (strength : Strength) →
+      0 < open_of marks client buffer strength → 0 < times (opens anyone buffer strength) marks
   had_opened marks g client buffer strength h =
       elim (either_way (has_joined marks client)) [
         | inl j ↦
-            let le : open_of marks client buffer strength ≤ open_total marks buffer strength = client-le-total marks (counted pool limits marks g) client buffer strength j in
+            let le : open_of marks client buffer strength ≤ open_total marks buffer strength =
+            client-le-total marks (counted pool limits marks g) client buffer strength j in
             let all : 0 < open_total marks buffer strength = omega (arith, h, le) in
             some_opened _ _ all
-        | inr n ↦ let none : open_of marks client buffer strength ≡ 0 = stranger_has_none pool limits marks g client buffer strength n in absurd (omega (arith, h, none))
+        | inr n ↦ let none : open_of marks client buffer strength ≡ 0 =
+            stranger_has_none pool limits marks g client buffer strength n in absurd (omega (arith, h, none))
       ]
 
   -- who gives a handle loses it
-  gives_own : (client : ℕ) (reply : Reply) (call : Call) (buffer : BufferName) (strength : Strength) → lifts anyone buffer strength (Called client reply call) ≡ true → loses (only client) buffer strength (Called client reply call) ≡ true
-  gives_own client Reply.Done (Call.GiveHandle name given to) buffer strength h = and_both (client == client) _ (eq-eqb client client refl) h
+  gives_own : (client : ℕ) (reply : Reply) (call : Call) (buffer : BufferName) (strength : Strength) →
+      lifts anyone buffer strength (Called client reply call) ≡ true → loses (only client) buffer strength (Called client reply call) ≡ true
+  gives_own client Reply.Done (Call.GiveHandle name given to) buffer strength h =
+      and_both (client == client) _ (eq-eqb client client refl) h
   gives_own client _ _ buffer strength h = cc
 
   -- what was given was opened
-  lifted_opened : (marks : Timeline) → Grows pool limits [] marks → (buffer : BufferName) (strength : Strength) → 0 < times (lifts anyone buffer strength) marks → 0 < times (opens anyone buffer strength) marks
+  lifted_opened : (marks : Timeline) → Grows pool limits [] marks → (buffer : BufferName) (strength : Strength) →
+      0 < times (lifts anyone buffer strength) marks → 0 < times (opens anyone buffer strength) marks
   lifted_opened _ Stays buffer strength h = absurd (omega (arith, h))
   lifted_opened _ (Loses before origin cause g born) buffer strength h = lifted_opened before g buffer strength h
   lifted_opened _ (Ends before collection top g e) buffer strength h = lifted_opened before g buffer strength h
@@ -225,8 +254,10 @@ module _ (pool : ℕ) (limits : Bound) where
       let more = times-cons (opens anyone buffer strength) mark before in
       elim (either_way (lifts anyone buffer strength mark)) [
         | inl y ↦
-            let goes : GoesBy (open_of before client buffer strength) (open_of (mark ∷ before) client buffer strength) (gains (only client) buffer strength mark) (loses (only client) buffer strength mark) =
-            open_of_mark before mark (counted pool limits before g) (counted pool limits (mark ∷ before) (Answers before client reply call g answer)) buffer strength client in
+            let goes : GoesBy (open_of before client buffer strength) (open_of (mark ∷ before) client buffer strength)
+            (gains (only client) buffer strength mark) (loses (only client) buffer strength mark) =
+            open_of_mark before mark (counted pool limits before g) (counted pool limits (mark ∷ before) (Answers before client reply call g
+            answer)) buffer strength client in
             omega (arith, more, had_opened before g client buffer strength (goes.was_there (gives_own client reply call buffer strength y)))
         | inr n ↦ omega (arith, more, lifted_opened before g buffer strength (rw n at h))
       ]

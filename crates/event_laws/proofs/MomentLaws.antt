@@ -12,7 +12,8 @@ use Rattle.sm_names.proofs.SamenessLaws.{either_way}
 use Rattle.sm_names.proofs.SumLaws.{times-cons}
 
 -- what holds of each element that passes, holds of the last one
-pub last_match-kept : {A : Type 0} (P : A → Type 0) (test : A → Bool) (xs : List A) → ((x : A) → In x xs → test x ≡ true → P x) → (y : A) → last_match test xs ≡ Some y → P y
+pub last_match-kept : {A : Type 0} (P : A → Type 0) (test : A → Bool) (xs : List A) → ((x : A) → In x xs → test x ≡ true → P x) → (y : A) →
+    last_match test xs ≡ Some y → P y
 last_match-kept P test [] each y h = cc
 last_match-kept {A} P test (x ∷ xs) each y h =
     from (last_match test xs) (last_match-kept P test xs (λ z on. each z (inr on)) y) (test x) (each x (inl refl)) h
@@ -71,9 +72,11 @@ only_events marks (Allocated head) h = refl
 only_events marks (Ended top) h = refl
 
 -- what an event forces attaches no tracker
-pub tracked_after : (pool : ℕ) (marks : Timeline) (entry : Entry) → tracked (after pool marks entry) ≡ tracked (Called entry.0 entry.2 entry.1 ∷ marks)
+pub tracked_after : (pool : ℕ) (marks : Timeline) (entry : Entry) →
+    tracked (after pool marks entry) ≡ tracked (Called entry.0 entry.2 entry.1 ∷ marks)
 tracked_after pool marks entry =
-    kept-after (λ m. tracked m ≡ tracked (Called entry.0 entry.2 entry.1 ∷ marks)) (λ m mark quiet e. only_events m mark quiet ∙ e) pool marks entry refl
+    kept-after (λ m. tracked m ≡ tracked (Called entry.0 entry.2 entry.1 ∷ marks)) (λ m mark quiet e. only_events m mark quiet
+    ∙ e) pool marks entry refl
 
 -- only events are counted
 uncounted : (marks : Timeline) (mark : Mark) → is_event mark ≡ false → events (mark ∷ marks) ≡ events marks
@@ -81,4 +84,5 @@ uncounted marks mark h = rw h refl
 
 -- an event counts once
 pub events_after : (pool : ℕ) (marks : Timeline) (entry : Entry) → events (after pool marks entry) ≡ events marks + 1
-events_after pool marks entry = kept-after (λ m. events m ≡ events marks + 1) (λ m mark quiet e. uncounted m mark quiet ∙ e) pool marks entry refl
+events_after pool marks entry =
+    kept-after (λ m. events m ≡ events marks + 1) (λ m mark quiet e. uncounted m mark quiet ∙ e) pool marks entry refl

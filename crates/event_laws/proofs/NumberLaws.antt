@@ -35,20 +35,26 @@ In-all P (y ∷ ys) all x (inr on) = In-all P ys (All-tail P y ys all) x on
 -- ---- ids
 
 -- the event that attaches a tracker gives it its number
-pub made_id : (limits : Bound) (before : Timeline) (client : ℕ) (reply : Reply) (call : Call) (t : Tracked) → IsAnswer limits (readings before) client call reply → tracked_at before (Called client reply call) ≡ Some t →
+pub made_id : (limits : Bound) (before : Timeline) (client : ℕ) (reply : Reply) (call : Call) (t : Tracked) →
+    IsAnswer limits (readings before) client call reply → tracked_at before (Called client reply call) ≡ Some t →
     t.id ≡ events before + 1
 made_id limits before client (Reply.Tracker id) (Call.TrackNode key) t answer h =
-    let told : Reply.Tracker id ≡ Reply.Tracker (events before + 1) = (took_effect_all limits (readings before) client none_key (Call.TrackNode key) (Reply.Tracker id) refl refl answer.told).answered in
+    let told : Reply.Tracker id ≡ Reply.Tracker (events before + 1) =
+    (took_effect_all limits (readings before) client none_key (Call.TrackNode key) (Reply.Tracker id) refl refl answer.told).answered in
     let is : id ≡ events before + 1 = cc in
     let of_it : id ≡ t.id = cc in
     sym of_it ∙ is
 made_id limits before client (Reply.Tracker id) (Call.TrackLifetime key most) t answer h =
-    let told : Reply.Tracker id ≡ Reply.Tracker (events before + 1) = (took_effect_all limits (readings before) client none_key (Call.TrackLifetime key most) (Reply.Tracker id) refl refl answer.told).answered in
+    let told : Reply.Tracker id ≡ Reply.Tracker (events before + 1) =
+    (took_effect_all limits (readings before) client none_key (Call.TrackLifetime key most) (Reply.Tracker id) refl refl
+    answer.told).answered in
     let is : id ≡ events before + 1 = cc in
     let of_it : id ≡ t.id = cc in
     sym of_it ∙ is
 made_id limits before client (Reply.Tracker id) (Call.TrackWeak buffer) t answer h =
-    let told : Reply.Tracker id ≡ Reply.Tracker (events before + 1) = (took_effect_all limits (readings before) client none_key (Call.TrackWeak buffer) (Reply.Tracker id) refl refl answer.told).answered in
+    let told : Reply.Tracker id ≡ Reply.Tracker (events before + 1) =
+    (took_effect_all limits (readings before) client none_key (Call.TrackWeak buffer) (Reply.Tracker id) refl refl
+    answer.told).answered in
     let is : id ≡ events before + 1 = cc in
     let of_it : id ≡ t.id = cc in
     sym of_it ∙ is
@@ -68,7 +74,8 @@ numbered_nothing : AreNumbered []
 numbered_nothing = record { early = λ t on. absurd on; rising = λ i j d less within. absurd (omega (arith, within)) }
 
 -- each answer keeps them so
-numbered_called : (limits : Bound) (marks : Timeline) (client : ℕ) (reply : Reply) (call : Call) → IsAnswer limits (readings marks) client call reply → AreNumbered marks → AreNumbered (Called client reply call ∷ marks)
+numbered_called : (limits : Bound) (marks : Timeline) (client : ℕ) (reply : Reply) (call : Call) →
+    IsAnswer limits (readings marks) client call reply → AreNumbered marks → AreNumbered (Called client reply call ∷ marks)
 numbered_called limits marks client reply call answer old = with_new (tracked_at marks (Called client reply call)) refl
   where
     with_new : (o : Option Tracked) → tracked_at marks (Called client reply call) ≡ o → AreNumbered (Called client reply call ∷ marks)
@@ -81,7 +88,8 @@ numbered_called limits marks client reply call answer old = with_new (tracked_at
         let before : All (λ (s : Tracked). IsBefore s new) (reverse (tracked marks)) =
         all-In (λ (s : Tracked). IsBefore s new) (reverse (tracked marks))
         (λ s on. let x : s.id ≤ events marks = old.early s (In-reverse (tracked marks) s on) in omega (arith, is, x)) in
-        let pushed : AllPairs IsBefore (reverse (tracked marks) ++ new ∷ []) = all_pairs_push IsBefore (reverse (tracked marks)) new old.rising before in
+        let pushed : AllPairs IsBefore (reverse (tracked marks) ++ new ∷ []) =
+        all_pairs_push IsBefore (reverse (tracked marks)) new old.rising before in
         record {
           early = rw e (λ t on. elim on [
             | inl here ↦ let same : t.id ≡ new.id = ap (λ (x : Tracked). x.id) here in omega (arith, is, same)
@@ -104,7 +112,8 @@ pub numbered : (pool : ℕ) (limits : Bound) (marks : Timeline) → Grows pool l
 numbered pool limits = kept-grown AreNumbered numbered_nothing pool limits (numbered_called limits) numbered_mark
 
 -- the tracker that an event attaches bears its number
-pub made_numbered : (limits : Bound) (marks : Timeline) (entry : Entry) (t : Tracked) → IsAnswer limits (readings marks) entry.0 entry.1 entry.2 → In t (made marks entry) → t.id ≡ events marks + 1
+pub made_numbered : (limits : Bound) (marks : Timeline) (entry : Entry) (t : Tracked) →
+    IsAnswer limits (readings marks) entry.0 entry.1 entry.2 → In t (made marks entry) → t.id ≡ events marks + 1
 made_numbered limits marks entry t answer on = elim (In_new (tracked_at marks (Called entry.0 entry.2 entry.1)) [] t on) [
   | inl e ↦ made_id limits marks entry.0 entry.2 entry.1 t answer e
   | inr none ↦ absurd none

@@ -40,15 +40,19 @@ under_none true x h = cc
 under_none false x h = refl
 
 -- who gets a parcel collects, and is given none
-collected_collects : (client : ℕ) (mark : Mark) (p : Parcel) → collected_at client mark ≡ Some p → (collects client mark ≡ true) × (given_at client mark ≡ None)
-collected_collects client (Called caller (Reply.Collected key kind collection) Call.Collect) p h = ((under (caller == client) (Parcel.End key) p h).0, refl)
-collected_collects client (Called caller (Reply.CollectedHandle buffer strength) Call.Collect) p h = ((under (caller == client) (Parcel.Handle buffer strength) p h).0, refl)
+collected_collects : (client : ℕ) (mark : Mark) (p : Parcel) → collected_at client mark ≡ Some p → (collects client mark ≡ true) ×
+    (given_at client mark ≡ None)
+collected_collects client (Called caller (Reply.Collected key kind collection) Call.Collect) p h =
+    ((under (caller == client) (Parcel.End key) p h).0, refl)
+collected_collects client (Called caller (Reply.CollectedHandle buffer strength) Call.Collect) p h =
+    ((under (caller == client) (Parcel.Handle buffer strength) p h).0, refl)
 collected_collects client _ p h = cc
 
 -- who gets none does not
 idle_collects : (client : ℕ) (mark : Mark) → collected_at client mark ≡ None → collects client mark ≡ false
 idle_collects client (Called caller (Reply.Collected key kind collection) Call.Collect) h = under_none (caller == client) (Parcel.End key) h
-idle_collects client (Called caller (Reply.CollectedHandle buffer strength) Call.Collect) h = under_none (caller == client) (Parcel.Handle buffer strength) h
+idle_collects client (Called caller (Reply.CollectedHandle buffer strength) Call.Collect) h =
+    under_none (caller == client) (Parcel.Handle buffer strength) h
 idle_collects client _ h = refl
 
 -- nor does who is given one
@@ -58,14 +62,18 @@ given_collects_none client (Called giver Reply.Done (Call.GiveHandle buffer stre
 given_collects_none client _ p h = cc
 
 -- the parcel that is got was the first
-first_is : (limits : Bound) (marks : Timeline) (client caller : ℕ) (reply : Reply) (call : Call) → IsAnswer limits (readings marks) caller call reply → (p : Parcel) → collected_at client (Called caller reply call) ≡ Some p →
+first_is : (limits : Bound) (marks : Timeline) (client caller : ℕ) (reply : Reply) (call : Call) →
+    IsAnswer limits (readings marks) caller call reply → (p : Parcel) → collected_at client (Called caller reply call) ≡ Some p →
     parcels marks client ≡ p ∷ drop 1 (parcels marks client)
 first_is limits marks client caller (Reply.Collected key kind collection) Call.Collect answer p h =
-    let t : TookEffect limits (readings marks) caller none_key Call.Collect (Reply.Collected key kind collection) = took_effect_all limits (readings marks) caller none_key Call.Collect (Reply.Collected key kind collection) refl refl answer.told in
+    let t : TookEffect limits (readings marks) caller none_key Call.Collect (Reply.Collected key kind collection) =
+    took_effect_all limits (readings marks) caller none_key Call.Collect (Reply.Collected key kind collection) refl refl answer.told in
     let u = under (caller == client) (Parcel.End key) p h in
-    from (parcels marks client) (t.answered ∙ ap (λ c. collected (readings marks) (parcels marks c)) (eqb-true caller client u.0)) ∙ ap (λ q. q ∷ drop 1 (parcels marks client)) u.1
+    from (parcels marks client) (t.answered ∙ ap (λ c. collected (readings marks) (parcels marks c)) (eqb-true caller client u.0))
+    ∙ ap (λ q. q ∷ drop 1 (parcels marks client)) u.1
   where
-    end_is : (k : _) (o : Option OpenEnd) → Reply.Collected key kind collection ≡ option_map_or (λ (x : OpenEnd). Reply.Collected k x.kind x.collection) o Reply.Empty → key ≡ k
+    end_is : (k : _) (o : Option OpenEnd) → Reply.Collected key kind collection ≡ option_map_or (λ (x : OpenEnd).
+        Reply.Collected k x.kind x.collection) o Reply.Empty → key ≡ k
     end_is k None told = cc
     end_is k (Some x) told = cc
 
@@ -74,15 +82,20 @@ first_is limits marks client caller (Reply.Collected key kind collection) Call.C
     from (Parcel.End k ∷ more) told = ap (λ x. Parcel.End x ∷ more) (sym (end_is k ((readings marks).end_of k) told))
     from (Parcel.Handle name given ∷ more) told = cc
 first_is limits marks client caller (Reply.CollectedHandle buffer strength) Call.Collect answer p h =
-    let t : TookEffect limits (readings marks) caller none_key Call.Collect (Reply.CollectedHandle buffer strength) = took_effect_all limits (readings marks) caller none_key Call.Collect (Reply.CollectedHandle buffer strength) refl refl answer.told in
+    let t : TookEffect limits (readings marks) caller none_key Call.Collect (Reply.CollectedHandle buffer strength) =
+    took_effect_all limits (readings marks) caller none_key Call.Collect (Reply.CollectedHandle buffer strength) refl refl
+    answer.told in
     let u = under (caller == client) (Parcel.Handle buffer strength) p h in
-    from (parcels marks client) (t.answered ∙ ap (λ c. collected (readings marks) (parcels marks c)) (eqb-true caller client u.0)) ∙ ap (λ q. q ∷ drop 1 (parcels marks client)) u.1
+    from (parcels marks client) (t.answered ∙ ap (λ c. collected (readings marks) (parcels marks c)) (eqb-true caller client u.0))
+    ∙ ap (λ q. q ∷ drop 1 (parcels marks client)) u.1
   where
-    no_end : (k : _) (o : Option OpenEnd) → Reply.CollectedHandle buffer strength ≡ option_map_or (λ (x : OpenEnd). Reply.Collected k x.kind x.collection) o Reply.Empty → ⊥
+    no_end : (k : _) (o : Option OpenEnd) → Reply.CollectedHandle buffer strength ≡ option_map_or (λ (x : OpenEnd).
+        Reply.Collected k x.kind x.collection) o Reply.Empty → ⊥
     no_end k None told = cc
     no_end k (Some x) told = cc
 
-    from : (ps : List Parcel) → Reply.CollectedHandle buffer strength ≡ collected (readings marks) ps → ps ≡ Parcel.Handle buffer strength ∷ drop 1 ps
+    from : (ps : List Parcel) → Reply.CollectedHandle buffer strength ≡ collected (readings marks) ps →
+        ps ≡ Parcel.Handle buffer strength ∷ drop 1 ps
     from [] told = cc
     from (Parcel.End k ∷ more) told = absurd (no_end k ((readings marks).end_of k) told)
     from (Parcel.Handle name given ∷ more) told =
@@ -93,28 +106,33 @@ first_is limits marks client caller _ _ answer p h = cc
 
 -- ---- one mark after others
 
-module _ (limits : Bound) (marks : Timeline) (caller : ℕ) (reply : Reply) (call : Call) (answer : IsAnswer limits (readings marks) caller call reply) (drawn : IsDrawn marks) (client : ℕ) where
+module _ (limits : Bound) (marks : Timeline) (caller : ℕ) (reply : Reply) (call : Call) (answer : IsAnswer limits (readings marks) caller
+    call reply) (drawn : IsDrawn marks) (client : ℕ) where
   -- the mark
   abbrev mark : Mark
   mark = Called caller reply call
 
   -- what is got waited first
-  pub collected_mark : (p : Parcel) → collected_at client (Called caller reply call) ≡ Some p → parcels marks client ≡ p ∷ parcels (Called caller reply call ∷ marks) client
+  pub collected_mark : (p : Parcel) → collected_at client (Called caller reply call) ≡ Some p →
+      parcels marks client ≡ p ∷ parcels (Called caller reply call ∷ marks) client
   collected_mark p h =
       let c = collected_collects client mark p h in
       first_is limits marks client caller reply call answer p h ∙ ap (λ ps. p ∷ ps) (sym (parcels-collected marks mark client c.0 c.1))
 
   -- what is given waits last
-  pub given_mark : (p : Parcel) → given_at client (Called caller reply call) ≡ Some p → parcels (Called caller reply call ∷ marks) client ≡ parcels marks client ++ p ∷ []
+  pub given_mark : (p : Parcel) → given_at client (Called caller reply call) ≡ Some p →
+      parcels (Called caller reply call ∷ marks) client ≡ parcels marks client ++ p ∷ []
   given_mark p h = parcels-given marks mark client p drawn (idle_collects client mark (given_collects_none client mark p h)) h
 
   -- and else all wait as they did
-  pub idle_mark : collected_at client (Called caller reply call) ≡ None → given_at client (Called caller reply call) ≡ None → parcels (Called caller reply call ∷ marks) client ≡ parcels marks client
+  pub idle_mark : collected_at client (Called caller reply call) ≡ None → given_at client (Called caller reply call) ≡ None →
+      parcels (Called caller reply call ∷ marks) client ≡ parcels marks client
   idle_mark c h = parcels-kept marks mark client (idle_collects client mark c) h
 
   -- so the parcels that pass a test are as many more or less
   pub parcels_count : (test : Parcel → Bool) →
-      times test (parcels (Called caller reply call ∷ marks) client) + one_if (option_map_or test (collected_at client (Called caller reply call)) false)
+      times test (parcels (Called caller reply call ∷ marks) client) + one_if
+      (option_map_or test (collected_at client (Called caller reply call)) false)
       ≡ times test (parcels marks client) + one_if (option_map_or test (given_at client (Called caller reply call)) false)
   parcels_count test =
       let before : List Parcel = parcels marks client in
@@ -130,13 +148,15 @@ module _ (limits : Bound) (marks : Timeline) (caller : ℕ) (reply : Reply) (cal
                   omega (arith, got, brought, same)
               | inr h ↦
                   let brought : weigh (given_at client mark) ≡ one_if (test h.0) = ap weigh h.1 in
-                  let more : times test after ≡ times test before + one_if (test h.0) = ap (times test) (given_mark h.0 h.1) ∙ times_push test before h.0 in
+                  let more : times test after ≡ times test before + one_if (test h.0) =
+                  ap (times test) (given_mark h.0 h.1) ∙ times_push test before h.0 in
                   omega (arith, got, brought, more)
             ]
         | inr c ↦
             let got : weigh (collected_at client mark) ≡ one_if (test c.0) = ap weigh c.1 in
             let brought : weigh (given_at client mark) ≡ 0 = ap weigh (collected_collects client mark c.0 c.1).1 in
-            let less : times test before ≡ times test after + one_if (test c.0) = ap (times test) (collected_mark c.0 c.1) ∙ times-cons test c.0 after in
+            let less : times test before ≡ times test after + one_if (test c.0) =
+            ap (times test) (collected_mark c.0 c.1) ∙ times-cons test c.0 after in
             omega (arith, got, brought, less)
       ]
 
@@ -149,31 +169,38 @@ known_receiver true false h = cc
 known_receiver false c h = cc
 
 -- who is given a parcel has joined
-pub given_joined : (limits : Bound) (marks : Timeline) (caller : ℕ) (reply : Reply) (call : Call) → IsAnswer limits (readings marks) caller call reply → (client : ℕ) (p : Parcel) →
+pub given_joined : (limits : Bound) (marks : Timeline) (caller : ℕ) (reply : Reply) (call : Call) →
+    IsAnswer limits (readings marks) caller call reply → (client : ℕ) (p : Parcel) →
     given_at client (Called caller reply call) ≡ Some p → has_joined marks client ≡ true
 given_joined limits marks caller Reply.Done (Call.Give key to) answer client p h =
-    let t : TookEffect limits (readings marks) caller none_key (Call.Give key to) Reply.Done = took_effect_all limits (readings marks) caller none_key (Call.Give key to) Reply.Done refl refl answer.told in
+    let t : TookEffect limits (readings marks) caller none_key (Call.Give key to) Reply.Done =
+    took_effect_all limits (readings marks) caller none_key (Call.Give key to) Reply.Done refl refl answer.told in
     let is : to ≡ client = eqb-true to client (under (to == client) (Parcel.End key) p h).0 in
     ap (has_joined marks) (sym is) ∙ known_receiver (has_joined marks caller) (has_joined marks to) t.known
 given_joined limits marks caller Reply.Done (Call.GiveHandle buffer strength to) answer client p h =
-    let t : TookEffect limits (readings marks) caller none_key (Call.GiveHandle buffer strength to) Reply.Done = took_effect_all limits (readings marks) caller none_key (Call.GiveHandle buffer strength to) Reply.Done refl refl answer.told in
+    let t : TookEffect limits (readings marks) caller none_key (Call.GiveHandle buffer strength to) Reply.Done =
+    took_effect_all limits (readings marks) caller none_key (Call.GiveHandle buffer strength to) Reply.Done refl refl answer.told in
     let is : to ≡ client = eqb-true to client (under (to == client) (Parcel.Handle buffer strength) p h).0 in
     ap (has_joined marks) (sym is) ∙ known_receiver (has_joined marks caller) (has_joined marks to) t.known
 given_joined limits marks caller _ _ answer client p h = cc
 
 -- so no parcel waits for who has not
-pub stranger_waits_for_none : (pool : ℕ) (limits : Bound) (marks : Timeline) → Grows pool limits [] marks → (client : ℕ) → has_joined marks client ≡ false → parcels marks client ≡ []
+pub stranger_waits_for_none : (pool : ℕ) (limits : Bound) (marks : Timeline) → Grows pool limits [] marks → (client : ℕ) →
+    has_joined marks client ≡ false → parcels marks client ≡ []
 stranger_waits_for_none pool limits _ Stays client h = refl
 stranger_waits_for_none pool limits _ (Loses before origin cause g born) client h = stranger_waits_for_none pool limits before g client h
-stranger_waits_for_none pool limits _ (Allocates before collection head g e) client h = stranger_waits_for_none pool limits before g client h
+stranger_waits_for_none pool limits _ (Allocates before collection head g e) client h =
+    stranger_waits_for_none pool limits before g client h
 stranger_waits_for_none pool limits _ (Ends before collection top g e) client h = stranger_waits_for_none pool limits before g client h
 stranger_waits_for_none pool limits _ (Answers before caller reply call g answer) client h =
     let mark : Mark = Called caller reply call in
     let drawn : IsDrawn before = (counted pool limits before g).drawn in
-    let stranger : has_joined before client ≡ false = false_if (has_joined before client) (λ j. both_ways (has_joined (mark ∷ before) client) (still_joined before mark client j) h) in
+    let stranger : has_joined before client ≡ false =
+    false_if (has_joined before client) (λ j. both_ways (has_joined (mark ∷ before) client) (still_joined before mark client j) h) in
     let was : parcels before client ≡ [] = stranger_waits_for_none pool limits before g client stranger in
     elim (none_or_some (collected_at client mark)) [
-      | inr c ↦ let no : [] ≡ c.0 ∷ parcels (mark ∷ before) client = sym was ∙ collected_mark limits before caller reply call answer drawn client c.0 c.1 in absurd (cc)
+      | inr c ↦ let no : [] ≡ c.0 ∷ parcels (mark ∷ before) client =
+          sym was ∙ collected_mark limits before caller reply call answer drawn client c.0 c.1 in absurd (cc)
       | inl c ↦ elim (none_or_some (given_at client mark)) [
         | inl n ↦ idle_mark limits before caller reply call answer drawn client c n ∙ was
         | inr n ↦ both_ways (has_joined before client) (given_joined limits before caller reply call answer client n.0 n.1) stranger
@@ -183,9 +210,12 @@ stranger_waits_for_none pool limits _ (Answers before caller reply call g answer
 -- ---- clients
 
 -- a client is made by the next event
-made_is : (limits : Bound) (marks : Timeline) (caller : ℕ) (reply : Reply) (call : Call) → IsAnswer limits (readings marks) caller call reply → (made : ℕ) → joined_at (Called caller reply call) ≡ Some made → made ≡ events marks + 1
+made_is : (limits : Bound) (marks : Timeline) (caller : ℕ) (reply : Reply) (call : Call) →
+    IsAnswer limits (readings marks) caller call reply → (made : ℕ) → joined_at (Called caller reply call) ≡ Some made →
+    made ≡ events marks + 1
 made_is limits marks caller (Reply.Joined j) Call.Join answer made h =
-    let t : TookEffect limits (readings marks) caller none_key Call.Join (Reply.Joined j) = took_effect_all limits (readings marks) caller none_key Call.Join (Reply.Joined j) refl refl answer.told in
+    let t : TookEffect limits (readings marks) caller none_key Call.Join (Reply.Joined j) =
+    took_effect_all limits (readings marks) caller none_key Call.Join (Reply.Joined j) refl refl answer.told in
     let told : Reply.Joined j ≡ Reply.Joined (events marks + 1) = t.answered in
     let is : Some j ≡ Some made = h in
     let e : j ≡ events marks + 1 = cc in
@@ -214,27 +244,35 @@ module _ (pool : ℕ) (limits : Bound) (history : List Entry) (entry : Entry) (l
   were_drawn = (counted pool limits (timeline pool history) next.grown).drawn
 
   -- what is got waited first
-  pub collected_event : (client : ℕ) (p : Parcel) → collected_at client (mark_of entry) ≡ Some p → parcels (timeline pool history) client ≡ p ∷ parcels (timeline pool (history ++ entry ∷ [])) client
-  collected_event client p h = collected_mark limits old entry.0 entry.2 entry.1 next.answer were_drawn client p h ∙ (λ i. p ∷ sym next.same.waiting i client)
+  pub collected_event : (client : ℕ) (p : Parcel) → collected_at client (mark_of entry) ≡ Some p →
+      parcels (timeline pool history) client ≡ p ∷ parcels (timeline pool (history ++ entry ∷ [])) client
+  collected_event client p h =
+      collected_mark limits old entry.0 entry.2 entry.1 next.answer were_drawn client p h ∙ (λ i. p ∷ sym next.same.waiting i client)
 
   -- what is given waits last
-  pub given_event : (client : ℕ) (p : Parcel) → given_at client (mark_of entry) ≡ Some p → parcels (timeline pool (history ++ entry ∷ [])) client ≡ parcels (timeline pool history) client ++ p ∷ []
-  given_event client p h = (λ i. next.same.waiting i client) ∙ given_mark limits old entry.0 entry.2 entry.1 next.answer were_drawn client p h
+  pub given_event : (client : ℕ) (p : Parcel) → given_at client (mark_of entry) ≡ Some p →
+      parcels (timeline pool (history ++ entry ∷ [])) client ≡ parcels (timeline pool history) client ++ p ∷ []
+  given_event client p h =
+      (λ i. next.same.waiting i client) ∙ given_mark limits old entry.0 entry.2 entry.1 next.answer were_drawn client p h
 
   -- and else all wait as they did
-  pub idle_event : (client : ℕ) → collected_at client (mark_of entry) ≡ None → given_at client (mark_of entry) ≡ None → parcels (timeline pool (history ++ entry ∷ [])) client ≡ parcels (timeline pool history) client
+  pub idle_event : (client : ℕ) → collected_at client (mark_of entry) ≡ None → given_at client (mark_of entry) ≡ None →
+      parcels (timeline pool (history ++ entry ∷ [])) client ≡ parcels (timeline pool history) client
   idle_event client c h = (λ i. next.same.waiting i client) ∙ idle_mark limits old entry.0 entry.2 entry.1 next.answer were_drawn client c h
 
   -- a Join adds its client
-  pub clients_event : clients (timeline pool (history ++ entry ∷ [])) ≡ cons_option (joined_at (mark_of entry)) (clients (timeline pool history))
+  pub clients_event : clients (timeline pool (history ++ entry ∷ [])) ≡ cons_option (joined_at (mark_of entry))
+      (clients (timeline pool history))
   clients_event = next.same.joined
 
   -- which is new
-  pub made_event : (made : ℕ) → joined_at (mark_of entry) ≡ Some made → (made ≡ events (timeline pool history) + 1) × (has_joined (timeline pool history) made ≡ false)
+  pub made_event : (made : ℕ) → joined_at (mark_of entry) ≡ Some made → (made ≡ events (timeline pool history) + 1) ×
+      (has_joined (timeline pool history) made ≡ false)
   made_event made h =
       let is : made ≡ events old + 1 = made_is limits old entry.0 entry.2 entry.1 next.answer made h in
       (is, ap (has_joined old) is ∙ not_joined_yet old (counted pool limits old next.grown).clients_are)
 
   -- and a Shut shuts its caller
-  pub shut_event : (client : ℕ) → is_shut (timeline pool (history ++ entry ∷ [])) client ≡ (shuts client (mark_of entry) || is_shut (timeline pool history) client)
+  pub shut_event : (client : ℕ) → is_shut (timeline pool (history ++ entry ∷ [])) client ≡ (shuts client (mark_of entry) || is_shut
+      (timeline pool history) client)
   shut_event client = λ i. next.same.shut i client

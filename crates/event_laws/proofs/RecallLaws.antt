@@ -36,19 +36,22 @@ use Rattle.event_laws.proofs.WaitingLaws.{In-waiting, waited_for}
 -- what is waited for is known: its node was born, and was allocated if it was gone, and its buffer was not home
 abbrev pub IsKnown : Timeline → Condition → Type 0
 IsKnown marks (Condition.Node key) = was_born (births marks) key ≡ true
-IsKnown marks (Condition.Lifetime key collection most) = (was_born (births marks) key ≡ true) × (gone marks key ≡ true → allocated marks key ≡ true)
+IsKnown marks (Condition.Lifetime key collection most) =
+    (was_born (births marks) key ≡ true) × (gone marks key ≡ true → allocated marks key ≡ true)
 IsKnown marks (Condition.Weak buffer) = home marks buffer ≡ false
 
 -- ---- of those that waited
 
 -- a node of a collection was born
-born_of : (marks : Timeline) (key : NodeKey) (collection : ℕ) → collection_in (births marks) key ≡ Some collection → was_born (births marks) key ≡ true
+born_of : (marks : Timeline) (key : NodeKey) (collection : ℕ) → collection_in (births marks) key ≡ Some collection →
+    was_born (births marks) key ≡ true
 born_of marks key collection here =
     let b = map-Some (λ (x : Birth). x.collection) (birth_of marks key) collection here in
     birth_was_born marks key b.0 b.1
 
 -- what a tracker waits for is known
-waiting_known : (marks : Timeline) (collection : ℕ) (condition : Condition) → IsOf marks collection condition → IsWaitedFor marks condition → IsKnown marks condition
+waiting_known : (marks : Timeline) (collection : ℕ) (condition : Condition) → IsOf marks collection condition →
+    IsWaitedFor marks condition → IsKnown marks condition
 waiting_known marks collection (Condition.Node key) here waits = born_of marks key collection here
 waiting_known marks collection (Condition.Lifetime key its most) here waits = (born_of marks key collection here.1, waits)
 waiting_known marks collection (Condition.Weak buffer) here waits = rw waits refl
@@ -56,7 +59,8 @@ waiting_known marks collection (Condition.Weak buffer) here waits = rw waits ref
 -- ---- of the one that the event attaches
 
 -- a node that a call named was not gone
-named_here : (pool : ℕ) (limits : Bound) (marks : Timeline) (key : NodeKey) → Grows pool limits [] marks → Named marks key → gone marks key ≡ false
+named_here : (pool : ℕ) (limits : Bound) (marks : Timeline) (key : NodeKey) → Grows pool limits [] marks → Named marks key →
+    gone marks key ≡ false
 named_here pool limits marks key g n =
     false_if (gone marks key) (λ h. both_ways (spent marks key) ((ordered pool limits marks g).ended_spent key h n.unfailed) n.unspent)
 
@@ -68,11 +72,13 @@ joined_if false h = cc
 -- a buffer on which a handle is open is not home
 open_not_home : (marks : Timeline) (buffer : BufferName) → 0 < open_total marks buffer Strength.Weak → home marks buffer ≡ false
 open_not_home marks buffer some = false_if (home marks buffer) (λ h.
-    (let none : open_total marks buffer Strength.Weak ≡ 0 = eqb-true (open_total marks buffer Strength.Weak) 0 (and_right (doomed marks buffer) _ h) in
+    (let none : open_total marks buffer Strength.Weak ≡ 0 =
+    eqb-true (open_total marks buffer Strength.Weak) 0 (and_right (doomed marks buffer) _ h) in
     omega (arith, some, none)))
 
 -- what a new tracker waits for is known
-made_known : (pool : ℕ) (limits : Bound) (marks : Timeline) (client : ℕ) (reply : Reply) (call : Call) (t : Tracked) → Grows pool limits [] marks → IsAnswer limits (readings marks) client call reply →
+made_known : (pool : ℕ) (limits : Bound) (marks : Timeline) (client : ℕ) (reply : Reply) (call : Call) (t : Tracked) →
+    Grows pool limits [] marks → IsAnswer limits (readings marks) client call reply →
     tracked_at marks (Called client reply call) ≡ Some t → IsKnown marks t.condition
 made_known pool limits marks client (Reply.Tracker id) (Call.TrackNode key) t g answer h =
     let effective = took_effect_all limits (readings marks) client none_key (Call.TrackNode key) (Reply.Tracker id) refl refl answer.told in
@@ -81,17 +87,21 @@ made_known pool limits marks client (Reply.Tracker id) (Call.TrackNode key) t g 
     let known : IsKnown marks (Condition.Node key) = birth_was_born marks key n.birth n.found in
     subst (IsKnown marks) is known
 made_known pool limits marks client (Reply.Tracker id) (Call.TrackLifetime key most) t g answer h =
-    let effective = took_effect_all limits (readings marks) client none_key (Call.TrackLifetime key most) (Reply.Tracker id) refl refl answer.told in
+    let effective = took_effect_all limits (readings marks) client none_key (Call.TrackLifetime key most) (Reply.Tracker id) refl refl
+    answer.told in
     let n : Named marks key = named limits marks client none_key (Call.TrackLifetime key most) (Reply.Tracker id) key effective refl in
     let is : Condition.Lifetime key (collection_of_node marks key) most ≡ t.condition = cc in
     let known : IsKnown marks (Condition.Lifetime key (collection_of_node marks key) most) =
     (birth_was_born marks key n.birth n.found, λ left_it. both_ways (gone marks key) left_it (named_here pool limits marks key g n)) in
     subst (IsKnown marks) is known
 made_known pool limits marks client (Reply.Tracker id) (Call.TrackWeak buffer) t g answer h =
-    let effective = took_effect_all limits (readings marks) client none_key (Call.TrackWeak buffer) (Reply.Tracker id) refl refl answer.told in
+    let effective = took_effect_all limits (readings marks) client none_key (Call.TrackWeak buffer) (Reply.Tracker id) refl refl
+    answer.told in
     let joined : has_joined marks client ≡ true = joined_if (has_joined marks client) effective.known in
-    let has_one : 0 < open_of marks client buffer Strength.Weak = some_open (open_of marks client buffer Strength.Weak) effective.has_handle in
-    let le : open_of marks client buffer Strength.Weak ≤ open_total marks buffer Strength.Weak = client-le-total marks (counted pool limits marks g) client buffer Strength.Weak joined in
+    let has_one : 0 < open_of marks client buffer Strength.Weak =
+    some_open (open_of marks client buffer Strength.Weak) effective.has_handle in
+    let le : open_of marks client buffer Strength.Weak ≤ open_total marks buffer Strength.Weak =
+    client-le-total marks (counted pool limits marks g) client buffer Strength.Weak joined in
     let is : Condition.Weak buffer ≡ t.condition = cc in
     let known : IsKnown marks (Condition.Weak buffer) = open_not_home marks buffer (omega (arith, has_one, le)) in
     subst (IsKnown marks) is known
@@ -100,7 +110,8 @@ made_known pool limits marks client reply call t g answer h = cc
 -- ---- what is known suffices
 
 -- whether it holds is seen rightly
-known_due : (pool : ℕ) (limits : Bound) (earlier later : Timeline) (w : World) → Grows pool limits earlier later → IsRecalled earlier later w → (condition : Condition) → IsKnown earlier condition →
+known_due : (pool : ℕ) (limits : Bound) (earlier later : Timeline) (w : World) → Grows pool limits earlier later →
+    IsRecalled earlier later w → (condition : Condition) → IsKnown earlier condition →
     holds w condition ≡ holds (world later) condition
 known_due pool limits earlier later w g r (Condition.Node key) known = r.nodes key known
 known_due pool limits earlier later w g r (Condition.Lifetime key collection most) known =
@@ -112,7 +123,8 @@ known_due pool limits earlier later w g r (Condition.Lifetime key collection mos
 known_due pool limits earlier later w g r (Condition.Weak buffer) known = r.dooms buffer known
 
 -- so it is of each that waited, and of the one that the event attaches
-pub recalled_due : (pool : ℕ) (limits : Bound) (marks later : Timeline) (entry : Entry) (w : World) → Grows pool limits [] marks → Grows pool limits marks later → IsAnswer limits (readings marks) entry.0 entry.1 entry.2 → IsRecalled marks later w →
+pub recalled_due : (pool : ℕ) (limits : Bound) (marks later : Timeline) (entry : Entry) (w : World) → Grows pool limits [] marks →
+    Grows pool limits marks later → IsAnswer limits (readings marks) entry.0 entry.1 entry.2 → IsRecalled marks later w →
     (t : Tracked) → In t (asked marks entry) → is_due w t ≡ is_due (world later) t
 recalled_due pool limits marks later entry w g on answer r t there =
     known_due pool limits marks later w on r t.condition (elim (In-append (waiting marks) (made marks entry) t there) [

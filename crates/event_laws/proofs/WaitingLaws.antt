@@ -48,7 +48,8 @@ count_by-reverse : {A : Type 0} (p : A → Bool) (xs : List A) → count_by p (r
 count_by-reverse p [] = refl
 count_by-reverse {A} p (x ∷ xs) =
     let one_each : A → ℕ = λ y. cond (p y) 1 0 in
-    let turned : sum_by one_each (reverse (x ∷ xs)) ≡ sum_by one_each (reverse xs ++ x ∷ []) = ap (sum_by one_each) (reverse-append (x ∷ []) xs) in
+    let turned : sum_by one_each (reverse (x ∷ xs)) ≡ sum_by one_each (reverse xs ++ x ∷ []) =
+    ap (sum_by one_each) (reverse-append (x ∷ []) xs) in
     let rest : sum_by one_each (reverse xs) ≡ sum_by one_each xs = count_by-reverse p xs in
     omega (arith, turned, rest, sum_by-append one_each (reverse xs) (x ∷ []), sum_by-cons one_each x [], sum_by-cons one_each x xs)
 
@@ -57,7 +58,8 @@ count_by-reverse {A} p (x ∷ xs) =
 -- as many have not fired as wait
 pub counted : (marks : Timeline) → unfired marks ≡ length (waiting marks)
 counted marks =
-    sym (length-filter (λ t. is_none (fired_at marks t)) (reverse (tracked marks)) ∙ count_by-reverse (λ t. is_none (fired_at marks t)) (tracked marks))
+    sym (length-filter (λ t. is_none (fired_at marks t)) (reverse (tracked marks))
+    ∙ count_by-reverse (λ t. is_none (fired_at marks t)) (tracked marks))
 
 -- a tracker that waits was attached, and has not fired
 pub In-waiting : (marks : Timeline) (t : Tracked) → In t (waiting marks) → In t (tracked marks) × (fired_at marks t ≡ None)
@@ -84,12 +86,14 @@ waited_for marks t on = from t.condition (waiting_not_due marks t on)
 
     from : (condition : Condition) → holds (world marks) condition ≡ false → IsWaitedFor marks condition
     from (Condition.Node key) h = h
-    from (Condition.Lifetime key collection most) h = or_allocated (allocated marks key) (gone marks key) (nat_le (left marks collection) most) h
+    from (Condition.Lifetime key collection most) h =
+        or_allocated (allocated marks key) (gone marks key) (nat_le (left marks collection) most) h
     from (Condition.Weak buffer) h = h
 
 -- ---- one more event
 
-module _ (pool : ℕ) (limits : Bound) (marks : Timeline) (entry : Entry) (g : Grows pool limits [] marks) (answer : IsAnswer limits (readings marks) entry.0 entry.1 entry.2) where
+module _ (pool : ℕ) (limits : Bound) (marks : Timeline) (entry : Entry) (g : Grows pool limits [] marks)
+    (answer : IsAnswer limits (readings marks) entry.0 entry.1 entry.2) where
   -- the marks after it
   abbrev then : Timeline
   then = after pool marks entry
@@ -109,13 +113,16 @@ module _ (pool : ℕ) (limits : Bound) (marks : Timeline) (entry : Entry) (g : G
       ∙ (filter-append (λ t. is_none (fired_at marks t)) (reverse (tracked marks)) (made marks entry)
       ∙ ap (λ (l : List Tracked). waiting marks ++ l) (from (tracked_at marks (Called entry.0 entry.2 entry.1)) refl))
     where
-      from : (o : Option Tracked) → tracked_at marks (Called entry.0 entry.2 entry.1) ≡ o → filter (λ t. is_none (fired_at marks t)) (cons_option o []) ≡ cons_option o []
+      from : (o : Option Tracked) → tracked_at marks (Called entry.0 entry.2 entry.1) ≡ o →
+          filter (λ t. is_none (fired_at marks t)) (cons_option o []) ≡ cons_option o []
       from None e = refl
       from (Some t) e = rw (made_waits pool limits marks entry t g answer e) refl
 
   -- those of them that pass one more test
-  asked_of : (test : Tracked → Bool) → filter (λ t. is_none (fired_at marks t) && test t) (reverse (tracked (after pool marks entry))) ≡ filter test (asked marks entry)
-  asked_of test = filter-both (λ t. is_none (fired_at marks t)) test (reverse (tracked (after pool marks entry))) ∙ ap (filter test) unfired_on
+  asked_of : (test : Tracked → Bool) →
+      filter (λ t. is_none (fired_at marks t) && test t) (reverse (tracked (after pool marks entry))) ≡ filter test (asked marks entry)
+  asked_of test = filter-both (λ t. is_none (fired_at marks t)) test (reverse (tracked (after pool marks entry)))
+      ∙ ap (filter test) unfired_on
 
   -- those that are not due wait on
   pub waiting_next : waiting (after pool marks entry) ≡ filter (λ t. not (is_due (world (after pool marks entry)) t)) (asked marks entry)
@@ -125,10 +132,12 @@ module _ (pool : ℕ) (limits : Bound) (marks : Timeline) (entry : Entry) (g : G
       ∙ asked_of (λ t. not (is_due (world then) t))
 
   -- those that are due fire at the event
-  fired_now : fired_in (after pool marks entry) (events (after pool marks entry)) ≡ map (firing (events (after pool marks entry))) (filter (is_due (world (after pool marks entry))) (asked marks entry))
+  fired_now : fired_in (after pool marks entry) (events (after pool marks entry)) ≡ map (firing (events (after pool marks entry)))
+      (filter (is_due (world (after pool marks entry))) (asked marks entry))
   fired_now =
       ap (map (firing (events then)))
-      (filter-In (λ t. option_map_or (λ e. e == events then) (fired_at then t) false) (λ t. is_none (fired_at marks t) && is_due (world then) t) (reverse (tracked then))
+      (filter-In (λ t. option_map_or (λ e. e == events then) (fired_at then t) false) (λ t.
+      is_none (fired_at marks t) && is_due (world then) t) (reverse (tracked then))
       (λ t on. fires_now pool marks entry t (In-reverse (tracked then) t on))
       ∙ asked_of (is_due (world then)))
 
@@ -136,21 +145,25 @@ module _ (pool : ℕ) (limits : Bound) (marks : Timeline) (entry : Entry) (g : G
   fired_before : (event : ℕ) → event ≤ events marks → fired_in (after pool marks entry) event ≡ fired_in marks event
   fired_before event early =
       ap (map (firing event))
-      (filter-In (at then) (at marks) (reverse (tracked then)) (λ t on. fired_then pool marks entry event early t (In-reverse (tracked then) t on))
+      (filter-In (at then) (at marks) (reverse (tracked then)) (λ t on.
+      fired_then pool marks entry event early t (In-reverse (tracked then) t on))
       ∙ (ap (filter (at marks)) tracked_on
       ∙ (filter-append (at marks) (reverse (tracked marks)) (made marks entry)
-      ∙ (ap (λ (l : List Tracked). filter (at marks) (reverse (tracked marks)) ++ l) (from (tracked_at marks (Called entry.0 entry.2 entry.1)) refl)
+      ∙ (ap (λ (l : List Tracked). filter (at marks) (reverse (tracked marks)) ++ l)
+      (from (tracked_at marks (Called entry.0 entry.2 entry.1)) refl)
       ∙ append-nil (filter (at marks) (reverse (tracked marks)))))))
     where
       at : Timeline → Tracked → Bool
       at m t = option_map_or (λ e. e == event) (fired_at m t) false
 
-      from : (o : Option Tracked) → tracked_at marks (Called entry.0 entry.2 entry.1) ≡ o → filter (λ t. option_map_or (λ e. e == event) (fired_at marks t) false) (cons_option o []) ≡ []
+      from : (o : Option Tracked) → tracked_at marks (Called entry.0 entry.2 entry.1) ≡ o →
+          filter (λ t. option_map_or (λ e. e == event) (fired_at marks t) false) (cons_option o []) ≡ []
       from None e = refl
       from (Some t) e = rw (made_waits pool limits marks entry t g answer e) refl
 
   -- so the firings go on by those that are due
-  pub fired_next : fired (after pool marks entry) ≡ fired marks ++ map (firing (events (after pool marks entry))) (filter (is_due (world (after pool marks entry))) (asked marks entry))
+  pub fired_next : fired (after pool marks entry) ≡ fired marks ++ map (firing (events (after pool marks entry)))
+      (filter (is_due (world (after pool marks entry))) (asked marks entry))
   fired_next =
       let at : Timeline → List Fired = λ moment. fired_in then (events moment) in
       ap (λ (ms : List Timeline). flat_map at (reverse (then ∷ ms))) (earlier_after pool marks entry)
@@ -158,4 +171,5 @@ module _ (pool : ℕ) (limits : Bound) (marks : Timeline) (entry : Entry) (g : G
       ∙ (flat_map-append at (reverse (moments marks)) (then ∷ [])
       ∙ ((λ i. flat_map-In at (λ moment. fired_in marks (events moment)) (reverse (moments marks))
       (λ m on. fired_before (events m) (moment_earlier marks m (In-reverse (moments marks) m on)).few) i ++ (fired_now i ++ []))
-      ∙ ap (λ (l : List Fired). fired marks ++ l) (append-nil (map (firing (events then)) (filter (is_due (world then)) (asked marks entry)))))))
+      ∙ ap (λ (l : List Fired). fired marks ++ l)
+      (append-nil (map (firing (events then)) (filter (is_due (world then)) (asked marks entry)))))))

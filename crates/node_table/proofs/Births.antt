@@ -22,7 +22,8 @@ and-false true = refl
 and-false false = refl
 
 -- one generation more was given, and no other
-given-more : (first generation next : ℕ) → generation ≢ next → (nat_le first generation && nat_lt generation (next + 1)) ≡ (nat_le first generation && nat_lt generation next)
+given-more : (first generation next : ℕ) → generation ≢ next →
+    (nat_le first generation && nat_lt generation (next + 1)) ≡ (nat_le first generation && nat_lt generation next)
 given-more first generation next differ = ap (λ b. nat_le first generation && b) (by_test (nat_lt generation next) refl)
   where
     by_test : (b : Bool) → nat_lt generation next ≡ b → nat_lt generation (next + 1) ≡ nat_lt generation next
@@ -33,15 +34,19 @@ given-more first generation next differ = ap (λ b. nat_le first generation && b
         let more : nat_lt generation (next + 1) ≡ false = grind (arith, nat_tests) in
         more ∙ sym test
 
-module _ {N : Type 0} (old new : List (Option (Slot N))) (nexts nexts2 : List ℕ) (first count limit : ℕ) (parent : Option NodeKey) (key : NodeKey) (node : N)
+module _ {N : Type 0} (old new : List (Option (Slot N))) (nexts nexts2 : List ℕ) (first count limit : ℕ) (parent : Option NodeKey)
+    (key : NodeKey) (node : N)
     (sound : IsSound old nexts first count limit)
     (next : slice_index_or nexts key.slot first ≡ key.generation)
     (was_vacant : slice_index_or old key.slot None ≡ None)
     (bumped : Bumped nexts nexts2 first key.slot)
     (now_taken : is_some (slice_index_or new key.slot None) ≡ true)
     (kinds : (i : ℕ) → i ≢ key.slot → is_some (slice_index_or new i None) ≡ is_some (slice_index_or old i None))
-    (other-row : (i : ℕ) → i ≢ key.slot → slice_index_or (rows_of new (given_count first nexts2)) i None ≡ option_map (at_slot parent (with_child key) i) (slice_index_or (rows_of old (given_count first nexts)) i None))
-    (new-row : slice_index_or (rows_of new (given_count first nexts2)) key.slot None ≡ Some (record { parent = parent; children = []; node = node }))
+    (other-row : (i : ℕ) → i ≢ key.slot →
+    slice_index_or (rows_of new (given_count first nexts2)) i None ≡ option_map (at_slot parent (with_child key) i)
+    (slice_index_or (rows_of old (given_count first nexts)) i None))
+    (new-row : slice_index_or (rows_of new (given_count first nexts2)) key.slot None ≡ Some
+    (record { parent = parent; children = []; node = node }))
     (chained : (i : ℕ) → IsRun (next_in new) (prev_in new) None (first_in new i) (run_in new (given_count first nexts2) i) (last_in new i))
     (there : IfSome parent (λ p. IsSome (row_at (table_of old nexts first limit) p)))
     (room : count < limit)
@@ -68,7 +73,8 @@ module _ {N : Type 0} (old new : List (Option (Slot N))) (nexts nexts2 : List �
     longer : count_by is_some new-rows ≡ count_by is_some old-rows + 1
     longer =
         count-gain key.slot old-rows new-rows (ap is_some no-row) (ap is_some new-row)
-        (λ i differ. ap is_some (other-row i differ) ∙ is_some-option_map (at_slot parent (with_child key) i) (slice_index_or old-rows i None))
+        (λ i differ. ap is_some (other-row i differ)
+        ∙ is_some-option_map (at_slot parent (with_child key) i) (slice_index_or old-rows i None))
 
     fits : key.generation < 2 ^ 32
     fits = let below : slice_index_or nexts key.slot first < 2 ^ 32 = sound.vacant key.slot was_vacant in rw next at below
@@ -87,14 +93,17 @@ module _ {N : Type 0} (old new : List (Option (Slot N))) (nexts nexts2 : List �
               rw (at, eq-false (key.generation + 1) (k.generation + 1) (λ generations. apart (omega arith)), none-then _ _ none) refl
           | inr apart ↦
               rw (bumped.others k.slot apart, other-row k.slot apart)
-              (map-then _ _ (at_slot parent (with_child key) k.slot) (at_parent parent (with_child key) k) (slot_as_parent before parent (with_child key) k there))
+              (map-then _ _ (at_slot parent (with_child key) k.slot) (at_parent parent (with_child key) k) (slot_as_parent before parent
+              (with_child key) k there))
         ]
 
     stranger : (p : Option NodeKey) → IfSome p (λ k. IsSome (row_at before k)) → p ≢ Some key
     stranger None some same = absurd (cc)
-    stranger (Some k) some same = let is : k ≡ key = cc in let none : row_at before k ≡ None = subst (λ j. row_at before j ≡ None) (sym is) absent in absurd (cc)
+    stranger (Some k) some same =
+        let is : k ≡ key = cc in let none : row_at before k ≡ None = subst (λ j. row_at before j ≡ None) (sym is) absent in absurd (cc)
 
-    parent-row : (p : Option NodeKey) (above : NodeKey) → IfSome p (λ k. IsSome (row_at before k)) → p ≡ Some above → IsSome (row_at before above)
+    parent-row : (p : Option NodeKey) (above : NodeKey) → IfSome p (λ k. IsSome (row_at before k)) → p ≡ Some above →
+        IsSome (row_at before above)
     parent-row None above some is = absurd (cc)
     parent-row (Some k) above some is = let same : k ≡ above = cc in subst (λ j. IsSome (row_at before j)) same some
 
@@ -108,7 +117,8 @@ module _ {N : Type 0} (old new : List (Option (Slot N))) (nexts nexts2 : List �
         (ap children_in born-row)
         (λ k differ. ap parent_in (others k differ) ∙ map-up parent (with_child key) k (row_at before k) (λ row. refl))
         (λ above is.
-        ap children_in (others above (λ same. stranger parent there (is ∙ ap Some same)) ∙ map-parent parent (with_child key) above (row_at before above) is)
+        ap children_in (others above (λ same. stranger parent there (is ∙ ap Some same))
+        ∙ map-parent parent (with_child key) above (row_at before above) is)
         ∙ children-with key (row_at before above) (parent-row parent above there is))
         (λ above differ away. ap children_in (others above differ ∙ map-stranger parent (with_child key) above (row_at before above) away))
 
@@ -118,7 +128,8 @@ module _ {N : Type 0} (old new : List (Option (Slot N))) (nexts nexts2 : List �
           counted = let c : count ≡ count_by is_some old-rows = sound.counted in omega (arith, longer);
           within = omega arith;
           vacant = λ i none. elim (cases_eq i key.slot) [
-            | inl same ↦ let gone : slice_index_or new key.slot None ≡ None = subst (λ j. slice_index_or new j None ≡ None) same none in absurd (cc (now_taken))
+            | inl same ↦ let gone : slice_index_or new key.slot None ≡ None =
+                subst (λ j. slice_index_or new j None ≡ None) same none in absurd (cc (now_taken))
             | inr differ ↦ rw (bumped.others i differ) (sound.vacant i (vacant-before _ _ (kinds i differ) none))
           ];
           rising = λ i. elim (cases_eq i key.slot) [
@@ -131,7 +142,9 @@ module _ {N : Type 0} (old new : List (Option (Slot N))) (nexts nexts2 : List �
           ];
           begun = λ i some. elim (cases_eq i key.slot) [
             | inl same ↦ rw (same, bumped.at) (omega (arith, sound.rising key.slot))
-            | inr differ ↦ rw (bumped.others i differ) (sound.begun i (sym (is_some-option_map (at_slot parent (with_child key) i) (slice_index_or old-rows i None)) ∙ ap is_some (sym (other-row i differ)) ∙ some))
+            | inr differ ↦
+                rw (bumped.others i differ) (sound.begun i (sym (is_some-option_map (at_slot parent (with_child key) i)
+                (slice_index_or old-rows i None)) ∙ ap is_some (sym (other-row i differ)) ∙ some))
           ];
           forest = forest-born;
           chained = chained;
@@ -145,7 +158,8 @@ module _ {N : Type 0} (old new : List (Option (Slot N))) (nexts nexts2 : List �
               let generations : key.generation ≡ k.generation = ap (λ (j : NodeKey). j.generation) same in
               let at : slice_index_or nexts2 k.slot first ≡ key.generation + 1 = rw (sym slots, bumped.at, next) refl in
               let low : first ≤ key.generation = rw next at (sound.rising key.slot) in
-              given-between first k.generation (slice_index_or nexts2 k.slot first) (omega arith) (omega arith) ∙ sym (ap (λ b. b || was_given before k) (same_key-true key k same))
+              given-between first k.generation (slice_index_or nexts2 k.slot first) (omega arith) (omega arith)
+              ∙ sym (ap (λ b. b || was_given before k) (same_key-true key k same))
           | inr differ ↦ by_slot k differ ∙ sym (ap (λ b. b || was_given before k) (same_key-false key k differ))
         ]
       where
@@ -163,7 +177,8 @@ module _ {N : Type 0} (old new : List (Option (Slot N))) (nexts nexts2 : List �
     pub births : Births before after parent node key
     births =
         record {
-          fresh = let none : nat_lt key.generation key.generation ≡ false = grind (arith, nat_tests) in rw (next, none) (and-false (nat_le first key.generation));
+          fresh = let none : nat_lt key.generation key.generation ≡ false =
+              grind (arith, nat_tests) in rw (next, none) (and-false (nat_le first key.generation));
           next = sym next;
           born = born-row;
           others = others;

@@ -14,7 +14,9 @@ use Rattle.node_table.proofs.Depths.{next-there, there-above, parent-there}
 
 module _ {N : Type 0} where
   -- the row of a slot, by its parts
-  pub row-is : (slots : List (Option (Slot N))) (most i : ℕ) → slice_index_or (rows_of slots most) i None ≡ option_map (with_children (run_in slots most i)) (option_map core_of (entry_in (slice_index_or slots i None)))
+  pub row-is : (slots : List (Option (Slot N))) (most i : ℕ) →
+      slice_index_or (rows_of slots most) i None ≡ option_map (with_children (run_in slots most i))
+      (option_map core_of (entry_in (slice_index_or slots i None)))
   row-is slots most i = row-at slots most i ∙ row-parts (next_in slots) most (entry_in (slice_index_or slots i None))
 
   module _ (slots : List (Option (Slot N))) (most : ℕ) (lists : ℕ → List NodeKey)
@@ -26,15 +28,20 @@ module _ {N : Type 0} where
       runs_are i = run_is (next_in slots) (prev_in slots) None (first_in slots i) (lists i) (last_in slots i) most (each i) (short i)
 
       pub chained_so : (i : ℕ) → IsRun (next_in slots) (prev_in slots) None (first_in slots i) (run_in slots most i) (last_in slots i)
-      chained_so i = subst (λ keys. IsRun (next_in slots) (prev_in slots) None (first_in slots i) keys (last_in slots i)) (sym (runs_are i)) (each i)
+      chained_so i = subst (λ keys. IsRun (next_in slots) (prev_in slots) None (first_in slots i) keys (last_in slots i)) (sym (runs_are i))
+          (each i)
 
       -- and the children in the rows
-      pub rows_are : (i : ℕ) → slice_index_or (rows_of slots most) i None ≡ option_map (with_children (lists i)) (option_map core_of (entry_in (slice_index_or slots i None)))
-      rows_are i = row-is slots most i ∙ ap (λ (keys : List NodeKey). option_map (with_children keys) (option_map core_of (entry_in (slice_index_or slots i None)))) (runs_are i)
+      pub rows_are : (i : ℕ) → slice_index_or (rows_of slots most) i None ≡ option_map (with_children (lists i))
+          (option_map core_of (entry_in (slice_index_or slots i None)))
+      rows_are i = row-is slots most i ∙ ap (λ (keys : List NodeKey).
+          option_map (with_children keys) (option_map core_of (entry_in (slice_index_or slots i None)))) (runs_are i)
 
   -- a slot with a child has an entry
-  entry-with-child : (next : ℕ → Option NodeKey) (most : ℕ) (o : Option (Entry N)) (x : NodeKey) → Contains (run_from next most (link_in (λ (e : Entry N). e.first) o)) x → IsSome o
-  entry-with-child next most None x there = let none : Contains [] x = subst (λ keys. Contains keys x) (run_from-none next most) there in absurd (omega (arith, none.1))
+  entry-with-child : (next : ℕ → Option NodeKey) (most : ℕ) (o : Option (Entry N)) (x : NodeKey) →
+      Contains (run_from next most (link_in (λ (e : Entry N). e.first) o)) x → IsSome o
+  entry-with-child next most None x there =
+      let none : Contains [] x = subst (λ keys. Contains keys x) (run_from-none next most) there in absurd (omega (arith, none.1))
   entry-with-child next most (Some e) x there = refl
 
   -- the children of a row that is there
@@ -60,33 +67,43 @@ module _ {N : Type 0} where
     owner i = record { slot = i; generation = slice_index_or nexts i first - 1 }
 
     -- a child of what lies in a slot is a child of the slot's key
-    pub member : (i : ℕ) (x : NodeKey) → Contains (run_in slots (given_count first nexts) i) x → parent_at (table_of slots nexts first limit) x ≡ Some (owner i)
+    pub member : (i : ℕ) (x : NodeKey) → Contains (run_in slots (given_count first nexts) i) x →
+        parent_at (table_of slots nexts first limit) x ≡ Some (owner i)
     member i x there =
         let most = given_count first nexts in
-        let entry : IsSome (entry_in (slice_index_or slots i None)) = entry-with-child (next_in slots) most (entry_in (slice_index_or slots i None)) x there in
-        let core : IsSome (option_map core_of (entry_in (slice_index_or slots i None))) = some-core (entry_in (slice_index_or slots i None)) entry in
+        let entry : IsSome (entry_in (slice_index_or slots i None)) =
+        entry-with-child (next_in slots) most (entry_in (slice_index_or slots i None)) x there in
+        let core : IsSome (option_map core_of (entry_in (slice_index_or slots i None))) =
+        some-core (entry_in (slice_index_or slots i None)) entry in
         let row : IsSome (slice_index_or (rows_of slots most) i None) =
-        subst (λ (o : Option (Row N)). IsSome o) (sym (row-is slots most i)) (some-row (run_in slots most i) (option_map core_of (entry_in (slice_index_or slots i None))) core) in
+        subst (λ (o : Option (Row N)). IsSome o) (sym (row-is slots most i)) (some-row (run_in slots most i)
+        (option_map core_of (entry_in (slice_index_or slots i None))) core) in
         let begun : first < slice_index_or nexts i first = sound.begun i row in
-        let test : (slice_index_or nexts i first == (slice_index_or nexts i first - 1) + 1) ≡ true = eq-true (slice_index_or nexts i first) ((slice_index_or nexts i first - 1) + 1) (omega (arith, begun)) in
-        let at : row_at (table_of slots nexts first limit) (owner i) ≡ slice_index_or (rows_of slots most) i None = ap (λ b. cond b (slice_index_or (rows_of slots most) i None) None) test in
+        let test : (slice_index_or nexts i first == (slice_index_or nexts i first - 1) + 1) ≡ true =
+        eq-true (slice_index_or nexts i first) ((slice_index_or nexts i first - 1) + 1) (omega (arith, begun)) in
+        let at : row_at (table_of slots nexts first limit) (owner i) ≡ slice_index_or (rows_of slots most) i None =
+        ap (λ b. cond b (slice_index_or (rows_of slots most) i None) None) test in
         let keys : children_at (table_of slots nexts first limit) (owner i) ≡ run_in slots most i =
-        ap children_in (at ∙ row-is slots most i) ∙ children-there (run_in slots most i) (option_map core_of (entry_in (slice_index_or slots i None))) core in
+        ap children_in (at ∙ row-is slots most i)
+        ∙ children-there (run_in slots most i) (option_map core_of (entry_in (slice_index_or slots i None))) core in
         (sound.forest.linked (owner i) x).1 (subst (λ ks. Contains ks x) (sym keys) there)
 
     -- so it is there
-    pub member-there : (i : ℕ) (x : NodeKey) → Contains (run_in slots (given_count first nexts) i) x → IsSome (row_at (table_of slots nexts first limit) x)
+    pub member-there : (i : ℕ) (x : NodeKey) → Contains (run_in slots (given_count first nexts) i) x →
+        IsSome (row_at (table_of slots nexts first limit) x)
     member-there i x there = there-above (row_at (table_of slots nexts first limit) x) (owner i) (member i x there)
 
     -- two slots that list one key are one
-    pub same_list : (i j : ℕ) (x : NodeKey) → Contains (run_in slots (given_count first nexts) i) x → Contains (run_in slots (given_count first nexts) j) x → i ≡ j
+    pub same_list : (i j : ℕ) (x : NodeKey) → Contains (run_in slots (given_count first nexts) i) x →
+        Contains (run_in slots (given_count first nexts) j) x → i ≡ j
     same_list i j x in_i in_j =
         let both : Some (owner i) ≡ Some (owner j) = sym (member i x in_i) ∙ member j x in_j in
         let same : owner i ≡ owner j = cc in
         ap (λ (k : NodeKey). k.slot) same
 
     -- keys that are there and have one slot are one key
-    pub one_key : (x y : NodeKey) → IsSome (row_at (table_of slots nexts first limit) x) → IsSome (row_at (table_of slots nexts first limit) y) → x.slot ≡ y.slot → x ≡ y
+    pub one_key : (x y : NodeKey) → IsSome (row_at (table_of slots nexts first limit) x) →
+        IsSome (row_at (table_of slots nexts first limit) y) → x.slot ≡ y.slot → x ≡ y
     one_key x y here there same =
         let one : slice_index_or nexts x.slot first ≡ x.generation + 1 = next-there (table_of slots nexts first limit) x here in
         let two : slice_index_or nexts y.slot first ≡ y.generation + 1 = next-there (table_of slots nexts first limit) y there in
@@ -94,27 +111,38 @@ module _ {N : Type 0} where
         same-fields x y same (omega arith)
 
     -- the children of a key that is there
-    pub children_run : (p : NodeKey) → IsSome (row_at (table_of slots nexts first limit) p) → children_at (table_of slots nexts first limit) p ≡ run_in slots (given_count first nexts) p.slot
+    pub children_run : (p : NodeKey) → IsSome (row_at (table_of slots nexts first limit) p) →
+        children_at (table_of slots nexts first limit) p ≡ run_in slots (given_count first nexts) p.slot
     children_run p there =
         let most = given_count first nexts in
-        let test : (slice_index_or nexts p.slot first == p.generation + 1) ≡ true = eq-true (slice_index_or nexts p.slot first) (p.generation + 1) (next-there (table_of slots nexts first limit) p there) in
-        let at : row_at (table_of slots nexts first limit) p ≡ slice_index_or (rows_of slots most) p.slot None = ap (λ b. cond b (slice_index_or (rows_of slots most) p.slot None) None) test in
-        let row : IsSome (option_map (with_children (run_in slots most p.slot)) (option_map core_of (entry_in (slice_index_or slots p.slot None)))) =
+        let test : (slice_index_or nexts p.slot first == p.generation + 1) ≡ true =
+        eq-true (slice_index_or nexts p.slot first) (p.generation + 1) (next-there (table_of slots nexts first limit) p there) in
+        let at : row_at (table_of slots nexts first limit) p ≡ slice_index_or (rows_of slots most) p.slot None =
+        ap (λ b. cond b (slice_index_or (rows_of slots most) p.slot None) None) test in
+        let row : IsSome (option_map (with_children (run_in slots most p.slot))
+        (option_map core_of (entry_in (slice_index_or slots p.slot None)))) =
         subst (λ (o : Option (Row N)). IsSome o) (at ∙ row-is slots most p.slot) there in
-        ap children_in (at ∙ row-is slots most p.slot) ∙ children-there (run_in slots most p.slot) (option_map core_of (entry_in (slice_index_or slots p.slot None))) (core-some (run_in slots most p.slot) (option_map core_of (entry_in (slice_index_or slots p.slot None))) row)
+        ap children_in (at ∙ row-is slots most p.slot)
+        ∙ children-there (run_in slots most p.slot) (option_map core_of (entry_in (slice_index_or slots p.slot None)))
+        (core-some (run_in slots most p.slot) (option_map core_of (entry_in (slice_index_or slots p.slot None))) row)
 
     -- a list of children is no longer than may be
     pub runs_short : (i : ℕ) → length (run_in slots (given_count first nexts) i) ≤ given_count first nexts
     runs_short i = run_from-short (next_in slots) (given_count first nexts) (first_in slots i)
 
     -- a child is followed by its next sibling
-    pub next_shown : (t : Table N) → table_of slots nexts first limit ≡ t → (key : NodeKey) → IsSome (parent_at t key) → next_in slots key.slot ≡ next_key key (siblings_at t key)
-    next_shown t is key = subst (λ u. IsSome (parent_at u key) → next_in slots key.slot ≡ next_key key (siblings_at u key)) is (by_parent (parent_at (table_of slots nexts first limit) key) refl)
+    pub next_shown : (t : Table N) → table_of slots nexts first limit ≡ t → (key : NodeKey) → IsSome (parent_at t key) →
+        next_in slots key.slot ≡ next_key key (siblings_at t key)
+    next_shown t is key = subst (λ u. IsSome (parent_at u key) → next_in slots key.slot ≡ next_key key (siblings_at u key)) is
+        (by_parent (parent_at (table_of slots nexts first limit) key) refl)
       where
-        by_parent : (o : Option NodeKey) → parent_at (table_of slots nexts first limit) key ≡ o → IsSome o → next_in slots key.slot ≡ next_key key (option_map_or (children_at (table_of slots nexts first limit)) o [])
+        by_parent : (o : Option NodeKey) → parent_at (table_of slots nexts first limit) key ≡ o → IsSome o →
+            next_in slots key.slot ≡ next_key key (option_map_or (children_at (table_of slots nexts first limit)) o [])
         by_parent None above some = absurd (cc)
         by_parent (Some p) above some =
-            let keys : children_at (table_of slots nexts first limit) p ≡ run_in slots (given_count first nexts) p.slot = children_run p (parent-there (table_of slots nexts first limit) sound.forest p key above) in
-            run-next (next_in slots) (prev_in slots) key None (first_in slots p.slot) (run_in slots (given_count first nexts) p.slot) (last_in slots p.slot) (sound.chained p.slot)
+            let keys : children_at (table_of slots nexts first limit) p ≡ run_in slots (given_count first nexts) p.slot =
+            children_run p (parent-there (table_of slots nexts first limit) sound.forest p key above) in
+            run-next (next_in slots) (prev_in slots) key None (first_in slots p.slot) (run_in slots (given_count first nexts) p.slot)
+            (last_in slots p.slot) (sound.chained p.slot)
             (subst (λ ks. Contains ks key) keys ((sound.forest.linked p key).0 above))
             ∙ ap (next_key key) (sym keys)

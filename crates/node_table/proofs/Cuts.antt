@@ -40,16 +40,19 @@ module _ {N : Type 0} (old : List (Option (Slot N))) (nexts : List ℕ) (first c
     loosened-rows = edit-one old-rows key without_parent (slot-there before key there)
 
     -- the parent in the row of a slot
-    parent-in-row : (next : ℕ → Option NodeKey) (o : Option (Entry N)) → parent_in (option_map (row_of next most) o) ≡ link_in (λ (e : Entry N). e.parent) o
+    parent-in-row : (next : ℕ → Option NodeKey) (o : Option (Entry N)) →
+        parent_in (option_map (row_of next most) o) ≡ link_in (λ (e : Entry N). e.parent) o
     parent-in-row next None = refl
     parent-in-row next (Some e) = refl
 
     -- a key that is there has the row of its slot
     row-of-slot : (t : Table N) (k : NodeKey) → IsSome (row_at t k) → row_at t k ≡ slice_index_or t.rows k.slot None
-    row-of-slot t k some = ap (λ b. cond b (slice_index_or t.rows k.slot None) None) (eq-true (next_at t k.slot) (k.generation + 1) (next-there t k some))
+    row-of-slot t k some =
+        ap (λ b. cond b (slice_index_or t.rows k.slot None) None) (eq-true (next_at t k.slot) (k.generation + 1) (next-there t k some))
 
     pub had-parent : parent_at before key ≡ parent
-    had-parent = ap parent_in (row-of-slot before key there ∙ row-at old most key.slot) ∙ (parent-in-row (next_in old) (entry_in (slice_index_or old key.slot None)) ∙ sym was)
+    had-parent = ap parent_in (row-of-slot before key there ∙ row-at old most key.slot)
+        ∙ (parent-in-row (next_in old) (entry_in (slice_index_or old key.slot None)) ∙ sym was)
 
     half-row : (k : NodeKey) → row_at half k ≡ option_map (at_parent (Some key) without_parent k) (row_at before k)
     half-row k = edited-key old-rows mid-rows nexts first limit (Some key) without_parent loosened-rows there k
@@ -75,10 +78,12 @@ module _ {N : Type 0} (old : List (Option (Slot N))) (nexts : List ℕ) (first c
         after = table_of new nexts first limit
 
         whole-row : (k : NodeKey) → row_at after k ≡ option_map (at_parent parent (without_child key) k) (row_at half k)
-        whole-row k = edited-key mid-rows (rows_of new most) nexts first limit parent (without_child key) unlinked (parent-half parent refl) k
+        whole-row k = edited-key mid-rows (rows_of new most) nexts first limit parent (without_child key) unlinked (parent-half parent refl)
+            k
 
         not-own-parent : parent ≢ Some key
-        not-own-parent same = let lower : sound.forest.rank key < sound.forest.rank key = sound.forest.ranked key key (had-parent ∙ same) in absurd (omega arith)
+        not-own-parent same = let lower : sound.forest.rank key < sound.forest.rank key =
+            sound.forest.ranked key key (had-parent ∙ same) in absurd (omega arith)
 
         loose : row_at after key ≡ option_map without_parent (row_at before key)
         loose =
@@ -89,7 +94,8 @@ module _ {N : Type 0} (old : List (Option (Slot N))) (nexts : List ℕ) (first c
         others : (k : NodeKey) → k ≢ key → row_at after k ≡ option_map (at_parent parent (without_child key) k) (row_at before k)
         others k differ =
             whole-row k
-            ∙ ap (option_map (at_parent parent (without_child key) k)) (half-row k ∙ map-stranger (Some key) without_parent k (row_at before k) (λ same. differ (cc)))
+            ∙ ap (option_map (at_parent parent (without_child key) k)) (half-row k
+            ∙ map-stranger (Some key) without_parent k (row_at before k) (λ same. differ (cc)))
 
         same-children : (above : NodeKey) → children_at half above ≡ children_at before above
         same-children above = ap children_in (half-row above) ∙ map-down (Some key) without_parent above (row_at before above) (λ row. refl)
@@ -102,10 +108,12 @@ module _ {N : Type 0} (old : List (Option (Slot N))) (nexts : List ℕ) (first c
             (λ above is.
             ap children_in (whole-row above ∙ map-parent parent (without_child key) above (row_at half above) (sym had-parent ∙ is))
             ∙ children-without key (row_at half above) ∙ ap (without key) (same-children above))
-            (λ above away. ap children_in (whole-row above ∙ map-stranger parent (without_child key) above (row_at half above) (λ is. away (had-parent ∙ is))) ∙ same-children above)
+            (λ above away. ap children_in (whole-row above ∙ map-stranger parent (without_child key) above (row_at half above) (λ is.
+            away (had-parent ∙ is))) ∙ same-children above)
 
         count-kept : count_by is_some (rows_of new most) ≡ count_by is_some old-rows
-        count-kept = edited-count mid-rows (rows_of new most) parent (without_child key) unlinked ∙ edited-count old-rows mid-rows (Some key) without_parent loosened-rows
+        count-kept = edited-count mid-rows (rows_of new most) parent (without_child key) unlinked
+            ∙ edited-count old-rows mid-rows (Some key) without_parent loosened-rows
 
         row-kept : (i : ℕ) → is_some (slice_index_or (rows_of new most) i None) ≡ is_some (slice_index_or old-rows i None)
         row-kept i =
@@ -129,7 +137,8 @@ module _ {N : Type 0} (old : List (Option (Slot N))) (nexts : List ℕ) (first c
         cuts =
             record {
               loose = loose;
-              others = λ k differ. others k differ ∙ ap (λ (p : Option NodeKey). option_map (at_parent p (without_child key) k) (row_at before k)) (sym had-parent);
+              others = λ k differ. others k differ
+                  ∙ ap (λ (p : Option NodeKey). option_map (at_parent p (without_child key) k) (row_at before k)) (sym had-parent);
               keys = record { given = λ k. refl; nexts = λ slot. refl; limit = refl };
               len = count-kept;
             }

@@ -24,7 +24,8 @@ module _ {N : Type 0} (old mid : Slab (Slot N)) (nexts : List ℕ) (first count 
     -- a root leaves none
     pub root-cut : None ≡ parent_of old.slots key.slot → IsCut mid
     root-cut was =
-        let alike : (i : ℕ) → is_some (slice_index_or mid.slots i None) ≡ is_some (slice_index_or old.slots i None) = kinds old mid key.slot loosened edits in
+        let alike : (i : ℕ) → is_some (slice_index_or mid.slots i None) ≡ is_some (slice_index_or old.slots i None) =
+        kinds old mid key.slot loosened edits in
         let each = each-root old mid nexts first count limit key sound there edits was in
         let rows = rows-left old mid nexts first count limit key sound there edits None was mid (λ i. refl) each in
         let chained = chained-left old mid nexts first count limit key sound there edits None was mid (λ i. refl) each in (

@@ -46,24 +46,29 @@ module _ {X : Type 0} where
   ranked_below f most (x ∷ rest) = counts (is_some x) (f 0) most + ranked_below (λ slot. f (suc slot)) most rest
 
   -- a higher bound counts no fewer
-  ranked_below-more : (f : ℕ → ℕ) (most more : ℕ) (slots : List (Option X)) → most ≤ more → ranked_below f most slots ≤ ranked_below f more slots
+  ranked_below-more : (f : ℕ → ℕ) (most more : ℕ) (slots : List (Option X)) → most ≤ more →
+      ranked_below f most slots ≤ ranked_below f more slots
   ranked_below-more f most more [] le = omega arith
   ranked_below-more f most more (x ∷ rest) le =
       let head : counts (is_some x) (f 0) most ≤ counts (is_some x) (f 0) more = counts-more (is_some x) (f 0) most more le in
-      let tail : ranked_below (λ slot. f (suc slot)) most rest ≤ ranked_below (λ slot. f (suc slot)) more rest = ranked_below-more (λ slot. f (suc slot)) most more rest le in
+      let tail : ranked_below (λ slot. f (suc slot)) most rest ≤ ranked_below (λ slot. f (suc slot)) more rest =
+      ranked_below-more (λ slot. f (suc slot)) most more rest le in
       omega arith
 
   -- a taken slot that ranks between the bounds is counted by the higher one alone
-  pub ranked_below-rise : (f : ℕ → ℕ) (most more slot : ℕ) (slots : List (Option X)) → IsSome (slice_index_or slots slot None) → most ≤ f slot → f slot < more → ranked_below f most slots < ranked_below f more slots
+  pub ranked_below-rise : (f : ℕ → ℕ) (most more slot : ℕ) (slots : List (Option X)) → IsSome (slice_index_or slots slot None) →
+      most ≤ f slot → f slot < more → ranked_below f most slots < ranked_below f more slots
   ranked_below-rise f most more slot [] taken low high = absurd (cc)
   ranked_below-rise f most more zero (x ∷ rest) taken low high =
       let here : counts (is_some x) (f 0) more ≡ 1 = rw taken (counts-yes (f 0) more high) in
       let none : counts (is_some x) (f 0) most ≡ 0 = counts-no (is_some x) (f 0) most low in
-      let tail : ranked_below (λ slot. f (suc slot)) most rest ≤ ranked_below (λ slot. f (suc slot)) more rest = ranked_below-more (λ slot. f (suc slot)) most more rest (omega arith) in
+      let tail : ranked_below (λ slot. f (suc slot)) most rest ≤ ranked_below (λ slot. f (suc slot)) more rest =
+      ranked_below-more (λ slot. f (suc slot)) most more rest (omega arith) in
       omega arith
   ranked_below-rise f most more (suc slot) (x ∷ rest) taken low high =
       let head : counts (is_some x) (f 0) most ≤ counts (is_some x) (f 0) more = counts-more (is_some x) (f 0) most more (omega arith) in
-      let tail : ranked_below (λ slot. f (suc slot)) most rest < ranked_below (λ slot. f (suc slot)) more rest = ranked_below-rise (λ slot. f (suc slot)) most more slot rest taken low high in
+      let tail : ranked_below (λ slot. f (suc slot)) most rest < ranked_below (λ slot. f (suc slot)) more rest =
+      ranked_below-rise (λ slot. f (suc slot)) most more slot rest taken low high in
       omega arith
 
   -- no more are counted than are taken
@@ -71,13 +76,16 @@ module _ {X : Type 0} where
   ranked_below-all f most [] = omega arith
   ranked_below-all f most (x ∷ rest) =
       let head : counts (is_some x) (f 0) most ≤ cond (is_some x) 1 0 = counts-low (is_some x) (f 0) most in
-      let tail : ranked_below (λ slot. f (suc slot)) most rest ≤ count_by is_some rest = ranked_below-all (λ slot. f (suc slot)) most rest in
+      let tail : ranked_below (λ slot. f (suc slot)) most rest ≤ count_by is_some rest =
+      ranked_below-all (λ slot. f (suc slot)) most rest in
       rw (sum_by-cons (λ (o : Option X). cond (is_some o) 1 0) x rest) (omega arith)
 
   -- a taken slot that ranks no lower than the bound is not counted
-  pub ranked_below-some : (f : ℕ → ℕ) (most slot : ℕ) (slots : List (Option X)) → IsSome (slice_index_or slots slot None) → most ≤ f slot → ranked_below f most slots < count_by is_some slots
+  pub ranked_below-some : (f : ℕ → ℕ) (most slot : ℕ) (slots : List (Option X)) → IsSome (slice_index_or slots slot None) → most ≤ f slot →
+      ranked_below f most slots < count_by is_some slots
   ranked_below-some f most slot slots taken low =
-      let rise : ranked_below f most slots < ranked_below f (suc (f slot)) slots = ranked_below-rise f most (suc (f slot)) slot slots taken low (omega arith) in
+      let rise : ranked_below f most slots < ranked_below f (suc (f slot)) slots =
+      ranked_below-rise f most (suc (f slot)) slot slots taken low (omega arith) in
       let all : ranked_below f (suc (f slot)) slots ≤ count_by is_some slots = ranked_below-all f (suc (f slot)) slots in
       omega arith
 
@@ -111,7 +119,9 @@ none-then false o none = refl
 module _ {N : Type 0} where
   -- a key that is there is the last that its slot gave
   pub next-there : (t : Table N) (key : NodeKey) → IsSome (row_at t key) → next_at t key.slot ≡ key.generation + 1
-  next-there t key there = true-eq (next_at t key.slot) (key.generation + 1) (then-row (next_at t key.slot == key.generation + 1) (slice_index_or t.rows key.slot None) there)
+  next-there t key there =
+      true-eq (next_at t key.slot) (key.generation + 1) (then-row (next_at t key.slot == key.generation + 1) (slice_index_or t.rows key.slot
+      None) there)
 
   -- a key that is there has its slot taken
   pub slot-there : (t : Table N) (key : NodeKey) → IsSome (row_at t key) → IsSome (slice_index_or t.rows key.slot None)
@@ -156,7 +166,8 @@ module _ {N : Type 0} (t : Table N) (links : IsLinked (parent_at t) (children_at
       let there : IsSome (row_at t parent) = parent-there parent key above in
       let same : slot_rank parent.slot ≡ links.rank parent = slot_rank-there parent there in
       let lower : links.rank parent < links.rank key = links.ranked parent key above in
-      ranked_below-rise slot_rank (links.rank parent) (links.rank key) parent.slot t.rows (slot-there t parent there) (omega arith) (omega arith)
+      ranked_below-rise slot_rank (links.rank parent) (links.rank key) parent.slot t.rows (slot-there t parent there) (omega arith)
+      (omega arith)
 
   -- a count of parents that may go on longer stays the same
   steady : (most : ℕ) (key : NodeKey) → nodes_below (links.rank key) ≤ most → parents_above t (suc most) key ≡ parents_above t most key
@@ -167,7 +178,8 @@ module _ {N : Type 0} (t : Table N) (links : IsLinked (parent_at t) (children_at
       by_parent (Some parent) above = absurd (omega (arith, fewer-above parent key above))
   steady (suc most) key few = by_parent (steady most) (parent_at t key) refl
     where
-      by_parent : ((k : NodeKey) → nodes_below (links.rank k) ≤ most → parents_above t (suc most) k ≡ parents_above t most k) → (o : Option NodeKey) → parent_at t key ≡ o → parents_above t (suc (suc most)) key ≡ parents_above t (suc most) key
+      by_parent : ((k : NodeKey) → nodes_below (links.rank k) ≤ most → parents_above t (suc most) k ≡ parents_above t most k) →
+          (o : Option NodeKey) → parent_at t key ≡ o → parents_above t (suc (suc most)) key ≡ parents_above t (suc most) key
       by_parent shorter None above = rw above refl
       by_parent shorter (Some parent) above =
           let fewer : nodes_below (links.rank parent) < nodes_below (links.rank key) = fewer-above parent key above in
@@ -178,7 +190,8 @@ module _ {N : Type 0} (t : Table N) (links : IsLinked (parent_at t) (children_at
   few_above zero key = omega arith
   few_above (suc most) key = by_parent (few_above most) (parent_at t key) refl
     where
-      by_parent : ((k : NodeKey) → parents_above t most k ≤ nodes_below (links.rank k)) → (o : Option NodeKey) → parent_at t key ≡ o → parents_above t (suc most) key ≤ nodes_below (links.rank key)
+      by_parent : ((k : NodeKey) → parents_above t most k ≤ nodes_below (links.rank k)) → (o : Option NodeKey) → parent_at t key ≡ o →
+          parents_above t (suc most) key ≤ nodes_below (links.rank key)
       by_parent shorter None above = rw above (omega arith)
       by_parent shorter (Some parent) above =
           let up : parents_above t most parent ≤ nodes_below (links.rank parent) = shorter parent in
@@ -190,7 +203,8 @@ module _ {N : Type 0} (t : Table N) (links : IsLinked (parent_at t) (children_at
   shallow key there =
       let up : depth_at t key ≤ nodes_below (links.rank key) = few_above (length t.rows) key in
       let same : slot_rank key.slot ≡ links.rank key = slot_rank-there key there in
-      let some : nodes_below (links.rank key) < table_len t = ranked_below-some slot_rank (links.rank key) key.slot t.rows (slot-there t key there) (omega arith) in
+      let some : nodes_below (links.rank key) < table_len t =
+      ranked_below-some slot_rank (links.rank key) key.slot t.rows (slot-there t key there) (omega arith) in
       omega arith
 
   -- a node lies one step below its parent
@@ -201,7 +215,8 @@ module _ {N : Type 0} (t : Table N) (links : IsLinked (parent_at t) (children_at
       fewer = fewer-above parent key above
 
       bound : nodes_below (links.rank key) ≤ length t.rows
-      bound = let all : nodes_below (links.rank key) ≤ table_len t = ranked_below-all slot_rank (links.rank key) t.rows in let most : table_len t ≤ length t.rows = count-length t.rows in omega arith
+      bound = let all : nodes_below (links.rank key) ≤ table_len t =
+          ranked_below-all slot_rank (links.rank key) t.rows in let most : table_len t ≤ length t.rows = count-length t.rows in omega arith
 
       by_length : (most : ℕ) → length t.rows ≡ most → parents_above t most key ≡ parents_above t most parent + 1
       by_length zero same = absurd (omega (arith, fewer, bound))

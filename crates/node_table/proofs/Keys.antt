@@ -41,7 +41,9 @@ same_key-true a b same =
 pub same_key-false : (a b : NodeKey) → a ≢ b → same_key a b ≡ false
 same_key-false a b differ =
     elim (cases_eq a.slot b.slot) [
-      | inl slots ↦ rw (eq-true a.slot b.slot slots, eq-false a.generation b.generation (λ generations. differ (same-fields a b slots generations))) refl
+      | inl slots ↦
+          rw (eq-true a.slot b.slot slots, eq-false a.generation b.generation (λ generations. differ (same-fields a b slots generations)))
+          refl
       | inr slots ↦ rw (eq-false a.slot b.slot slots) refl
     ]
 

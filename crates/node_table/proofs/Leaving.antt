@@ -18,12 +18,14 @@ use Rattle.node_table.proofs.Cuts.{had-parent, mid-rows, loosened-rows}
 use Rattle.node_table.proofs.Chains.{row-is, rows_are, chained_so, member, member-there, one_key, owner, runs_short, children_run}
 
 -- a link whose key lies elsewhere is not put in place
-pub at_key-away : (o : Option NodeKey) (link : Option NodeKey) (i : ℕ) (old : Option NodeKey) → ((y : NodeKey) → o ≡ Some y → y.slot ≢ i) → at_key o link i old ≡ old
+pub at_key-away : (o : Option NodeKey) (link : Option NodeKey) (i : ℕ) (old : Option NodeKey) → ((y : NodeKey) → o ≡ Some y → y.slot ≢ i) →
+    at_key o link i old ≡ old
 at_key-away None link i old away = refl
 at_key-away (Some y) link i old away = ap (λ b. cond b link old) (eq-false y.slot i (away y refl))
 
 -- a link whose key lies here is
-pub at_key-here : (o : Option NodeKey) (link : Option NodeKey) (i : ℕ) (old : Option NodeKey) (y : NodeKey) → o ≡ Some y → y.slot ≡ i → at_key o link i old ≡ link
+pub at_key-here : (o : Option NodeKey) (link : Option NodeKey) (i : ℕ) (old : Option NodeKey) (y : NodeKey) → o ≡ Some y → y.slot ≡ i →
+    at_key o link i old ≡ link
 at_key-here o link i old y is at = ap (λ p. at_key p link i old) is ∙ ap (λ b. cond b link old) (eq-true y.slot i at)
 
 -- only where there is no sibling the parent is
@@ -52,12 +54,14 @@ module _ {N : Type 0} (old mid : Slab (Slot N)) (nexts : List ℕ) (first count 
     mid-next : (x : NodeKey) (i : ℕ) → Contains (run i) x → x ≢ key → next_in mid.slots x.slot ≡ next_in old.slots x.slot
     mid-next x i child differ =
         ap (λ o. link_in (λ (e : Entry N). e.next) (entry_in o)) (there old mid key.slot loosened edits x.slot
-        (λ at. differ (one_key old.slots nexts first count limit sound x key (member-there old.slots nexts first count limit sound i x child) in_table at)))
+        (λ at. differ (one_key old.slots nexts first count limit sound x key (member-there old.slots nexts first count limit sound i x
+        child) in_table at)))
 
     mid-prev : (x : NodeKey) (i : ℕ) → Contains (run i) x → x ≢ key → prev_in mid.slots x.slot ≡ prev_in old.slots x.slot
     mid-prev x i child differ =
         ap (λ o. link_in (λ (e : Entry N). e.prev) (entry_in o)) (there old mid key.slot loosened edits x.slot
-        (λ at. differ (one_key old.slots nexts first count limit sound x key (member-there old.slots nexts first count limit sound i x child) in_table at)))
+        (λ at. differ (one_key old.slots nexts first count limit sound x key (member-there old.slots nexts first count limit sound i x
+        child) in_table at)))
 
     mid-first : (i : ℕ) → first_in mid.slots i ≡ first_in old.slots i
     mid-first = part-kept old mid key.slot loosened edits (link_in (λ (e : Entry N). e.first)) (λ e. refl)
@@ -65,50 +69,65 @@ module _ {N : Type 0} (old mid : Slab (Slot N)) (nexts : List ℕ) (first count 
     mid-last : (i : ℕ) → last_in mid.slots i ≡ last_in old.slots i
     mid-last = part-kept old mid key.slot loosened edits (link_in (λ (e : Entry N). e.last)) (λ e. refl)
 
-    mid-core : (i : ℕ) → option_map core_of (entry_in (get mid i)) ≡ option_map (at_slot (Some key) without_parent i) (option_map core_of (entry_in (get old i)))
+    mid-core : (i : ℕ) → option_map core_of (entry_in (get mid i)) ≡ option_map (at_slot (Some key) without_parent i)
+        (option_map core_of (entry_in (get old i)))
     mid-core i =
         elim (cases_eq i key.slot) [
           | inl same ↦
               ap (λ j. option_map core_of (entry_in (get mid j))) same
               ∙ (ap (λ o. option_map core_of (entry_in o)) (here old mid key.slot loosened edits)
-              ∙ (sym (ap (λ b. Some (if b then without_parent (core_of edits.before) else core_of edits.before)) (eq-true key.slot key.slot refl))
+              ∙ (sym (ap (λ b. Some (if b then without_parent (core_of edits.before) else core_of edits.before))
+              (eq-true key.slot key.slot refl))
               ∙ (sym (ap (λ o. option_map (at_slot (Some key) without_parent key.slot) (option_map core_of (entry_in o))) edits.was)
               ∙ ap (λ j. option_map (at_slot (Some key) without_parent j) (option_map core_of (entry_in (get old j)))) (sym same))))
           | inr differ ↦
               ap (λ o. option_map core_of (entry_in o)) (there old mid key.slot loosened edits i differ)
-              ∙ sym (option_map-keeps (at_slot (Some key) without_parent i) (λ (row : Row N). ap (λ b. if b then without_parent row else row) (eq-false key.slot i (λ same. differ (sym same)))) (option_map core_of (entry_in (get old i))))
+              ∙ sym (option_map-keeps (at_slot (Some key) without_parent i) (λ (row : Row N).
+              ap (λ b. if b then without_parent row else row) (eq-false key.slot i (λ same. differ (sym same))))
+              (option_map core_of (entry_in (get old i))))
         ]
 
     -- the children of a row change before or after its parent goes
-    children-under : (b : Bool) (keys : List NodeKey) (o : Option (Row N)) → option_map (with_children keys) (option_map (λ (row : Row N). if b then without_parent row else row) o) ≡ option_map (λ (row : Row N). if b then without_parent row else row) (option_map (with_children keys) o)
+    children-under : (b : Bool) (keys : List NodeKey) (o : Option (Row N)) →
+        option_map (with_children keys) (option_map (λ (row : Row N). if b then without_parent row else row) o) ≡ option_map
+        (λ (row : Row N). if b then without_parent row else row) (option_map (with_children keys) o)
     children-under true keys None = refl
     children-under true keys (Some row) = refl
     children-under false keys None = refl
     children-under false keys (Some row) = refl
 
     -- the list without the key, where the parent lies, and elsewhere the list, which does not have it
-    drops : (parent : Option NodeKey) (i : ℕ) (keys : List NodeKey) (o : Option (Row N)) → (((p : NodeKey) → parent ≡ Some p → p.slot ≢ i) → without key keys ≡ keys) → option_map (with_children (without key keys)) o ≡ option_map (at_slot parent (without_child key) i) (option_map (with_children keys) o)
+    drops : (parent : Option NodeKey) (i : ℕ) (keys : List NodeKey) (o : Option (Row N)) → (((p : NodeKey) → parent ≡ Some p → p.slot ≢ i) →
+        without key keys ≡ keys) → option_map (with_children (without key keys)) o ≡ option_map (at_slot parent (without_child key) i)
+        (option_map (with_children keys) o)
     drops parent i keys None stays = refl
     drops None i keys (Some row) stays = ap (λ (ks : List NodeKey). Some (with_children ks row)) (stays (λ p is. absurd (cc)))
     drops (Some p) i keys (Some row) stays =
         elim (cases_eq p.slot i) [
-          | inl same ↦ sym (ap (λ b. Some (if b then without_child key (with_children keys row) else with_children keys row)) (eq-true p.slot i same))
+          | inl same ↦
+              sym (ap (λ b. Some (if b then without_child key (with_children keys row) else with_children keys row))
+              (eq-true p.slot i same))
           | inr differ ↦
-              ap (λ (ks : List NodeKey). Some (with_children ks row)) (stays (λ q is. let both : Some p ≡ Some q = is in let it : p ≡ q = cc in λ at. differ (ap (λ (k : NodeKey). k.slot) it ∙ at)))
-              ∙ sym (ap (λ b. Some (if b then without_child key (with_children keys row) else with_children keys row)) (eq-false p.slot i differ))
+              ap (λ (ks : List NodeKey). Some (with_children ks row)) (stays (λ q is. let both : Some p ≡ Some q = is in let it : p ≡ q =
+              cc in λ at. differ (ap (λ (k : NodeKey). k.slot) it ∙ at)))
+              ∙ sym (ap (λ b. Some (if b then without_child key (with_children keys row) else with_children keys row))
+              (eq-false p.slot i differ))
         ]
 
     module _ (parent : Option NodeKey) (was : parent ≡ parent_of old.slots key.slot) where
       -- the key is a child of its parent alone
       no_child_elsewhere : (i : ℕ) → ((p : NodeKey) → parent ≡ Some p → p.slot ≢ i) → Contains (run i) key → ⊥
       no_child_elsewhere i away child =
-          let up : parent_at (table_of old.slots nexts first limit) key ≡ Some (owner old.slots nexts first count limit sound i) = member old.slots nexts first count limit sound i key child in
-          let is : parent ≡ Some (owner old.slots nexts first count limit sound i) = sym (had-parent old.slots nexts first count limit parent key sound in_table was) ∙ up in
+          let up : parent_at (table_of old.slots nexts first limit) key ≡ Some (owner old.slots nexts first count limit sound i) =
+          member old.slots nexts first count limit sound i key child in
+          let is : parent ≡ Some (owner old.slots nexts first count limit sound i) =
+          sym (had-parent old.slots nexts first count limit parent key sound in_table was) ∙ up in
           away (owner old.slots nexts first count limit sound i) is refl
 
       module _ (new : Slab (Slot N))
           (cores : (i : ℕ) → option_map core_of (entry_in (get new i)) ≡ option_map core_of (entry_in (get mid i)))
-          (each : (i : ℕ) → IsRun (next_in new.slots) (prev_in new.slots) None (first_in new.slots i) (without key (run i)) (last_in new.slots i))
+          (each : (i : ℕ) → IsRun (next_in new.slots) (prev_in new.slots) None (first_in new.slots i) (without key (run i))
+          (last_in new.slots i))
         where
           short : (i : ℕ) → length (without key (run i)) ≤ most
           short i =
@@ -116,28 +135,35 @@ module _ {N : Type 0} (old mid : Slab (Slot N)) (nexts : List ℕ) (first count 
               let most_run : length (run i) ≤ most = runs_short old.slots nexts first count limit sound i in
               omega arith
 
-          pub chained-left : (i : ℕ) → IsRun (next_in new.slots) (prev_in new.slots) None (first_in new.slots i) (run_in new.slots most i) (last_in new.slots i)
+          pub chained-left : (i : ℕ) → IsRun (next_in new.slots) (prev_in new.slots) None (first_in new.slots i) (run_in new.slots most i)
+              (last_in new.slots i)
           chained-left = chained_so new.slots most (λ i. without key (run i)) each short
 
-          pub rows-left : EditsRows (mid-rows old.slots nexts first count limit parent key sound in_table was) (rows_of new.slots most) parent (without_child key)
+          pub rows-left : EditsRows (mid-rows old.slots nexts first count limit parent key sound in_table was) (rows_of new.slots most)
+              parent (without_child key)
           rows-left i =
               rows_are new.slots most (λ j. without key (run j)) each short i
               ∙ (ap (option_map (with_children (without key (run i)))) (cores i ∙ mid-core i)
-              ∙ (drops parent i (run i) (option_map (at_slot (Some key) without_parent i) (option_map core_of (entry_in (get old i)))) (λ away. without_stranger key (run i) (no_child_elsewhere i away))
-              ∙ ap (option_map (at_slot parent (without_child key) i)) (children-under (key.slot == i) (run i) (option_map core_of (entry_in (get old i)))
+              ∙ (drops parent i (run i) (option_map (at_slot (Some key) without_parent i) (option_map core_of (entry_in (get old i))))
+              (λ away. without_stranger key (run i) (no_child_elsewhere i away))
+              ∙ ap (option_map (at_slot parent (without_child key) i)) (children-under (key.slot == i) (run i)
+              (option_map core_of (entry_in (get old i)))
               ∙ (ap (option_map (at_slot (Some key) without_parent i)) (sym (row-is old.slots most i))
               ∙ sym (loosened-rows old.slots nexts first count limit parent key sound in_table was i)))))
 
     -- a root is in no list, so all lists stay
     module _ (was : None ≡ parent_of old.slots key.slot) where
-      pub each-root : (i : ℕ) → IsRun (next_in mid.slots) (prev_in mid.slots) None (first_in mid.slots i) (without key (run i)) (last_in mid.slots i)
+      pub each-root : (i : ℕ) → IsRun (next_in mid.slots) (prev_in mid.slots) None (first_in mid.slots i) (without key (run i))
+          (last_in mid.slots i)
       each-root i =
           let off : Contains (run i) key → ⊥ = no_child_elsewhere None was i (λ p is. absurd (cc)) in
           let apart : (x : NodeKey) → Contains (run i) x → x ≢ key = λ x child is. off (subst (λ k. Contains (run i) k) is child) in
-          subst (λ ks. IsRun (next_in mid.slots) (prev_in mid.slots) None (first_in mid.slots i) ks (last_in mid.slots i)) (sym (without_stranger key (run i) off))
+          subst (λ ks. IsRun (next_in mid.slots) (prev_in mid.slots) None (first_in mid.slots i) ks (last_in mid.slots i))
+          (sym (without_stranger key (run i) off))
           (subst (λ o. IsRun (next_in mid.slots) (prev_in mid.slots) None o (run i) (last_in mid.slots i)) (sym (mid-first i))
           (subst (λ o. IsRun (next_in mid.slots) (prev_in mid.slots) None (first_in old.slots i) (run i) o) (sym (mid-last i))
-          (run-frame (next_in old.slots) (prev_in old.slots) (next_in mid.slots) (prev_in mid.slots) None (first_in old.slots i) (run i) (last_in old.slots i)
+          (run-frame (next_in old.slots) (prev_in old.slots) (next_in mid.slots) (prev_in mid.slots) None (first_in old.slots i) (run i)
+          (last_in old.slots i)
           (λ x child. mid-next x i child (apart x child)) (λ x child. mid-prev x i child (apart x child)) (sound.chained i))))
 
     -- a child is in its parent's list
@@ -160,17 +186,21 @@ module _ {N : Type 0} (old mid : Slab (Slot N)) (nexts : List ℕ) (first count 
       -- its neighbours are in that list too
       prev-in : (x : NodeKey) → before_key ≡ Some x → Contains (run above.slot) x × (next_in old.slots x.slot ≡ Some key)
       prev-in x is =
-          elim (run-back (next_in old.slots) (prev_in old.slots) None (first_in old.slots above.slot) (run above.slot) (last_in old.slots above.slot) key x (sound.chained above.slot) child is) [
+          elim (run-back (next_in old.slots) (prev_in old.slots) None (first_in old.slots above.slot) (run above.slot)
+          (last_in old.slots above.slot) key x (sound.chained above.slot) child is) [
             | inl none ↦ let no : None ≡ Some x = none.0 in absurd (cc)
             | inr found ↦ found
           ]
 
       next-in : (x : NodeKey) → after_key ≡ Some x → Contains (run above.slot) x × (prev_in old.slots x.slot ≡ Some key)
-      next-in x is = run-on (next_in old.slots) (prev_in old.slots) None (first_in old.slots above.slot) (run above.slot) (last_in old.slots above.slot) key x (sound.chained above.slot) child is
+      next-in x is = run-on (next_in old.slots) (prev_in old.slots) None (first_in old.slots above.slot) (run above.slot)
+          (last_in old.slots above.slot) key x (sound.chained above.slot) child is
 
       -- the parent and the neighbours have entries, in the end as before
       entry-of : (x : NodeKey) → Contains (run above.slot) x → HasEntry mid x.slot
-      entry-of x in_run = has old mid key.slot loosened edits x.slot (entry-there old.slots nexts first limit x (member-there old.slots nexts first count limit sound above.slot x in_run))
+      entry-of x in_run =
+          has old mid key.slot loosened edits x.slot (entry-there old.slots nexts first limit x (member-there old.slots nexts first count
+          limit sound above.slot x in_run))
 
       pub parent-entry : HasEntry mid above.slot
       parent-entry = has old mid key.slot loosened edits above.slot (entry-there old.slots nexts first limit above above-there)
@@ -186,82 +216,106 @@ module _ {N : Type 0} (old mid : Slab (Slot N)) (nexts : List ℕ) (first count 
       module _ (new : Slab (Slot N)) (joins : Joins mid new above before_key after_key) where
         -- keys of two lists that are one key
         one : (x y : NodeKey) (i j : ℕ) → Contains (run i) x → Contains (run j) y → x.slot ≡ y.slot → x ≡ y
-        one x y i j in_i in_j = one_key old.slots nexts first count limit sound x y (member-there old.slots nexts first count limit sound i x in_i) (member-there old.slots nexts first count limit sound j y in_j)
+        one x y i j in_i in_j =
+            one_key old.slots nexts first count limit sound x y (member-there old.slots nexts first count limit sound i x in_i)
+            (member-there old.slots nexts first count limit sound j y in_j)
 
-        nexts-kept : (i : ℕ) (x : NodeKey) → Contains (run i) x → before_key ≢ Some x → x ≢ key → next_in new.slots x.slot ≡ next_in old.slots x.slot
+        nexts-kept : (i : ℕ) (x : NodeKey) → Contains (run i) x → before_key ≢ Some x → x ≢ key →
+            next_in new.slots x.slot ≡ next_in old.slots x.slot
         nexts-kept i x in_i off apart =
             joins.nexts x.slot
-            ∙ (at_key-away before_key after_key x.slot (next_in mid.slots x.slot) (λ y is at. off (is ∙ ap Some (one y x above.slot i (prev-in y is).0 in_i at)))
+            ∙ (at_key-away before_key after_key x.slot (next_in mid.slots x.slot) (λ y is at.
+            off (is ∙ ap Some (one y x above.slot i (prev-in y is).0 in_i at)))
             ∙ mid-next x i in_i apart)
 
-        prevs-kept : (i : ℕ) (x : NodeKey) → Contains (run i) x → after_key ≢ Some x → x ≢ key → prev_in new.slots x.slot ≡ prev_in old.slots x.slot
+        prevs-kept : (i : ℕ) (x : NodeKey) → Contains (run i) x → after_key ≢ Some x → x ≢ key →
+            prev_in new.slots x.slot ≡ prev_in old.slots x.slot
         prevs-kept i x in_i off apart =
             joins.prevs x.slot
-            ∙ (at_key-away after_key before_key x.slot (prev_in mid.slots x.slot) (λ y is at. off (is ∙ ap Some (one y x above.slot i (next-in y is).0 in_i at)))
+            ∙ (at_key-away after_key before_key x.slot (prev_in mid.slots x.slot) (λ y is at.
+            off (is ∙ ap Some (one y x above.slot i (next-in y is).0 in_i at)))
             ∙ mid-prev x i in_i apart)
 
         -- two slots that list one key are one
         one_list : (i : ℕ) (x : NodeKey) → Contains (run i) x → Contains (run above.slot) x → i ≡ above.slot
         one_list i x in_i in_above =
-            let here_up : parent_at (table_of old.slots nexts first limit) x ≡ Some (owner old.slots nexts first count limit sound i) = member old.slots nexts first count limit sound i x in_i in
-            let there_up : parent_at (table_of old.slots nexts first limit) x ≡ Some (owner old.slots nexts first count limit sound above.slot) = member old.slots nexts first count limit sound above.slot x in_above in
-            let both : Some (owner old.slots nexts first count limit sound i) ≡ Some (owner old.slots nexts first count limit sound above.slot) = sym here_up ∙ there_up in
+            let here_up : parent_at (table_of old.slots nexts first limit) x ≡ Some (owner old.slots nexts first count limit sound i) =
+            member old.slots nexts first count limit sound i x in_i in
+            let there_up : parent_at (table_of old.slots nexts first limit) x ≡ Some (owner old.slots nexts first count limit sound
+            above.slot) = member old.slots nexts first count limit sound above.slot x in_above in
+            let both : Some (owner old.slots nexts first count limit sound i) ≡ Some (owner old.slots nexts first count limit sound
+            above.slot) = sym here_up ∙ there_up in
             let same : owner old.slots nexts first count limit sound i ≡ owner old.slots nexts first count limit sound above.slot = cc in
             ap (λ (k : NodeKey). k.slot) same
 
         -- the ends of the parent's list
         begins : first_in old.slots above.slot ≡ Some key → first_in new.slots above.slot ≡ after_key
         begins is =
-            let none : before_key ≡ None = run-before (next_in old.slots) (prev_in old.slots) None (first_in old.slots above.slot) (run above.slot) (last_in old.slots above.slot) key (sound.chained above.slot) is in
-            joins.firsts above.slot ∙ at_key-here (unless before_key (Some above)) after_key above.slot (first_in mid.slots above.slot) above (ap (λ o. unless o (Some above)) none) refl
+            let none : before_key ≡ None = run-before (next_in old.slots) (prev_in old.slots) None (first_in old.slots above.slot)
+            (run above.slot) (last_in old.slots above.slot) key (sound.chained above.slot) is in
+            joins.firsts above.slot ∙ at_key-here (unless before_key (Some above)) after_key above.slot (first_in mid.slots above.slot)
+            above (ap (λ o. unless o (Some above)) none) refl
 
         begins-else : first_in old.slots above.slot ≢ Some key → first_in new.slots above.slot ≡ first_in old.slots above.slot
         begins-else off =
             joins.firsts above.slot
             ∙ (at_key-away (unless before_key (Some above)) after_key above.slot (first_in mid.slots above.slot)
-            (λ y is at. off (run-starts (next_in old.slots) (prev_in old.slots) None (first_in old.slots above.slot) (run above.slot) (last_in old.slots above.slot) key (sound.chained above.slot) child (unless-is before_key above y is).0))
+            (λ y is at. off (run-starts (next_in old.slots) (prev_in old.slots) None (first_in old.slots above.slot) (run above.slot)
+            (last_in old.slots above.slot) key (sound.chained above.slot) child (unless-is before_key above y is).0))
             ∙ mid-first above.slot)
 
         ends : last_in old.slots above.slot ≡ Some key → last_in new.slots above.slot ≡ before_key
         ends is =
-            let none : after_key ≡ None = run-last_ends (next_in old.slots) (prev_in old.slots) None (first_in old.slots above.slot) (run above.slot) (last_in old.slots above.slot) key (sound.chained above.slot) child is in
-            joins.lasts above.slot ∙ at_key-here (unless after_key (Some above)) before_key above.slot (last_in mid.slots above.slot) above (ap (λ o. unless o (Some above)) none) refl
+            let none : after_key ≡ None = run-last_ends (next_in old.slots) (prev_in old.slots) None (first_in old.slots above.slot)
+            (run above.slot) (last_in old.slots above.slot) key (sound.chained above.slot) child is in
+            joins.lasts above.slot ∙ at_key-here (unless after_key (Some above)) before_key above.slot (last_in mid.slots above.slot) above
+            (ap (λ o. unless o (Some above)) none) refl
 
         ends-else : last_in old.slots above.slot ≢ Some key → last_in new.slots above.slot ≡ last_in old.slots above.slot
         ends-else off =
             joins.lasts above.slot
             ∙ (at_key-away (unless after_key (Some above)) before_key above.slot (last_in mid.slots above.slot)
-            (λ y is at. off (run-stops (next_in old.slots) (prev_in old.slots) None (first_in old.slots above.slot) (run above.slot) (last_in old.slots above.slot) key (sound.chained above.slot) child (unless-is after_key above y is).0))
+            (λ y is at. off (run-stops (next_in old.slots) (prev_in old.slots) None (first_in old.slots above.slot) (run above.slot)
+            (last_in old.slots above.slot) key (sound.chained above.slot) child (unless-is after_key above y is).0))
             ∙ mid-last above.slot)
 
         -- the parent's list loses the key
-        each-parent : IsRun (next_in new.slots) (prev_in new.slots) None (first_in new.slots above.slot) (without key (run above.slot)) (last_in new.slots above.slot)
+        each-parent : IsRun (next_in new.slots) (prev_in new.slots) None (first_in new.slots above.slot) (without key (run above.slot))
+            (last_in new.slots above.slot)
         each-parent =
             run-cut (next_in old.slots) (prev_in old.slots) (next_in new.slots) (prev_in new.slots) key
             (λ x is. joins.nexts x.slot ∙ at_key-here before_key after_key x.slot (next_in mid.slots x.slot) x is refl)
             (λ x is. joins.prevs x.slot ∙ at_key-here after_key before_key x.slot (prev_in mid.slots x.slot) x is refl)
             (λ x is. (prev-in x is).1)
             (λ x is. (next-in x is).1)
-            None (first_in old.slots above.slot) (first_in new.slots above.slot) (run above.slot) (last_in old.slots above.slot) (last_in new.slots above.slot)
+            None (first_in old.slots above.slot) (first_in new.slots above.slot) (run above.slot) (last_in old.slots above.slot)
+            (last_in new.slots above.slot)
             (sound.chained above.slot) differ child (λ is. absurd (cc))
             (nexts-kept above.slot) (prevs-kept above.slot) begins begins-else ends ends-else
 
         -- and every other list stays
-        pub each-joined : (i : ℕ) → IsRun (next_in new.slots) (prev_in new.slots) None (first_in new.slots i) (without key (run i)) (last_in new.slots i)
+        pub each-joined : (i : ℕ) → IsRun (next_in new.slots) (prev_in new.slots) None (first_in new.slots i) (without key (run i))
+            (last_in new.slots i)
         each-joined i =
             elim (cases_eq i above.slot) [
-              | inl same ↦ subst (λ j. IsRun (next_in new.slots) (prev_in new.slots) None (first_in new.slots j) (without key (run j)) (last_in new.slots j)) (sym same) each-parent
+              | inl same ↦
+                  subst (λ j. IsRun (next_in new.slots) (prev_in new.slots) None (first_in new.slots j) (without key (run j))
+                  (last_in new.slots j)) (sym same) each-parent
               | inr away ↦
                   let off : Contains (run i) key → ⊥ = λ in_i. away (one_list i key in_i child) in
                   let apart : (x : NodeKey) → Contains (run i) x → x ≢ key = λ x in_i is. off (subst (λ k. Contains (run i) k) is in_i) in
                   let same_first : first_in new.slots i ≡ first_in old.slots i =
-                  joins.firsts i ∙ (at_key-away (unless before_key (Some above)) after_key i (first_in mid.slots i) (λ y is at. away (sym (ap (λ (k : NodeKey). k.slot) (unless-is before_key above y is).1 ∙ at))) ∙ mid-first i) in
+                  joins.firsts i ∙ (at_key-away (unless before_key (Some above)) after_key i (first_in mid.slots i) (λ y is at.
+                  away (sym (ap (λ (k : NodeKey). k.slot) (unless-is before_key above y is).1 ∙ at))) ∙ mid-first i) in
                   let same_last : last_in new.slots i ≡ last_in old.slots i =
-                  joins.lasts i ∙ (at_key-away (unless after_key (Some above)) before_key i (last_in mid.slots i) (λ y is at. away (sym (ap (λ (k : NodeKey). k.slot) (unless-is after_key above y is).1 ∙ at))) ∙ mid-last i) in
-                  subst (λ ks. IsRun (next_in new.slots) (prev_in new.slots) None (first_in new.slots i) ks (last_in new.slots i)) (sym (without_stranger key (run i) off))
+                  joins.lasts i ∙ (at_key-away (unless after_key (Some above)) before_key i (last_in mid.slots i) (λ y is at.
+                  away (sym (ap (λ (k : NodeKey). k.slot) (unless-is after_key above y is).1 ∙ at))) ∙ mid-last i) in
+                  subst (λ ks. IsRun (next_in new.slots) (prev_in new.slots) None (first_in new.slots i) ks (last_in new.slots i))
+                  (sym (without_stranger key (run i) off))
                   (subst (λ o. IsRun (next_in new.slots) (prev_in new.slots) None o (run i) (last_in new.slots i)) (sym same_first)
                   (subst (λ o. IsRun (next_in new.slots) (prev_in new.slots) None (first_in old.slots i) (run i) o) (sym same_last)
-                  (run-frame (next_in old.slots) (prev_in old.slots) (next_in new.slots) (prev_in new.slots) None (first_in old.slots i) (run i) (last_in old.slots i)
+                  (run-frame (next_in old.slots) (prev_in old.slots) (next_in new.slots) (prev_in new.slots) None (first_in old.slots i)
+                  (run i) (last_in old.slots i)
                   (λ x in_i. nexts-kept i x in_i (λ is. away (one_list i x in_i (prev-in x is).0)) (apart x in_i))
                   (λ x in_i. prevs-kept i x in_i (λ is. away (one_list i x in_i (next-in x is).0)) (apart x in_i))
                   (sound.chained i))))

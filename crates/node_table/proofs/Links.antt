@@ -6,7 +6,8 @@ use Rattle.node_table.proofs.Keys.{key_cases}
 use Rattle.node_table.proofs.Parents.{parent_cases}
 use Rattle.node_table.proofs.Lists.{AllDiffer, without, AllDiffer-push, AllDiffer-without, Contains-last, Contains-before_last, Contains-but_last, Contains-without, without_lacks, without_keeps, without_stranger}
 
-module _ (up : NodeKey → Option NodeKey) (down : NodeKey → List NodeKey) (up2 : NodeKey → Option NodeKey) (down2 : NodeKey → List NodeKey) (old : IsLinked up down) where
+module _ (up : NodeKey → Option NodeKey) (down : NodeKey → List NodeKey) (up2 : NodeKey → Option NodeKey) (down2 : NodeKey →
+    List NodeKey) (old : IsLinked up down) where
   -- the same links stay linked
   pub IsLinked-same : ((key : NodeKey) → up2 key ≡ up key) → ((key : NodeKey) → down2 key ≡ down key) → IsLinked up2 down2
   IsLinked-same ups downs =
@@ -51,7 +52,8 @@ module _ (up : NodeKey → Option NodeKey) (down : NodeKey → List NodeKey) (up
       climb : (parent other : NodeKey) → up2 other ≡ Some parent → Contains (down2 parent) other
       climb parent other above =
           subst (λ keys. Contains keys other) (sym (downs parent))
-          (without_keeps key other (down parent) (other_than_key parent other above) ((old.linked parent other).0 (kept parent other above)))
+          (without_keeps key other (down parent) (other_than_key parent other above)
+          ((old.linked parent other).0 (kept parent other above)))
 
       descend : (parent other : NodeKey) → Contains (down2 parent) other → up2 other ≡ Some parent
       descend parent other there =
@@ -81,7 +83,8 @@ module _ (up : NodeKey → Option NodeKey) (down : NodeKey → List NodeKey) (up
       }
     where
       no_child_of_key : (other : NodeKey) → Contains (down key) other → ⊥
-      no_child_of_key other there = let none : Contains [] other = subst (λ keys. Contains keys other) childless there in absurd (omega (arith, none.1))
+      no_child_of_key other there =
+          let none : Contains [] other = subst (λ keys. Contains keys other) childless there in absurd (omega (arith, none.1))
 
       key_is_no_child : (above : NodeKey) → Contains (down above) key → ⊥
       key_is_no_child above there = let has : up key ≡ Some above = (old.linked above key).1 there in absurd (cc)
@@ -91,11 +94,13 @@ module _ (up : NodeKey → Option NodeKey) (down : NodeKey → List NodeKey) (up
           elim (key_cases other key) [
             | inl same ↦
                 let here : parent ≡ Some above = sym born ∙ subst (λ k. up2 k ≡ Some above) same has in
-                subst (λ keys. Contains keys other) (sym (gaining above here)) (subst (λ k. Contains (down above ++ key ∷ []) k) (sym same) (Contains-last (down above) key))
+                subst (λ keys. Contains keys other) (sym (gaining above here)) (subst (λ k. Contains (down above ++ key ∷ []) k) (sym same)
+                (Contains-last (down above) key))
             | inr differ ↦
                 let was : Contains (down above) other = (old.linked above other).0 (sym (ups other differ) ∙ has) in
                 elim (parent_cases parent above) [
-                  | inl here ↦ subst (λ keys. Contains keys other) (sym (gaining above here)) (Contains-before_last (down above) key other was)
+                  | inl here ↦
+                      subst (λ keys. Contains keys other) (sym (gaining above here)) (Contains-before_last (down above) key other was)
                   | inr away ↦ elim (key_cases above key) [
                     | inl same ↦ absurd (no_child_of_key other (subst (λ k. Contains (down k) other) same was))
                     | inr apart ↦ subst (λ keys. Contains keys other) (sym (keeping above apart away)) was
@@ -107,7 +112,8 @@ module _ (up : NodeKey → Option NodeKey) (down : NodeKey → List NodeKey) (up
       descend above other there =
           elim (key_cases above key) [
             | inl same ↦
-                let none : Contains [] other = subst (λ keys. Contains keys other) bare (subst (λ k. Contains (down2 k) other) same there) in
+                let none : Contains [] other =
+                subst (λ keys. Contains keys other) bare (subst (λ k. Contains (down2 k) other) same there) in
                 absurd (omega (arith, none.1))
             | inr apart ↦ elim (parent_cases parent above) [
               | inl here ↦
@@ -130,7 +136,8 @@ module _ (up : NodeKey → Option NodeKey) (down : NodeKey → List NodeKey) (up
           elim (key_cases above key) [
             | inl same ↦ subst AllDiffer (sym (ap down2 same ∙ bare ∙ sym childless)) (old.once key)
             | inr apart ↦ elim (parent_cases parent above) [
-              | inl here ↦ subst AllDiffer (sym (gaining above here)) (AllDiffer-push (down above) key (key_is_no_child above) (old.once above))
+              | inl here ↦
+                  subst AllDiffer (sym (gaining above here)) (AllDiffer-push (down above) key (key_is_no_child above) (old.once above))
               | inr away ↦ subst AllDiffer (sym (keeping above apart away)) (old.once above)
             ]
           ]
@@ -172,7 +179,8 @@ module _ (up : NodeKey → Option NodeKey) (down : NodeKey → List NodeKey) (up
                 omega arith
             | inr differ ↦
                 let was : up other ≡ Some above = sym (ups other differ) ∙ has in
-                let apart : above ≢ key = λ e. no_child_of_key other (subst (λ k. Contains (down k) other) e ((old.linked above other).0 was)) in
+                let apart : above ≢ key =
+                λ e. no_child_of_key other (subst (λ k. Contains (down k) other) e ((old.linked above other).0 was)) in
                 let high : ranks above ≡ old.rank above = ranks-other above apart in
                 let low : ranks other ≡ old.rank other = ranks-other other differ in
                 let below : old.rank above < old.rank other = old.ranked above other was in

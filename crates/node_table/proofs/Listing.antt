@@ -12,7 +12,8 @@ use Rattle.node_table.proofs.Keys.{same_key-true, same_key-false}
 use Rattle.node_table.proofs.Lists.{AllDiffer, AllDiffer-tail, Contains-head, head_differs}
 
 -- where no key stands twice, what follows a key is what was found after it
-pub next_key-after : (done : List NodeKey) (key : NodeKey) (rest : List NodeKey) → AllDiffer (done ++ key ∷ rest) → next_key key (done ++ key ∷ rest) ≡ first_key rest
+pub next_key-after : (done : List NodeKey) (key : NodeKey) (rest : List NodeKey) → AllDiffer (done ++ key ∷ rest) →
+    next_key key (done ++ key ∷ rest) ≡ first_key rest
 next_key-after [] key rest differ = ap (λ b. cond b (first_key rest) (next_key key rest)) (same_key-true key key refl)
 next_key-after (head ∷ done) key rest differ =
     let there : Contains (done ++ key ∷ rest) key = Contains-append_right done (key ∷ rest) key (Contains-head key rest) in
@@ -26,11 +27,13 @@ appends-none children old next is = record { done = []; rest = children; all = r
 
 module _ {N : Type 0} (t : Table N) (forest : IsForest t) (key : NodeKey) where
   -- one more was appended, and the next is its sibling
-  pub appends-more : (old now : List NodeKey) (at next : Option NodeKey) (child : NodeKey) → Appends (children_at t key) old now at → at ≡ Some child → next ≡ next_key child (siblings_at t child)
+  pub appends-more : (old now : List NodeKey) (at next : Option NodeKey) (child : NodeKey) → Appends (children_at t key) old now at →
+      at ≡ Some child → next ≡ next_key child (siblings_at t child)
       → Appends (children_at t key) old (now ++ child ∷ []) next
   appends-more old now at next child so is then = by_rest so.rest so.all so.next_is
     where
-      by_rest : (rest : List NodeKey) → children_at t key ≡ so.done ++ rest → at ≡ first_key rest → Appends (children_at t key) old (now ++ child ∷ []) next
+      by_rest : (rest : List NodeKey) → children_at t key ≡ so.done ++ rest → at ≡ first_key rest →
+          Appends (children_at t key) old (now ++ child ∷ []) next
       by_rest [] all first = absurd (cc)
       by_rest (k ∷ rest) all first =
           let same : k ≡ child = let both : Some k ≡ Some child = sym first ∙ is in cc in
@@ -44,11 +47,13 @@ module _ {N : Type 0} (t : Table N) (forest : IsForest t) (key : NodeKey) where
             rest = rest;
             all = list ∙ sym (append_snoc so.done child rest);
             items = ap (λ keys. keys ++ child ∷ []) so.items ∙ append_assoc old so.done (child ∷ []);
-            next_is = then ∙ (ap (next_key child) (siblings ∙ list) ∙ next_key-after so.done child rest (subst AllDiffer list (forest.once key)));
+            next_is = then ∙ (ap (next_key child) (siblings ∙ list)
+                ∙ next_key-after so.done child rest (subst AllDiffer list (forest.once key)));
           }
 
   -- where none is left to come, all were appended
-  pub appends-all : (old now : List NodeKey) (at : Option NodeKey) → Appends (children_at t key) old now at → at ≡ None → now ≡ old ++ children_at t key
+  pub appends-all : (old now : List NodeKey) (at : Option NodeKey) → Appends (children_at t key) old now at → at ≡ None →
+      now ≡ old ++ children_at t key
   appends-all old now at so none = by_rest so.rest so.all so.next_is
     where
       by_rest : (rest : List NodeKey) → children_at t key ≡ so.done ++ rest → at ≡ first_key rest → now ≡ old ++ children_at t key
@@ -56,7 +61,8 @@ module _ {N : Type 0} (t : Table N) (forest : IsForest t) (key : NodeKey) where
       by_rest (k ∷ rest) all first = absurd (cc)
 
 -- a child that is still to come has its place in room for all
-pub appends-within : (children old now : List NodeKey) (at : Option NodeKey) (child : NodeKey) → Appends children old now at → at ≡ Some child → length now < length old + length children
+pub appends-within : (children old now : List NodeKey) (at : Option NodeKey) (child : NodeKey) → Appends children old now at →
+    at ≡ Some child → length now < length old + length children
 appends-within children old now at child so is = by_rest so.rest so.all so.next_is
   where
     by_rest : (rest : List NodeKey) → children ≡ so.done ++ rest → at ≡ first_key rest → length now < length old + length children

@@ -57,7 +57,8 @@ no_pair_in_none i j d before within = absurd (omega arith)
 -- a head that is not in the rest
 AllDiffer-cons : (head : NodeKey) (rest : List NodeKey) → (Contains rest head → ⊥) → AllDiffer rest → AllDiffer (head ∷ rest)
 AllDiffer-cons head rest off differ zero zero d before within = absurd (omega arith)
-AllDiffer-cons head rest off differ zero (suc j) d before within = λ same. off (j, omega arith, get_or_default rest j head d (omega arith) ∙ sym same)
+AllDiffer-cons head rest off differ zero (suc j) d before within =
+    λ same. off (j, omega arith, get_or_default rest j head d (omega arith) ∙ sym same)
 AllDiffer-cons head rest off differ (suc i) zero d before within = absurd (omega arith)
 AllDiffer-cons head rest off differ (suc i) (suc j) d before within = differ i j d (omega arith) (omega arith)
 
@@ -67,7 +68,8 @@ AllDiffer-tail head rest differ i j d before within = differ (suc i) (suc j) d (
 
 -- the head is none of the rest
 pub head_differs : (head key : NodeKey) (rest : List NodeKey) → AllDiffer (head ∷ rest) → Contains rest key → head ≢ key
-head_differs head key rest differ there same = absurd (differ 0 (suc there.0) key (omega arith) (omega (arith, there.1)) (same ∙ sym there.2))
+head_differs head key rest differ there same =
+    absurd (differ 0 (suc there.0) key (omega arith) (omega (arith, there.1)) (same ∙ sym there.2))
 
 -- a new key at the end
 pub AllDiffer-push : (keys : List NodeKey) (key : NodeKey) → (Contains keys key → ⊥) → AllDiffer keys → AllDiffer (keys ++ key ∷ [])
@@ -104,11 +106,15 @@ pub Contains-without : (key other : NodeKey) (keys : List NodeKey) → Contains 
 Contains-without key other [] there = there
 Contains-without key other (head ∷ rest) there =
     elim (key_cases key head) [
-      | inl same ↦ Contains-tail head other rest (Contains-without key other rest (subst (λ keys. Contains keys other) (without-same key head rest same) there))
-      | inr differ ↦ elim (Contains-cons_cases head other (without key rest) (subst (λ keys. Contains keys other) (without-other key head rest differ) there)) [
-        | inl found ↦ subst (λ k. Contains (head ∷ rest) k) found (Contains-head head rest)
-        | inr later ↦ Contains-tail head other rest (Contains-without key other rest later)
-      ]
+      | inl same ↦
+          Contains-tail head other rest (Contains-without key other rest (subst (λ keys.
+          Contains keys other) (without-same key head rest same) there))
+      | inr differ ↦
+          elim (Contains-cons_cases head other (without key rest) (subst (λ keys. Contains keys other) (without-other key head rest differ)
+          there)) [
+            | inl found ↦ subst (λ k. Contains (head ∷ rest) k) found (Contains-head head rest)
+            | inr later ↦ Contains-tail head other rest (Contains-without key other rest later)
+          ]
     ]
 
 -- the key is not left
@@ -117,10 +123,12 @@ without_lacks key [] there = absurd (omega (arith, there.1))
 without_lacks key (head ∷ rest) there =
     elim (key_cases key head) [
       | inl same ↦ without_lacks key rest (subst (λ keys. Contains keys key) (without-same key head rest same) there)
-      | inr differ ↦ elim (Contains-cons_cases head key (without key rest) (subst (λ keys. Contains keys key) (without-other key head rest differ) there)) [
-        | inl found ↦ differ (sym found)
-        | inr later ↦ without_lacks key rest later
-      ]
+      | inr differ ↦
+          elim (Contains-cons_cases head key (without key rest) (subst (λ keys. Contains keys key) (without-other key head rest differ)
+          there)) [
+            | inl found ↦ differ (sym found)
+            | inr later ↦ without_lacks key rest later
+          ]
     ]
 
 -- every other key is left
@@ -130,10 +138,12 @@ without_keeps key other (head ∷ rest) differ there =
     elim (key_cases key head) [
       | inl same ↦ elim (Contains-cons_cases head other rest there) [
         | inl found ↦ absurd (differ (sym found ∙ sym same))
-        | inr later ↦ subst (λ keys. Contains keys other) (sym (without-same key head rest same)) (without_keeps key other rest differ later)
+        | inr later ↦ subst (λ keys. Contains keys other) (sym (without-same key head rest same)) (without_keeps key other rest differ
+            later)
       ]
-      | inr apart ↦ subst (λ keys. Contains keys other) (sym (without-other key head rest apart)) (elim (Contains-cons_cases head other rest there) [
-        | inl found ↦ subst (λ k. Contains (head ∷ without key rest) k) found (Contains-head head (without key rest))
-        | inr later ↦ Contains-tail head other (without key rest) (without_keeps key other rest differ later)
-      ])
+      | inr apart ↦
+          subst (λ keys. Contains keys other) (sym (without-other key head rest apart)) (elim (Contains-cons_cases head other rest there) [
+            | inl found ↦ subst (λ k. Contains (head ∷ without key rest) k) found (Contains-head head (without key rest))
+            | inr later ↦ Contains-tail head other (without key rest) (without_keeps key other rest differ later)
+          ])
     ]

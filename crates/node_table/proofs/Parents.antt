@@ -15,13 +15,15 @@ parent_cases (Some other) key =
 
 module _ {N : Type 0} where
   -- the parent's row changes
-  pub map-parent : (parent : Option NodeKey) (f : Row N → Row N) (key : NodeKey) (o : Option (Row N)) → parent ≡ Some key → option_map (at_parent parent f key) o ≡ option_map f o
+  pub map-parent : (parent : Option NodeKey) (f : Row N → Row N) (key : NodeKey) (o : Option (Row N)) → parent ≡ Some key →
+      option_map (at_parent parent f key) o ≡ option_map f o
   map-parent None f key o same = absurd (cc)
   map-parent (Some other) f key None same = refl
   map-parent (Some other) f key (Some row) same = let is : other ≡ key = cc in rw (same_key-true other key is) refl
 
   -- every other row stays
-  pub map-stranger : (parent : Option NodeKey) (f : Row N → Row N) (key : NodeKey) (o : Option (Row N)) → parent ≢ Some key → option_map (at_parent parent f key) o ≡ o
+  pub map-stranger : (parent : Option NodeKey) (f : Row N → Row N) (key : NodeKey) (o : Option (Row N)) → parent ≢ Some key →
+      option_map (at_parent parent f key) o ≡ o
   map-stranger None f key None differ = refl
   map-stranger None f key (Some row) differ = refl
   map-stranger (Some other) f key None differ = refl
@@ -33,29 +35,34 @@ module _ {N : Type 0} where
   up-through false f row keeps = refl
 
   -- a change under a test keeps the children, if the change does
-  down-through : (b : Bool) (f : Row N → Row N) (row : Row N) → (f row).children ≡ row.children → (if b then f row else row).children ≡ row.children
+  down-through : (b : Bool) (f : Row N → Row N) (row : Row N) → (f row).children ≡ row.children →
+      (if b then f row else row).children ≡ row.children
   down-through true f row keeps = keeps
   down-through false f row keeps = refl
 
   -- a change that keeps each row's parent keeps all links up
-  pub map-up : (parent : Option NodeKey) (f : Row N → Row N) (key : NodeKey) (o : Option (Row N)) → ((row : Row N) → (f row).parent ≡ row.parent) → parent_in (option_map (at_parent parent f key) o) ≡ parent_in o
+  pub map-up : (parent : Option NodeKey) (f : Row N → Row N) (key : NodeKey) (o : Option (Row N)) →
+      ((row : Row N) → (f row).parent ≡ row.parent) → parent_in (option_map (at_parent parent f key) o) ≡ parent_in o
   map-up parent f key None keeps = refl
   map-up None f key (Some row) keeps = refl
   map-up (Some other) f key (Some row) keeps = up-through (same_key other key) f row (keeps row)
 
   -- a change that keeps each row's children keeps all links down
-  pub map-down : (parent : Option NodeKey) (f : Row N → Row N) (key : NodeKey) (o : Option (Row N)) → ((row : Row N) → (f row).children ≡ row.children) → children_in (option_map (at_parent parent f key) o) ≡ children_in o
+  pub map-down : (parent : Option NodeKey) (f : Row N → Row N) (key : NodeKey) (o : Option (Row N)) →
+      ((row : Row N) → (f row).children ≡ row.children) → children_in (option_map (at_parent parent f key) o) ≡ children_in o
   map-down parent f key None keeps = refl
   map-down None f key (Some row) keeps = refl
   map-down (Some other) f key (Some row) keeps = down-through (same_key other key) f row (keeps row)
 
   -- a row that is there has the new child last
-  pub children-with : (child : NodeKey) (o : Option (Row N)) → IsSome o → children_in (option_map (with_child child) o) ≡ children_in o ++ child ∷ []
+  pub children-with : (child : NodeKey) (o : Option (Row N)) → IsSome o →
+      children_in (option_map (with_child child) o) ≡ children_in o ++ child ∷ []
   children-with child None there = absurd (cc)
   children-with child (Some row) there = refl
 
   -- a row has the children but this one
-  pub children-without : (child : NodeKey) (o : Option (Row N)) → children_in (option_map (without_child child) o) ≡ without child (children_in o)
+  pub children-without : (child : NodeKey) (o : Option (Row N)) →
+      children_in (option_map (without_child child) o) ≡ without child (children_in o)
   children-without child None = refl
   children-without child (Some row) = refl
 

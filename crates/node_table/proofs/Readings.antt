@@ -9,18 +9,22 @@ use Rattle.node_table.specs.declared.slot.Slot.{Slot}
 use Rattle.node_table.proofs.Depths.{parent-there, deeper, shallow, next-there, slot-there, none-then}
 
 -- a number from the first on and below the next one was given
-pub given-between : (first generation next : ℕ) → first ≤ generation → generation < next → (nat_le first generation && nat_lt generation next) ≡ true
+pub given-between : (first generation next : ℕ) → first ≤ generation → generation < next →
+    (nat_le first generation && nat_lt generation next) ≡ true
 given-between first generation next low high =
     let one : nat_le first generation ≡ true = grind (arith, nat_tests) in
     let two : nat_lt generation next ≡ true = grind (arith, nat_tests) in
     rw (one, two) refl
 
-module _ {N : Type 0} (slots : List (Option (Slot N))) (nexts : List ℕ) (first count limit : ℕ) (sound : IsSound slots nexts first count limit) where
+module _ {N : Type 0} (slots : List (Option (Slot N))) (nexts : List ℕ) (first count limit : ℕ) (sound : IsSound slots nexts first count
+    limit) where
   -- a key that is there was given
-  given-there : (key : NodeKey) → IsSome (row_at (table_of slots nexts first limit) key) → was_given (table_of slots nexts first limit) key ≡ true
+  given-there : (key : NodeKey) → IsSome (row_at (table_of slots nexts first limit) key) →
+      was_given (table_of slots nexts first limit) key ≡ true
   given-there key there =
       let next : slice_index_or nexts key.slot first ≡ key.generation + 1 = next-there (table_of slots nexts first limit) key there in
-      let begun : first < slice_index_or nexts key.slot first = sound.begun key.slot (slot-there (table_of slots nexts first limit) key there) in
+      let begun : first < slice_index_or nexts key.slot first =
+      sound.begun key.slot (slot-there (table_of slots nexts first limit) key there) in
       given-between first key.generation (slice_index_or nexts key.slot first) (omega arith) (omega arith)
 
   -- each table is a forest
@@ -61,7 +65,8 @@ module _ (N : Type 0) (first limit : ℕ) where
         begun = λ slot some. absurd (cc);
         forest = record {
           linked = λ parent key. (λ above. absurd (no-parent parent key above), λ there. absurd (no-child parent key there));
-          once = λ key. subst (λ keys. AllPairs (λ (a b : NodeKey). a ≢ b) keys) (sym (ap children_in (empty-row key))) (λ i j d before within. absurd (omega arith));
+          once = λ key. subst (λ keys. AllPairs (λ (a b : NodeKey). a ≢ b) keys) (sym (ap children_in (empty-row key)))
+              (λ i j d before within. absurd (omega arith));
           rank = λ key. 0;
           ranked = λ parent key above. absurd (no-parent parent key above);
         };
@@ -69,7 +74,8 @@ module _ (N : Type 0) (first limit : ℕ) where
       }
     where
       no-parent : (parent key : NodeKey) → parent_at (empty_table {N = N} first limit) key ≡ Some parent → ⊥
-      no-parent parent key above = let none : parent_at (empty_table {N = N} first limit) key ≡ None = ap parent_in (empty-row key) in absurd (cc)
+      no-parent parent key above =
+          let none : parent_at (empty_table {N = N} first limit) key ≡ None = ap parent_in (empty-row key) in absurd (cc)
 
       no-child : (parent key : NodeKey) → Contains (children_at (empty_table {N = N} first limit) parent) key → ⊥
       no-child parent key there =

@@ -19,7 +19,8 @@ use Rattle.node_table.proofs.Depths.{next-there, none-then}
 use Rattle.node_table.proofs.Slots.{row-at, is_some-option_map}
 
 -- a row without its parent has its node
-node-through : {N : Type 0} (o : Option (Row N)) → option_map (λ (row : Row N). row.node) (option_map without_parent o) ≡ option_map (λ (row : Row N). row.node) o
+node-through : {N : Type 0} (o : Option (Row N)) → option_map (λ (row : Row N). row.node) (option_map without_parent o) ≡ option_map
+    (λ (row : Row N). row.node) o
 node-through None = refl
 node-through (Some row) = refl
 
@@ -58,13 +59,16 @@ module _ {N : Type 0} (whole : Table N) (old new : Slab (Slot N)) (nexts : List 
     -- so it is nobody's child
     away : (i : ℕ) (x : NodeKey) → Contains (run_in old.slots most i) x → x.slot ≢ key.slot
     away i x child at =
-        let is : x ≡ key = one_key old.slots nexts first count limit sound x key (member-there old.slots nexts first count limit sound i x child) there-now at in
-        let has : parent_at before x ≡ Some (owner old.slots nexts first count limit sound i) = member old.slots nexts first count limit sound i x child in
+        let is : x ≡ key = one_key old.slots nexts first count limit sound x key (member-there old.slots nexts first count limit sound i x
+        child) there-now at in
+        let has : parent_at before x ≡ Some (owner old.slots nexts first count limit sound i) =
+        member old.slots nexts first count limit sound i x child in
         let none : parent_at before x ≡ None = ap (parent_at before) is ∙ no-parent in
         absurd (cc)
 
     -- a link of what lies in another slot stays
-    link-kept : (link : Entry N → Option NodeKey) (i : ℕ) → i ≢ key.slot → link_in link (entry_in (get new i)) ≡ link_in link (entry_in (get old i))
+    link-kept : (link : Entry N → Option NodeKey) (i : ℕ) → i ≢ key.slot →
+        link_in link (entry_in (get new i)) ≡ link_in link (entry_in (get old i))
     link-kept link i differ = ap (λ (o : Option (Slot N)). link_in link (entry_in o)) (same i differ)
 
     -- the key's slot has no children now, and others have what they had
@@ -75,15 +79,19 @@ module _ {N : Type 0} (whole : Table N) (old new : Slab (Slot N)) (nexts : List 
     abbrev lists : ℕ → List NodeKey
     lists i = left i (cases_eq i key.slot)
 
-    each-by : (i : ℕ) (c : (i ≡ key.slot) ⊎ (i ≢ key.slot)) → IsRun (next_in new.slots) (prev_in new.slots) None (first_in new.slots i) (left i c) (last_in new.slots i)
+    each-by : (i : ℕ) (c : (i ≡ key.slot) ⊎ (i ≢ key.slot)) →
+        IsRun (next_in new.slots) (prev_in new.slots) None (first_in new.slots i) (left i c) (last_in new.slots i)
     each-by i (inl at) = (
       ap (λ j. link_in (λ (e : Entry N). e.first) (entry_in (get new j))) at ∙ ap (link_in (λ (e : Entry N). e.first)) empty,
       ap (λ j. link_in (λ (e : Entry N). e.last) (entry_in (get new j))) at ∙ ap (link_in (λ (e : Entry N). e.last)) empty,
     )
     each-by i (inr differ) =
-        subst (λ o. IsRun (next_in new.slots) (prev_in new.slots) None o (run_in old.slots most i) (last_in new.slots i)) (sym (link-kept (λ (e : Entry N). e.first) i differ))
-        (subst (λ o. IsRun (next_in new.slots) (prev_in new.slots) None (first_in old.slots i) (run_in old.slots most i) o) (sym (link-kept (λ (e : Entry N). e.last) i differ))
-        (run-frame (next_in old.slots) (prev_in old.slots) (next_in new.slots) (prev_in new.slots) None (first_in old.slots i) (run_in old.slots most i) (last_in old.slots i)
+        subst (λ o. IsRun (next_in new.slots) (prev_in new.slots) None o (run_in old.slots most i) (last_in new.slots i))
+        (sym (link-kept (λ (e : Entry N). e.first) i differ))
+        (subst (λ o. IsRun (next_in new.slots) (prev_in new.slots) None (first_in old.slots i) (run_in old.slots most i) o)
+        (sym (link-kept (λ (e : Entry N). e.last) i differ))
+        (run-frame (next_in old.slots) (prev_in old.slots) (next_in new.slots) (prev_in new.slots) None (first_in old.slots i)
+        (run_in old.slots most i) (last_in old.slots i)
         (λ x child. link-kept (λ (e : Entry N). e.next) x.slot (away i x child))
         (λ x child. link-kept (λ (e : Entry N). e.prev) x.slot (away i x child))
         (sound.chained i)))
@@ -105,12 +113,15 @@ module _ {N : Type 0} (whole : Table N) (old new : Slab (Slot N)) (nexts : List 
     other-row : (i : ℕ) → i ≢ key.slot → slice_index_or (rows_of new.slots most) i None ≡ slice_index_or (rows_of old.slots most) i None
     other-row i differ =
         rows_are new.slots most lists (λ j. each-by j (cases_eq j key.slot)) (λ j. short-by j (cases_eq j key.slot)) i
-        ∙ (ap (λ (keys : List NodeKey). option_map (with_children keys) (option_map core_of (entry_in (get new i)))) (lists-other i (cases_eq i key.slot) differ)
-        ∙ (ap (λ (o : Option (Slot N)). option_map (with_children (run_in old.slots most i)) (option_map core_of (entry_in o))) (same i differ)
+        ∙ (ap (λ (keys : List NodeKey). option_map (with_children keys) (option_map core_of (entry_in (get new i))))
+        (lists-other i (cases_eq i key.slot) differ)
+        ∙ (ap (λ (o : Option (Slot N)). option_map (with_children (run_in old.slots most i)) (option_map core_of (entry_in o)))
+        (same i differ)
         ∙ sym (row-is old.slots most i)))
 
     shorter : count_by is_some (rows_of old.slots most) ≡ count_by is_some (rows_of new.slots most) + 1
-    shorter = count-gain key.slot (rows_of new.slots most) (rows_of old.slots most) (ap is_some new-row) (ap is_some old-row) (λ i differ. ap is_some (sym (other-row i differ)))
+    shorter = count-gain key.slot (rows_of new.slots most) (rows_of old.slots most) (ap is_some new-row) (ap is_some old-row) (λ i differ.
+        ap is_some (sym (other-row i differ)))
 
     not-retired : get new key.slot ≡ None → key.generation ≡ 4294967295 → ⊥
     not-retired none last = let held : is_some (get new key.slot) ≡ true = retired last in absurd (cc (held, none))
@@ -127,21 +138,24 @@ module _ {N : Type 0} (whole : Table N) (old new : Slab (Slot N)) (nexts : List 
           | inl at ↦
               let apart : k.generation ≡ key.generation → ⊥ = λ generations. differ (same-fields k key at generations) in
               rw (at, had-next, eq-false (key.generation + 1) (k.generation + 1) (λ generations. apart (omega arith))) refl
-          | inr apart ↦ ap (λ (o : Option (Row N)). cond (slice_index_or nexts k.slot first == k.generation + 1) o None) (other-row k.slot apart)
+          | inr apart ↦ ap (λ (o : Option (Row N)). cond (slice_index_or nexts k.slot first == k.generation + 1) o None)
+              (other-row k.slot apart)
         ]
 
     -- the key had no links left
     ups : (k : NodeKey) → parent_at after k ≡ parent_at before k
     ups k =
         elim (key_cases k key) [
-          | inl is ↦ ap (parent_at after) is ∙ ap parent_in gone ∙ sym (ap (parent_at before) is ∙ ap parent_in cut.loose ∙ parent-without (row_at whole key))
+          | inl is ↦ ap (parent_at after) is ∙ ap parent_in gone ∙ sym (ap (parent_at before) is ∙ ap parent_in cut.loose
+              ∙ parent-without (row_at whole key))
           | inr differ ↦ ap parent_in (others k differ)
         ]
 
     downs : (k : NodeKey) → children_at after k ≡ children_at before k
     downs k =
         elim (key_cases k key) [
-          | inl is ↦ ap (children_at after) is ∙ ap children_in gone ∙ sym (ap (children_at before) is ∙ ap children_in cut.loose ∙ children-kept (row_at whole key) ∙ leaf)
+          | inl is ↦ ap (children_at after) is ∙ ap children_in gone ∙ sym (ap (children_at before) is ∙ ap children_in cut.loose
+              ∙ children-kept (row_at whole key) ∙ leaf)
           | inr differ ↦ ap children_in (others k differ)
         ]
 
@@ -160,7 +174,8 @@ module _ {N : Type 0} (whole : Table N) (old new : Slab (Slot N)) (nexts : List 
           rising = sound.rising;
           narrow = sound.narrow;
           begun = λ i some. elim (cases_eq i key.slot) [
-            | inl at ↦ let none : slice_index_or (rows_of new.slots most) i None ≡ None = ap (λ j. slice_index_or (rows_of new.slots most) j None) at ∙ new-row in absurd (cc)
+            | inl at ↦ let none : slice_index_or (rows_of new.slots most) i None ≡ None =
+                ap (λ j. slice_index_or (rows_of new.slots most) j None) at ∙ new-row in absurd (cc)
             | inr differ ↦ sound.begun i (ap is_some (sym (other-row i differ)) ∙ some)
           ];
           forest = IsLinked-same (parent_at before) (children_at before) (parent_at after) (children_at after) sound.forest ups downs;

@@ -17,31 +17,38 @@ without-short key [] = omega arith
 without-short key (head ∷ rest) =
     let short : length (without key rest) ≤ length rest = without-short key rest in
     elim (key_cases key head) [
-      | inl same ↦ let size : length (without key (head ∷ rest)) ≡ length (without key rest) = ap length (without-same key head rest same) in omega arith
-      | inr differ ↦ let size : length (without key (head ∷ rest)) ≡ length (head ∷ without key rest) = ap length (without-other key head rest differ) in omega arith
+      | inl same ↦ let size : length (without key (head ∷ rest)) ≡ length (without key rest) =
+          ap length (without-same key head rest same) in omega arith
+      | inr differ ↦ let size : length (without key (head ∷ rest)) ≡ length (head ∷ without key rest) =
+          ap length (without-other key head rest differ) in omega arith
     ]
 
 -- no more keys than may run
 pub run_from-short : (next : ℕ → Option NodeKey) (most : ℕ) (first : Option NodeKey) → length (run_from next most first) ≤ most
 run_from-short next zero first = omega arith
 run_from-short next (suc most) None = omega arith
-run_from-short next (suc most) (Some key) = let rest : length (run_from next most (next key.slot)) ≤ most = run_from-short next most (next key.slot) in omega arith
+run_from-short next (suc most) (Some key) =
+    let rest : length (run_from next most (next key.slot)) ≤ most = run_from-short next most (next key.slot) in omega arith
 
 module _ (next prev : ℕ → Option NodeKey) where
   -- a run is what runs from its first key
-  pub run_is : (before first : Option NodeKey) (keys : List NodeKey) (last : Option NodeKey) (most : ℕ) → IsRun next prev before first keys last → length keys ≤ most → run_from next most first ≡ keys
+  pub run_is : (before first : Option NodeKey) (keys : List NodeKey) (last : Option NodeKey) (most : ℕ) →
+      IsRun next prev before first keys last → length keys ≤ most → run_from next most first ≡ keys
   run_is before first [] last most run short = ap (run_from next most) run.0 ∙ run_from-none next most
   run_is before first (key ∷ rest) last zero run short = absurd (omega arith)
   run_is before first (key ∷ rest) last (suc most) run short =
-      ap (run_from next (suc most)) run.0 ∙ ap (λ (keys : List NodeKey). key ∷ keys) (run_is (Some key) (next key.slot) rest last most run.1.1 (omega arith))
+      ap (run_from next (suc most)) run.0
+      ∙ ap (λ (keys : List NodeKey). key ∷ keys) (run_is (Some key) (next key.slot) rest last most run.1.1 (omega arith))
 
   -- a run begins with its first key
-  pub run-first : (before first : Option NodeKey) (keys : List NodeKey) (last : Option NodeKey) → IsRun next prev before first keys last → first ≡ first_key keys
+  pub run-first : (before first : Option NodeKey) (keys : List NodeKey) (last : Option NodeKey) → IsRun next prev before first keys last →
+      first ≡ first_key keys
   run-first before first [] last run = run.0
   run-first before first (key ∷ rest) last run = run.0
 
   -- each key is followed by its next
-  pub run-next : (key : NodeKey) (before first : Option NodeKey) (keys : List NodeKey) (last : Option NodeKey) → IsRun next prev before first keys last → Contains keys key → next key.slot ≡ next_key key keys
+  pub run-next : (key : NodeKey) (before first : Option NodeKey) (keys : List NodeKey) (last : Option NodeKey) →
+      IsRun next prev before first keys last → Contains keys key → next key.slot ≡ next_key key keys
   run-next key before first [] last run there = absurd (omega (arith, there.1))
   run-next key before first (other ∷ rest) last run there =
       elim (key_cases key other) [
@@ -57,7 +64,8 @@ module _ (next prev : ℕ → Option NodeKey) where
       ]
 
   -- the last key of a run is in it, or before it
-  pub run-last : (before first : Option NodeKey) (keys : List NodeKey) (last : Option NodeKey) (key : NodeKey) → IsRun next prev before first keys last → last ≡ Some key → (before ≡ Some key) ⊎ Contains keys key
+  pub run-last : (before first : Option NodeKey) (keys : List NodeKey) (last : Option NodeKey) (key : NodeKey) →
+      IsRun next prev before first keys last → last ≡ Some key → (before ≡ Some key) ⊎ Contains keys key
   run-last before first [] last key run is = inl (sym run.1 ∙ is)
   run-last before first (head ∷ rest) last key run is =
       elim (run-last (Some head) (next head.slot) rest last key run.1.1 is) [
@@ -66,24 +74,29 @@ module _ (next prev : ℕ → Option NodeKey) where
       ]
 
   -- nothing follows the last key
-  pub run-end : (head : NodeKey) (rest : List NodeKey) (last : Option NodeKey) (key : NodeKey) → IsRun next prev (Some head) (next head.slot) rest last → last ≡ Some key → next key.slot ≡ None
-  run-end head [] last key run is = let same : head ≡ key = let both : Some head ≡ Some key = sym run.1 ∙ is in cc in ap (λ (k : NodeKey). next k.slot) (sym same) ∙ run.0
+  pub run-end : (head : NodeKey) (rest : List NodeKey) (last : Option NodeKey) (key : NodeKey) →
+      IsRun next prev (Some head) (next head.slot) rest last → last ≡ Some key → next key.slot ≡ None
+  run-end head [] last key run is =
+      let same : head ≡ key = let both : Some head ≡ Some key = sym run.1 ∙ is in cc in ap (λ (k : NodeKey). next k.slot) (sym same) ∙ run.0
   run-end head (k ∷ ks) last key run is = run-end k ks last key run.1.1 is
 
   -- an empty run ends before it
-  pub run-none : (before first : Option NodeKey) (keys : List NodeKey) (last : Option NodeKey) → IsRun next prev before first keys last → keys ≡ [] → last ≡ before
+  pub run-none : (before first : Option NodeKey) (keys : List NodeKey) (last : Option NodeKey) → IsRun next prev before first keys last →
+      keys ≡ [] → last ≡ before
   run-none before first [] last run none = run.1
   run-none before first (key ∷ rest) last run none = absurd (cc)
 
   -- the first key follows what is before
-  pub run-before : (before first : Option NodeKey) (keys : List NodeKey) (last : Option NodeKey) (key : NodeKey) → IsRun next prev before first keys last → first ≡ Some key → prev key.slot ≡ before
+  pub run-before : (before first : Option NodeKey) (keys : List NodeKey) (last : Option NodeKey) (key : NodeKey) →
+      IsRun next prev before first keys last → first ≡ Some key → prev key.slot ≡ before
   run-before before first [] last key run is = let none : first ≡ None = run.0 in absurd (cc)
   run-before before first (head ∷ rest) last key run is =
       let same : head ≡ key = let both : Some head ≡ Some key = sym run.0 ∙ is in cc in
       ap (λ (k : NodeKey). prev k.slot) (sym same) ∙ run.1.0
 
   -- a key with none before it is the first
-  pub run-starts : (before first : Option NodeKey) (keys : List NodeKey) (last : Option NodeKey) (key : NodeKey) → IsRun next prev before first keys last → Contains keys key → prev key.slot ≡ None → first ≡ Some key
+  pub run-starts : (before first : Option NodeKey) (keys : List NodeKey) (last : Option NodeKey) (key : NodeKey) →
+      IsRun next prev before first keys last → Contains keys key → prev key.slot ≡ None → first ≡ Some key
   run-starts before first [] last key run there none = absurd (omega (arith, there.1))
   run-starts before first (head ∷ rest) last key run there none =
       elim (Contains-cons_cases head key rest there) [
@@ -95,7 +108,8 @@ module _ (next prev : ℕ → Option NodeKey) where
       ]
 
   -- a key with none after it is the last
-  pub run-stops : (before first : Option NodeKey) (keys : List NodeKey) (last : Option NodeKey) (key : NodeKey) → IsRun next prev before first keys last → Contains keys key → next key.slot ≡ None → last ≡ Some key
+  pub run-stops : (before first : Option NodeKey) (keys : List NodeKey) (last : Option NodeKey) (key : NodeKey) →
+      IsRun next prev before first keys last → Contains keys key → next key.slot ≡ None → last ≡ Some key
   run-stops before first [] last key run there none = absurd (omega (arith, there.1))
   run-stops before first (head ∷ rest) last key run there none =
       elim (Contains-cons_cases head key rest there) [
@@ -108,12 +122,15 @@ module _ (next prev : ℕ → Option NodeKey) where
       ends (k ∷ ks) same run2 = let goes : next key.slot ≡ Some k = ap (λ (j : NodeKey). next j.slot) (sym same) ∙ run2.0 in absurd (cc)
 
   -- nothing is after the last
-  pub run-last_ends : (before first : Option NodeKey) (keys : List NodeKey) (last : Option NodeKey) (key : NodeKey) → IsRun next prev before first keys last → Contains keys key → last ≡ Some key → next key.slot ≡ None
+  pub run-last_ends : (before first : Option NodeKey) (keys : List NodeKey) (last : Option NodeKey) (key : NodeKey) →
+      IsRun next prev before first keys last → Contains keys key → last ≡ Some key → next key.slot ≡ None
   run-last_ends before first [] last key run there is = absurd (omega (arith, there.1))
   run-last_ends before first (head ∷ rest) last key run there is = run-end head rest last key run.1.1 is
 
   -- what is before a key has it next
-  pub run-back : (before first : Option NodeKey) (keys : List NodeKey) (last : Option NodeKey) (key other : NodeKey) → IsRun next prev before first keys last → Contains keys key → prev key.slot ≡ Some other → ((before ≡ Some other) × (first ≡ Some key)) ⊎ (Contains keys other × (next other.slot ≡ Some key))
+  pub run-back : (before first : Option NodeKey) (keys : List NodeKey) (last : Option NodeKey) (key other : NodeKey) →
+      IsRun next prev before first keys last → Contains keys key → prev key.slot ≡ Some other →
+      ((before ≡ Some other) × (first ≡ Some key)) ⊎ (Contains keys other × (next other.slot ≡ Some key))
   run-back before first [] last key other run there is = absurd (omega (arith, there.1))
   run-back before first (head ∷ rest) last key other run there is =
       elim (Contains-cons_cases head key rest there) [
@@ -128,17 +145,21 @@ module _ (next prev : ℕ → Option NodeKey) where
       ]
 
   -- what is after a key has it before
-  pub run-on : (before first : Option NodeKey) (keys : List NodeKey) (last : Option NodeKey) (key other : NodeKey) → IsRun next prev before first keys last → Contains keys key → next key.slot ≡ Some other → Contains keys other × (prev other.slot ≡ Some key)
+  pub run-on : (before first : Option NodeKey) (keys : List NodeKey) (last : Option NodeKey) (key other : NodeKey) →
+      IsRun next prev before first keys last → Contains keys key → next key.slot ≡ Some other → Contains keys other ×
+      (prev other.slot ≡ Some key)
   run-on before first [] last key other run there is = absurd (omega (arith, there.1))
   run-on before first (head ∷ rest) last key other run there is =
       elim (Contains-cons_cases head key rest there) [
         | inl same ↦ after rest same run.1.1
         | inr later ↦
-            let found : Contains rest other × (prev other.slot ≡ Some key) = run-on (Some head) (next head.slot) rest last key other run.1.1 later is in
+            let found : Contains rest other × (prev other.slot ≡ Some key) =
+            run-on (Some head) (next head.slot) rest last key other run.1.1 later is in
             (Contains-tail head other rest found.0, found.1)
       ]
     where
-      after : (rest : List NodeKey) → head ≡ key → IsRun next prev (Some head) (next head.slot) rest last → Contains (head ∷ rest) other × (prev other.slot ≡ Some key)
+      after : (rest : List NodeKey) → head ≡ key → IsRun next prev (Some head) (next head.slot) rest last → Contains (head ∷ rest) other ×
+          (prev other.slot ≡ Some key)
       after [] same run2 = let none : next key.slot ≡ None = ap (λ (k : NodeKey). next k.slot) (sym same) ∙ run2.0 in absurd (cc)
       after (k ∷ ks) same run2 =
           let both : Some k ≡ Some other = sym run2.0 ∙ (ap (λ (j : NodeKey). next j.slot) same ∙ is) in
@@ -156,7 +177,8 @@ module _ (next prev next2 prev2 : ℕ → Option NodeKey) where
   run-frame before first [] last nexts prevs run = run
   run-frame before first (key ∷ rest) last nexts prevs run =
       let later : IsRun next2 prev2 (Some key) (next key.slot) rest last =
-      run-frame (Some key) (next key.slot) rest last (λ x there. nexts x (Contains-tail key x rest there)) (λ x there. prevs x (Contains-tail key x rest there)) run.1.1 in (
+      run-frame (Some key) (next key.slot) rest last (λ x there. nexts x (Contains-tail key x rest there)) (λ x there.
+      prevs x (Contains-tail key x rest there)) run.1.1 in (
         run.0,
         (
           prevs key (Contains-head key rest) ∙ run.1.0,
@@ -212,12 +234,14 @@ module _ (next prev next2 prev2 : ℕ → Option NodeKey) where
           → (last ≡ Some key → last2 ≡ prev key.slot)
           → (last ≢ Some key → last2 ≡ last)
           → IsRun next2 prev2 before first2 (without key keys) last2
-      run-cut before first first2 [] last last2 run differ there away nexts prevs begins begins_else ends ends_else = absurd (omega (arith, there.1))
+      run-cut before first first2 [] last last2 run differ there away nexts prevs begins begins_else ends ends_else =
+          absurd (omega (arith, there.1))
       run-cut before first first2 (x ∷ rest) last last2 run differ there away nexts prevs begins begins_else ends ends_else =
           elim (key_cases key x) [
             | inl same ↦
                 let off : Contains rest key → ⊥ = λ later. head_differs x key rest differ later (sym same) in
-                subst (λ keys. IsRun next2 prev2 before first2 keys last2) (sym (without-same key x rest same ∙ without_stranger key rest off))
+                subst (λ keys. IsRun next2 prev2 before first2 keys last2) (sym (without-same key x rest same
+                ∙ without_stranger key rest off))
                 (cut_here rest same off (AllDiffer-tail x rest differ) run.1.1
                 (λ y later. nexts y (Contains-tail x y rest later)) (λ y later. prevs y (Contains-tail x y rest later)))
             | inr apart ↦ elim (Contains-cons_cases x key rest there) [

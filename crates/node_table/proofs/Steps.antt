@@ -15,7 +15,8 @@ module _ {N : Type 0} where
   module _ (old new : Slab (Slot N)) (slot : ℕ) (f : Entry N → Entry N) (edits : Edits old new slot f) where
     -- the slot has what f makes of its entry
     pub here : get new slot ≡ Some (Taken (f edits.before))
-    here = ap (λ (s : Slab (Slot N)). get s slot) edits.becomes ∙ write-same old.slots slot (Some (Taken (f edits.before))) (ap is_some edits.was)
+    here = ap (λ (s : Slab (Slot N)). get s slot) edits.becomes
+        ∙ write-same old.slots slot (Some (Taken (f edits.before))) (ap is_some edits.was)
 
     -- every other slot has what it had
     pub there : (i : ℕ) → i ≢ slot → get new i ≡ get old i
@@ -25,7 +26,8 @@ module _ {N : Type 0} where
     pub kinds : (i : ℕ) → is_some (get new i) ≡ is_some (get old i)
     kinds i =
         elim (cases_eq i slot) [
-          | inl same ↦ ap (λ j. is_some (get new j)) same ∙ (ap is_some here ∙ (sym (ap is_some edits.was) ∙ ap (λ j. is_some (get old j)) (sym same)))
+          | inl same ↦ ap (λ j. is_some (get new j)) same
+              ∙ (ap is_some here ∙ (sym (ap is_some edits.was) ∙ ap (λ j. is_some (get old j)) (sym same)))
           | inr differ ↦ ap is_some (there i differ)
         ]
 
@@ -38,7 +40,8 @@ module _ {N : Type 0} where
         ]
 
     -- a part that f keeps stays everywhere
-    pub part-kept : {X : Type 0} (part : Option (Entry N) → X) → ((e : Entry N) → part (Some (f e)) ≡ part (Some e)) → (i : ℕ) → part (entry_in (get new i)) ≡ part (entry_in (get old i))
+    pub part-kept : {X : Type 0} (part : Option (Entry N) → X) → ((e : Entry N) → part (Some (f e)) ≡ part (Some e)) → (i : ℕ) →
+        part (entry_in (get new i)) ≡ part (entry_in (get old i))
     part-kept part keeps i =
         elim (cases_eq i slot) [
           | inl same ↦
@@ -48,7 +51,8 @@ module _ {N : Type 0} where
         ]
 
     -- a part that f sets is so at the slot
-    pub part-set : {X : Type 0} (part : Option (Entry N) → X) (value : X) → ((e : Entry N) → part (Some (f e)) ≡ value) → (i : ℕ) → part (entry_in (get new i)) ≡ cond (slot == i) value (part (entry_in (get old i)))
+    pub part-set : {X : Type 0} (part : Option (Entry N) → X) (value : X) → ((e : Entry N) → part (Some (f e)) ≡ value) → (i : ℕ) →
+        part (entry_in (get new i)) ≡ cond (slot == i) value (part (entry_in (get old i)))
     part-set part value sets i =
         elim (cases_eq i slot) [
           | inl same ↦
@@ -66,17 +70,20 @@ module _ {N : Type 0} where
           vacant_key = ap (λ (s : Slab (Slot N)). s.vacant_key) edits.becomes;
           capacity = ap (λ (s : Slab (Slot N)). s.capacity) edits.becomes;
           kinds = kinds;
-          cores = λ i. part-kept (option_map core_of) (λ e. ap Some (keeps e)) i ∙ sym (option_map-keeps (λ (row : Row N). row) (λ row. refl) (option_map core_of (entry_in (get old i))));
+          cores = λ i. part-kept (option_map core_of) (λ e. ap Some (keeps e)) i
+              ∙ sym (option_map-keeps (λ (row : Row N). row) (λ row. refl) (option_map core_of (entry_in (get old i))));
         }
 
   -- one change after the other
-  pub relinks-both : (old mid new : Slab (Slot N)) → Relinks old mid (λ i row. row) → Relinks mid new (λ i row. row) → Relinks old new (λ i row. row)
+  pub relinks-both : (old mid new : Slab (Slot N)) → Relinks old mid (λ i row. row) → Relinks mid new (λ i row. row) →
+      Relinks old new (λ i row. row)
   relinks-both old mid new one two =
       record {
         vacant_key = two.vacant_key ∙ one.vacant_key;
         capacity = two.capacity ∙ one.capacity;
         kinds = λ i. two.kinds i ∙ one.kinds i;
-        cores = λ i. two.cores i ∙ (option_map-keeps (λ (row : Row N). row) (λ row. refl) (option_map core_of (entry_in (get mid i))) ∙ one.cores i);
+        cores = λ i. two.cores i ∙ (option_map-keeps (λ (row : Row N). row) (λ row. refl) (option_map core_of (entry_in (get mid i)))
+            ∙ one.cores i);
       }
 
   -- with no change all links stay
@@ -95,67 +102,109 @@ module _ {N : Type 0} where
       record { kept = relinks-none slots; firsts = λ i. refl; lasts = λ i. refl; prevs = λ i. refl; nexts = λ i. refl }
 
   -- a first child is linked to its parent
-  pub links_first : (old mid new : Slab (Slot N)) (parent key : NodeKey) → Edits old mid parent.slot (with_first (Some key)) → Edits mid new parent.slot (with_last (Some key)) → LinksLast old new (Some parent) key None
+  pub links_first : (old mid new : Slab (Slot N)) (parent key : NodeKey) → Edits old mid parent.slot (with_first (Some key)) →
+      Edits mid new parent.slot (with_last (Some key)) → LinksLast old new (Some parent) key None
   links_first old mid new parent key one two =
       record {
-        kept = relinks-both old mid new (relinks old mid parent.slot (with_first (Some key)) one (λ e. refl)) (relinks mid new parent.slot (with_last (Some key)) two (λ e. refl));
-        firsts = λ i. part-kept mid new parent.slot (with_last (Some key)) two (link_in (λ (e : Entry N). e.first)) (λ e. refl) i ∙ part-set old mid parent.slot (with_first (Some key)) one (link_in (λ (e : Entry N). e.first)) (Some key) (λ e. refl) i;
-        lasts = λ i. part-set mid new parent.slot (with_last (Some key)) two (link_in (λ (e : Entry N). e.last)) (Some key) (λ e. refl) i ∙ ap (λ o. cond (parent.slot == i) (Some key) o) (part-kept old mid parent.slot (with_first (Some key)) one (link_in (λ (e : Entry N). e.last)) (λ e. refl) i);
-        prevs = λ i. part-kept mid new parent.slot (with_last (Some key)) two (link_in (λ (e : Entry N). e.prev)) (λ e. refl) i ∙ part-kept old mid parent.slot (with_first (Some key)) one (link_in (λ (e : Entry N). e.prev)) (λ e. refl) i;
-        nexts = λ i. part-kept mid new parent.slot (with_last (Some key)) two (link_in (λ (e : Entry N). e.next)) (λ e. refl) i ∙ part-kept old mid parent.slot (with_first (Some key)) one (link_in (λ (e : Entry N). e.next)) (λ e. refl) i;
+        kept = relinks-both old mid new (relinks old mid parent.slot (with_first (Some key)) one (λ e. refl))
+            (relinks mid new parent.slot (with_last (Some key)) two (λ e. refl));
+        firsts = λ i. part-kept mid new parent.slot (with_last (Some key)) two (link_in (λ (e : Entry N). e.first)) (λ e. refl) i
+            ∙ part-set old mid parent.slot (with_first (Some key)) one (link_in (λ (e : Entry N). e.first)) (Some key) (λ e. refl) i;
+        lasts = λ i. part-set mid new parent.slot (with_last (Some key)) two (link_in (λ (e : Entry N). e.last)) (Some key) (λ e. refl) i
+            ∙ ap (λ o. cond (parent.slot == i) (Some key) o) (part-kept old mid parent.slot (with_first (Some key)) one
+            (link_in (λ (e : Entry N). e.last)) (λ e. refl) i);
+        prevs = λ i. part-kept mid new parent.slot (with_last (Some key)) two (link_in (λ (e : Entry N). e.prev)) (λ e. refl) i
+            ∙ part-kept old mid parent.slot (with_first (Some key)) one (link_in (λ (e : Entry N). e.prev)) (λ e. refl) i;
+        nexts = λ i. part-kept mid new parent.slot (with_last (Some key)) two (link_in (λ (e : Entry N). e.next)) (λ e. refl) i
+            ∙ part-kept old mid parent.slot (with_first (Some key)) one (link_in (λ (e : Entry N). e.next)) (λ e. refl) i;
       }
 
   -- a further child is linked to the last one
-  pub links_more : (old mid new : Slab (Slot N)) (parent key last : NodeKey) → Edits old mid last.slot (with_next (Some key)) → Edits mid new parent.slot (with_last (Some key)) → LinksLast old new (Some parent) key (Some last)
+  pub links_more : (old mid new : Slab (Slot N)) (parent key last : NodeKey) → Edits old mid last.slot (with_next (Some key)) →
+      Edits mid new parent.slot (with_last (Some key)) → LinksLast old new (Some parent) key (Some last)
   links_more old mid new parent key last one two =
       record {
-        kept = relinks-both old mid new (relinks old mid last.slot (with_next (Some key)) one (λ e. refl)) (relinks mid new parent.slot (with_last (Some key)) two (λ e. refl));
-        firsts = λ i. part-kept mid new parent.slot (with_last (Some key)) two (link_in (λ (e : Entry N). e.first)) (λ e. refl) i ∙ part-kept old mid last.slot (with_next (Some key)) one (link_in (λ (e : Entry N). e.first)) (λ e. refl) i;
-        lasts = λ i. part-set mid new parent.slot (with_last (Some key)) two (link_in (λ (e : Entry N). e.last)) (Some key) (λ e. refl) i ∙ ap (λ o. cond (parent.slot == i) (Some key) o) (part-kept old mid last.slot (with_next (Some key)) one (link_in (λ (e : Entry N). e.last)) (λ e. refl) i);
-        prevs = λ i. part-kept mid new parent.slot (with_last (Some key)) two (link_in (λ (e : Entry N). e.prev)) (λ e. refl) i ∙ part-kept old mid last.slot (with_next (Some key)) one (link_in (λ (e : Entry N). e.prev)) (λ e. refl) i;
-        nexts = λ i. part-kept mid new parent.slot (with_last (Some key)) two (link_in (λ (e : Entry N). e.next)) (λ e. refl) i ∙ part-set old mid last.slot (with_next (Some key)) one (link_in (λ (e : Entry N). e.next)) (Some key) (λ e. refl) i;
+        kept = relinks-both old mid new (relinks old mid last.slot (with_next (Some key)) one (λ e. refl))
+            (relinks mid new parent.slot (with_last (Some key)) two (λ e. refl));
+        firsts = λ i. part-kept mid new parent.slot (with_last (Some key)) two (link_in (λ (e : Entry N). e.first)) (λ e. refl) i
+            ∙ part-kept old mid last.slot (with_next (Some key)) one (link_in (λ (e : Entry N). e.first)) (λ e. refl) i;
+        lasts = λ i. part-set mid new parent.slot (with_last (Some key)) two (link_in (λ (e : Entry N). e.last)) (Some key) (λ e. refl) i
+            ∙ ap (λ o. cond (parent.slot == i) (Some key) o) (part-kept old mid last.slot (with_next (Some key)) one
+            (link_in (λ (e : Entry N). e.last)) (λ e. refl) i);
+        prevs = λ i. part-kept mid new parent.slot (with_last (Some key)) two (link_in (λ (e : Entry N). e.prev)) (λ e. refl) i
+            ∙ part-kept old mid last.slot (with_next (Some key)) one (link_in (λ (e : Entry N). e.prev)) (λ e. refl) i;
+        nexts = λ i. part-kept mid new parent.slot (with_last (Some key)) two (link_in (λ (e : Entry N). e.next)) (λ e. refl) i
+            ∙ part-set old mid last.slot (with_next (Some key)) one (link_in (λ (e : Entry N). e.next)) (Some key) (λ e. refl) i;
       }
 
   -- an only child leaves none
-  pub joins_only : (old mid new : Slab (Slot N)) (parent : NodeKey) → Edits old mid parent.slot (with_first None) → Edits mid new parent.slot (with_last None) → Joins old new parent None None
+  pub joins_only : (old mid new : Slab (Slot N)) (parent : NodeKey) → Edits old mid parent.slot (with_first None) →
+      Edits mid new parent.slot (with_last None) → Joins old new parent None None
   joins_only old mid new parent one two =
       record {
-        kept = relinks-both old mid new (relinks old mid parent.slot (with_first None) one (λ e. refl)) (relinks mid new parent.slot (with_last None) two (λ e. refl));
-        firsts = λ i. part-kept mid new parent.slot (with_last None) two (link_in (λ (e : Entry N). e.first)) (λ e. refl) i ∙ part-set old mid parent.slot (with_first None) one (link_in (λ (e : Entry N). e.first)) None (λ e. refl) i;
-        lasts = λ i. part-set mid new parent.slot (with_last None) two (link_in (λ (e : Entry N). e.last)) None (λ e. refl) i ∙ ap (λ o. cond (parent.slot == i) None o) (part-kept old mid parent.slot (with_first None) one (link_in (λ (e : Entry N). e.last)) (λ e. refl) i);
-        prevs = λ i. part-kept mid new parent.slot (with_last None) two (link_in (λ (e : Entry N). e.prev)) (λ e. refl) i ∙ part-kept old mid parent.slot (with_first None) one (link_in (λ (e : Entry N). e.prev)) (λ e. refl) i;
-        nexts = λ i. part-kept mid new parent.slot (with_last None) two (link_in (λ (e : Entry N). e.next)) (λ e. refl) i ∙ part-kept old mid parent.slot (with_first None) one (link_in (λ (e : Entry N). e.next)) (λ e. refl) i;
+        kept = relinks-both old mid new (relinks old mid parent.slot (with_first None) one (λ e. refl))
+            (relinks mid new parent.slot (with_last None) two (λ e. refl));
+        firsts = λ i. part-kept mid new parent.slot (with_last None) two (link_in (λ (e : Entry N). e.first)) (λ e. refl) i
+            ∙ part-set old mid parent.slot (with_first None) one (link_in (λ (e : Entry N). e.first)) None (λ e. refl) i;
+        lasts = λ i. part-set mid new parent.slot (with_last None) two (link_in (λ (e : Entry N). e.last)) None (λ e. refl) i
+            ∙ ap (λ o. cond (parent.slot == i) None o) (part-kept old mid parent.slot (with_first None) one (link_in (λ (e : Entry N).
+            e.last)) (λ e. refl) i);
+        prevs = λ i. part-kept mid new parent.slot (with_last None) two (link_in (λ (e : Entry N). e.prev)) (λ e. refl) i
+            ∙ part-kept old mid parent.slot (with_first None) one (link_in (λ (e : Entry N). e.prev)) (λ e. refl) i;
+        nexts = λ i. part-kept mid new parent.slot (with_last None) two (link_in (λ (e : Entry N). e.next)) (λ e. refl) i
+            ∙ part-kept old mid parent.slot (with_first None) one (link_in (λ (e : Entry N). e.next)) (λ e. refl) i;
       }
 
   -- a first child leaves the next as the first
-  pub joins_first : (old mid new : Slab (Slot N)) (parent after : NodeKey) → Edits old mid parent.slot (with_first (Some after)) → Edits mid new after.slot (with_prev None) → Joins old new parent None (Some after)
+  pub joins_first : (old mid new : Slab (Slot N)) (parent after : NodeKey) → Edits old mid parent.slot (with_first (Some after)) →
+      Edits mid new after.slot (with_prev None) → Joins old new parent None (Some after)
   joins_first old mid new parent after one two =
       record {
-        kept = relinks-both old mid new (relinks old mid parent.slot (with_first (Some after)) one (λ e. refl)) (relinks mid new after.slot (with_prev None) two (λ e. refl));
-        firsts = λ i. part-kept mid new after.slot (with_prev None) two (link_in (λ (e : Entry N). e.first)) (λ e. refl) i ∙ part-set old mid parent.slot (with_first (Some after)) one (link_in (λ (e : Entry N). e.first)) (Some after) (λ e. refl) i;
-        lasts = λ i. part-kept mid new after.slot (with_prev None) two (link_in (λ (e : Entry N). e.last)) (λ e. refl) i ∙ part-kept old mid parent.slot (with_first (Some after)) one (link_in (λ (e : Entry N). e.last)) (λ e. refl) i;
-        prevs = λ i. part-set mid new after.slot (with_prev None) two (link_in (λ (e : Entry N). e.prev)) None (λ e. refl) i ∙ ap (λ o. cond (after.slot == i) None o) (part-kept old mid parent.slot (with_first (Some after)) one (link_in (λ (e : Entry N). e.prev)) (λ e. refl) i);
-        nexts = λ i. part-kept mid new after.slot (with_prev None) two (link_in (λ (e : Entry N). e.next)) (λ e. refl) i ∙ part-kept old mid parent.slot (with_first (Some after)) one (link_in (λ (e : Entry N). e.next)) (λ e. refl) i;
+        kept = relinks-both old mid new (relinks old mid parent.slot (with_first (Some after)) one (λ e. refl))
+            (relinks mid new after.slot (with_prev None) two (λ e. refl));
+        firsts = λ i. part-kept mid new after.slot (with_prev None) two (link_in (λ (e : Entry N). e.first)) (λ e. refl) i
+            ∙ part-set old mid parent.slot (with_first (Some after)) one (link_in (λ (e : Entry N). e.first)) (Some after) (λ e. refl) i;
+        lasts = λ i. part-kept mid new after.slot (with_prev None) two (link_in (λ (e : Entry N). e.last)) (λ e. refl) i
+            ∙ part-kept old mid parent.slot (with_first (Some after)) one (link_in (λ (e : Entry N). e.last)) (λ e. refl) i;
+        prevs = λ i. part-set mid new after.slot (with_prev None) two (link_in (λ (e : Entry N). e.prev)) None (λ e. refl) i
+            ∙ ap (λ o. cond (after.slot == i) None o) (part-kept old mid parent.slot (with_first (Some after)) one
+            (link_in (λ (e : Entry N). e.prev)) (λ e. refl) i);
+        nexts = λ i. part-kept mid new after.slot (with_prev None) two (link_in (λ (e : Entry N). e.next)) (λ e. refl) i
+            ∙ part-kept old mid parent.slot (with_first (Some after)) one (link_in (λ (e : Entry N). e.next)) (λ e. refl) i;
       }
 
   -- a last child leaves the one before as the last
-  pub joins_last : (old mid new : Slab (Slot N)) (parent before : NodeKey) → Edits old mid before.slot (with_next None) → Edits mid new parent.slot (with_last (Some before)) → Joins old new parent (Some before) None
+  pub joins_last : (old mid new : Slab (Slot N)) (parent before : NodeKey) → Edits old mid before.slot (with_next None) →
+      Edits mid new parent.slot (with_last (Some before)) → Joins old new parent (Some before) None
   joins_last old mid new parent before one two =
       record {
-        kept = relinks-both old mid new (relinks old mid before.slot (with_next None) one (λ e. refl)) (relinks mid new parent.slot (with_last (Some before)) two (λ e. refl));
-        firsts = λ i. part-kept mid new parent.slot (with_last (Some before)) two (link_in (λ (e : Entry N). e.first)) (λ e. refl) i ∙ part-kept old mid before.slot (with_next None) one (link_in (λ (e : Entry N). e.first)) (λ e. refl) i;
-        lasts = λ i. part-set mid new parent.slot (with_last (Some before)) two (link_in (λ (e : Entry N). e.last)) (Some before) (λ e. refl) i ∙ ap (λ o. cond (parent.slot == i) (Some before) o) (part-kept old mid before.slot (with_next None) one (link_in (λ (e : Entry N). e.last)) (λ e. refl) i);
-        prevs = λ i. part-kept mid new parent.slot (with_last (Some before)) two (link_in (λ (e : Entry N). e.prev)) (λ e. refl) i ∙ part-kept old mid before.slot (with_next None) one (link_in (λ (e : Entry N). e.prev)) (λ e. refl) i;
-        nexts = λ i. part-kept mid new parent.slot (with_last (Some before)) two (link_in (λ (e : Entry N). e.next)) (λ e. refl) i ∙ part-set old mid before.slot (with_next None) one (link_in (λ (e : Entry N). e.next)) None (λ e. refl) i;
+        kept = relinks-both old mid new (relinks old mid before.slot (with_next None) one (λ e. refl))
+            (relinks mid new parent.slot (with_last (Some before)) two (λ e. refl));
+        firsts = λ i. part-kept mid new parent.slot (with_last (Some before)) two (link_in (λ (e : Entry N). e.first)) (λ e. refl) i
+            ∙ part-kept old mid before.slot (with_next None) one (link_in (λ (e : Entry N). e.first)) (λ e. refl) i;
+        lasts = λ i. part-set mid new parent.slot (with_last (Some before)) two (link_in (λ (e : Entry N). e.last)) (Some before) (λ e.
+            refl) i ∙ ap (λ o. cond (parent.slot == i) (Some before) o) (part-kept old mid before.slot (with_next None) one
+            (link_in (λ (e : Entry N). e.last)) (λ e. refl) i);
+        prevs = λ i. part-kept mid new parent.slot (with_last (Some before)) two (link_in (λ (e : Entry N). e.prev)) (λ e. refl) i
+            ∙ part-kept old mid before.slot (with_next None) one (link_in (λ (e : Entry N). e.prev)) (λ e. refl) i;
+        nexts = λ i. part-kept mid new parent.slot (with_last (Some before)) two (link_in (λ (e : Entry N). e.next)) (λ e. refl) i
+            ∙ part-set old mid before.slot (with_next None) one (link_in (λ (e : Entry N). e.next)) None (λ e. refl) i;
       }
 
   -- a child between two leaves them side by side
-  pub joins_mid : (old mid new : Slab (Slot N)) (parent before after : NodeKey) → Edits old mid before.slot (with_next (Some after)) → Edits mid new after.slot (with_prev (Some before)) → Joins old new parent (Some before) (Some after)
+  pub joins_mid : (old mid new : Slab (Slot N)) (parent before after : NodeKey) → Edits old mid before.slot (with_next (Some after)) →
+      Edits mid new after.slot (with_prev (Some before)) → Joins old new parent (Some before) (Some after)
   joins_mid old mid new parent before after one two =
       record {
-        kept = relinks-both old mid new (relinks old mid before.slot (with_next (Some after)) one (λ e. refl)) (relinks mid new after.slot (with_prev (Some before)) two (λ e. refl));
-        firsts = λ i. part-kept mid new after.slot (with_prev (Some before)) two (link_in (λ (e : Entry N). e.first)) (λ e. refl) i ∙ part-kept old mid before.slot (with_next (Some after)) one (link_in (λ (e : Entry N). e.first)) (λ e. refl) i;
-        lasts = λ i. part-kept mid new after.slot (with_prev (Some before)) two (link_in (λ (e : Entry N). e.last)) (λ e. refl) i ∙ part-kept old mid before.slot (with_next (Some after)) one (link_in (λ (e : Entry N). e.last)) (λ e. refl) i;
-        prevs = λ i. part-set mid new after.slot (with_prev (Some before)) two (link_in (λ (e : Entry N). e.prev)) (Some before) (λ e. refl) i ∙ ap (λ o. cond (after.slot == i) (Some before) o) (part-kept old mid before.slot (with_next (Some after)) one (link_in (λ (e : Entry N). e.prev)) (λ e. refl) i);
-        nexts = λ i. part-kept mid new after.slot (with_prev (Some before)) two (link_in (λ (e : Entry N). e.next)) (λ e. refl) i ∙ part-set old mid before.slot (with_next (Some after)) one (link_in (λ (e : Entry N). e.next)) (Some after) (λ e. refl) i;
+        kept = relinks-both old mid new (relinks old mid before.slot (with_next (Some after)) one (λ e. refl))
+            (relinks mid new after.slot (with_prev (Some before)) two (λ e. refl));
+        firsts = λ i. part-kept mid new after.slot (with_prev (Some before)) two (link_in (λ (e : Entry N). e.first)) (λ e. refl) i
+            ∙ part-kept old mid before.slot (with_next (Some after)) one (link_in (λ (e : Entry N). e.first)) (λ e. refl) i;
+        lasts = λ i. part-kept mid new after.slot (with_prev (Some before)) two (link_in (λ (e : Entry N). e.last)) (λ e. refl) i
+            ∙ part-kept old mid before.slot (with_next (Some after)) one (link_in (λ (e : Entry N). e.last)) (λ e. refl) i;
+        prevs = λ i. part-set mid new after.slot (with_prev (Some before)) two (link_in (λ (e : Entry N). e.prev)) (Some before) (λ e.
+            refl) i ∙ ap (λ o. cond (after.slot == i) (Some before) o) (part-kept old mid before.slot (with_next (Some after)) one
+            (link_in (λ (e : Entry N). e.prev)) (λ e. refl) i);
+        nexts = λ i. part-kept mid new after.slot (with_prev (Some before)) two (link_in (λ (e : Entry N). e.next)) (λ e. refl) i
+            ∙ part-set old mid before.slot (with_next (Some after)) one (link_in (λ (e : Entry N). e.next)) (Some after) (λ e. refl) i;
       }

@@ -55,14 +55,17 @@ module _ {N : Type 0} (slots : Slab (Slot N)) (nexts : List ℕ) (first count li
     same-nexts = λ i slot. nexts_kept slot i
 
     same-runs : (i : ℕ) → run_in written.slots most i ≡ run_in slots.slots most i
-    same-runs i = ap (λ next. run_from next most (first_in written.slots i)) same-nexts ∙ ap (run_from (next_in slots.slots) most) (firsts_kept i)
+    same-runs i = ap (λ next. run_from next most (first_in written.slots i)) same-nexts
+        ∙ ap (run_from (next_in slots.slots) most) (firsts_kept i)
 
     -- so the row is the written one
-    rows-written : rows_of written.slots most ≡ slice_set (rows_of slots.slots most) key.slot (option_map (with_node node) (slice_index_or (rows_of slots.slots most) key.slot None))
+    rows-written : rows_of written.slots most ≡ slice_set (rows_of slots.slots most) key.slot
+        (option_map (with_node node) (slice_index_or (rows_of slots.slots most) key.slot None))
     rows-written =
         ap (λ next. map (row_in next most) written.slots) same-nexts
         ∙ (map-write (row_in (next_in slots.slots) most) slots.slots key.slot (Some (Taken (record e { node = node })))
-        ∙ ap (λ (o : Option (Row N)). slice_set (rows_of slots.slots most) key.slot (option_map (with_node node) o)) (sym (row-at slots.slots most key.slot ∙ ap (row_in (next_in slots.slots) most) was)))
+        ∙ ap (λ (o : Option (Row N)). slice_set (rows_of slots.slots most) key.slot (option_map (with_node node) o))
+        (sym (row-at slots.slots most key.slot ∙ ap (row_in (next_in slots.slots) most) was)))
 
     pub table-written : table_of written.slots nexts first limit ≡ table_with_node (table_of slots.slots nexts first limit) key node
     table-written = ap (λ (rows : List (Option (Row N))). record { rows = rows; nexts = nexts; first = first; limit = limit }) rows-written
@@ -70,19 +73,26 @@ module _ {N : Type 0} (slots : Slab (Slot N)) (nexts : List ℕ) (first count li
     edits-rows : EditsRows (rows_of slots.slots most) (rows_of written.slots most) (Some key) (with_node node)
     edits-rows i =
         ap (λ (rows : List (Option (Row N))). slice_index_or rows i None) rows-written
-        ∙ edit-one (rows_of slots.slots most) key (with_node node) (ap is_some (row-at slots.slots most key.slot ∙ ap (row_in (next_in slots.slots) most) was)) i
+        ∙ edit-one (rows_of slots.slots most) key (with_node node) (ap is_some (row-at slots.slots most key.slot
+        ∙ ap (row_in (next_in slots.slots) most) was)) i
 
-    module _ (sound : IsSound slots.slots nexts first count limit) (there : IsSome (row_at (table_of slots.slots nexts first limit) key)) where
-      key-row : (k : NodeKey) → row_at (table_of written.slots nexts first limit) k ≡ option_map (at_parent (Some key) (with_node node) k) (row_at (table_of slots.slots nexts first limit) k)
-      key-row = edited-key (rows_of slots.slots most) (rows_of written.slots most) nexts first limit (Some key) (with_node node) edits-rows there
+    module _ (sound : IsSound slots.slots nexts first count limit) (there : IsSome (row_at (table_of slots.slots nexts first limit)
+        key)) where
+      key-row : (k : NodeKey) → row_at (table_of written.slots nexts first limit) k ≡ option_map (at_parent (Some key) (with_node node) k)
+          (row_at (table_of slots.slots nexts first limit) k)
+      key-row = edited-key (rows_of slots.slots most) (rows_of written.slots most) nexts first limit (Some key) (with_node node) edits-rows
+          there
 
-      row-kept : (i : ℕ) → is_some (slice_index_or (rows_of written.slots most) i None) ≡ is_some (slice_index_or (rows_of slots.slots most) i None)
-      row-kept i = ap is_some (edits-rows i) ∙ is_some-option_map (at_slot (Some key) (with_node node) i) (slice_index_or (rows_of slots.slots most) i None)
+      row-kept : (i : ℕ) → is_some (slice_index_or (rows_of written.slots most) i None) ≡ is_some (slice_index_or (rows_of slots.slots most)
+          i None)
+      row-kept i = ap is_some (edits-rows i)
+          ∙ is_some-option_map (at_slot (Some key) (with_node node) i) (slice_index_or (rows_of slots.slots most) i None)
 
       pub sound-written : IsSound written.slots nexts first count limit
       sound-written =
           record {
-            counted = sound.counted ∙ sym (edited-count (rows_of slots.slots most) (rows_of written.slots most) (Some key) (with_node node) edits-rows);
+            counted = sound.counted ∙ sym (edited-count (rows_of slots.slots most) (rows_of written.slots most) (Some key) (with_node node)
+                edits-rows);
             within = sound.within;
             vacant = λ i none. sound.vacant i (vacant-before _ _ (kinds slots written key.slot writing edits i) none);
             rising = sound.rising;
@@ -90,16 +100,23 @@ module _ {N : Type 0} (slots : Slab (Slot N)) (nexts : List ℕ) (first count li
             begun = λ i some. sound.begun i (sym (row-kept i) ∙ some);
             forest =
                 IsLinked-same _ _ _ _ sound.forest
-                (λ k. ap parent_in (key-row k) ∙ map-up (Some key) (with_node node) k (row_at (table_of slots.slots nexts first limit) k) (λ row. refl))
-                (λ k. ap children_in (key-row k) ∙ map-down (Some key) (with_node node) k (row_at (table_of slots.slots nexts first limit) k) (λ row. refl));
-            chained = λ i. chained_so written.slots most (run_in slots.slots most) each (runs_short slots.slots nexts first count limit sound) i;
+                (λ k. ap parent_in (key-row k) ∙ map-up (Some key) (with_node node) k (row_at (table_of slots.slots nexts first limit) k)
+                (λ row. refl))
+                (λ k. ap children_in (key-row k) ∙ map-down (Some key) (with_node node) k (row_at (table_of slots.slots nexts first limit)
+                k) (λ row. refl));
+            chained = λ i. chained_so written.slots most (run_in slots.slots most) each (runs_short slots.slots nexts first count limit
+                sound) i;
           }
         where
-          each : (i : ℕ) → IsRun (next_in written.slots) (prev_in written.slots) None (first_in written.slots i) (run_in slots.slots most i) (last_in written.slots i)
+          each : (i : ℕ) → IsRun (next_in written.slots) (prev_in written.slots) None (first_in written.slots i) (run_in slots.slots most i)
+              (last_in written.slots i)
           each i =
-              subst (λ o. IsRun (next_in written.slots) (prev_in written.slots) None o (run_in slots.slots most i) (last_in written.slots i)) (sym (firsts_kept i))
-              (subst (λ o. IsRun (next_in written.slots) (prev_in written.slots) None (first_in slots.slots i) (run_in slots.slots most i) o) (sym (lasts_kept i))
-              (run-frame (next_in slots.slots) (prev_in slots.slots) (next_in written.slots) (prev_in written.slots) None (first_in slots.slots i) (run_in slots.slots most i) (last_in slots.slots i)
+              subst (λ o. IsRun (next_in written.slots) (prev_in written.slots) None o (run_in slots.slots most i)
+              (last_in written.slots i)) (sym (firsts_kept i))
+              (subst (λ o. IsRun (next_in written.slots) (prev_in written.slots) None (first_in slots.slots i) (run_in slots.slots most i)
+              o) (sym (lasts_kept i))
+              (run-frame (next_in slots.slots) (prev_in slots.slots) (next_in written.slots) (prev_in written.slots) None
+              (first_in slots.slots i) (run_in slots.slots most i) (last_in slots.slots i)
               (λ x child. nexts_kept x.slot) (λ x child. prevs_kept x.slot) (sound.chained i)))
 
 module _ {N : Type 0} (slots : Slab (Slot N)) (nexts : List ℕ) (first limit : ℕ) (key : NodeKey) (e : Entry N)

@@ -126,7 +126,8 @@ module _ {N : Type 0} where
     pub rising : (slot : ℕ) → first ≤ slice_index_or nexts slot first
     pub narrow : (slot : ℕ) → slice_index_or nexts slot first ≤ 2 ^ 32
     -- a slot with a node gave a key
-    pub begun : (slot : ℕ) → IsSome (slice_index_or (rows_of slots (given_count first nexts)) slot None) → first < slice_index_or nexts slot first
+    pub begun : (slot : ℕ) → IsSome (slice_index_or (rows_of slots (given_count first nexts)) slot None) →
+        first < slice_index_or nexts slot first
     pub forest : IsLinked (parent_at (table_of slots nexts first limit)) (children_at (table_of slots nexts first limit))
     -- the children of each slot are linked to and fro, from its first to its last
     pub chained : (slot : ℕ) → IsRun (next_in slots) (prev_in slots) None (first_in slots slot)

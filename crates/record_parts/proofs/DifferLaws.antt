@@ -14,7 +14,8 @@ pub alike : (own part rest : List Own) → rest ≡ part → Alike own part own 
 alike own part rest is = record { same = []; own_is = refl; part_is = sym is }
 
 -- once one more is the same
-pub alike_more : (own part left rest more later : List Own) (mine told : Own) → Alike own part left rest → left ≡ mine ∷ more → rest ≡ told ∷ later → mine ≡ told →
+pub alike_more : (own part left rest more later : List Own) (mine told : Own) → Alike own part left rest → left ≡ mine ∷ more →
+    rest ≡ told ∷ later → mine ≡ told →
     Alike own part more later
 alike_more own part left rest more later mine told so goes_on told_on one = record {
   same = so.same ++ mine ∷ [];
@@ -24,7 +25,8 @@ alike_more own part left rest more later mine told so goes_on told_on one = reco
 }
 
 -- and where they go on otherwise
-pub apart_at : (event : ℕ) (own part left rest mine told : List Own) → Alike own part left rest → left ≡ mine → rest ≡ told → BeginApart event mine told → DifferAt event own part
+pub apart_at : (event : ℕ) (own part left rest mine told : List Own) → Alike own part left rest → left ≡ mine → rest ≡ told →
+    BeginApart event mine told → DifferAt event own part
 apart_at event own part left rest mine told so goes_on told_on apart = record {
   same = so.same;
   mine = mine;

@@ -14,7 +14,8 @@ use Rattle.event_laws.proofs.SetLaws.{indices_most, cond-le}
 
 -- an event brings 64 handles at most
 gained_most : (strength : Strength) (call : Call) (reply : Reply) → gained_by strength call reply ≤ 64
-gained_most strength (Call.Take key) (Reply.Taken collection taken set) = cond-le (same_strength taken strength) (length (indices_in set)) 64 (indices_most set)
+gained_most strength (Call.Take key) (Reply.Taken collection taken set) =
+    cond-le (same_strength taken strength) (length (indices_in set)) 64 (indices_most set)
 gained_most strength (Call.DupHandle buffer dup) Reply.Done = cond-le (same_strength dup strength) 1 64 (omega arith)
 gained_most strength Call.Collect (Reply.CollectedHandle buffer got) = cond-le (same_strength got strength) 1 64 (omega arith)
 gained_most strength _ _ = omega arith
@@ -42,7 +43,8 @@ pub part_most : (client event : ℕ) (history : List Entry) → length (part_fro
 part_most client event [] = omega arith
 part_most client event (e ∷ es) = either (part_most client (event + 1) es) (is_own client event e) refl
   where
-    either : length (part_from client (event + 1) es) ≤ length es → (b : Bool) → is_own client event e ≡ b → length (part_from client event (e ∷ es)) ≤ length (e ∷ es)
+    either : length (part_from client (event + 1) es) ≤ length es → (b : Bool) → is_own client event e ≡ b →
+        length (part_from client event (e ∷ es)) ≤ length (e ∷ es)
     either on true own = rw own (omega arith)
     either on false other = rw other (omega arith)
 
@@ -52,7 +54,8 @@ pub record IsCounted (strength : Strength) (gained lost : ℕ) (rest whole : Lis
   pub lost_is : lost + losses strength rest ≡ losses strength whole
 
 -- and fits a number
-pub fits_more : (strength : Strength) (gained lost : ℕ) (rest whole later : List Own) (own : Own) → IsCounted strength gained lost rest whole → rest ≡ own ∷ later →
+pub fits_more : (strength : Strength) (gained lost : ℕ) (rest whole later : List Own) (own : Own) →
+    IsCounted strength gained lost rest whole → rest ≡ own ∷ later →
     (gained + gained_by strength own.call own.reply ≤ length whole * 64) × (lost + lost_by strength own.call own.reply ≤ length whole * 64)
 fits_more strength gained lost rest whole later own so on =
     let one : gains strength rest ≡ gained_by strength own.call own.reply + gains strength later =

@@ -48,17 +48,20 @@ module _ (history : List Entry) (passed : ℕ) (e : Entry) (within : passed < le
   links_same first next later links = record {
     all_first = links.all_first;
     all_next = links.all_next;
-    firsts = λ client below. links.firsts client below ∙ sym (ap (first_from client (passed + 1)) goes_on ∙ skips client (e.0 == client) refl);
+    firsts = λ client below. links.firsts client below ∙ sym (ap (first_from client (passed + 1)) goes_on
+        ∙ skips client (e.0 == client) refl);
     nexts = λ k x from below at own. onward k x from below at own (k == passed) refl;
   }
     where
-      skips : (client : ℕ) (b : Bool) → (e.0 == client) ≡ b → first_from client (passed + 1) (e ∷ rest) ≡ first_from client (passed + 1 + 1) rest
+      skips : (client : ℕ) (b : Bool) → (e.0 == client) ≡ b →
+          first_from client (passed + 1) (e ∷ rest) ≡ first_from client (passed + 1 + 1) rest
       skips client true same =
           let one : e.0 ≡ client = eqb-true e.0 client same in
           rw (own_not_yet client (passed + 1) e (omega (arith, one))) refl
       skips client false other = rw (own_not client (passed + 1) e (eqb-false e.0 client other)) refl
 
-      onward : (k : ℕ) (x : Entry) → passed ≤ k → k < length history → x ≡ get_or history k x → is_own x.0 (k + 1) x ≡ true → (b : Bool) → (k == passed) ≡ b →
+      onward : (k : ℕ) (x : Entry) → passed ≤ k → k < length history → x ≡ get_or history k x → is_own x.0 (k + 1) x ≡ true → (b : Bool) →
+          (k == passed) ≡ b →
           get_or next k 0 ≡ first_from x.0 (k + 1 + 1) (drop (k + 1) history)
       onward k x from below at own true same =
           let one : x ≡ e = here k x at (eqb-true k passed same) in
@@ -84,24 +87,31 @@ module _ (history : List Entry) (passed : ℕ) (e : Entry) (within : passed < le
           let one : e.0 ≡ client = eqb-true e.0 client same in
           let fits : client < length first = omega (arith, links.all_first) in
           let read : get_or (set first client (passed + 1)) client 0 ≡ passed + 1 = get_or-set_same first client (passed + 1) 0 fits in
-          let begun : first_from client (passed + 1) (e ∷ rest) ≡ passed + 1 = rw (own_yes client (passed + 1) e one (omega (arith, one))) refl in
-          ap (λ c. get_or (set first c (passed + 1)) client 0) one ∙ (read ∙ (sym begun ∙ sym (ap (first_from client (passed + 1)) goes_on)))
+          let begun : first_from client (passed + 1) (e ∷ rest) ≡ passed + 1 =
+          rw (own_yes client (passed + 1) e one (omega (arith, one))) refl in
+          ap (λ c. get_or (set first c (passed + 1)) client 0) one
+          ∙ (read ∙ (sym begun ∙ sym (ap (first_from client (passed + 1)) goes_on)))
       firsts client below false other =
           let no : e.0 ≢ client = eqb-false e.0 client other in
-          let skipped : first_from client (passed + 1) (e ∷ rest) ≡ first_from client (passed + 1 + 1) rest = rw (own_not client (passed + 1) e no) refl in
-          get_or-set_other first e.0 client (passed + 1) 0 (λ s. no (sym s)) ∙ (links.firsts client below ∙ (sym skipped ∙ sym (ap (first_from client (passed + 1)) goes_on)))
+          let skipped : first_from client (passed + 1) (e ∷ rest) ≡ first_from client (passed + 1 + 1) rest =
+          rw (own_not client (passed + 1) e no) refl in
+          get_or-set_other first e.0 client (passed + 1) 0 (λ s. no (sym s))
+          ∙ (links.firsts client below ∙ (sym skipped ∙ sym (ap (first_from client (passed + 1)) goes_on)))
 
-      nexts : (k : ℕ) (x : Entry) → passed ≤ k → k < length history → x ≡ get_or history k x → is_own x.0 (k + 1) x ≡ true → (b : Bool) → (k == passed) ≡ b →
+      nexts : (k : ℕ) (x : Entry) → passed ≤ k → k < length history → x ≡ get_or history k x → is_own x.0 (k + 1) x ≡ true → (b : Bool) →
+          (k == passed) ≡ b →
           get_or (set next passed (get_or first e.0 0)) k 0 ≡ first_from x.0 (k + 1 + 1) (drop (k + 1) history)
       nexts k x from below at own true same =
           let k_is : k ≡ passed = eqb-true k passed same in
           let one : x ≡ e = here k x at k_is in
           let fits : passed < length next = omega (arith, links.all_next) in
           let known : e.0 < length history = omega arith in
-          let read : get_or (set next passed (get_or first e.0 0)) passed 0 ≡ get_or first e.0 0 = get_or-set_same next passed (get_or first e.0 0) 0 fits in
+          let read : get_or (set next passed (get_or first e.0 0)) passed 0 ≡ get_or first e.0 0 =
+          get_or-set_same next passed (get_or first e.0 0) 0 fits in
           ap (λ i. get_or (set next passed (get_or first e.0 0)) i 0) k_is
           ∙ (read ∙ (links.firsts e.0 known
-          ∙ (ap (λ (y : Entry). first_from y.0 (passed + 1 + 1) rest) (sym one) ∙ ap (λ i. first_from x.0 (i + 1 + 1) (drop (i + 1) history)) (sym k_is))))
+          ∙ (ap (λ (y : Entry). first_from y.0 (passed + 1 + 1) rest) (sym one)
+          ∙ ap (λ i. first_from x.0 (i + 1 + 1) (drop (i + 1) history)) (sym k_is))))
       nexts k x from below at own false other =
           let no : k ≢ passed = eqb-false k passed other in
           get_or-set_other next passed k (get_or first e.0 0) 0 no ∙ links.nexts k x (omega (arith, no)) below at own
@@ -123,13 +133,15 @@ jumps history client passed (e ∷ es) is =
     one_less : passed + 1 - 1 ≡ passed
     one_less = omega arith
 
-    either : Jumps history client (passed + 1 + 1) es → (b : Bool) → is_own client (passed + 1) e ≡ b → Jumps history client (passed + 1) (e ∷ es)
+    either : Jumps history client (passed + 1 + 1) es → (b : Bool) → is_own client (passed + 1) e ≡ b →
+        Jumps history client (passed + 1) (e ∷ es)
     either on true own =
         let here : drop (passed + 1 - 1) history ≡ e ∷ es = ap (λ i. drop i history) one_less ∙ is in
         let first : first_from client (passed + 1) (e ∷ es) ≡ passed + 1 = rw own refl in
         let whole : rest_at history client (passed + 1) ≡ part_from client (passed + 1) (e ∷ es) =
         rw (ne_eqb (passed + 1) 0 (λ z. absurd (omega arith))) (ap (part_from client (passed + 1)) here) in
-        let begins : 0 < passed + 1 → first_from client (passed + 1) (drop (passed + 1 - 1) history) ≡ passed + 1 = λ some. ap (first_from client (passed + 1)) here ∙ first in
+        let begins : 0 < passed + 1 → first_from client (passed + 1) (drop (passed + 1 - 1) history) ≡ passed + 1 =
+        λ some. ap (first_from client (passed + 1)) here ∙ first in
         let at : Stands history client (passed + 1) = record { begins = begins } in
         record {
           rest = ap (rest_at history client) first ∙ whole;
@@ -168,7 +180,8 @@ not_before : (client event : ℕ) (xs : List Entry) → 0 < first_from client ev
 not_before client event [] some = absurd (omega (arith, some))
 not_before client event (e ∷ es) some = either (not_before client (event + 1) es) (is_own client event e) refl some
   where
-    either : (0 < first_from client (event + 1) es → event + 1 ≤ first_from client (event + 1) es) → (b : Bool) → is_own client event e ≡ b → 0 < first_from client event (e ∷ es) → event ≤ first_from client event (e ∷ es)
+    either : (0 < first_from client (event + 1) es → event + 1 ≤ first_from client (event + 1) es) → (b : Bool) →
+        is_own client event e ≡ b → 0 < first_from client event (e ∷ es) → event ≤ first_from client event (e ∷ es)
     either on true own some = rw own (omega arith)
     either on false other some =
         let s : 0 < first_from client (event + 1) es = rw other at some in
@@ -192,7 +205,8 @@ pub record Steps (history : List Entry) (client event : ℕ) (entry : Entry) (ne
   pub rest : rest_at history client event ≡ note event entry ∷ rest_at history client next
   pub stands : Stands history client next
 
-steps_at : (history : List Entry) (client k : ℕ) (entry : Entry) (first next : List ℕ) → Stands history client (k + 1) → entry ≡ get_or history k entry →
+steps_at : (history : List Entry) (client k : ℕ) (entry : Entry) (first next : List ℕ) → Stands history client (k + 1) →
+    entry ≡ get_or history k entry →
     Links 0 first next history → Steps history client (k + 1) entry (get_or next k 0)
 steps_at history client k entry first next stands is links = both (is_own client (k + 1) entry) refl
   where
@@ -200,7 +214,8 @@ steps_at history client k entry first next stands is links = both (is_own client
     within = omega (arith, stands_within history client (k + 1) (omega arith) stands)
 
     split : drop (k + 1 - 1) history ≡ entry ∷ (drop (k + 1) history)
-    split = let one_less : k + 1 - 1 ≡ k = omega arith in ap (λ i. drop i history) one_less ∙ (drop_more history k entry within ∙ ap (λ x. x ∷ (drop (k + 1) history)) (sym is))
+    split = let one_less : k + 1 - 1 ≡ k = omega arith in ap (λ i. drop i history) one_less ∙ (drop_more history k entry within
+        ∙ ap (λ x. x ∷ (drop (k + 1) history)) (sym is))
 
     begins : first_from client (k + 1) (entry ∷ (drop (k + 1) history)) ≡ k + 1
     begins = ap (first_from client (k + 1)) (sym split) ∙ stands.begins (omega arith)
@@ -213,11 +228,13 @@ steps_at history client k entry first next stands is links = both (is_own client
     both true own =
         let one : entry.0 ≡ client = of_client (entry.0 == client) refl own in
         let of_its : is_own entry.0 (k + 1) entry ≡ true = ap (λ c. is_own c (k + 1) entry) one ∙ own in
-        let linked : get_or next k 0 ≡ first_from client (k + 1 + 1) (drop (k + 1) history) = links.nexts k entry (omega arith) within is of_its ∙ ap (λ c. first_from c (k + 1 + 1) (drop (k + 1) history)) one in
+        let linked : get_or next k 0 ≡ first_from client (k + 1 + 1) (drop (k + 1) history) =
+        links.nexts k entry (omega arith) within is of_its ∙ ap (λ c. first_from c (k + 1 + 1) (drop (k + 1) history)) one in
         let on = jumps history client (k + 1) (drop (k + 1) history) refl in
         let here : rest_at history client (k + 1) ≡ part_from client (k + 1) (entry ∷ (drop (k + 1) history)) =
         rw (ne_eqb (k + 1) 0 (λ z. absurd (omega (arith, z)))) (ap (part_from client (k + 1)) split) in
-        let taken : part_from client (k + 1) (entry ∷ (drop (k + 1) history)) ≡ note (k + 1) entry ∷ part_from client (k + 1 + 1) (drop (k + 1) history) = rw own refl in
+        let taken : part_from client (k + 1) (entry ∷ (drop (k + 1) history)) ≡ note (k + 1) entry ∷ part_from client (k + 1 + 1)
+        (drop (k + 1) history) = rw own refl in
         record {
           rest = here ∙ (taken ∙ ap (λ l. note (k + 1) entry ∷ l) (sym on.rest ∙ ap (rest_at history client) (sym linked)));
           stands = subst (Stands history client) (sym linked) on.stands;
@@ -228,12 +245,15 @@ steps_at history client k entry first next stands is links = both (is_own client
         of_client false same own = cc
 
 -- so it is at each event
-pub steps : (history : List Entry) (client event : ℕ) (entry : Entry) (first next : List ℕ) (read : ℕ) → 0 < event → Stands history client event →
-    entry ≡ get_or history (event - 1) entry → Links 0 first next history → read ≡ get_or next (event - 1) read → Steps history client event entry read
+pub steps : (history : List Entry) (client event : ℕ) (entry : Entry) (first next : List ℕ) (read : ℕ) → 0 < event →
+    Stands history client event →
+    entry ≡ get_or history (event - 1) entry → Links 0 first next history → read ≡ get_or next (event - 1) read →
+    Steps history client event entry read
 steps history client event entry first next read some stands is links got =
     let whole : event ≡ event - 1 + 1 = omega (arith, some) in
     let at : Stands history client (event - 1 + 1) = subst (Stands history client) whole stands in
     let fits : event - 1 < length next = omega (arith, links.all_next, stands_within history client event some stands, some) in
     let one : get_or next (event - 1) 0 ≡ read = sym (get_or_read next (event - 1) read fits got 0) in
     let on = steps_at history client (event - 1) entry first next at is links in
-    subst (λ n. Steps history client event entry n) one (subst (λ n. Steps history client n entry (get_or next (event - 1) 0)) (sym whole) on)
+    subst (λ n. Steps history client event entry n) one (subst (λ n. Steps history client n entry (get_or next (event - 1) 0)) (sym whole)
+    on)

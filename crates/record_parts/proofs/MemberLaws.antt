@@ -24,7 +24,8 @@ pub record IsRead (ids : List ℕ) (event : ℕ) (rest history : List Entry) : T
   pub present : AreAmong ids before
 
 -- an event that made no client
-pub read_other : (ids : List ℕ) (event : ℕ) (entry : Entry) (rest later history : List Entry) → rest ≡ entry ∷ later → is_join entry ≡ false → IsRead ids event rest history →
+pub read_other : (ids : List ℕ) (event : ℕ) (entry : Entry) (rest later history : List Entry) → rest ≡ entry ∷ later →
+    is_join entry ≡ false → IsRead ids event rest history →
     IsRead ids (event + 1) later history
 read_other ids event entry rest later history on other so = record {
   before = so.before;
@@ -33,19 +34,23 @@ read_other ids event entry rest later history on other so = record {
 }
 
 -- an event that made a client who is there
-pub read_join : (ids : List ℕ) (event : ℕ) (entry : Entry) (rest later history : List Entry) → rest ≡ entry ∷ later → is_join entry ≡ true → is_among ids event ≡ true → IsRead ids event rest history →
+pub read_join : (ids : List ℕ) (event : ℕ) (entry : Entry) (rest later history : List Entry) → rest ≡ entry ∷ later → is_join entry ≡ true →
+    is_among ids event ≡ true → IsRead ids event rest history →
     IsRead ids (event + 1) later history
 read_join ids event entry rest later history on join there so = record {
   before = so.before ++ event ∷ [];
-  all = so.all ∙ (ap (λ l. so.before ++ l) (ap (joined_from event) on ∙ joins) ∙ sym (append_assoc so.before (event ∷ []) (joined_from (event + 1) later)));
-  present = All-append (λ c. is_among ids c ≡ true) so.before (event ∷ []) so.present (All-cons (λ c. is_among ids c ≡ true) event [] there (All-nil (λ c. is_among ids c ≡ true)));
+  all = so.all ∙ (ap (λ l. so.before ++ l) (ap (joined_from event) on ∙ joins)
+      ∙ sym (append_assoc so.before (event ∷ []) (joined_from (event + 1) later)));
+  present = All-append (λ c. is_among ids c ≡ true) so.before (event ∷ []) so.present (All-cons (λ c. is_among ids c ≡ true) event [] there
+      (All-nil (λ c. is_among ids c ≡ true)));
 }
   where
     joins : joined_from event (entry ∷ later) ≡ event ∷ joined_from (event + 1) later
     joins = rw join refl
 
 -- an event, where the client that it made is there
-pub read_next : (ids : List ℕ) (event : ℕ) (entry : Entry) (rest later history : List Entry) → rest ≡ entry ∷ later → (is_join entry ≡ true → is_among ids event ≡ true) → IsRead ids event rest history →
+pub read_next : (ids : List ℕ) (event : ℕ) (entry : Entry) (rest later history : List Entry) → rest ≡ entry ∷ later →
+    (is_join entry ≡ true → is_among ids event ≡ true) → IsRead ids event rest history →
     IsRead ids (event + 1) later history
 read_next ids event entry rest later history on there so = either (is_join entry) refl
   where
@@ -54,5 +59,6 @@ read_next ids event entry rest later history on there so = either (is_join entry
     either false other = read_other ids event entry rest later history on other so
 
 -- a client that is marked is there
-pub marked_there : (present : List Bool) (ids : List ℕ) (k : ℕ) (mark : Bool) → Marks present ids → k < length present → mark ≡ get_or present k mark → mark ≡ true → is_among ids (k + 1) ≡ true
+pub marked_there : (present : List Bool) (ids : List ℕ) (k : ℕ) (mark : Bool) → Marks present ids → k < length present →
+    mark ≡ get_or present k mark → mark ≡ true → is_among ids (k + 1) ≡ true
 marked_there present ids k mark marks below read so = sym (marks.each k below) ∙ (sym (get_or_read present k mark below read false) ∙ so)

@@ -43,7 +43,8 @@ demand_one a b e =
       size = eqb-true a.size b.size last.1 i;
     }
 
-weak_ok_one : (a b : NodeKey) (c d : Bool) → (call.eq-value).it (Call.SetWeakOk a c) (Call.SetWeakOk b d) ≡ true → Call.SetWeakOk a c ≡ Call.SetWeakOk b d
+weak_ok_one : (a b : NodeKey) (c d : Bool) → (call.eq-value).it (Call.SetWeakOk a c) (Call.SetWeakOk b d) ≡ true →
+    Call.SetWeakOk a c ≡ Call.SetWeakOk b d
 weak_ok_one a b true true e = ap (λ k. Call.SetWeakOk k true) (key_one a b (both ((key.eq-value).it a b) true e).0)
 weak_ok_one a b false false e = ap (λ k. Call.SetWeakOk k false) (key_one a b (both ((key.eq-value).it a b) true e).0)
 weak_ok_one a b true false e = let no = (both ((key.eq-value).it a b) false e).1 in cc

@@ -91,7 +91,8 @@ AreNone [] = Unit {0}
 AreNone (o ∷ os) = (o ≡ None) × AreNone os
 
 -- an answer that took effect comes after all that refuse
-all_none : (os : List (Option Reply)) (e reply : Reply) → AllRefuse os → took_effect reply ≡ true → reply ≡ unwrap_or (first_some os) e → AreNone os × (reply ≡ e)
+all_none : (os : List (Option Reply)) (e reply : Reply) → AllRefuse os → took_effect reply ≡ true → reply ≡ unwrap_or (first_some os) e →
+    AreNone os × (reply ≡ e)
 all_none [] e reply refuse effective is = (tt, is)
 all_none (None ∷ os) e reply refuse effective is = let rest = all_none os e reply refuse.1 effective is in ((refl, rest.0), rest.1)
 all_none (Some x ∷ os) e reply refuse effective is = both_ways (took_effect reply) effective (ap took_effect is ∙ refuse.0 x refl)
@@ -101,7 +102,8 @@ closing_refuses : (call : Call) → closing call ≡ None → Refuses (closing c
 closing_refuses call no_close reply h = let x : None ≡ Some reply = sym no_close ∙ h in cc
 
 -- but for a Close, all answers before that of the effect are of calls that did not take effect
-all_refuse : (limits : Bound) (r : Readings) (client : ℕ) (call : Call) → closing call ≡ None → AllRefuse (answers_first limits r client call)
+all_refuse : (limits : Bound) (r : Readings) (client : ℕ) (call : Call) → closing call ≡ None →
+    AllRefuse (answers_first limits r client call)
 all_refuse limits r client call no_close = (
   unknown_refuses r client call,
   (
@@ -132,10 +134,12 @@ all_refuse limits r client call no_close = (
 )
 
 -- a call that took effect, and is no Close, passed every test and is answered by its effect
-pub took_effect_all : (limits : Bound) (r : Readings) (client : ℕ) (new : NodeKey) (call : Call) (reply : Reply) → took_effect reply ≡ true → closing call ≡ None →
+pub took_effect_all : (limits : Bound) (r : Readings) (client : ℕ) (new : NodeKey) (call : Call) (reply : Reply) →
+    took_effect reply ≡ true → closing call ≡ None →
     reply ≡ answer limits r client new call → TookEffect limits r client new call reply
 took_effect_all limits r client new call reply effective no_close is =
-    let a = all_none (answers_first limits r client call) (effect r client new call) reply (all_refuse limits r client call no_close) effective is in
+    let a = all_none (answers_first limits r client call) (effect r client new call) reply (all_refuse limits r client call no_close)
+    effective is in
     let n = a.0 in
     record {
       known = n.0;

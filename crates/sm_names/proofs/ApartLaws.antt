@@ -47,7 +47,8 @@ module _ (pool : ℕ) (a b : Timeline) (collection : ℕ) (s : SameIn pool a b c
     where
       from : (o : Option Buffers) → In name (option_map_or (λ (g : Buffers). names collection g.count) o []) → name.collection ≡ collection
       from None on = absurd on
-      from (Some g) on = let r = In-map (λ i. record { collection = collection; index = i }) _ name on in ap (λ (x : BufferName). x.collection) r.2
+      from (Some g) on = let r =
+          In-map (λ i. record { collection = collection; index = i }) _ name on in ap (λ (x : BufferName). x.collection) r.2
 
   -- it has the buffers that it had
   names_same : buffer_names b collection ≡ buffer_names a collection
@@ -58,11 +59,13 @@ module _ (pool : ℕ) (a b : Timeline) (collection : ℕ) (s : SameIn pool a b c
   left_same =
       ap (count_by (λ x. not (home b x))) names_same
       ∙ (sym (length-filter (λ x. not (home b x)) (buffer_names a collection))
-      ∙ (ap length (filter-In (λ x. not (home b x)) (λ x. not (home a x)) (buffer_names a collection) (λ x on. ap not (homes_same x (named_so x on))))
+      ∙ (ap length (filter-In (λ x. not (home b x)) (λ x. not (home a x)) (buffer_names a collection) (λ x on.
+      ap not (homes_same x (named_so x on))))
       ∙ length-filter (λ x. not (home a x)) (buffer_names a collection)))
 
   -- and they hold the pages that they held
-  pages_same : filter (λ (h : HeldPages). h.buffer.collection == collection) (held pool b) ≡ filter (λ (h : HeldPages). h.buffer.collection == collection) (held pool a)
+  pages_same : filter (λ (h : HeldPages). h.buffer.collection == collection) (held pool b) ≡ filter (λ (h : HeldPages).
+      h.buffer.collection == collection) (held pool a)
   pages_same =
       let ours : HeldPages → Bool = λ h. h.buffer.collection == collection in
       let out : Timeline → HeldPages → Bool = λ m h. not (home m h.buffer) in
@@ -75,7 +78,8 @@ module _ (pool : ℕ) (a b : Timeline) (collection : ℕ) (s : SameIn pool a b c
   -- ---- nodes
 
   -- the birth of a node of the collection
-  born_in : (node : NodeKey) → collection_in (births a) node ≡ Some collection → (x : Birth) × (birth_of a node ≡ Some x) × (x.node ≡ node) × (x.collection ≡ collection) × In x (births_in a collection)
+  born_in : (node : NodeKey) → collection_in (births a) node ≡ Some collection → (x : Birth) × (birth_of a node ≡ Some x) ×
+      (x.node ≡ node) × (x.collection ≡ collection) × In x (births_in a collection)
   born_in node here =
       let t = map-Some (λ (x : Birth). x.collection) (birth_of a node) collection here in
       let x : Birth = t.0 in
@@ -101,15 +105,21 @@ module _ (pool : ℕ) (a b : Timeline) (collection : ℕ) (s : SameIn pool a b c
   -- ---- ends
 
   -- the end that a birth made
-  open_same : (node : NodeKey) (x : Birth) → x.node ≡ node → x.collection ≡ collection → member b x ≡ member a x → end_state b x.node ≡ end_state a x.node →
+  open_same : (node : NodeKey) (x : Birth) → x.node ≡ node → x.collection ≡ collection → member b x ≡ member a x →
+      end_state b x.node ≡ end_state a x.node →
       open_end b x ≡ record (open_end a x) { holder = holder b node; in_transit = in_transit b node }
   open_same node x is ours m e =
-      let given : buffers_of b x.collection ≡ buffers_of a x.collection = subst (λ (c : ℕ). buffers_of b c ≡ buffers_of a c) (sym ours) s.given in
-      let opened : filter (λ name. not (doomed b name)) (buffer_names b collection) ≡ filter (λ name. not (doomed a name)) (buffer_names a collection) =
+      let given : buffers_of b x.collection ≡ buffers_of a x.collection =
+      subst (λ (c : ℕ). buffers_of b c ≡ buffers_of a c) (sym ours) s.given in
+      let opened : filter (λ name. not (doomed b name)) (buffer_names b collection) ≡ filter (λ name.
+      not (doomed a name)) (buffer_names a collection) =
       ap (filter (λ name. not (doomed b name))) names_same
-      ∙ filter-In (λ name. not (doomed b name)) (λ name. not (doomed a name)) (buffer_names a collection) (λ name on. ap not (dooms_same name (named_so name on))) in
-      let to_open : filter (λ name. not (doomed b name)) (buffer_names b x.collection) ≡ filter (λ name. not (doomed a name)) (buffer_names a x.collection) =
-      subst (λ (c : ℕ). filter (λ name. not (doomed b name)) (buffer_names b c) ≡ filter (λ name. not (doomed a name)) (buffer_names a c)) (sym ours) opened in
+      ∙ filter-In (λ name. not (doomed b name)) (λ name. not (doomed a name)) (buffer_names a collection) (λ name on.
+      ap not (dooms_same name (named_so name on))) in
+      let to_open : filter (λ name. not (doomed b name)) (buffer_names b x.collection) ≡ filter (λ name.
+      not (doomed a name)) (buffer_names a x.collection) =
+      subst (λ (c : ℕ). filter (λ name. not (doomed b name)) (buffer_names b c) ≡ filter (λ name. not (doomed a name)) (buffer_names a c))
+      (sym ours) opened in
       λ i. record {
         holder = holder b (is i);
         in_transit = in_transit b (is i);
@@ -127,7 +137,8 @@ module _ (pool : ℕ) (a b : Timeline) (collection : ℕ) (s : SameIn pool a b c
 
   -- its ends tell what they told, but for who holds them
   ends_same : (node : NodeKey) → collection_in (births a) node ≡ Some collection →
-      (readings b).end_of node ≡ option_map (λ (e : OpenEnd). record e { holder = holder b node; in_transit = in_transit b node }) ((readings a).end_of node)
+      (readings b).end_of node ≡ option_map (λ (e : OpenEnd). record e { holder = holder b node; in_transit = in_transit b node })
+      ((readings a).end_of node)
   ends_same node here =
       let x = born_in node here in
       let e : end_state b node ≡ end_state a node = s.ends node here in
@@ -136,10 +147,12 @@ module _ (pool : ℕ) (a b : Timeline) (collection : ℕ) (s : SameIn pool a b c
       let found : birth_of b node ≡ Some x.0 = ap (λ (f : EndState). f.birth) e ∙ x.1 in
       (λ i. cond (e i).spent None (option_map (open_end b) (found i)))
       ∙ (from (spent a node) (open_end b x.0) (open_end a x.0) told
-      ∙ (λ i. option_map (λ (e : OpenEnd). record e { holder = holder b node; in_transit = in_transit b node }) (cond (spent a node) None (option_map (open_end a) (sym x.1 i)))))
+      ∙ (λ i. option_map (λ (e : OpenEnd). record e { holder = holder b node; in_transit = in_transit b node })
+      (cond (spent a node) None (option_map (open_end a) (sym x.1 i)))))
     where
       from : (t : Bool) (later earlier : OpenEnd) → later ≡ record earlier { holder = holder b node; in_transit = in_transit b node } →
-          cond t None (Some later) ≡ option_map (λ (e : OpenEnd). record e { holder = holder b node; in_transit = in_transit b node }) (cond t None (Some earlier))
+          cond t None (Some later) ≡ option_map (λ (e : OpenEnd). record e { holder = holder b node; in_transit = in_transit b node })
+          (cond t None (Some earlier))
       from true later earlier h = refl
       from false later earlier h = ap Some h
 
@@ -154,11 +167,13 @@ module _ (pool : ℕ) (a b : Timeline) (collection : ℕ) (s : SameIn pool a b c
   holds_same (Condition.Weak buffer) is = dooms_same buffer is
 
 -- where the newest place passes only if the one before it does, it is not the first to pass
-last_same : (f : Timeline → Bool) (b a : Timeline) (before : List Timeline) → (f b ≡ true → f a ≡ true) → last_match f (b ∷ a ∷ before) ≡ last_match f (a ∷ before)
+last_same : (f : Timeline → Bool) (b a : Timeline) (before : List Timeline) → (f b ≡ true → f a ≡ true) →
+    last_match f (b ∷ a ∷ before) ≡ last_match f (a ∷ before)
 last_same f b a before less = from (last_match f before) (f b) (f a) refl refl
   where
     from : (o : Option Timeline) (later earlier : Bool) → f b ≡ later → f a ≡ earlier →
-        option_map_or Some (option_map_or Some o (cond earlier (Some a) None)) (cond later (Some b) None) ≡ option_map_or Some o (cond earlier (Some a) None)
+        option_map_or Some (option_map_or Some o (cond earlier (Some a) None)) (cond later (Some b) None) ≡ option_map_or Some o
+        (cond earlier (Some a) None)
     from None true true e g = refl
     from None true false e g = let no : true ≡ false = sym (less e) ∙ g in cc
     from None false true e g = refl
@@ -166,7 +181,9 @@ last_same f b a before less = from (last_match f before) (f b) (f a) refl refl
     from (Some m) later earlier e g = refl
 
 -- no tracker of another collection fires at an event
-trackers_same : (pool : ℕ) (a : Timeline) (entry : Entry) (t : Tracked) → holds (world (after pool a entry)) t.condition ≡ holds (world a) t.condition → list_any (λ (u : Tracked). u.id == t.id) (tracked a) ≡ true →
+trackers_same : (pool : ℕ) (a : Timeline) (entry : Entry) (t : Tracked) →
+    holds (world (after pool a entry)) t.condition ≡ holds (world a) t.condition →
+    list_any (λ (u : Tracked). u.id == t.id) (tracked a) ≡ true →
     fired_at (after pool a entry) t ≡ fired_at a t
 trackers_same pool a entry t same attached =
     let b : Timeline = after pool a entry in
@@ -175,7 +192,8 @@ trackers_same pool a entry t same attached =
     (λ h. rw attached (sym same ∙ and_right (list_any (λ (u : Tracked). u.id == t.id) (tracked b)) (holds (world b) t.condition) h)))
 
 -- all of it
-pub as_before : (pool : ℕ) (limits : Bound) (marks : Timeline) (entry : Entry) (collection : ℕ) → Grows pool limits [] marks → IsAnswer limits (readings marks) entry.0 entry.1 entry.2 →
+pub as_before : (pool : ℕ) (limits : Bound) (marks : Timeline) (entry : Entry) (collection : ℕ) → Grows pool limits [] marks →
+    IsAnswer limits (readings marks) entry.0 entry.1 entry.2 →
     (collection_at marks entry ≡ Some collection → ⊥) → IsAsBefore pool marks (after pool marks entry) collection
 as_before pool limits marks entry collection g answer away =
     let b : Timeline = after pool marks entry in

@@ -61,11 +61,13 @@ set_cons false x ys = omega arith
 
 -- a set of buffers has the bits of those that pass
 scaled_bits : (p : BufferName → Bool) (collection a n : ℕ) →
-    set_of (filter p (map (λ i. record { collection = collection; index = i }) (range_with_len a n))) ≡ 2 ^ a * bits_from (λ i. p (record { collection = collection; index = i })) a n
+    set_of (filter p (map (λ i. record { collection = collection; index = i }) (range_with_len a n))) ≡ 2 ^ a * bits_from (λ i.
+    p (record { collection = collection; index = i })) a n
 scaled_bits p collection a zero = grind arith
 scaled_bits p collection a (suc n) =
     let name : ℕ → BufferName = λ i. record { collection = collection; index = i } in
-    let rest : set_of (filter p (map name (range_with_len (a + 1) n))) ≡ 2 ^ (a + 1) * bits_from (λ i. p (name i)) (a + 1) n = scaled_bits p collection (a + 1) n in
+    let rest : set_of (filter p (map name (range_with_len (a + 1) n))) ≡ 2 ^ (a + 1) * bits_from (λ i. p (name i)) (a + 1) n =
+    scaled_bits p collection (a + 1) n in
     set_cons (p (name a)) (name a) (filter p (map name (range_with_len (a + 1) n)))
     ∙ (ap (λ s. one (p (name a)) * 2 ^ a + s) rest
     ∙ scale (2 ^ a) (one (p (name a))) (2 ^ (a + 1)) (bits_from (λ i. p (name i)) (a + 1) n) (twice a))
@@ -94,7 +96,8 @@ bit_of p a (suc n) (suc j) =
     ∙ (bit_of p (a + 1) n j ∙ (ap (λ k. one (nat_lt j n && p k)) e ∙ ap (λ b. one (b && p (a + suc j))) (shift_below j n))))
 
 -- a buffer is in a set of the collection's buffers exactly if it is one of them and passes
-pub bit_of_set : (p : BufferName → Bool) (collection n i : ℕ) → bit_at (set_of (filter p (names collection n))) i ≡ one (nat_lt i n && p (record { collection = collection; index = i }))
+pub bit_of_set : (p : BufferName → Bool) (collection n i : ℕ) →
+    bit_at (set_of (filter p (names collection n))) i ≡ one (nat_lt i n && p (record { collection = collection; index = i }))
 bit_of_set p collection n i =
     let name : ℕ → BufferName = λ i. record { collection = collection; index = i } in
     let e : 0 + i ≡ i = omega arith in
@@ -134,7 +137,8 @@ index_times a (suc n) (suc j) =
 
 -- the names of a collection have a buffer as often as its index is listed, if it is of that collection
 names_times : (collection : ℕ) (x : BufferName) (is : List ℕ) →
-    times (λ b. same_buffer b x) (map (λ i. record { collection = collection; index = i }) is) ≡ cond (collection == x.collection) (times (λ i. i == x.index) is) 0
+    times (λ b. same_buffer b x) (map (λ i. record { collection = collection; index = i }) is) ≡ cond (collection == x.collection)
+    (times (λ i. i == x.index) is) 0
 names_times collection x [] = elim (collection == x.collection) as (λ (b : Bool). ◌≡◌ {A = ℕ} 0 (cond b 0 0)) [ true ↦ refl | false ↦ refl ]
 names_times collection x (i ∷ is) =
     elim (either_way (collection == x.collection)) [
@@ -143,13 +147,18 @@ names_times collection x (i ∷ is) =
     ]
 
 -- a buffer is one of so many of a collection exactly if it is of the collection and its index is below their number
-pub times_below : (collection n : ℕ) (x : BufferName) → times (λ b. same_buffer b x) (names collection n) ≡ one (collection == x.collection && nat_lt x.index n)
+pub times_below : (collection n : ℕ) (x : BufferName) →
+    times (λ b. same_buffer b x) (names collection n) ≡ one (collection == x.collection && nat_lt x.index n)
 times_below collection n x =
     let zeros : 0 + x.index ≡ x.index = omega arith in
     names_times collection x (range_with_len 0 n)
-    ∙ (ap (λ k. cond (collection == x.collection) k 0) (ap (λ k. times (λ i. i == k) (range_with_len 0 n)) (sym zeros) ∙ index_times 0 n x.index)
-    ∙ elim (collection == x.collection) as (λ (b : Bool). cond b (one (nat_lt x.index n)) 0 ≡ one (b && nat_lt x.index n)) [ true ↦ refl | false ↦ refl ])
+    ∙ (ap (λ k. cond (collection == x.collection) k 0) (ap (λ k. times (λ i. i == k) (range_with_len 0 n)) (sym zeros)
+    ∙ index_times 0 n x.index)
+    ∙ elim (collection == x.collection) as (λ (b : Bool). cond b (one (nat_lt x.index n)) 0 ≡ one (b && nat_lt x.index n))
+    [ true ↦ refl | false ↦ refl ])
 
 -- the same, as a test
-pub named_below : (collection n : ℕ) (x : BufferName) → list_any (λ b. same_buffer b x) (names collection n) ≡ (collection == x.collection && nat_lt x.index n)
-named_below collection n x = any_one (λ b. same_buffer b x) (names collection n) (collection == x.collection && nat_lt x.index n) (times_below collection n x)
+pub named_below : (collection n : ℕ) (x : BufferName) →
+    list_any (λ b. same_buffer b x) (names collection n) ≡ (collection == x.collection && nat_lt x.index n)
+named_below collection n x =
+    any_one (λ b. same_buffer b x) (names collection n) (collection == x.collection && nat_lt x.index n) (times_below collection n x)

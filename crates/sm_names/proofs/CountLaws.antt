@@ -79,9 +79,11 @@ module _ (buffer : BufferName) (strength : Strength) where
   -- what is given to a client is given by a GiveHandle that names it
   sends-who : (c : ℕ) (mark : Mark) → sends buffer strength c mark ≡ (receiver mark == c && lifts anyone buffer strength mark)
   sends-who c (Called client Reply.Done (Call.GiveHandle name given to)) =
-      elim (to == c) as (λ (b : Bool). option_map_or (is_handle_of buffer strength) (cond b (Some (Parcel.Handle name given)) None) false ≡ (b && (same_buffer name buffer && same_strength given strength))) [ true ↦ refl | false ↦ refl ]
+      elim (to == c) as (λ (b : Bool). option_map_or (is_handle_of buffer strength) (cond b (Some (Parcel.Handle name given)) None)
+      false ≡ (b && (same_buffer name buffer && same_strength given strength))) [ true ↦ refl | false ↦ refl ]
   sends-who c (Called client Reply.Done (Call.Give key to)) =
-      elim (to == c) as (λ (b : Bool). option_map_or (is_handle_of buffer strength) (cond b (Some (Parcel.End key)) None) false ≡ (0 == c && false)) [ true ↦ neither (0 == c) | false ↦ neither (0 == c) ]
+      elim (to == c) as (λ (b : Bool). option_map_or (is_handle_of buffer strength) (cond b (Some (Parcel.End key)) None)
+      false ≡ (0 == c && false)) [ true ↦ neither (0 == c) | false ↦ neither (0 == c) ]
   sends-who c (Called client reply call) = neither (receiver (Called client reply call) == c)
   sends-who c _ = neither (0 == c)
 
@@ -94,7 +96,8 @@ module _ (buffer : BufferName) (strength : Strength) where
 
   -- all that was given to a client was collected by it or waits
   abbrev pub IsSent : Timeline → Type 0
-  IsSent marks = (client : ℕ) → times (sends buffer strength client) marks ≡ times (lands (λ c. c == client) buffer strength) marks + waiting marks client
+  IsSent marks = (client : ℕ) → times (sends buffer strength client) marks ≡ times (lands (λ c. c == client) buffer strength)
+      marks + waiting marks client
 
   -- a Collect gives nothing
   collects_gives : (client : ℕ) (mark : Mark) → collects client mark ≡ true → given_at client mark ≡ None
@@ -115,27 +118,33 @@ module _ (buffer : BufferName) (strength : Strength) where
     got_it : is_handle_of buffer strength parcel ≡ lands (λ c. c == client) buffer strength mark
 
   -- a Collect is answered by the first parcel that waits
-  first_parcel : (limits : Bound) (marks : Timeline) (client caller : ℕ) (reply : Reply) (call : Call) → IsAnswer limits (readings marks) caller call reply →
+  first_parcel : (limits : Bound) (marks : Timeline) (client caller : ℕ) (reply : Reply) (call : Call) →
+      IsAnswer limits (readings marks) caller call reply →
       collects client (Called caller reply call) ≡ true → IsFirstParcel marks client (Called caller reply call)
   first_parcel limits marks client caller (Reply.Collected key kind collection) Call.Collect answer e =
-      let t = took_effect_all limits (readings marks) caller (record { slot = 0; generation = 0 }) Call.Collect (Reply.Collected key kind collection) refl refl answer.told in
+      let t = took_effect_all limits (readings marks) caller (record { slot = 0; generation = 0 }) Call.Collect
+      (Reply.Collected key kind collection) refl refl answer.told in
       let is : caller ≡ client = eqb-true caller client e in
       from (parcels marks client) refl (t.answered ∙ ap (λ c. collected (readings marks) (parcels marks c)) is)
     where
-      from : (ps : List Parcel) → parcels marks client ≡ ps → Reply.Collected key kind collection ≡ collected (readings marks) ps → IsFirstParcel marks client (Called caller (Reply.Collected key kind collection) Call.Collect)
+      from : (ps : List Parcel) → parcels marks client ≡ ps → Reply.Collected key kind collection ≡ collected (readings marks) ps →
+          IsFirstParcel marks client (Called caller (Reply.Collected key kind collection) Call.Collect)
       from [] w told = cc
       from (Parcel.End k ∷ more) w told = record { parcel = Parcel.End k; rest = more; waited = w; got_it = refl }
       from (Parcel.Handle name given ∷ more) w told = cc
   first_parcel limits marks client caller (Reply.CollectedHandle name given) Call.Collect answer e =
-      let t = took_effect_all limits (readings marks) caller (record { slot = 0; generation = 0 }) Call.Collect (Reply.CollectedHandle name given) refl refl answer.told in
+      let t = took_effect_all limits (readings marks) caller (record { slot = 0; generation = 0 }) Call.Collect
+      (Reply.CollectedHandle name given) refl refl answer.told in
       let is : caller ≡ client = eqb-true caller client e in
       from (parcels marks client) refl (t.answered ∙ ap (λ c. collected (readings marks) (parcels marks c)) is)
     where
-      no_end : (k : _) (o : Option OpenEnd) → Reply.CollectedHandle name given ≡ option_map_or (λ (x : OpenEnd). Reply.Collected k x.kind x.collection) o Reply.Empty → ⊥
+      no_end : (k : _) (o : Option OpenEnd) → Reply.CollectedHandle name given ≡ option_map_or (λ (x : OpenEnd).
+          Reply.Collected k x.kind x.collection) o Reply.Empty → ⊥
       no_end k None told = cc
       no_end k (Some x) told = cc
 
-      from : (ps : List Parcel) → parcels marks client ≡ ps → Reply.CollectedHandle name given ≡ collected (readings marks) ps → IsFirstParcel marks client (Called caller (Reply.CollectedHandle name given) Call.Collect)
+      from : (ps : List Parcel) → parcels marks client ≡ ps → Reply.CollectedHandle name given ≡ collected (readings marks) ps →
+          IsFirstParcel marks client (Called caller (Reply.CollectedHandle name given) Call.Collect)
       from [] w told = cc
       from (Parcel.End k ∷ more) w told = absurd (no_end k ((readings marks).end_of k) told)
       from (Parcel.Handle n g ∷ more) w told =
@@ -145,20 +154,26 @@ module _ (buffer : BufferName) (strength : Strength) where
   first_parcel limits marks client caller _ _ answer e = cc
 
   -- each answer keeps it so
-  sent-called : (limits : Bound) (marks : Timeline) (caller : ℕ) (reply : Reply) (call : Call) → IsAnswer limits (readings marks) caller call reply → IsDrawn marks → IsSent marks → IsSent (Called caller reply call ∷ marks)
+  sent-called : (limits : Bound) (marks : Timeline) (caller : ℕ) (reply : Reply) (call : Call) →
+      IsAnswer limits (readings marks) caller call reply → IsDrawn marks → IsSent marks → IsSent (Called caller reply call ∷ marks)
   sent-called limits marks caller reply call answer drawn sent client =
       let mark : Mark = Called caller reply call in
-      let so_far : times (sends buffer strength client) marks ≡ times (lands (λ c. c == client) buffer strength) marks + waiting marks client = sent client in
-      let s : times (sends buffer strength client) (mark ∷ marks) ≡ times (sends buffer strength client) marks + one (sends buffer strength client mark) = times-cons (sends buffer strength client) mark marks in
-      let l : times (lands (λ c. c == client) buffer strength) (mark ∷ marks) ≡ times (lands (λ c. c == client) buffer strength) marks + one (lands (λ c. c == client) buffer strength mark) =
+      let so_far : times (sends buffer strength client) marks ≡ times (lands (λ c. c == client) buffer strength) marks + waiting marks
+      client = sent client in
+      let s : times (sends buffer strength client) (mark ∷ marks) ≡ times (sends buffer strength client) marks + one
+      (sends buffer strength client mark) = times-cons (sends buffer strength client) mark marks in
+      let l : times (lands (λ c. c == client) buffer strength) (mark ∷ marks) ≡ times (lands (λ c. c == client) buffer strength) marks + one
+      (lands (λ c. c == client) buffer strength mark) =
       times-cons (lands (λ c. c == client) buffer strength) mark marks in
       elim (either_way (collects client mark)) [
         | inl e ↦
             let none : given_at client mark ≡ None = collects_gives client mark e in
             let f : IsFirstParcel marks client mark = first_parcel limits marks client caller reply call answer e in
             let quiet : one (sends buffer strength client mark) ≡ 0 = rw none refl in
-            let was : waiting marks client ≡ times (is_handle_of buffer strength) f.rest + one (lands (λ c. c == client) buffer strength mark) =
-            ap (times (is_handle_of buffer strength)) f.waited ∙ (times-cons (is_handle_of buffer strength) f.parcel f.rest ∙ ap (λ b. times (is_handle_of buffer strength) f.rest + one b) f.got_it) in
+            let was : waiting marks client ≡ times (is_handle_of buffer strength) f.rest + one (lands (λ c.
+            c == client) buffer strength mark) =
+            ap (times (is_handle_of buffer strength)) f.waited ∙ (times-cons (is_handle_of buffer strength) f.parcel f.rest
+            ∙ ap (λ b. times (is_handle_of buffer strength) f.rest + one b) f.got_it) in
             let now : waiting (mark ∷ marks) client ≡ times (is_handle_of buffer strength) f.rest =
             ap (times (is_handle_of buffer strength)) (parcels-collected marks mark client e none ∙ ap (drop 1) f.waited) in
             omega (arith, so_far, s, l, quiet, was, now)
@@ -167,12 +182,14 @@ module _ (buffer : BufferName) (strength : Strength) where
             elim (none_or_some (given_at client mark)) [
               | inl none ↦
                   let quiet : one (sends buffer strength client mark) ≡ 0 = rw none refl in
-                  let now : waiting (mark ∷ marks) client ≡ waiting marks client = ap (times (is_handle_of buffer strength)) (parcels-kept marks mark client e none) in
+                  let now : waiting (mark ∷ marks) client ≡ waiting marks client =
+                  ap (times (is_handle_of buffer strength)) (parcels-kept marks mark client e none) in
                   omega (arith, so_far, s, l, idle, quiet, now)
               | inr given ↦
                   let loud : one (sends buffer strength client mark) ≡ one (is_handle_of buffer strength given.0) = rw given.1 refl in
                   let now : waiting (mark ∷ marks) client ≡ waiting marks client + one (is_handle_of buffer strength given.0) =
-                  ap (times (is_handle_of buffer strength)) (parcels-given marks mark client given.0 drawn e given.1) ∙ times_push (is_handle_of buffer strength) (parcels marks client) given.0 in
+                  ap (times (is_handle_of buffer strength)) (parcels-given marks mark client given.0 drawn e given.1)
+                  ∙ times_push (is_handle_of buffer strength) (parcels marks client) given.0 in
                   omega (arith, so_far, s, l, idle, loud, now)
             ]
       ]
@@ -185,10 +202,12 @@ pub record AreClients (marks : Timeline) : Type 0 where
   pub once : AreOnce (clients marks)
 
 -- a client is made by the next event
-joined_is : (limits : Bound) (marks : Timeline) (caller : ℕ) (reply : Reply) (call : Call) (made : ℕ) → IsAnswer limits (readings marks) caller call reply → joined_at (Called caller reply call) ≡ Some made →
+joined_is : (limits : Bound) (marks : Timeline) (caller : ℕ) (reply : Reply) (call : Call) (made : ℕ) →
+    IsAnswer limits (readings marks) caller call reply → joined_at (Called caller reply call) ≡ Some made →
     made ≡ events marks + 1
 joined_is limits marks caller (Reply.Joined j) Call.Join made answer h =
-    let t = took_effect_all limits (readings marks) caller (record { slot = 0; generation = 0 }) Call.Join (Reply.Joined j) refl refl answer.told in
+    let t = took_effect_all limits (readings marks) caller (record { slot = 0; generation = 0 }) Call.Join (Reply.Joined j) refl refl
+    answer.told in
     let told : Reply.Joined j ≡ Reply.Joined (events marks + 1) = t.answered in
     let is : Some j ≡ Some made = h in
     let e : j ≡ events marks + 1 = cc in
@@ -197,7 +216,8 @@ joined_is limits marks caller (Reply.Joined j) Call.Join made answer h =
 joined_is limits marks caller reply call made answer h = cc
 
 -- each answer keeps the clients listed once
-clients-called : (limits : Bound) (marks : Timeline) (caller : ℕ) (reply : Reply) (call : Call) → IsAnswer limits (readings marks) caller call reply → AreClients marks → AreClients (Called caller reply call ∷ marks)
+clients-called : (limits : Bound) (marks : Timeline) (caller : ℕ) (reply : Reply) (call : Call) →
+    IsAnswer limits (readings marks) caller call reply → AreClients marks → AreClients (Called caller reply call ∷ marks)
 clients-called limits marks caller reply call answer old = with_new (joined_at (Called caller reply call)) refl
   where
     new_once : (made : ℕ) → made ≡ events marks + 1 → one_of (clients marks) made ≡ false
@@ -258,25 +278,33 @@ not_false true h = refl
 not_false false h = cc
 
 -- who moves a handle has joined
-pub caller_joined : (limits : Bound) (marks : Timeline) (client : ℕ) (reply : Reply) (call : Call) → IsAnswer limits (readings marks) client call reply → moves (Called client reply call) ≡ true → has_joined marks client ≡ true
+pub caller_joined : (limits : Bound) (marks : Timeline) (client : ℕ) (reply : Reply) (call : Call) →
+    IsAnswer limits (readings marks) client call reply → moves (Called client reply call) ≡ true → has_joined marks client ≡ true
 caller_joined limits marks client (Reply.Taken collection taken set) (Call.Take key) answer h =
-    (known_of (has_joined marks client) false (took_effect_all limits (readings marks) client (record { slot = 0; generation = 0 }) (Call.Take key) (Reply.Taken collection taken set) refl refl answer.told).known).0
+    (known_of (has_joined marks client) false (took_effect_all limits (readings marks) client (record { slot = 0; generation = 0 })
+    (Call.Take key) (Reply.Taken collection taken set) refl refl answer.told).known).0
 caller_joined limits marks client Reply.Done (Call.DupHandle name strength) answer h =
-    (known_of (has_joined marks client) false (took_effect_all limits (readings marks) client (record { slot = 0; generation = 0 }) (Call.DupHandle name strength) Reply.Done refl refl answer.told).known).0
+    (known_of (has_joined marks client) false (took_effect_all limits (readings marks) client (record { slot = 0; generation = 0 })
+    (Call.DupHandle name strength) Reply.Done refl refl answer.told).known).0
 caller_joined limits marks client Reply.Done (Call.DropHandle name strength) answer h =
-    (known_of (has_joined marks client) false (took_effect_all limits (readings marks) client (record { slot = 0; generation = 0 }) (Call.DropHandle name strength) Reply.Done refl refl answer.told).known).0
+    (known_of (has_joined marks client) false (took_effect_all limits (readings marks) client (record { slot = 0; generation = 0 })
+    (Call.DropHandle name strength) Reply.Done refl refl answer.told).known).0
 caller_joined limits marks client Reply.Done (Call.GiveHandle name strength to) answer h =
-    (known_of (has_joined marks client) (not (has_joined marks to)) (took_effect_all limits (readings marks) client (record { slot = 0; generation = 0 }) (Call.GiveHandle name strength to) Reply.Done refl refl answer.told).known).0
+    (known_of (has_joined marks client) (not (has_joined marks to)) (took_effect_all limits (readings marks) client
+    (record { slot = 0; generation = 0 }) (Call.GiveHandle name strength to) Reply.Done refl refl answer.told).known).0
 caller_joined limits marks client (Reply.CollectedHandle name strength) Call.Collect answer h =
-    (known_of (has_joined marks client) false (took_effect_all limits (readings marks) client (record { slot = 0; generation = 0 }) Call.Collect (Reply.CollectedHandle name strength) refl refl answer.told).known).0
+    (known_of (has_joined marks client) false (took_effect_all limits (readings marks) client (record { slot = 0; generation = 0 })
+    Call.Collect (Reply.CollectedHandle name strength) refl refl answer.told).known).0
 caller_joined limits marks client _ _ answer h = cc
 
 -- and so has who is given one
-receiver_joined : (limits : Bound) (marks : Timeline) (client : ℕ) (reply : Reply) (call : Call) → IsAnswer limits (readings marks) client call reply → gives (Called client reply call) ≡ true →
+receiver_joined : (limits : Bound) (marks : Timeline) (client : ℕ) (reply : Reply) (call : Call) →
+    IsAnswer limits (readings marks) client call reply → gives (Called client reply call) ≡ true →
     has_joined marks (receiver (Called client reply call)) ≡ true
 receiver_joined limits marks client Reply.Done (Call.GiveHandle name strength to) answer h =
     not_false (has_joined marks to)
-    (known_of (has_joined marks client) (not (has_joined marks to)) (took_effect_all limits (readings marks) client (record { slot = 0; generation = 0 }) (Call.GiveHandle name strength to) Reply.Done refl refl answer.told).known).1
+    (known_of (has_joined marks client) (not (has_joined marks to)) (took_effect_all limits (readings marks) client
+    (record { slot = 0; generation = 0 }) (Call.GiveHandle name strength to) Reply.Done refl refl answer.told).known).1
 receiver_joined limits marks client _ _ answer h = cc
 
 -- who has joined stays so
@@ -285,7 +313,8 @@ still_joined None cs k h = h
 still_joined (Some c) cs k h = or_right (c == k) (one_of cs k) h
 
 -- each answer keeps it so
-joined-called : (limits : Bound) (marks : Timeline) (client : ℕ) (reply : Reply) (call : Call) → IsAnswer limits (readings marks) client call reply → HaveJoined marks → HaveJoined (Called client reply call ∷ marks)
+joined-called : (limits : Bound) (marks : Timeline) (client : ℕ) (reply : Reply) (call : Call) →
+    IsAnswer limits (readings marks) client call reply → HaveJoined marks → HaveJoined (Called client reply call ∷ marks)
 joined-called limits marks client reply call answer old =
     let mark : Mark = Called client reply call in
     record {
@@ -294,7 +323,8 @@ joined-called limits marks client reply call answer old =
         | inr there ↦ old.callers m there h
       ]);
       receivers = λ m on h. still_joined (joined_at mark) (clients marks) (receiver m) (elim on [
-        | inl is ↦ ap (λ k. has_joined marks (receiver k)) is ∙ receiver_joined limits marks client reply call answer (ap gives (sym is) ∙ h)
+        | inl is ↦ ap (λ k. has_joined marks (receiver k)) is ∙ receiver_joined limits marks client reply call answer (ap gives (sym is)
+            ∙ h)
         | inr there ↦ old.receivers m there h
       ]);
     }
@@ -310,7 +340,8 @@ pub record IsCounted (marks : Timeline) : Type 0 where
   pub joined : HaveJoined marks
 
 -- each answer keeps it
-counted-called : (limits : Bound) (marks : Timeline) (client : ℕ) (reply : Reply) (call : Call) → IsAnswer limits (readings marks) client call reply → IsCounted marks → IsCounted (Called client reply call ∷ marks)
+counted-called : (limits : Bound) (marks : Timeline) (client : ℕ) (reply : Reply) (call : Call) →
+    IsAnswer limits (readings marks) client call reply → IsCounted marks → IsCounted (Called client reply call ∷ marks)
 counted-called limits marks client reply call answer old = record {
   paid = λ c buffer strength. paid-called c buffer strength limits marks (client, call, reply) answer (old.paid c buffer strength);
   drawn = drawn-called limits marks (client, call, reply) answer old.drawn;
@@ -412,7 +443,8 @@ clients_await marks buffer strength = sum_by (λ client. times (is_handle_of buf
 -- how the counts of all come of those of the clients
 pub record AddUp (marks : Timeline) (buffer : BufferName) (strength : Strength) : Type 0 where
   -- what was opened was dropped, or is a client's, or waits
-  pub opened : times (opens anyone buffer strength) marks ≡ times (drops anyone buffer strength) marks + (clients_have marks buffer strength + clients_await marks buffer strength)
+  pub opened : times (opens anyone buffer strength) marks ≡ times (drops anyone buffer strength) marks + (clients_have marks buffer
+      strength + clients_await marks buffer strength)
   -- and what was given was collected or waits
   pub given : times (lifts anyone buffer strength) marks ≡ times (lands anyone buffer strength) marks + clients_await marks buffer strength
 
@@ -429,15 +461,20 @@ add_up marks c buffer strength =
     let waits_for : ℕ → ℕ = λ k. times (is_handle_of buffer strength) (parcels marks k) in
     let has : ℕ → ℕ = λ k. open_of marks k buffer strength in
     let o : times (opens anyone buffer strength) marks ≡ sum_by opened_by cs =
-    times_split (opens anyone buffer strength) (λ k. opens (λ i. i == k) buffer strength) caller (opens-who buffer strength) cs once marks (λ m on h. c.joined.callers m on (opens_moves buffer strength m h)) in
+    times_split (opens anyone buffer strength) (λ k. opens (λ i. i == k) buffer strength) caller (opens-who buffer strength) cs once marks
+    (λ m on h. c.joined.callers m on (opens_moves buffer strength m h)) in
     let d : times (drops anyone buffer strength) marks ≡ sum_by dropped_by cs =
-    times_split (drops anyone buffer strength) (λ k. drops (λ i. i == k) buffer strength) caller (drops-who buffer strength) cs once marks (λ m on h. c.joined.callers m on (drops_moves buffer strength m h)) in
+    times_split (drops anyone buffer strength) (λ k. drops (λ i. i == k) buffer strength) caller (drops-who buffer strength) cs once marks
+    (λ m on h. c.joined.callers m on (drops_moves buffer strength m h)) in
     let f : times (lifts anyone buffer strength) marks ≡ sum_by lifted_by cs =
-    times_split (lifts anyone buffer strength) (λ k. lifts (λ i. i == k) buffer strength) caller (lifts-who buffer strength) cs once marks (λ m on h. c.joined.callers m on (lifts_moves buffer strength m h)) in
+    times_split (lifts anyone buffer strength) (λ k. lifts (λ i. i == k) buffer strength) caller (lifts-who buffer strength) cs once marks
+    (λ m on h. c.joined.callers m on (lifts_moves buffer strength m h)) in
     let l : times (lands anyone buffer strength) marks ≡ sum_by landed_by cs =
-    times_split (lands anyone buffer strength) (λ k. lands (λ i. i == k) buffer strength) caller (lands-who buffer strength) cs once marks (λ m on h. c.joined.callers m on (lands_moves buffer strength m h)) in
+    times_split (lands anyone buffer strength) (λ k. lands (λ i. i == k) buffer strength) caller (lands-who buffer strength) cs once marks
+    (λ m on h. c.joined.callers m on (lands_moves buffer strength m h)) in
     let s : times (lifts anyone buffer strength) marks ≡ sum_by sent_to cs =
-    times_split (lifts anyone buffer strength) (λ k. sends buffer strength k) receiver (sends-who buffer strength) cs once marks (λ m on h. c.joined.receivers m on (lifts_gives buffer strength m h)) in
+    times_split (lifts anyone buffer strength) (λ k. sends buffer strength k) receiver (sends-who buffer strength) cs once marks (λ m on h.
+    c.joined.receivers m on (lifts_gives buffer strength m h)) in
     let sent : sum_by sent_to cs ≡ sum_by landed_by cs + sum_by waits_for cs =
     sum_by-same sent_to (λ k. landed_by k + waits_for k) cs (c.sent buffer strength) ∙ sum_by-add landed_by waits_for cs in
     let each : (k : ℕ) → has k + (dropped_by k + lifted_by k) ≡ opened_by k + landed_by k =
@@ -445,29 +482,35 @@ add_up marks c buffer strength =
     let sums : sum_by has cs + (sum_by dropped_by cs + sum_by lifted_by cs) ≡ sum_by opened_by cs + sum_by landed_by cs =
     ap (λ n. sum_by has cs + n) (sym (sum_by-add dropped_by lifted_by cs))
     ∙ (sym (sum_by-add has (λ k. dropped_by k + lifted_by k) cs)
-    ∙ (sum_by-same (λ k. has k + (dropped_by k + lifted_by k)) (λ k. opened_by k + landed_by k) cs each ∙ sum_by-add opened_by landed_by cs)) in
+    ∙ (sum_by-same (λ k. has k + (dropped_by k + lifted_by k)) (λ k. opened_by k + landed_by k) cs each
+    ∙ sum_by-add opened_by landed_by cs)) in
     record { opened = omega (arith, o, d, f, l, s, sent, sums); given = omega (arith, l, s, sent) }
 
 -- no difference of counts is cut off
-pub drops-le-opens : (marks : Timeline) → IsCounted marks → (buffer : BufferName) (strength : Strength) → times (drops anyone buffer strength) marks ≤ times (opens anyone buffer strength) marks
+pub drops-le-opens : (marks : Timeline) → IsCounted marks → (buffer : BufferName) (strength : Strength) →
+    times (drops anyone buffer strength) marks ≤ times (opens anyone buffer strength) marks
 drops-le-opens marks c buffer strength = let a : AddUp marks buffer strength = add_up marks c buffer strength in omega (arith, a.opened)
 
 -- no more handles are collected than were given
-pub lands-le-lifts : (marks : Timeline) → IsCounted marks → (buffer : BufferName) (strength : Strength) → times (lands anyone buffer strength) marks ≤ times (lifts anyone buffer strength) marks
+pub lands-le-lifts : (marks : Timeline) → IsCounted marks → (buffer : BufferName) (strength : Strength) →
+    times (lands anyone buffer strength) marks ≤ times (lifts anyone buffer strength) marks
 lands-le-lifts marks c buffer strength = let a : AddUp marks buffer strength = add_up marks c buffer strength in omega (arith, a.given)
 
 -- what is in parcels waits for clients
-pub moving_is : (marks : Timeline) → IsCounted marks → (buffer : BufferName) (strength : Strength) → moving marks buffer strength ≡ clients_await marks buffer strength
+pub moving_is : (marks : Timeline) → IsCounted marks → (buffer : BufferName) (strength : Strength) →
+    moving marks buffer strength ≡ clients_await marks buffer strength
 moving_is marks c buffer strength = let a : AddUp marks buffer strength = add_up marks c buffer strength in omega (arith, a.given)
 
 -- what is open is a client's or in a parcel
-pub total_is : (marks : Timeline) → IsCounted marks → (buffer : BufferName) (strength : Strength) → open_total marks buffer strength ≡ clients_have marks buffer strength + moving marks buffer strength
+pub total_is : (marks : Timeline) → IsCounted marks → (buffer : BufferName) (strength : Strength) →
+    open_total marks buffer strength ≡ clients_have marks buffer strength + moving marks buffer strength
 total_is marks c buffer strength =
     let a : AddUp marks buffer strength = add_up marks c buffer strength in
     omega (arith, a.opened, moving_is marks c buffer strength)
 
 -- a client has no more handles open than there are
-pub client-le-total : (marks : Timeline) → IsCounted marks → (client : ℕ) (buffer : BufferName) (strength : Strength) → has_joined marks client ≡ true → open_of marks client buffer strength ≤ open_total marks buffer strength
+pub client-le-total : (marks : Timeline) → IsCounted marks → (client : ℕ) (buffer : BufferName) (strength : Strength) →
+    has_joined marks client ≡ true → open_of marks client buffer strength ≤ open_total marks buffer strength
 client-le-total marks c client buffer strength joined =
     let a = In-list_any (λ k. k == client) (clients marks) joined in
     let is : a.0 ≡ client = eqb-true a.0 client a.2 in

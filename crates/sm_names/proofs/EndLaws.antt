@@ -41,12 +41,14 @@ Each reply P [] = Unit {0}
 Each reply P (o ∷ os) = (Rejects o ⊎ (o ≡ Some reply → P)) × Each reply P os
 
 -- from one place
-found_in : (reply : Reply) (P : Type 0) (o : Option Reply) → is_refusal reply ≡ false → o ≡ Some reply → Rejects o ⊎ (o ≡ Some reply → P) → P
+found_in : (reply : Reply) (P : Type 0) (o : Option Reply) → is_refusal reply ≡ false → o ≡ Some reply → Rejects o ⊎ (o ≡ Some reply → P) →
+    P
 found_in reply P o stands is (inl rejects) = both_ways (is_refusal reply) (rejects reply is) stands
 found_in reply P o stands is (inr found) = found is
 
 -- from any of them
-wherever : (reply e : Reply) (P : Type 0) (os : List (Option Reply)) → is_refusal reply ≡ false → reply ≡ unwrap_or (first_some os) e → Each reply P os → (reply ≡ e → P) → P
+wherever : (reply e : Reply) (P : Type 0) (os : List (Option Reply)) → is_refusal reply ≡ false → reply ≡ unwrap_or (first_some os) e →
+    Each reply P os → (reply ≡ e → P) → P
 wherever reply e P [] stands is each last = last is
 wherever reply e P (None ∷ os) stands is each last = wherever reply e P os stands is each.1 last
 wherever reply e P (Some x ∷ os) stands is each last = found_in reply P (Some x) stands (ap Some (sym is)) each.0
@@ -65,7 +67,9 @@ module _ (limits : Bound) (before : Timeline) (client : ℕ) (key : NodeKey) (ca
   closed = Reply.PeerClosed cause origin
 
   -- the end of a node with a fault
-  has_fault : (s : Bool) (o : Option Birth) → birth_of before key ≡ o → option_and_then (λ (e : OpenEnd). option_map (λ (f : Fault). Reply.PeerClosed f.cause f.origin) e.fault) (cond s None (option_map (open_end before) o)) ≡ Some (Reply.PeerClosed cause origin) →
+  has_fault : (s : Bool) (o : Option Birth) → birth_of before key ≡ o →
+      option_and_then (λ (e : OpenEnd). option_map (λ (f : Fault). Reply.PeerClosed f.cause f.origin) e.fault)
+      (cond s None (option_map (open_end before) o)) ≡ Some (Reply.PeerClosed cause origin) →
       gone before key ≡ true
   has_fault true o is h = cc
   has_fault false None is h = cc
@@ -74,7 +78,8 @@ module _ (limits : Bound) (before : Timeline) (client : ℕ) (key : NodeKey) (ca
       ap (gone before) (sym (birth_is before key b is).1) ∙ fault_gone before b.node t.0 t.1
 
   -- a Release is no misuse
-  no_misuse : {P : Type 0} (o : Option OpenEnd) → option_and_then (λ e. misuse_of e (Call.Release key)) o ≡ Some (Reply.PeerClosed cause origin) → P
+  no_misuse : {P : Type 0} (o : Option OpenEnd) →
+      option_and_then (λ e. misuse_of e (Call.Release key)) o ≡ Some (Reply.PeerClosed cause origin) → P
   no_misuse None h = absurd (cc)
   no_misuse (Some e) h = absurd (cc)
 
@@ -110,14 +115,16 @@ abbrev IsLeft : Timeline → NodeKey → Type 0
 IsLeft marks key = spent marks key ≡ true → (gone marks key || released marks key) ≡ true
 
 -- what left stays so
-left_stays : (mark : Mark) (marks : Timeline) (key : NodeKey) → (gone marks key || released marks key) ≡ true → (gone (mark ∷ marks) key || released (mark ∷ marks) key) ≡ true
+left_stays : (mark : Mark) (marks : Timeline) (key : NodeKey) → (gone marks key || released marks key) ≡ true →
+    (gone (mark ∷ marks) key || released (mark ∷ marks) key) ≡ true
 left_stays mark marks key h = elim (or_cases (gone marks key) (released marks key) h) [
   | inl g ↦ or_left (gone (mark ∷ marks) key) _ (gone_stays mark marks key g)
   | inr r ↦ or_right (gone (mark ∷ marks) key) _ (or_right (is_release key mark) _ r)
 ]
 
 -- a mark that is no event spends no end
-spent_quiet : (mark : Mark) (marks : Timeline) (key : NodeKey) → is_event mark ≡ false → spent (mark ∷ marks) key ≡ true → spent marks key ≡ true
+spent_quiet : (mark : Mark) (marks : Timeline) (key : NodeKey) → is_event mark ≡ false → spent (mark ∷ marks) key ≡ true →
+    spent marks key ≡ true
 spent_quiet (Called client reply call) marks key q h = cc
 spent_quiet (Loss origin cause) marks key q h = h
 spent_quiet (Allocated head) marks key q h = h
@@ -134,11 +141,14 @@ module _ (limits : Bound) (before : Timeline) (client : ℕ) (key : NodeKey) (le
   lost call reply = cons_option (own_loss before call reply) (Called client reply call ∷ before)
 
   -- a call that spends no end
-  left_called : (call : Call) (reply : Reply) → spends key (Called client reply call) ≡ false → IsLeft (Called client reply call ∷ before) key
-  left_called call reply none h = let old : spent before key ≡ true = rw none at h in left_stays (Called client reply call) before key (left old)
+  left_called : (call : Call) (reply : Reply) → spends key (Called client reply call) ≡ false →
+      IsLeft (Called client reply call ∷ before) key
+  left_called call reply none h =
+      let old : spent before key ≡ true = rw none at h in left_stays (Called client reply call) before key (left old)
 
   -- a misuse spends no end
-  left_misused : (o : Option NodeKey) (f : NodeKey → Cause) (marks : Timeline) → IsLeft marks key → IsLeft (cons_option (option_map (λ k. Loss k (f k)) o) marks) key
+  left_misused : (o : Option NodeKey) (f : NodeKey → Cause) (marks : Timeline) → IsLeft marks key →
+      IsLeft (cons_option (option_map (λ k. Loss k (f k)) o) marks) key
   left_misused None f marks left = left
   left_misused (Some k) f marks left = quiet_left (Loss k (f k)) marks key refl left
 
@@ -153,13 +163,18 @@ module _ (limits : Bound) (before : Timeline) (client : ℕ) (key : NodeKey) (le
       closed = Called client Reply.Done (Call.Close k) ∷ before
 
       closes : (g : Bool) → gone before k ≡ g → k ≡ key →
-          (gone (cons_option (when (not g) (Loss k Cause.Lost)) (Called client Reply.Done (Call.Close k) ∷ before)) key || released (cons_option (when (not g) (Loss k Cause.Lost)) (Called client Reply.Done (Call.Close k) ∷ before)) key) ≡ true
+          (gone (cons_option (when (not g) (Loss k Cause.Lost)) (Called client Reply.Done (Call.Close k) ∷ before)) key || released
+          (cons_option (when (not g) (Loss k Cause.Lost)) (Called client Reply.Done (Call.Close k) ∷ before)) key) ≡ true
       closes true e is = or_left (gone before key) _ (ap (gone before) (sym is) ∙ e)
       closes false e is =
-          let taken : reaches (Called client Reply.Done (Call.Close k) ∷ before) k key ≡ true = subst (λ (n : NodeKey). reaches (Called client Reply.Done (Call.Close k) ∷ before) k n ≡ true) is (top_on _ k (ancestors (births before) k)) in
-          or_left (reaches (Called client Reply.Done (Call.Close k) ∷ before) k key || gone before key) _ (or_left (reaches (Called client Reply.Done (Call.Close k) ∷ before) k key) _ taken)
+          let taken : reaches (Called client Reply.Done (Call.Close k) ∷ before) k key ≡ true =
+          subst (λ (n : NodeKey). reaches (Called client Reply.Done (Call.Close k) ∷ before) k n ≡ true) is
+          (top_on _ k (ancestors (births before) k)) in
+          or_left (reaches (Called client Reply.Done (Call.Close k) ∷ before) k key || gone before key) _
+          (or_left (reaches (Called client Reply.Done (Call.Close k) ∷ before) k key) _ taken)
 
-      others : (g : Bool) → IsLeft (Called client Reply.Done (Call.Close k) ∷ before) key → IsLeft (cons_option (when (not g) (Loss k Cause.Lost)) (Called client Reply.Done (Call.Close k) ∷ before)) key
+      others : (g : Bool) → IsLeft (Called client Reply.Done (Call.Close k) ∷ before) key →
+          IsLeft (cons_option (when (not g) (Loss k Cause.Lost)) (Called client Reply.Done (Call.Close k) ∷ before)) key
       others true l = l
       others false l = quiet_left (Loss k Cause.Lost) (Called client Reply.Done (Call.Close k) ∷ before) key refl l
 
@@ -171,9 +186,12 @@ module _ (limits : Bound) (before : Timeline) (client : ℕ) (key : NodeKey) (le
   ]
 
   -- a Release that is answered PeerClosed is of a node that is gone
-  left_closed_release : (k : NodeKey) (cause : Cause) (origin : NodeKey) → IsAnswer limits (readings before) client (Call.Release k) (Reply.PeerClosed cause origin) → IsLeft (lost (Call.Release k) (Reply.PeerClosed cause origin)) key
+  left_closed_release : (k : NodeKey) (cause : Cause) (origin : NodeKey) →
+      IsAnswer limits (readings before) client (Call.Release k) (Reply.PeerClosed cause origin) →
+      IsLeft (lost (Call.Release k) (Reply.PeerClosed cause origin)) key
   left_closed_release k cause origin answer h = elim (either_way (same_key k key)) [
-    | inl e ↦ let is : k ≡ key = same_key-true k key e in or_left (gone before key) _ (ap (gone before) (sym is) ∙ peer_closed_gone limits before client k cause origin answer)
+    | inl e ↦ let is : k ≡ key = same_key-true k key e in or_left (gone before key) _ (ap (gone before) (sym is)
+        ∙ peer_closed_gone limits before client k cause origin answer)
     | inr e ↦ left_called (Call.Release k) (Reply.PeerClosed cause origin) e h
   ]
 
@@ -182,22 +200,30 @@ module _ (limits : Bound) (before : Timeline) (client : ℕ) (key : NodeKey) (le
   left_lost (Call.Close k) Reply.Done answer = left_close k
   left_lost (Call.Release k) Reply.Done answer = left_release k
   left_lost (Call.Release k) (Reply.PeerClosed cause origin) answer = left_closed_release k cause origin answer
-  left_lost call (Reply.Misused m) answer = left_misused (key_of call) (λ k. Cause.Misused m) (Called client (Reply.Misused m) call ∷ before) (left_called call (Reply.Misused m) refl)
+  left_lost call (Reply.Misused m) answer =
+      left_misused (key_of call) (λ k. Cause.Misused m) (Called client (Reply.Misused m) call ∷ before) (left_called call (Reply.Misused m)
+      refl)
   left_lost call reply answer = left_called call reply refl
 
 -- and each event
-left_after : (pool : ℕ) (limits : Bound) (marks : Timeline) (entry : Entry) (key : NodeKey) → IsAnswer limits (readings marks) entry.0 entry.1 entry.2 → IsLeft marks key → IsLeft (after pool marks entry) key
+left_after : (pool : ℕ) (limits : Bound) (marks : Timeline) (entry : Entry) (key : NodeKey) →
+    IsAnswer limits (readings marks) entry.0 entry.1 entry.2 → IsLeft marks key → IsLeft (after pool marks entry) key
 left_after pool limits marks entry key answer left =
-    kept-rest (λ m. IsLeft m key) (λ m mark q l. quiet_left mark m key q l) pool (collection_of (Called entry.0 entry.2 entry.1 ∷ marks) entry.1 entry.2)
-    (cons_option (own_loss marks entry.1 entry.2) (Called entry.0 entry.2 entry.1 ∷ marks)) (left_lost limits marks entry.0 key left entry.1 entry.2 answer)
+    kept-rest (λ m. IsLeft m key) (λ m mark q l. quiet_left mark m key q l) pool (collection_of (Called entry.0 entry.2 entry.1 ∷ marks)
+    entry.1 entry.2)
+    (cons_option (own_loss marks entry.1 entry.2) (Called entry.0 entry.2 entry.1 ∷ marks)) (left_lost limits marks entry.0 key left entry.1
+    entry.2 answer)
 
 -- and each history
-left_fold : (pool : ℕ) (limits : Bound) (marks : Timeline) (history : List Entry) (key : NodeKey) → AreAnswers pool limits marks history → IsLeft marks key → IsLeft (fold (after pool) marks history) key
+left_fold : (pool : ℕ) (limits : Bound) (marks : Timeline) (history : List Entry) (key : NodeKey) → AreAnswers pool limits marks history →
+    IsLeft marks key → IsLeft (fold (after pool) marks history) key
 left_fold pool limits marks [] key answers left = left
-left_fold pool limits marks (entry ∷ entries) key answers left = left_fold pool limits (after pool marks entry) entries key answers.1 (left_after pool limits marks entry key answers.0 left)
+left_fold pool limits marks (entry ∷ entries) key answers left =
+    left_fold pool limits (after pool marks entry) entries key answers.1 (left_after pool limits marks entry key answers.0 left)
 
 -- a node whose end is spent is gone or released
-pub spent_left : (pool : ℕ) (limits : Bound) (history : List Entry) → IsLegal pool limits history → (key : NodeKey) → spent (timeline pool history) key ≡ true →
+pub spent_left : (pool : ℕ) (limits : Bound) (history : List Entry) → IsLegal pool limits history → (key : NodeKey) →
+    spent (timeline pool history) key ≡ true →
     (gone (timeline pool history) key || released (timeline pool history) key) ≡ true
 spent_left pool limits history legal key = left_fold pool limits [] history key legal.answers (λ h. cc)
 
@@ -214,7 +240,8 @@ and_false : (a b : Bool) → b ≡ false → (a && b) ≡ false
 and_false true b h = h
 and_false false b h = refl
 
-module _ (pool : ℕ) (limits : Bound) (history : List Entry) (legal : IsLegal pool limits history) (all_spent : (b : Birth) → In b (births (timeline pool history)) → spent (timeline pool history) b.node ≡ true) where
+module _ (pool : ℕ) (limits : Bound) (history : List Entry) (legal : IsLegal pool limits history) (all_spent : (b : Birth) →
+    In b (births (timeline pool history)) → spent (timeline pool history) b.node ≡ true) where
   -- the marks of the history
   abbrev now : Timeline
   now = timeline pool history
@@ -227,7 +254,8 @@ module _ (pool : ℕ) (limits : Bound) (history : List Entry) (legal : IsLegal p
   pub no_live_nodes : live_nodes now ≡ []
   no_live_nodes =
       ap (map (λ (b : Birth). b.node))
-      (filter-none (λ (b : Birth). live now b.node) (reverse (births now)) (λ b on. and_false (is_some (birth_of now b.node)) _ (none_live b (In-reverse (births now) b on))))
+      (filter-none (λ (b : Birth). live now b.node) (reverse (births now)) (λ b on.
+      and_false (is_some (birth_of now b.node)) _ (none_live b (In-reverse (births now) b on))))
 
   -- no collection has a strong live node
   none_strong : (collection : ℕ) → some_strong_live (members now collection) ≡ false
@@ -238,7 +266,8 @@ module _ (pool : ℕ) (limits : Bound) (history : List Entry) (legal : IsLegal p
       both_ways (is_live t.0) here (ap is_live r.2 ∙ none_live r.0 r.1)))
 
   -- each placed buffer is home
-  all_home : ((buffer : BufferName) (strength : Strength) → open_total now buffer strength ≡ 0) → (h : HeldPages) → In h (placed pool now) → home now h.buffer ≡ true
+  all_home : ((buffer : BufferName) (strength : Strength) → open_total now buffer strength ≡ 0) → (h : HeldPages) → In h (placed pool now) →
+      home now h.buffer ≡ true
   all_home none h on =
       let given : is_some (buffers_of now h.buffer.collection) ≡ true = placed_given pool now h on in
       let strong : open_total now h.buffer Strength.Strong ≡ 0 = none h.buffer Strength.Strong in

@@ -17,10 +17,13 @@ use Rattle.sm_names.proofs.SumLaws.{times-cons}
 -- ---- the last match
 
 -- one more in front that passes only where the first of the others does changes nothing
-last_match-again : {A : Type 0} (test : A → Bool) (x y : A) (ys : List A) → test x ≡ test y → last_match test (x ∷ y ∷ ys) ≡ last_match test (y ∷ ys)
+last_match-again : {A : Type 0} (test : A → Bool) (x y : A) (ys : List A) → test x ≡ test y →
+    last_match test (x ∷ y ∷ ys) ≡ last_match test (y ∷ ys)
 last_match-again test x y ys same = from (last_match test ys) (test x) (test y) same
   where
-    from : (o : Option _) (a b : Bool) → a ≡ b → option_map_or Some (option_map_or Some o (cond b (Some y) None)) (cond a (Some x) None) ≡ option_map_or Some o (cond b (Some y) None)
+    from : (o : Option _) (a b : Bool) → a ≡ b →
+        option_map_or Some (option_map_or Some o (cond b (Some y) None)) (cond a (Some x) None) ≡ option_map_or Some o
+        (cond b (Some y) None)
     from (Some z) a b same = refl
     from None a true same = refl
     from None true false same = cc
@@ -77,7 +80,8 @@ filter_none test (x ∷ xs) fails = rw (fails x) (filter_none test xs fails)
 none_to_come : (marks : Timeline) → fired_in marks (events marks + 1) ≡ []
 none_to_come marks =
     ap (map (λ (t : Tracked). record { tracker = t.id; event = events marks + 1 }))
-    (filter_none (λ t. option_map_or (λ e. e == events marks + 1) (fired_at marks t) false) (reverse (tracked marks)) (λ t. not_now t (fired_at marks t) refl))
+    (filter_none (λ t. option_map_or (λ e. e == events marks + 1) (fired_at marks t) false) (reverse (tracked marks)) (λ t.
+    not_now t (fired_at marks t) refl))
   where
     not_now : (t : Tracked) (o : Option ℕ) → fired_at marks t ≡ o → option_map_or (λ e. e == events marks + 1) o false ≡ false
     not_now t None e = refl
@@ -92,12 +96,14 @@ none_to_come marks =
 -- ---- a call that changes nothing for trackers
 
 module _ (marks : Timeline) (client : ℕ) (reply : Reply) (call : Call)
-    (same_world : world (Called client reply call ∷ marks) ≡ world marks) (same_tracked : tracked (Called client reply call ∷ marks) ≡ tracked marks) where
+    (same_world : world (Called client reply call ∷ marks) ≡ world marks)
+    (same_tracked : tracked (Called client reply call ∷ marks) ≡ tracked marks) where
   abbrev now : Timeline
   now = Called client reply call ∷ marks
 
   fires_same : (t : Tracked) → fires_at t now ≡ fires_at t marks
-  fires_same t i = let one_tracked : Bool = list_any (λ (u : Tracked). u.id == t.id) (same_tracked i) in one_tracked && holds (same_world i) t.condition
+  fires_same t i = let one_tracked : Bool =
+      list_any (λ (u : Tracked). u.id == t.id) (same_tracked i) in one_tracked && holds (same_world i) t.condition
 
   pub fired_at-same : (t : Tracked) → fired_at now t ≡ fired_at marks t
   fired_at-same t = ap (option_map events) (last_match-again (fires_at t) now marks (earlier_moments marks) (fires_same t))
@@ -112,9 +118,11 @@ module _ (marks : Timeline) (client : ℕ) (reply : Reply) (call : Call)
 
   pub fired-same : fired now ≡ fired marks
   fired-same =
-      let each : flat_map (λ moment. fired_in now (events moment)) (reverse (moments now)) ≡ flat_map (λ moment. fired_in marks (events moment)) (reverse (moments now)) =
+      let each : flat_map (λ moment. fired_in now (events moment)) (reverse (moments now)) ≡ flat_map (λ moment.
+      fired_in marks (events moment)) (reverse (moments now)) =
       λ i. flat_map (λ moment. fired_in-same (events moment) i) (reverse (moments now)) in
-      let split : flat_map (λ moment. fired_in marks (events moment)) (reverse (moments now)) ≡ fired marks ++ (fired_in marks (events marks + 1) ++ []) =
+      let split : flat_map (λ moment. fired_in marks (events moment)) (reverse (moments now)) ≡ fired
+      marks ++ (fired_in marks (events marks + 1) ++ []) =
       ap (flat_map (λ moment. fired_in marks (events moment))) (reverse-append (now ∷ []) (moments marks))
       ∙ flat_map-append (λ moment. fired_in marks (events moment)) (reverse (moments marks)) (now ∷ []) in
       each ∙ (split ∙ (ap (λ l. fired marks ++ (l ++ [])) (none_to_come marks) ∙ append-nil (fired marks)))

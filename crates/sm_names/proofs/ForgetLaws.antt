@@ -20,7 +20,8 @@ use Rattle.sm_names.specs.declared.outcomes.Buffers.{Buffers}
 -- ---- lists of which some elements are left out
 
 -- the first kept element to pass is the first of all to be kept and pass
-find-left : {A : Type 0} (p kept r : A → Bool) (xs : List A) → ((x : A) → In x xs → (kept x && p x) ≡ r x) → find p (filter kept xs) ≡ find r xs
+find-left : {A : Type 0} (p kept r : A → Bool) (xs : List A) → ((x : A) → In x xs → (kept x && p x) ≡ r x) →
+    find p (filter kept xs) ≡ find r xs
 find-left p kept r [] same = refl
 find-left p kept r (x ∷ xs) same =
     let on : find p (filter kept xs) ≡ find r xs = find-left p kept r xs (λ y there. same y (inr there)) in
@@ -31,7 +32,8 @@ find-left p kept r (x ∷ xs) same =
     ]
 
 -- where only kept elements pass, some of them pass exactly if some of all do
-pub any-left : {A : Type 0} (p kept : A → Bool) (xs : List A) → ((x : A) → In x xs → kept x ≡ false → p x ≡ false) → list_any p (filter kept xs) ≡ list_any p xs
+pub any-left : {A : Type 0} (p kept : A → Bool) (xs : List A) → ((x : A) → In x xs → kept x ≡ false → p x ≡ false) →
+    list_any p (filter kept xs) ≡ list_any p xs
 any-left p kept [] less = refl
 any-left p kept (x ∷ xs) less =
     let on : list_any p (filter kept xs) ≡ list_any p xs = any-left p kept xs (λ y there. less y (inr there)) in
@@ -41,7 +43,8 @@ any-left p kept (x ∷ xs) less =
     ]
 
 -- the same of those that are asked for
-any-asked : {A : Type 0} (p asked kept : A → Bool) (xs : List A) → ((x : A) → kept x ≡ false → p x ≡ false) → list_any p (filter asked (filter kept xs)) ≡ list_any p (filter asked xs)
+any-asked : {A : Type 0} (p asked kept : A → Bool) (xs : List A) → ((x : A) → kept x ≡ false → p x ≡ false) →
+    list_any p (filter asked (filter kept xs)) ≡ list_any p (filter asked xs)
 any-asked p asked kept [] less = refl
 any-asked p asked kept (x ∷ xs) less =
     let on : list_any p (filter asked (filter kept xs)) ≡ list_any p (filter asked xs) = any-asked p asked kept xs less in
@@ -51,7 +54,8 @@ any-asked p asked kept (x ∷ xs) less =
     ]
 
 -- where all that are left out pass, those asked for pass exactly if the kept ones of them do
-all-asked : {A : Type 0} (p asked kept : A → Bool) (xs : List A) → ((x : A) → kept x ≡ false → p x ≡ true) → list_all p (filter asked (filter kept xs)) ≡ list_all p (filter asked xs)
+all-asked : {A : Type 0} (p asked kept : A → Bool) (xs : List A) → ((x : A) → kept x ≡ false → p x ≡ true) →
+    list_all p (filter asked (filter kept xs)) ≡ list_all p (filter asked xs)
 all-asked p asked kept [] less = refl
 all-asked p asked kept (x ∷ xs) less =
     let on : list_all p (filter asked (filter kept xs)) ≡ list_all p (filter asked xs) = all-asked p asked kept xs less in
@@ -61,7 +65,8 @@ all-asked p asked kept (x ∷ xs) less =
     ]
 
 -- where those left out give nothing, those asked for give the same without them
-map-asked : {A B : Type 0} (f : A → Option B) (asked kept : A → Bool) (xs : List A) → ((x : A) → kept x ≡ false → f x ≡ None) → filter_map f (filter asked (filter kept xs)) ≡ filter_map f (filter asked xs)
+map-asked : {A B : Type 0} (f : A → Option B) (asked kept : A → Bool) (xs : List A) → ((x : A) → kept x ≡ false → f x ≡ None) →
+    filter_map f (filter asked (filter kept xs)) ≡ filter_map f (filter asked xs)
 map-asked f asked kept [] less = refl
 map-asked f asked kept (x ∷ xs) less =
     let on : filter_map f (filter asked (filter kept xs)) ≡ filter_map f (filter asked xs) = map-asked f asked kept xs less in
@@ -71,7 +76,8 @@ map-asked f asked kept (x ∷ xs) less =
     ]
 
 -- steps that agree lead from one value to the same
-and_then-same : {A B : Type 0} (f g : A → Option B) (o p : Option A) → o ≡ p → ((x : A) → f x ≡ g x) → option_and_then f o ≡ option_and_then g p
+and_then-same : {A B : Type 0} (f g : A → Option B) (o p : Option A) → o ≡ p → ((x : A) → f x ≡ g x) →
+    option_and_then f o ≡ option_and_then g p
 and_then-same {A = A} f g o p is same = ap (option_and_then f) is ∙ at p
   where
     at : (q : Option A) → option_and_then f q ≡ option_and_then g q
@@ -150,10 +156,12 @@ root-left ms = find-left (λ m. is_root m && not m.gone) is_left (λ m. is_root 
 
 -- and what the root unit asks for
 asked-left : (ms : List Member) → asked (left_of ms) ≡ asked ms
-asked-left ms = ap (λ (o : Option Member). wanted (option_map_or (λ (root : Member). unit root.key (left_of ms)) o [])) (root-left ms) ∙ of_root (root_left ms)
+asked-left ms = ap (λ (o : Option Member). wanted (option_map_or (λ (root : Member). unit root.key (left_of ms)) o [])) (root-left ms)
+    ∙ of_root (root_left ms)
   where
     of_root : (o : Option Member) →
-        wanted (option_map_or (λ (root : Member). unit root.key (left_of ms)) o []) ≡ wanted (option_map_or (λ (root : Member). unit root.key ms) o [])
+        wanted (option_map_or (λ (root : Member). unit root.key (left_of ms)) o []) ≡ wanted (option_map_or (λ (root : Member).
+        unit root.key ms) o [])
     of_root None = refl
     of_root (Some root) = rw (demands-left (λ (m : Member). same_key m.head root.key) ms) refl
 
@@ -191,20 +199,24 @@ module _ (pool : ℕ) (s : Standing) where
   initial-left = and_then-same _ _ _ _ (root-left s.members) (λ root. same_root root)
     where
       same_root : (root : Member) →
-          when (not root.allocated && is_ready root.key (left_of s.members)) (outcome root.key (initial_failure pool (without_gone s) (asked (left_of s.members))))
+          when (not root.allocated && is_ready root.key (left_of s.members))
+          (outcome root.key (initial_failure pool (without_gone s) (asked (left_of s.members))))
           ≡ when (not root.allocated && is_ready root.key s.members) (outcome root.key (initial_failure pool s (asked s.members)))
       same_root root =
-          ap (λ (b : Buffers). when (not root.allocated && is_ready root.key (left_of s.members)) (outcome root.key (initial_failure pool (without_gone s) b))) (asked-left s.members)
+          ap (λ (b : Buffers). when (not root.allocated && is_ready root.key (left_of s.members))
+          (outcome root.key (initial_failure pool (without_gone s) b))) (asked-left s.members)
           ∙ rw (ready-left root.key s.members, strong-left s.members) refl
 
   -- so does the next attached unit, where the nodes are closed
   logical-left : AreClosed s.members → logical_allocation (without_gone s) ≡ logical_allocation s
-  logical-left closed = and_then-same _ _ s.buffers s.buffers refl (λ buffers. map-same _ _ _ _ (same_head buffers) (find-left (is_next_head (left_of s.members)) is_left (is_next_head s.members) s.members next))
+  logical-left closed = and_then-same _ _ s.buffers s.buffers refl (λ buffers.
+      map-same _ _ _ _ (same_head buffers) (find-left (is_next_head (left_of s.members)) is_left (is_next_head s.members) s.members next))
     where
       same_head : (buffers : Buffers) (head : Member) →
           outcome head.key (logical_failure (demands (unit head.key (left_of s.members))) (reserved (left_of s.members)) buffers)
           ≡ outcome head.key (logical_failure (demands (unit head.key s.members)) (reserved s.members) buffers)
-      same_head buffers head = rw (demands-left (λ (m : Member). same_key m.head head.key) s.members, demands-left (λ (m : Member). m.allocated) s.members) refl
+      same_head buffers head =
+          rw (demands-left (λ (m : Member). same_key m.head head.key) s.members, demands-left (λ (m : Member). m.allocated) s.members) refl
 
       above_left : (m : Member) → In m s.members → m.gone ≡ false → (o : Option NodeKey) → m.parent ≡ o →
           option_map_or (is_allocated (left_of s.members)) o false ≡ option_map_or (is_allocated s.members) o false
@@ -229,7 +241,8 @@ module _ (pool : ℕ) (s : Standing) where
 
 -- the nodes of a collection are closed, where a node is gone if its parent is
 pub members-closed : (marks : Timeline) (collection : ℕ) → AreSound (births marks) →
-    ((child parent : NodeKey) → parent_of marks child ≡ Some parent → gone marks parent ≡ true → gone marks child ≡ true) → AreClosed (members marks collection)
+    ((child parent : NodeKey) → parent_of marks child ≡ Some parent → gone marks parent ≡ true → gone marks child ≡ true) →
+    AreClosed (members marks collection)
 members-closed marks collection sound below m n on there free up =
     let r = member_birth marks collection m on in
     let q = member_birth marks collection n there in
@@ -245,4 +258,5 @@ members-closed marks collection sound below m n on there free up =
 pub next-left : (pool collection : ℕ) (marks : Timeline) → AreSound (births marks) →
     ((child parent : NodeKey) → parent_of marks child ≡ Some parent → gone marks parent ≡ true → gone marks child ≡ true) →
     forced pool (without_gone (standing pool marks collection)) ≡ next_forced pool collection marks
-next-left pool collection marks sound below = forced-left pool (standing pool marks collection) (members-closed marks collection sound below)
+next-left pool collection marks sound below =
+    forced-left pool (standing pool marks collection) (members-closed marks collection sound below)

@@ -44,9 +44,11 @@ pub data Part {A : Type 0} : List A → List A → Type 0 where
   Skips : (y : A) (xs ys : List A) → Part xs ys → Part xs (y ∷ ys)
 
 -- what misses all, misses a part of them
-pub part_misses : {A : Type 0} (f : A → Interval) (i : Interval) (xs ys : List A) → Part xs ys → list_any (meets i) (map f ys) ≡ false → list_any (meets i) (map f xs) ≡ false
+pub part_misses : {A : Type 0} (f : A → Interval) (i : Interval) (xs ys : List A) → Part xs ys → list_any (meets i) (map f ys) ≡ false →
+    list_any (meets i) (map f xs) ≡ false
 part_misses f i _ _ Nothing h = refl
-part_misses f i _ _ (Takes x xs ys p) h = let r = or_parts (meets i (f x)) _ h in or_both (meets i (f x)) _ r.0 (part_misses f i xs ys p r.1)
+part_misses f i _ _ (Takes x xs ys p) h =
+    let r = or_parts (meets i (f x)) _ h in or_both (meets i (f x)) _ r.0 (part_misses f i xs ys p r.1)
 part_misses f i _ _ (Skips y xs ys p) h = part_misses f i xs ys p (or_parts (meets i (f y)) _ h).1
 
 -- a part of what is apart is apart
@@ -56,7 +58,8 @@ part_apart f _ _ (Takes x xs ys p) h = (part_misses f (f x) xs ys p h.0, part_ap
 part_apart f _ _ (Skips y xs ys p) h = part_apart f xs ys p h.1
 
 -- a part of what lies in the pool lies in it
-pub part_in : {A : Type 0} (pool : ℕ) (f : A → Interval) (xs ys : List A) → Part xs ys → are_in pool (map f ys) ≡ true → are_in pool (map f xs) ≡ true
+pub part_in : {A : Type 0} (pool : ℕ) (f : A → Interval) (xs ys : List A) → Part xs ys → are_in pool (map f ys) ≡ true →
+    are_in pool (map f xs) ≡ true
 part_in pool f _ _ Nothing h = refl
 part_in pool f _ _ (Takes x xs ys p) h = and_both _ _ (and_left _ _ h) (part_in pool f xs ys p (and_right _ _ h))
 part_in pool f _ _ (Skips y xs ys p) h = part_in pool f xs ys p (and_right _ _ h)
@@ -68,11 +71,13 @@ part_filter p q (x ∷ xs) h =
     let rest : Part (filter p xs) (filter q xs) = part_filter p q xs h in
     elim (either_way (p x)) [
       | inl e ↦ let f : q x ≡ true = h x e in rw (e, f) (Takes x (filter p xs) (filter q xs) rest)
-      | inr e ↦ rw e (elim (q x) as (λ (b : Bool). Part (filter p xs) (cond b (x ∷ filter q xs) (filter q xs))) [ true ↦ Skips x (filter p xs) (filter q xs) rest | false ↦ rest ])
+      | inr e ↦ rw e (elim (q x) as (λ (b : Bool). Part (filter p xs) (cond b (x ∷ filter q xs) (filter q xs)))
+          [ true ↦ Skips x (filter p xs) (filter q xs) rest | false ↦ rest ])
     ]
 
 -- those of two lists that pass are some of the first and of those of the second that pass another test
-pub part_append : {A : Type 0} (p q : A → Bool) (new xs : List A) → ((x : A) → p x ≡ true → q x ≡ true) → Part (filter p (new ++ xs)) (new ++ filter q xs)
+pub part_append : {A : Type 0} (p q : A → Bool) (new xs : List A) → ((x : A) → p x ≡ true → q x ≡ true) →
+    Part (filter p (new ++ xs)) (new ++ filter q xs)
 part_append p q [] xs h = part_filter p q xs h
 part_append p q (x ∷ new) xs h =
     let rest : Part (filter p (new ++ xs)) (new ++ filter q xs) = part_append p q new xs h in
@@ -84,18 +89,21 @@ part_append p q (x ∷ new) xs h =
 -- ---- a collection with buffers has an allocated root
 
 -- the root of a collection that was given buffers is allocated
-pub given_root : (pool : ℕ) (limits : Bound) (marks : Timeline) → Grows pool limits [] marks → (b : Birth) → In b (births marks) → b.parent ≡ None → is_some (buffers_of marks b.collection) ≡ true →
+pub given_root : (pool : ℕ) (limits : Bound) (marks : Timeline) → Grows pool limits [] marks → (b : Birth) → In b (births marks) →
+    b.parent ≡ None → is_some (buffers_of marks b.collection) ≡ true →
     allocated marks b.node ≡ true
 given_root pool limits _ Stays b on root h = absurd on
 given_root pool limits _ (Answers before client reply call g answer) b on root h =
     elim (In_new new (births before) b on) [
       | inl e ↦ elim (came b e).from [
-        | inl r ↦ let x : b.collection ≡ events before + 1 = r.1 in let y : b.collection ≤ events before = buffers_early pool limits before g b.collection h in absurd (omega arith)
+        | inl r ↦ let x : b.collection ≡ events before + 1 =
+            r.1 in let y : b.collection ≤ events before = buffers_early pool limits before g b.collection h in absurd (omega arith)
         | inr r ↦ let x : None ≡ Some r.0.node = sym root ∙ r.2 in absurd (cc)
       ]
       | inr on ↦
           let was : allocated before b.node ≡ true = given_root pool limits before g b on root h in
-          let heads : head (cons_option new (births before)) b.node ≡ head (births before) b.node = head_old new (births before) b.node (In-was_born (births before) b on) (λ c e. (came c e).fresh) in
+          let heads : head (cons_option new (births before)) b.node ≡ head (births before) b.node =
+          head_old new (births before) b.node (In-was_born (births before) b on) (λ c e. (came c e).fresh) in
           ap (λ (k : NodeKey). list_any (is_allocation k) before) heads ∙ was
     ]
   where
@@ -112,7 +120,8 @@ given_root pool limits _ (Allocates before c top g e) b on root h =
       | inr n ↦ or_right (same_key top (head (births before) b.node)) _ (given_root pool limits before g b on root (rw n at h))
     ]
   where
-    from : (o : Option Birth) → birth_of before top ≡ o → option_map_or (λ (x : Birth). is_none x.parent && x.collection == b.collection) o false ≡ true → same_key top (head (births before) b.node) ≡ true
+    from : (o : Option Birth) → birth_of before top ≡ o → option_map_or (λ (x : Birth). is_none x.parent && x.collection == b.collection) o
+        false ≡ true → same_key top (head (births before) b.node) ≡ true
     from None e i = cc
     from (Some x) e i =
         let f = birth_is before top x e in
@@ -139,7 +148,8 @@ some_if None h = cc
 some_if (Some x) h = (x, refl)
 
 -- buffers are laid out at the starts
-map-laid_out : (pages : ℕ) (bs : List BufferName) (starts : List ℕ) → length starts ≡ length bs → map (λ (h : HeldPages). h.pages) (laid_out pages bs starts) ≡ map (at_pages pages) starts
+map-laid_out : (pages : ℕ) (bs : List BufferName) (starts : List ℕ) → length starts ≡ length bs →
+    map (λ (h : HeldPages). h.pages) (laid_out pages bs starts) ≡ map (at_pages pages) starts
 map-laid_out pages [] [] h = refl
 map-laid_out pages [] (s ∷ ss) h = absurd (omega arith)
 map-laid_out pages (b ∷ bs) [] h = absurd (omega arith)
@@ -151,36 +161,47 @@ named-laid_out : (pages : ℕ) (x : BufferName) (bs : List BufferName) (starts :
 named-laid_out pages x [] [] h = refl
 named-laid_out pages x [] (s ∷ ss) h = absurd (omega arith)
 named-laid_out pages x (b ∷ bs) [] h = absurd (omega arith)
-named-laid_out pages x (b ∷ bs) (s ∷ ss) h = let e : length ss ≡ length bs = omega arith in ap (λ (n : ℕ). cond (same_buffer b x) (n + 1) n) (named-laid_out pages x bs ss e)
+named-laid_out pages x (b ∷ bs) (s ∷ ss) h =
+    let e : length ss ≡ length bs = omega arith in ap (λ (n : ℕ). cond (same_buffer b x) (n + 1) n) (named-laid_out pages x bs ss e)
 
 -- what a mark lays out: the collection's buffers, for which there was no room taken, or nothing
 pub data Lays (pool : ℕ) (before : Timeline) (mark : Mark) : Type 0 where
-  Nothing_new : layout_at pool before (map (λ (h : HeldPages). h.pages) (held pool before)) mark ≡ [] → ((c : ℕ) → buffers_of (mark ∷ before) c ≡ buffers_of before c) → Lays pool before mark
-  New : (collection : ℕ) (buffers : Buffers) (starts : List ℕ) → layout_at pool before (map (λ (h : HeldPages). h.pages) (held pool before)) mark ≡ laid_out (pages_of buffers.size) (names collection buffers.count) starts →
-      places pool (pages_of buffers.size) buffers.count (map (λ (h : HeldPages). h.pages) (held pool before)) ≡ Some starts → buffers_of before collection ≡ None →
+  Nothing_new : layout_at pool before (map (λ (h : HeldPages). h.pages) (held pool before)) mark ≡ [] →
+      ((c : ℕ) → buffers_of (mark ∷ before) c ≡ buffers_of before c) → Lays pool before mark
+  New : (collection : ℕ) (buffers : Buffers) (starts : List ℕ) →
+      layout_at pool before (map (λ (h : HeldPages). h.pages) (held pool before)) mark ≡ laid_out (pages_of buffers.size)
+      (names collection buffers.count) starts →
+      places pool (pages_of buffers.size) buffers.count (map (λ (h : HeldPages). h.pages) (held pool before)) ≡ Some starts →
+      buffers_of before collection ≡ None →
       ((c : ℕ) → buffers_of (mark ∷ before) c ≡ cond (collection == c) (Some buffers) (buffers_of before c)) → Lays pool before mark
 
 module _ (pool : ℕ) (limits : Bound) (before : Timeline) (collection : ℕ) (grown : Grows pool limits [] before) where
   abbrev out : List Interval
   out = map (λ (h : HeldPages). h.pages) (held pool before)
 
-  initial_lays : (b : Birth) → In b (births before) → b.collection == collection ≡ true → b.parent ≡ None → allocated before b.node ≡ false →
-      initial_failure pool (standing pool before collection) (asked (members before collection)) ≡ None → Lays pool before (Allocated b.node)
+  initial_lays : (b : Birth) → In b (births before) → b.collection == collection ≡ true → b.parent ≡ None →
+      allocated before b.node ≡ false →
+      initial_failure pool (standing pool before collection) (asked (members before collection)) ≡ None →
+      Lays pool before (Allocated b.node)
   initial_lays b on ours root waits fits =
       let ord : IsOrdered before = ordered pool limits before grown in
       let is : birth_of before b.node ≡ Some b = find_birth (births before) b ord.sound on in
       let c : b.collection ≡ collection = eqb-true b.collection collection ours in
       let w : Buffers = asked (members before b.collection) in
-      let fits' : initial_failure pool (standing pool before b.collection) w ≡ None = subst (λ (k : ℕ). initial_failure pool (standing pool before k) (asked (members before k)) ≡ None) (sym c) fits in
+      let fits' : initial_failure pool (standing pool before b.collection) w ≡ None =
+      subst (λ (k : ℕ). initial_failure pool (standing pool before k) (asked (members before k)) ≡ None) (sym c) fits in
       let room : is_none (places pool (pages_of w.size) w.count out) ≡ false =
-      room_by (not (some_strong_live (members before b.collection))) (w.count == 0) (nat_lt 64 w.count) (is_none (places pool (pages_of w.size) w.count out)) Failure.NoStrong Failure.NoBuffers Failure.TooManyBuffers Failure.PoolFull fits' in
+      room_by (not (some_strong_live (members before b.collection))) (w.count == 0) (nat_lt 64 w.count)
+      (is_none (places pool (pages_of w.size) w.count out)) Failure.NoStrong Failure.NoBuffers Failure.TooManyBuffers Failure.PoolFull
+      fits' in
       let there = some_if (places pool (pages_of w.size) w.count out) room in
       let lays : layout_at pool before out (Allocated b.node) ≡ laid_out (pages_of w.size) (names b.collection w.count) there.0 =
       rw (is, root) (ap (λ (o : Option (List ℕ)). option_map_or (laid_out (pages_of w.size) (names b.collection w.count)) o []) there.1) in
       let not_given : buffers_of before b.collection ≡ None =
       elim (either_way (is_none (buffers_of before b.collection))) [
         | inl e ↦ none_is (buffers_of before b.collection) e
-        | inr e ↦ both_ways (allocated before b.node) (given_root pool limits before grown b on root (some_is (buffers_of before b.collection) e)) waits
+        | inr e ↦ both_ways (allocated before b.node) (given_root pool limits before grown b on root
+            (some_is (buffers_of before b.collection) e)) waits
       ] in
       New b.collection w there.0 lays there.1 not_given (λ k. gives k (either_way (b.collection == k)) is)
     where
@@ -193,8 +214,10 @@ module _ (pool : ℕ) (limits : Bound) (before : Timeline) (collection : ℕ) (g
       some_is (Some x) h = refl
 
       gives : (k : ℕ) → ((b.collection == k) ≡ true) ⊎ ((b.collection == k) ≡ false) → birth_of before b.node ≡ Some b →
-          buffers_of (Allocated b.node ∷ before) k ≡ cond (b.collection == k) (Some (asked (members before b.collection))) (buffers_of before k)
-      gives k (inl e) is = let same : k ≡ b.collection = sym (eqb-true b.collection k e) in rw (is, root, e) (ap (λ (n : ℕ). Some (asked (members before n))) same)
+          buffers_of (Allocated b.node ∷ before) k ≡ cond (b.collection == k) (Some (asked (members before b.collection)))
+          (buffers_of before k)
+      gives k (inl e) is = let same : k ≡ b.collection =
+          sym (eqb-true b.collection k e) in rw (is, root, e) (ap (λ (n : ℕ). Some (asked (members before n))) same)
       gives k (inr e) is = rw (is, root, e) refl
 
   logical_lays : (b : Birth) → In b (births before) → is_some b.parent ≡ true → Lays pool before (Allocated b.node)
@@ -219,7 +242,8 @@ pub record AreHeld (pool : ℕ) (marks : Timeline) : Type 0 where
   pub apart : AreApart (map (λ (h : HeldPages). h.pages) (held pool marks))
   pub inside : are_in pool (map (λ (h : HeldPages). h.pages) (held pool marks)) ≡ true
   -- a buffer was placed as often as it is one of those that its collection was given
-  pub named : (x : BufferName) → times (λ (h : HeldPages). same_buffer h.buffer x) (placed pool marks) ≡ times (λ b. same_buffer b x) (buffer_names marks x.collection)
+  pub named : (x : BufferName) → times (λ (h : HeldPages). same_buffer h.buffer x) (placed pool marks) ≡ times (λ b.
+      same_buffer b x) (buffer_names marks x.collection)
 
 -- what was not so before is not so now, if it stays so once it is
 not_turned : (a b : Bool) → (a ≡ true → b ≡ true) → not b ≡ true → not a ≡ true
@@ -230,24 +254,29 @@ not_turned false b h k = refl
 length-names : (c n : ℕ) → length (names c n) ≡ n
 length-names c n = length-map (range_with_len 0 n) (λ i. record { collection = c; index = i }) ∙ length-range_with_len 0 n
 
-module _ (pool : ℕ) (limits : Bound) (before : Timeline) (mark : Mark) (first : Grows pool limits [] before) (step : Grows pool limits before (mark ∷ before)) (old : AreHeld pool before) where
+module _ (pool : ℕ) (limits : Bound) (before : Timeline) (mark : Mark) (first : Grows pool limits [] before)
+    (step : Grows pool limits before (mark ∷ before)) (old : AreHeld pool before) where
   abbrev pages_in : List Interval
   pages_in = map (λ (h : HeldPages). h.pages) (held pool before)
 
   stays_out : (h : HeldPages) → not (home (mark ∷ before) h.buffer) ≡ true → not (home before h.buffer) ≡ true
-  stays_out h k = not_turned (home before h.buffer) (home (mark ∷ before) h.buffer) (λ e. home_on pool limits before first h.buffer e (mark ∷ before) step) k
+  stays_out h k = not_turned (home before h.buffer) (home (mark ∷ before) h.buffer) (λ e.
+      home_on pool limits before first h.buffer e (mark ∷ before) step) k
 
   out_part : (new : List HeldPages) → layout_at pool before pages_in mark ≡ new → Part (held pool (mark ∷ before)) (new ++ held pool before)
   out_part new e =
-      let p = part_append (λ (h : HeldPages). not (home (mark ∷ before) h.buffer)) (λ (h : HeldPages). not (home before h.buffer)) new (placed pool before) stays_out in
-      subst (λ (l : List HeldPages). Part (filter (λ (h : HeldPages). not (home (mark ∷ before) h.buffer)) (l ++ placed pool before)) (new ++ held pool before)) (sym e) p
+      let p = part_append (λ (h : HeldPages). not (home (mark ∷ before) h.buffer)) (λ (h : HeldPages). not (home before h.buffer)) new
+      (placed pool before) stays_out in
+      subst (λ (l : List HeldPages). Part (filter (λ (h : HeldPages). not (home (mark ∷ before) h.buffer)) (l ++ placed pool before))
+      (new ++ held pool before)) (sym e) p
 
   held_by : Lays pool before mark → AreHeld pool (mark ∷ before)
   held_by (Nothing_new e same) = record {
     apart = part_apart (λ (h : HeldPages). h.pages) (held pool (mark ∷ before)) (held pool before) (out_part [] e) old.apart;
     inside = part_in pool (λ (h : HeldPages). h.pages) (held pool (mark ∷ before)) (held pool before) (out_part [] e) old.inside;
     named = λ x. ap (λ (l : List HeldPages). times (λ (h : HeldPages). same_buffer h.buffer x) (l ++ placed pool before)) e
-        ∙ (old.named x ∙ ap (λ (o : Option Buffers). times (λ b. same_buffer b x) (option_map_or (λ (b : Buffers). names x.collection b.count) o [])) (sym (same x.collection)));
+        ∙ (old.named x ∙ ap (λ (o : Option Buffers). times (λ b. same_buffer b x) (option_map_or (λ (b : Buffers).
+        names x.collection b.count) o [])) (sym (same x.collection)));
   }
   held_by (New collection buffers starts e there fresh given) =
       let pages : ℕ = pages_of buffers.size in
@@ -256,47 +285,61 @@ module _ (pool : ℕ) (limits : Bound) (before : Timeline) (mark : Mark) (first 
       let p : ArePlaced pool pages buffers.count pages_in starts = placed_apart pool pages buffers.count pages_in starts there in
       let long : length starts ≡ length ns = p.many ∙ sym (length-names collection buffers.count) in
       let shape : map (λ (h : HeldPages). h.pages) (new ++ held pool before) ≡ map (at_pages pages) starts ++ pages_in =
-      map-append (λ (h : HeldPages). h.pages) new (held pool before) ∙ ap (λ (l : List Interval). l ++ pages_in) (map-laid_out pages ns starts long) in
+      map-append (λ (h : HeldPages). h.pages) new (held pool before)
+      ∙ ap (λ (l : List Interval). l ++ pages_in) (map-laid_out pages ns starts long) in
       record {
-        apart = part_apart (λ (h : HeldPages). h.pages) (held pool (mark ∷ before)) (new ++ held pool before) (out_part new e) (subst AreApart (sym shape) (p.apart old.apart));
-        inside = part_in pool (λ (h : HeldPages). h.pages) (held pool (mark ∷ before)) (new ++ held pool before) (out_part new e) (ap (are_in pool) shape ∙ p.inside old.inside);
+        apart = part_apart (λ (h : HeldPages). h.pages) (held pool (mark ∷ before)) (new ++ held pool before) (out_part new e)
+            (subst AreApart (sym shape) (p.apart old.apart));
+        inside = part_in pool (λ (h : HeldPages). h.pages) (held pool (mark ∷ before)) (new ++ held pool before) (out_part new e)
+            (ap (are_in pool) shape ∙ p.inside old.inside);
         named = λ x.
             ap (λ (l : List HeldPages). times (λ (h : HeldPages). same_buffer h.buffer x) (l ++ placed pool before)) e
             ∙ (times-append (λ (h : HeldPages). same_buffer h.buffer x) new (placed pool before)
-            ∙ (ap (λ (n : ℕ). n + times (λ (h : HeldPages). same_buffer h.buffer x) (placed pool before)) (named-laid_out pages x ns starts long)
+            ∙ (ap (λ (n : ℕ). n + times (λ (h : HeldPages). same_buffer h.buffer x) (placed pool before)) (named-laid_out pages x ns starts
+            long)
             ∙ (ap (λ (n : ℕ). times (λ b. same_buffer b x) ns + n) (old.named x)
-            ∙ (names_of x (either_way (collection == x.collection)) ∙ ap (λ (o : Option Buffers). times (λ b. same_buffer b x) (option_map_or (λ (b : Buffers). names x.collection b.count) o [])) (sym (given x.collection))))));
+            ∙ (names_of x (either_way (collection == x.collection))
+            ∙ ap (λ (o : Option Buffers). times (λ b. same_buffer b x) (option_map_or (λ (b : Buffers). names x.collection b.count) o
+            [])) (sym (given x.collection))))));
       }
     where
       names_of : (x : BufferName) → ((collection == x.collection) ≡ true) ⊎ ((collection == x.collection) ≡ false) →
           times (λ b. same_buffer b x) (names collection buffers.count) + times (λ b. same_buffer b x) (buffer_names before x.collection) ≡
-          times (λ b. same_buffer b x) (option_map_or (λ (b : Buffers). names x.collection b.count) (cond (collection == x.collection) (Some buffers) (buffers_of before x.collection)) [])
+          times (λ b. same_buffer b x) (option_map_or (λ (b : Buffers). names x.collection b.count) (cond (collection == x.collection)
+          (Some buffers) (buffers_of before x.collection)) [])
       names_of x (inl e) =
           let same : collection ≡ x.collection = eqb-true collection x.collection e in
           let none : buffers_of before x.collection ≡ None = ap (buffers_of before) (sym same) ∙ fresh in
-          let here : times (λ b. same_buffer b x) (names collection buffers.count) ≡ times (λ b. same_buffer b x) (names x.collection buffers.count) = ap (λ (k : ℕ). times (λ b. same_buffer b x) (names k buffers.count)) same in
+          let here : times (λ b. same_buffer b x) (names collection buffers.count) ≡ times (λ b.
+          same_buffer b x) (names x.collection buffers.count) =
+          ap (λ (k : ℕ). times (λ b. same_buffer b x) (names k buffers.count)) same in
           rw (e, none) (omega (arith, here))
       names_of x (inr e) =
-          let other : times (λ b. same_buffer b x) (names collection buffers.count) ≡ 0 = times_below collection buffers.count x ∙ rw e refl in
+          let other : times (λ b. same_buffer b x) (names collection buffers.count) ≡ 0 =
+          times_below collection buffers.count x ∙ rw e refl in
           rw e (omega (arith, other))
 
 -- so it holds of each timeline that grows from nothing
 pub are_held : (pool : ℕ) (limits : Bound) (marks : Timeline) → Grows pool limits [] marks → AreHeld pool marks
 are_held pool limits _ Stays = record { apart = tt; inside = refl; named = λ x. refl }
 are_held pool limits _ (Answers before client reply call g answer) =
-    held_by pool limits before (Called client reply call) g (Answers before client reply call Stays answer) (are_held pool limits before g) (Nothing_new refl (λ c. refl))
+    held_by pool limits before (Called client reply call) g (Answers before client reply call Stays answer) (are_held pool limits before g)
+    (Nothing_new refl (λ c. refl))
 are_held pool limits _ (Loses before origin cause g born) =
-    held_by pool limits before (Loss origin cause) g (Loses before origin cause Stays born) (are_held pool limits before g) (Nothing_new refl (λ c. refl))
+    held_by pool limits before (Loss origin cause) g (Loses before origin cause Stays born) (are_held pool limits before g)
+    (Nothing_new refl (λ c. refl))
 are_held pool limits _ (Ends before c top g e) =
     held_by pool limits before (Ended top) g (Ends before c top Stays e) (are_held pool limits before g) (Nothing_new refl (λ c. refl))
 are_held pool limits _ (Allocates before c head g e) =
-    held_by pool limits before (Allocated head) g (Allocates before c head Stays e) (are_held pool limits before g) (allocation_lays pool limits before c g head (forced_why pool c before (Allocated head) e))
+    held_by pool limits before (Allocated head) g (Allocates before c head Stays e) (are_held pool limits before g)
+    (allocation_lays pool limits before c g head (forced_why pool c before (Allocated head) e))
 
 -- ---- what stands among the held ones
 
 -- a collection has each of its buffers once
 names_once : (collection : ℕ) (x : BufferName) (o : Option Buffers) →
-    times (λ b. same_buffer b x) (option_map_or (λ (b : Buffers). names collection b.count) o []) ≡ one (list_any (λ b. same_buffer b x) (option_map_or (λ (b : Buffers). names collection b.count) o []))
+    times (λ b. same_buffer b x) (option_map_or (λ (b : Buffers). names collection b.count) o []) ≡ one (list_any (λ b.
+    same_buffer b x) (option_map_or (λ (b : Buffers). names collection b.count) o []))
 names_once collection x None = refl
 names_once collection x (Some b) =
     let n = times_below collection b.count x in
@@ -304,11 +347,14 @@ names_once collection x (Some b) =
 
 -- a buffer stands among the held ones once if it was given and is not home, and else not at all
 pub times_held : (pool : ℕ) (limits : Bound) (marks : Timeline) → Grows pool limits [] marks → (x : BufferName) →
-    times (λ (h : HeldPages). same_buffer h.buffer x) (held pool marks) ≡ one (list_any (λ b. same_buffer b x) (buffer_names marks x.collection) && not (home marks x))
+    times (λ (h : HeldPages). same_buffer h.buffer x) (held pool marks) ≡ one (list_any (λ b.
+    same_buffer b x) (buffer_names marks x.collection) && not (home marks x))
 times_held pool limits marks g x =
-    times-filter (λ (h : HeldPages). same_buffer h.buffer x) (λ (h : HeldPages). not (home marks h.buffer)) (not (home marks x)) (placed pool marks)
+    times-filter (λ (h : HeldPages). same_buffer h.buffer x) (λ (h : HeldPages). not (home marks h.buffer)) (not (home marks x))
+    (placed pool marks)
     (λ h e. ap (λ (b : BufferName). not (home marks b)) (same_buffer-true h.buffer x e))
-    ∙ (ap (λ (n : ℕ). cond (not (home marks x)) n 0) ((are_held pool limits marks g).named x ∙ names_once x.collection x (buffers_of marks x.collection))
+    ∙ (ap (λ (n : ℕ). cond (not (home marks x)) n 0) ((are_held pool limits marks g).named x
+    ∙ names_once x.collection x (buffers_of marks x.collection))
     ∙ both (list_any (λ b. same_buffer b x) (buffer_names marks x.collection)) (not (home marks x)))
   where
     both : (a b : Bool) → cond b (one a) 0 ≡ one (a && b)
@@ -319,13 +365,17 @@ times_held pool limits marks g x =
 
 -- so it stands among them exactly if it was given and is not home
 pub stands_held : (pool : ℕ) (limits : Bound) (marks : Timeline) → Grows pool limits [] marks → (x : BufferName) →
-    list_any (λ (h : HeldPages). same_buffer h.buffer x) (held pool marks) ≡ (list_any (λ b. same_buffer b x) (buffer_names marks x.collection) && not (home marks x))
-stands_held pool limits marks g x = any_one (λ (h : HeldPages). same_buffer h.buffer x) (held pool marks) (list_any (λ b. same_buffer b x) (buffer_names marks x.collection) && not (home marks x)) (times_held pool limits marks g x)
+    list_any (λ (h : HeldPages). same_buffer h.buffer x) (held pool marks) ≡ (list_any (λ b.
+    same_buffer b x) (buffer_names marks x.collection) && not (home marks x))
+stands_held pool limits marks g x = any_one (λ (h : HeldPages). same_buffer h.buffer x) (held pool marks) (list_any (λ b.
+    same_buffer b x) (buffer_names marks x.collection) && not (home marks x)) (times_held pool limits marks g x)
 
 -- and at most once
-pub held_once : (pool : ℕ) (limits : Bound) (marks : Timeline) → Grows pool limits [] marks → (x : BufferName) → times (λ (h : HeldPages). same_buffer h.buffer x) (held pool marks) ≤ 1
+pub held_once : (pool : ℕ) (limits : Bound) (marks : Timeline) → Grows pool limits [] marks → (x : BufferName) →
+    times (λ (h : HeldPages). same_buffer h.buffer x) (held pool marks) ≤ 1
 held_once pool limits marks g x =
-    let n : times (λ (h : HeldPages). same_buffer h.buffer x) (held pool marks) ≡ one (list_any (λ b. same_buffer b x) (buffer_names marks x.collection) && not (home marks x)) = times_held pool limits marks g x in
+    let n : times (λ (h : HeldPages). same_buffer h.buffer x) (held pool marks) ≡ one (list_any (λ b.
+    same_buffer b x) (buffer_names marks x.collection) && not (home marks x)) = times_held pool limits marks g x in
     omega (arith, n, few (list_any (λ b. same_buffer b x) (buffer_names marks x.collection) && not (home marks x)))
   where
     few : (b : Bool) → one b ≤ 1
@@ -333,15 +383,18 @@ held_once pool limits marks g x =
     few false = omega arith
 
 -- the pages of the held ones are those of their intervals
-sum-pages : (hs : List HeldPages) → sum_by (λ (i : Interval). i.pages) (map (λ (h : HeldPages). h.pages) hs) ≡ sum_by (λ (h : HeldPages). h.pages.pages) hs
+sum-pages : (hs : List HeldPages) → sum_by (λ (i : Interval). i.pages) (map (λ (h : HeldPages). h.pages) hs) ≡ sum_by (λ (h : HeldPages).
+    h.pages.pages) hs
 sum-pages [] = refl
 sum-pages (h ∷ hs) =
     sum_by-cons (λ (i : Interval). i.pages) h.pages (map (λ (h : HeldPages). h.pages) hs)
     ∙ (ap (λ (n : ℕ). h.pages.pages + n) (sum-pages hs) ∙ sym (sum_by-cons (λ (h : HeldPages). h.pages.pages) h hs))
 
 -- the free pages and the held ones are the pool
-pub free_and_held : (pool : ℕ) (limits : Bound) (marks : Timeline) → Grows pool limits [] marks → free_pages pool marks + sum_by (λ (h : HeldPages). h.pages.pages) (held pool marks) ≡ pool
+pub free_and_held : (pool : ℕ) (limits : Bound) (marks : Timeline) → Grows pool limits [] marks →
+    free_pages pool marks + sum_by (λ (h : HeldPages). h.pages.pages) (held pool marks) ≡ pool
 free_and_held pool limits marks g =
     let a : AreHeld pool marks = are_held pool limits marks g in
-    let le : sum_by (λ (i : Interval). i.pages) (map (λ (h : HeldPages). h.pages) (held pool marks)) ≤ pool = sum-le-pool pool (map (λ (h : HeldPages). h.pages) (held pool marks)) a.apart a.inside in
+    let le : sum_by (λ (i : Interval). i.pages) (map (λ (h : HeldPages). h.pages) (held pool marks)) ≤ pool =
+    sum-le-pool pool (map (λ (h : HeldPages). h.pages) (held pool marks)) a.apart a.inside in
     omega (arith, sum-pages (held pool marks))

@@ -18,18 +18,22 @@ module _ (P : Timeline → Type 0) (each : (marks : Timeline) (mark : Mark) → 
   kept-settled pool collection (suc most) marks p =
       elim (none_or_some (next_forced pool collection marks)) [
         | inl e ↦ rw e p
-        | inr some ↦ rw some.1 (kept-settled pool collection most (some.0 ∷ marks) (each marks some.0 (forced_no_event pool collection marks some.0 some.1) p))
+        | inr some ↦
+            rw some.1 (kept-settled pool collection most (some.0 ∷ marks) (each marks some.0 (forced_no_event pool collection marks some.0
+            some.1) p))
       ]
 
   -- those of the event, if it names a collection
-  pub kept-rest : (pool : ℕ) (o : Option ℕ) (marks : Timeline) → P marks → P (option_map_or (λ collection. settled pool collection marks) o marks)
+  pub kept-rest : (pool : ℕ) (o : Option ℕ) (marks : Timeline) → P marks →
+      P (option_map_or (λ collection. settled pool collection marks) o marks)
   kept-rest pool None marks p = p
   kept-rest pool (Some collection) marks p = kept-settled pool collection (2 * length (births marks)) marks p
 
   -- all marks of an event
   pub kept-after : (pool : ℕ) (marks : Timeline) (entry : Entry) → P (Called entry.0 entry.2 entry.1 ∷ marks) → P (after pool marks entry)
   kept-after pool marks entry p =
-      kept-rest pool (collection_of (Called entry.0 entry.2 entry.1 ∷ marks) entry.1 entry.2) (cons_option (own_loss marks entry.1 entry.2) (Called entry.0 entry.2 entry.1 ∷ marks)) (loses (own_loss marks entry.1 entry.2) refl)
+      kept-rest pool (collection_of (Called entry.0 entry.2 entry.1 ∷ marks) entry.1 entry.2) (cons_option (own_loss marks entry.1 entry.2)
+      (Called entry.0 entry.2 entry.1 ∷ marks)) (loses (own_loss marks entry.1 entry.2) refl)
     where
       loses : (o : Option Mark) → own_loss marks entry.1 entry.2 ≡ o → P (cons_option o (Called entry.0 entry.2 entry.1 ∷ marks))
       loses None e = p
@@ -40,7 +44,9 @@ module _ (P : Timeline → Type 0) (each : (marks : Timeline) (mark : Mark) → 
   -- the events one after another
   kept-fold : (marks : Timeline) (more : List Entry) → P marks → P (fold (after pool) marks more)
   kept-fold marks [] p = p
-  kept-fold marks (entry ∷ more) p = kept-fold (after pool marks entry) more (kept-after P (λ m mark _. each m mark) pool marks entry (each marks (Called entry.0 entry.2 entry.1) p))
+  kept-fold marks (entry ∷ more) p =
+      kept-fold (after pool marks entry) more (kept-after P (λ m mark _. each m mark) pool marks entry
+      (each marks (Called entry.0 entry.2 entry.1) p))
 
   -- a history that goes on
   pub kept-on : (history more : List Entry) → P (timeline pool history) → P (timeline pool (history ++ more))

@@ -14,38 +14,46 @@ use Rattle.sm_names.specs.Timelines.{HeldPages, placed, layout, layout_at, laid_
 use Rattle.sm_names.proofs.ListLaws.{In, In-append, In-map}
 
 -- what is laid out bears the name of its collection
-laid_in : (collection pages : ℕ) (bs : List BufferName) (starts : List ℕ) → ((b : BufferName) → In b bs → b.collection ≡ collection) → (h : HeldPages) → In h (laid_out pages bs starts) → h.buffer.collection ≡ collection
+laid_in : (collection pages : ℕ) (bs : List BufferName) (starts : List ℕ) → ((b : BufferName) → In b bs → b.collection ≡ collection) →
+    (h : HeldPages) → In h (laid_out pages bs starts) → h.buffer.collection ≡ collection
 laid_in collection pages [] starts named h on = absurd on
 laid_in collection pages (b ∷ bs) [] named h on = absurd on
 laid_in collection pages (b ∷ bs) (start ∷ starts) named h (inl is) = ap (λ (x : HeldPages). x.buffer.collection) is ∙ named b (inl refl)
-laid_in collection pages (b ∷ bs) (start ∷ starts) named h (inr on) = laid_in collection pages bs starts (λ c there. named c (inr there)) h on
+laid_in collection pages (b ∷ bs) (start ∷ starts) named h (inr on) =
+    laid_in collection pages bs starts (λ c there. named c (inr there)) h on
 
 -- what an allocation lays out is of the collection whose root it is
-pub layout_given : (pool : ℕ) (before : Timeline) (out : List Interval) (mark : Mark) (h : HeldPages) → In h (layout_at pool before out mark) → is_initial before h.buffer.collection mark ≡ true
+pub layout_given : (pool : ℕ) (before : Timeline) (out : List Interval) (mark : Mark) (h : HeldPages) →
+    In h (layout_at pool before out mark) → is_initial before h.buffer.collection mark ≡ true
 layout_given pool before out (Called client reply call) h on = absurd on
 layout_given pool before out (Loss origin cause) h on = absurd on
 layout_given pool before out (Ended top) h on = absurd on
 layout_given pool before out (Allocated head) h on = from (birth_of before head) on
   where
-    starts_given : (b : Birth) (g : Buffers) (o : Option (List ℕ)) → In h (option_map_or (laid_out (pages_of g.size) (names b.collection g.count)) o []) → h.buffer.collection ≡ b.collection
+    starts_given : (b : Birth) (g : Buffers) (o : Option (List ℕ)) →
+        In h (option_map_or (laid_out (pages_of g.size) (names b.collection g.count)) o []) → h.buffer.collection ≡ b.collection
     starts_given b g None on = absurd on
     starts_given b g (Some starts) on =
         laid_in b.collection (pages_of g.size) (names b.collection g.count) starts
-        (λ name there. let r = In-map (λ i. record { collection = b.collection; index = i }) _ name there in ap (λ (x : BufferName). x.collection) r.2) h on
+        (λ name there. let r = In-map (λ i. record { collection = b.collection; index = i }) _ name there in
+        ap (λ (x : BufferName). x.collection) r.2) h on
 
-    of_root : (b : Birth) (root : Bool) → In h (cond root (layout pool b.collection (asked (members before b.collection)) out) []) → (root && b.collection == h.buffer.collection) ≡ true
+    of_root : (b : Birth) (root : Bool) → In h (cond root (layout pool b.collection (asked (members before b.collection)) out) []) →
+        (root && b.collection == h.buffer.collection) ≡ true
     of_root b true on =
         let g : Buffers = asked (members before b.collection) in
         eq-eqb b.collection h.buffer.collection (sym (starts_given b g (places pool (pages_of g.size) g.count out) on))
     of_root b false on = absurd on
 
-    from : (o : Option Birth) → In h (option_map_or (λ (b : Birth). cond (is_none b.parent) (layout pool b.collection (asked (members before b.collection)) out) []) o []) →
+    from : (o : Option Birth) → In h (option_map_or (λ (b : Birth).
+        cond (is_none b.parent) (layout pool b.collection (asked (members before b.collection)) out) []) o []) →
         option_map_or (λ (b : Birth). is_none b.parent && b.collection == h.buffer.collection) o false ≡ true
     from None on = absurd on
     from (Some b) on = of_root b (is_none b.parent) on
 
 -- a buffer that was placed is one of a collection that was given some
-pub placed_given : (pool : ℕ) (marks : Timeline) (h : HeldPages) → In h (placed pool marks) → is_some (buffers_of marks h.buffer.collection) ≡ true
+pub placed_given : (pool : ℕ) (marks : Timeline) (h : HeldPages) → In h (placed pool marks) →
+    is_some (buffers_of marks h.buffer.collection) ≡ true
 placed_given pool [] h on = absurd on
 placed_given pool (mark ∷ before) h on =
     elim (In-append (layout_at pool before (map (λ h. h.pages) (still_out before (placed pool before))) mark) (placed pool before) h on) [

@@ -40,7 +40,8 @@ born_old None bs key h = h
 born_old (Some b) bs key h = or_right (same_key b.node key) _ h
 
 -- a node of the collection is among those that stand in it
-pub members_on : (marks : Timeline) (collection : ℕ) (b : Birth) → In b (births marks) → b.collection == collection ≡ true → In (member marks b) (members marks collection)
+pub members_on : (marks : Timeline) (collection : ℕ) (b : Birth) → In b (births marks) → b.collection == collection ≡ true →
+    In (member marks b) (members marks collection)
 members_on marks collection b on ours =
     In-map-back (member marks) (births_in marks collection) b
     (In-reverse-back _ b (In-filter-back (λ (c : Birth). c.collection == collection) (births marks) b on ours))
@@ -55,17 +56,20 @@ child_born bs node p up = elim (none_or_some (find (λ (b : Birth). same_key b.n
 ]
 
 -- the reach of a node that was born was born
-reach_born : (bs : List Birth) (blocks : NodeKey → Bool) (origin node : NodeKey) → AreSound bs → was_born bs origin ≡ true → Reach (parent_in bs) blocks origin node → was_born bs node ≡ true
+reach_born : (bs : List Birth) (blocks : NodeKey → Bool) (origin node : NodeKey) → AreSound bs → was_born bs origin ≡ true →
+    Reach (parent_in bs) blocks origin node → was_born bs node ≡ true
 reach_born bs blocks origin _ sound born Origin = born
 reach_born bs blocks origin _ sound born (Up child above r free up) = parent_born bs child above sound up
 reach_born bs blocks origin _ sound born (Down above child r up) = child_born bs child above up
 
 -- a node at or below one that was born was born
-below_born : (bs : List Birth) (top node : NodeKey) → AreSound bs → was_born bs top ≡ true → is_at_or_below bs top node ≡ true → was_born bs node ≡ true
+below_born : (bs : List Birth) (top node : NodeKey) → AreSound bs → was_born bs top ≡ true → is_at_or_below bs top node ≡ true →
+    was_born bs node ≡ true
 below_born bs top node sound born h =
     from (ancestors bs node) (ancestors_chain (parent_in bs) bs (λ k _. refl) sound node refl) h
   where
-    from : (above : List NodeKey) → IsChain (parent_in bs) node above → (same_key top node || list_any (same_key top) above) ≡ true → was_born bs node ≡ true
+    from : (above : List NodeKey) → IsChain (parent_in bs) node above → (same_key top node || list_any (same_key top) above) ≡ true →
+        was_born bs node ≡ true
     from [] chain h = elim (either_way (same_key top node)) [
       | inl e ↦ ap (was_born bs) (sym (same_key-true top node e)) ∙ born
       | inr e ↦ let no : false ≡ true = rw e at h in cc
@@ -73,7 +77,8 @@ below_born bs top node sound born h =
     from (p ∷ above) chain h = child_born bs node p chain.0
 
 -- a parent is among the births, in the child's collection
-parent_is : (marks : Timeline) → IsWhole marks → (b : Birth) → In b (births marks) → (p : NodeKey) → b.parent ≡ Some p → (q : Birth) × In q (births marks) × (q.node ≡ p) × (q.collection ≡ b.collection)
+parent_is : (marks : Timeline) → IsWhole marks → (b : Birth) → In b (births marks) → (p : NodeKey) → b.parent ≡ Some p →
+    (q : Birth) × In q (births marks) × (q.node ≡ p) × (q.collection ≡ b.collection)
 parent_is marks w b on p up =
     let bs : List Birth = births marks in
     let up' : parent_in bs b.node ≡ Some p = rw (find_birth bs b w.sound on) up in
@@ -88,7 +93,8 @@ parent_is marks w b on p up =
 -- a mark of a timeline that grows from nothing leaves it whole
 pub whole : (pool : ℕ) (limits : Bound) (marks : Timeline) → Grows pool limits [] marks → IsWhole marks
 whole pool limits _ Stays = whole_nothing
-whole pool limits _ (Answers before client reply call g answer) = whole-called limits before (client, call, reply) answer (whole pool limits before g)
+whole pool limits _ (Answers before client reply call g answer) =
+    whole-called limits before (client, call, reply) answer (whole pool limits before g)
 whole pool limits _ (Loses before origin cause g born) = whole-mark before (Loss origin cause) refl tt (whole pool limits before g)
 whole pool limits _ (Allocates before collection head g e) = whole-mark before (Allocated head) refl tt (whole pool limits before g)
 whole pool limits _ (Ends before collection top g e) =
@@ -97,10 +103,12 @@ whole pool limits _ (Ends before collection top g e) =
 
 record IsRooted (marks : Timeline) : Type 0 where
   pub early : (b : Birth) → In b (births marks) → b.collection ≤ events marks
-  pub roots : (b c : Birth) → In b (births marks) → In c (births marks) → b.parent ≡ None → c.parent ≡ None → b.collection ≡ c.collection → b ≡ c
+  pub roots : (b c : Birth) → In b (births marks) → In c (births marks) → b.parent ≡ None → c.parent ≡ None → b.collection ≡ c.collection →
+      b ≡ c
   pub gone_born : (k : NodeKey) → gone marks k ≡ true → was_born (births marks) k ≡ true
 
-module _ (limits : Bound) (before : Timeline) (client : ℕ) (reply : Reply) (call : Call) (answer : IsAnswer limits (readings before) client call reply) (old : IsRooted before) where
+module _ (limits : Bound) (before : Timeline) (client : ℕ) (reply : Reply) (call : Call) (answer : IsAnswer limits (readings before) client
+    call reply) (old : IsRooted before) where
   -- what the call bears
   abbrev new : Option Birth
   new = birth_at (events before + 1) (Called client reply call)
@@ -122,12 +130,14 @@ module _ (limits : Bound) (before : Timeline) (client : ℕ) (reply : Reply) (ca
   -- a root that is new is of a new collection
   other_root : {P : Type 0} (b c : Birth) → new ≡ Some b → In c (births before) → b.parent ≡ None → b.collection ≡ c.collection → P
   other_root b c e on root same = elim (came b e).from [
-    | inl r ↦ let x : b.collection ≡ events before + 1 = r.1 in let y : c.collection ≤ events before = old.early c on in absurd (omega arith)
+    | inl r ↦ let x : b.collection ≡ events before + 1 =
+        r.1 in let y : c.collection ≤ events before = old.early c on in absurd (omega arith)
     | inr r ↦ let x : None ≡ Some r.0.node = sym root ∙ r.2 in absurd (cc)
   ]
 
   -- a collection has one root still
-  call_roots : (b c : Birth) → In b (cons_option new (births before)) → In c (cons_option new (births before)) → b.parent ≡ None → c.parent ≡ None → b.collection ≡ c.collection → b ≡ c
+  call_roots : (b c : Birth) → In b (cons_option new (births before)) → In c (cons_option new (births before)) → b.parent ≡ None →
+      c.parent ≡ None → b.collection ≡ c.collection → b ≡ c
   call_roots b c on there root root' same = elim (In_new new (births before) b on) [
     | inl e ↦ elim (In_new new (births before) c there) [
       | inl f ↦ let x : Some b ≡ Some c = sym e ∙ f in cc
@@ -144,18 +154,21 @@ module _ (limits : Bound) (before : Timeline) (client : ℕ) (reply : Reply) (ca
   rooted_call = record { early = call_early; roots = call_roots; gone_born = λ k h. born_old new (births before) k (old.gone_born k h) }
 
 -- what a mark takes was born
-taken_born : (bs : List Birth) (taken before : Bool) (k : NodeKey) → (taken || before) ≡ true → (taken ≡ true → was_born bs k ≡ true) → (before ≡ true → was_born bs k ≡ true) → was_born bs k ≡ true
+taken_born : (bs : List Birth) (taken before : Bool) (k : NodeKey) → (taken || before) ≡ true → (taken ≡ true → was_born bs k ≡ true) →
+    (before ≡ true → was_born bs k ≡ true) → was_born bs k ≡ true
 taken_born bs true before k h takes old = takes refl
 taken_born bs false before k h takes old = old h
 
 -- a node that ends was born
-end_born : (pool collection : ℕ) (marks : Timeline) (top : NodeKey) → Why pool collection marks (Ended top) → was_born (births marks) top ≡ true
+end_born : (pool collection : ℕ) (marks : Timeline) (top : NodeKey) → Why pool collection marks (Ended top) →
+    was_born (births marks) top ≡ true
 end_born pool collection marks _ (No_live b on ours free none) = In-was_born (births marks) b on
 
 -- each mark keeps them
 rooted : (pool : ℕ) (limits : Bound) (marks : Timeline) → Grows pool limits [] marks → IsRooted marks
 rooted pool limits _ Stays = record { early = λ b on. absurd on; roots = λ b c on there root root' same. absurd on; gone_born = λ k h. cc }
-rooted pool limits _ (Answers before client reply call g answer) = rooted_call limits before client reply call answer (rooted pool limits before g)
+rooted pool limits _ (Answers before client reply call g answer) =
+    rooted_call limits before client reply call answer (rooted pool limits before g)
 rooted pool limits _ (Loses before origin cause g born) =
     let old : IsRooted before = rooted pool limits before g in
     let sound : AreSound (births before) = (whole pool limits before g).sound in
@@ -163,7 +176,8 @@ rooted pool limits _ (Loses before origin cause g born) =
       early = old.early;
       roots = old.roots;
       gone_born = λ k h. taken_born (births before) (reaches before origin k) (gone before k) k h
-          (λ e. reach_born (births before) (blocked before) origin k sound born (reached_sound (births before) sound (blocked before) origin k e))
+          (λ e. reach_born (births before) (blocked before) origin k sound born (reached_sound (births before) sound (blocked before) origin
+          k e))
           (old.gone_born k);
     }
 rooted pool limits _ (Allocates before collection head g e) =
@@ -175,7 +189,8 @@ rooted pool limits _ (Ends before collection top g e) =
       early = old.early;
       roots = old.roots;
       gone_born = λ k h. taken_born (births before) (is_at_or_below (births before) top k) (gone before k) k h
-          (below_born (births before) top k (whole pool limits before g).sound (end_born pool collection before top (forced_why pool collection before (Ended top) e)))
+          (below_born (births before) top k (whole pool limits before g).sound (end_born pool collection before top
+          (forced_why pool collection before (Ended top) e)))
           (old.gone_born k);
     }
 
@@ -185,9 +200,11 @@ pub record IsOrdered (marks : Timeline) : Type 0 where
   -- a collection was made by an event
   pub early : (b : Birth) → In b (births marks) → b.collection ≤ events marks
   -- a parent is of the same collection
-  pub parents : (b : Birth) → In b (births marks) → (p : NodeKey) → b.parent ≡ Some p → (q : Birth) × In q (births marks) × (q.node ≡ p) × (q.collection ≡ b.collection)
+  pub parents : (b : Birth) → In b (births marks) → (p : NodeKey) → b.parent ≡ Some p → (q : Birth) × In q (births marks) × (q.node ≡ p) ×
+      (q.collection ≡ b.collection)
   -- a collection has one root
-  pub roots : (b c : Birth) → In b (births marks) → In c (births marks) → b.parent ≡ None → c.parent ≡ None → b.collection ≡ c.collection → b ≡ c
+  pub roots : (b c : Birth) → In b (births marks) → In c (births marks) → b.parent ≡ None → c.parent ≡ None → b.collection ≡ c.collection →
+      b ≡ c
   pub gone_born : (k : NodeKey) → gone marks k ≡ true → was_born (births marks) k ≡ true
   -- what goes takes all below it
   pub gone_down : (b : Birth) → In b (births marks) → (p : NodeKey) → b.parent ≡ Some p → gone marks p ≡ true → gone marks b.node ≡ true

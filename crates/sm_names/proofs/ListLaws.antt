@@ -62,7 +62,8 @@ In-find test (y ∷ ys) x h =
     some_is h = cc
 
 -- where no element that is asked for passes, none of them does
-pub none-In : {A : Type 0} (asked test : A → Bool) (xs : List A) (x : A) → list_any test (filter asked xs) ≡ false → In x xs → asked x ≡ true → test x ≡ false
+pub none-In : {A : Type 0} (asked test : A → Bool) (xs : List A) (x : A) → list_any test (filter asked xs) ≡ false → In x xs →
+    asked x ≡ true → test x ≡ false
 none-In asked test [] x none on is = absurd on
 none-In asked test (y ∷ ys) x none (inl here) is =
     let e : asked y ≡ true = ap asked (sym here) ∙ is in
@@ -155,7 +156,8 @@ filter-swap {A = A} p q (x ∷ xs) =
 -- two filters agree where their tests do
 pub filter-In : {A : Type 0} (p q : A → Bool) (xs : List A) → ((x : A) → In x xs → p x ≡ q x) → filter p xs ≡ filter q xs
 filter-In p q [] same = refl
-filter-In p q (x ∷ xs) same = λ i. cond (same x (inl refl) i) (x ∷ filter-In p q xs (λ y on. same y (inr on)) i) (filter-In p q xs (λ y on. same y (inr on)) i)
+filter-In p q (x ∷ xs) same =
+    λ i. cond (same x (inl refl) i) (x ∷ filter-In p q xs (λ y on. same y (inr on)) i) (filter-In p q xs (λ y on. same y (inr on)) i)
 
 -- maps that agree do so at each element
 pub map-at : {A B : Type 0} (f g : A → B) (xs : List A) → map f xs ≡ map g xs → (x : A) → In x xs → f x ≡ g x
@@ -166,7 +168,8 @@ map-at f g (y ∷ ys) same x (inr on) = let rest : map f ys ≡ map g ys = cc in
 -- something is found exactly if something passes
 pub is_some-find : {A : Type 0} (test : A → Bool) (xs : List A) → is_some (find test xs) ≡ list_any test xs
 is_some-find test [] = refl
-is_some-find test (x ∷ xs) = elim (test x) as (λ (b : Bool). is_some (cond b (Some x) (find test xs)) ≡ (b || list_any test xs)) [ true ↦ refl | false ↦ is_some-find test xs ]
+is_some-find test (x ∷ xs) = elim (test x) as (λ (b : Bool). is_some (cond b (Some x) (find test xs)) ≡ (b || list_any test xs))
+    [ true ↦ refl | false ↦ is_some-find test xs ]
 
 -- ---- how many
 
@@ -175,7 +178,8 @@ pub times-le-length : {A : Type 0} (test : A → Bool) (xs : List A) → times t
 times-le-length test [] = omega arith
 times-le-length test (x ∷ xs) =
     let rest : times test xs ≤ length xs = times-le-length test xs in
-    elim (test x) as (λ (b : Bool). cond b (times test xs + 1) (times test xs) ≤ length (x ∷ xs)) [ true ↦ omega arith | false ↦ omega arith ]
+    elim (test x) as (λ (b : Bool). cond b (times test xs + 1) (times test xs) ≤ length (x ∷ xs))
+    [ true ↦ omega arith | false ↦ omega arith ]
 
 -- fewer pass a test that asks more
 pub times-le : {A : Type 0} (p q : A → Bool) (xs : List A) → ((x : A) → In x xs → p x ≡ true → q x ≡ true) → times p xs ≤ times q xs
@@ -184,11 +188,13 @@ times-le p q (x ∷ xs) h =
     let rest : times p xs ≤ times q xs = times-le p q xs (λ y on. h y (inr on)) in
     elim (either_way (p x)) [
       | inl e ↦ let f : q x ≡ true = h x (inl refl) e in rw (e, f) (omega arith)
-      | inr e ↦ rw e (elim (q x) as (λ (b : Bool). times p xs ≤ cond b (times q xs + 1) (times q xs)) [ true ↦ omega arith | false ↦ omega arith ])
+      | inr e ↦ rw e (elim (q x) as (λ (b : Bool). times p xs ≤ cond b (times q xs + 1) (times q xs))
+          [ true ↦ omega arith | false ↦ omega arith ])
     ]
 
 -- and fewer by at least one that does not pass any more
-pub times-lt : {A : Type 0} (p q : A → Bool) (xs : List A) (y : A) → ((x : A) → In x xs → p x ≡ true → q x ≡ true) → In y xs → p y ≡ false → q y ≡ true → times p xs < times q xs
+pub times-lt : {A : Type 0} (p q : A → Bool) (xs : List A) (y : A) → ((x : A) → In x xs → p x ≡ true → q x ≡ true) → In y xs → p y ≡ false →
+    q y ≡ true → times p xs < times q xs
 times-lt p q [] y h on fails passes = absurd on
 times-lt p q (x ∷ xs) y h (inl is) fails passes =
     let rest : times p xs ≤ times q xs = times-le p q xs (λ z on. h z (inr on)) in
@@ -199,7 +205,8 @@ times-lt p q (x ∷ xs) y h (inr on) fails passes =
     let rest : times p xs < times q xs = times-lt p q xs y (λ z there. h z (inr there)) on fails passes in
     elim (either_way (p x)) [
       | inl e ↦ let f : q x ≡ true = h x (inl refl) e in rw (e, f) (omega arith)
-      | inr e ↦ rw e (elim (q x) as (λ (b : Bool). times p xs < cond b (times q xs + 1) (times q xs)) [ true ↦ omega arith | false ↦ omega arith ])
+      | inr e ↦ rw e (elim (q x) as (λ (b : Bool). times p xs < cond b (times q xs + 1) (times q xs))
+          [ true ↦ omega arith | false ↦ omega arith ])
     ]
 
 -- none passes a test that fails
@@ -212,7 +219,8 @@ pub times-append : {A : Type 0} (test : A → Bool) (xs ys : List A) → times t
 times-append test [] ys = omega arith
 times-append test (x ∷ xs) ys =
     let rest : times test (xs ++ ys) ≡ times test xs + times test ys = times-append test xs ys in
-    elim (test x) as (λ (b : Bool). cond b (times test (xs ++ ys) + 1) (times test (xs ++ ys)) ≡ cond b (times test xs + 1) (times test xs) + times test ys) [ true ↦ omega arith | false ↦ rest ]
+    elim (test x) as (λ (b : Bool). cond b (times test (xs ++ ys) + 1) (times test (xs ++ ys)) ≡ cond b (times test xs + 1)
+    (times test xs) + times test ys) [ true ↦ omega arith | false ↦ rest ]
 
 -- as many pass in the other order
 pub times-reverse : {A : Type 0} (test : A → Bool) (xs : List A) → times test (reverse xs) ≡ times test xs
@@ -220,10 +228,12 @@ times-reverse test [] = refl
 times-reverse test (x ∷ xs) =
     let rest : times test (reverse xs) ≡ times test xs = times-reverse test xs in
     ap (times test) (reverse-append (x ∷ []) xs) ∙ (times-append test (reverse xs) (x ∷ [])
-    ∙ elim (test x) as (λ (b : Bool). times test (reverse xs) + cond b 1 0 ≡ cond b (times test xs + 1) (times test xs)) [ true ↦ omega arith | false ↦ omega arith ])
+    ∙ elim (test x) as (λ (b : Bool). times test (reverse xs) + cond b 1 0 ≡ cond b (times test xs + 1) (times test xs))
+    [ true ↦ omega arith | false ↦ omega arith ])
 
 -- of those that were asked for, as many pass as pass both tests
-pub times-map_filter : {A B : Type 0} (test : B → Bool) (asked : A → Bool) (f : A → B) (xs : List A) → times test (map f (filter asked xs)) ≡ times (λ x. asked x && test (f x)) xs
+pub times-map_filter : {A B : Type 0} (test : B → Bool) (asked : A → Bool) (f : A → B) (xs : List A) →
+    times test (map f (filter asked xs)) ≡ times (λ x. asked x && test (f x)) xs
 times-map_filter test asked f [] = refl
 times-map_filter test asked f (x ∷ xs) =
     elim (either_way (asked x)) [

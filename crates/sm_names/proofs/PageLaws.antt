@@ -12,11 +12,13 @@ use Rattle.sm_names.proofs.SamenessLaws.{either_way, and_left, and_right, or_par
 use Rattle.sm_names.proofs.SettledLaws.{not_back, and_then-Some, map-Some}
 
 -- an interval that has room ends within the pool and meets nothing that is held
-room_apart : (pool : ℕ) (held : List Interval) (i : Interval) → has_room pool held i ≡ true → (nat_le (i.start + i.pages) pool ≡ true) × (list_any (meets i) held ≡ false)
+room_apart : (pool : ℕ) (held : List Interval) (i : Interval) → has_room pool held i ≡ true → (nat_le (i.start + i.pages) pool ≡ true) ×
+    (list_any (meets i) held ≡ false)
 room_apart pool held i h = (and_left (nat_le (i.start + i.pages) pool) _ h, not_back _ (and_right (nat_le (i.start + i.pages) pool) _ h))
 
 -- there is room at the start that is found
-start_has_room : (pool pages start : ℕ) (held : List Interval) → least_start pool pages held ≡ Some start → has_room pool held (at_pages pages start) ≡ true
+start_has_room : (pool pages start : ℕ) (held : List Interval) → least_start pool pages held ≡ Some start →
+    has_room pool held (at_pages pages start) ≡ true
 start_has_room pool pages start held h = (In-find (λ s. has_room pool held (at_pages pages s)) (range_with_len 0 pool) start h).1
 
 -- what is known of places
@@ -36,14 +38,16 @@ meets_back a b h = both_turned (nat_lt a.start (b.start + b.pages)) (nat_lt b.st
     both_turned false false h = refl
 
 -- an interval that is apart from the second part, may be put before all or between the parts
-put_apart : (i : Interval) (xs held : List Interval) → AreApart (xs ++ i ∷ held) → (list_any (meets i) (xs ++ held) ≡ false) × AreApart (xs ++ held)
+put_apart : (i : Interval) (xs held : List Interval) → AreApart (xs ++ i ∷ held) → (list_any (meets i) (xs ++ held) ≡ false) ×
+    AreApart (xs ++ held)
 put_apart i [] held h = h
 put_apart i (x ∷ xs) held h =
     let r = put_apart i xs held h.1 in
     let s = split x xs h.0 in
     (or_both (meets i x) _ (meets_back x i s.0) r.0, (s.1, r.1))
   where
-    split : (x : Interval) (xs : List Interval) → list_any (meets x) (xs ++ i ∷ held) ≡ false → (meets x i ≡ false) × (list_any (meets x) (xs ++ held) ≡ false)
+    split : (x : Interval) (xs : List Interval) → list_any (meets x) (xs ++ i ∷ held) ≡ false → (meets x i ≡ false) ×
+        (list_any (meets x) (xs ++ held) ≡ false)
     split x [] h = or_parts (meets x i) _ h
     split x (y ∷ ys) h = let r = or_parts (meets x y) _ h in let t = split x ys r.1 in (t.0, or_both (meets x y) _ r.0 t.1)
 
@@ -57,12 +61,14 @@ put_in pool i (x ∷ xs) held h =
     (and_both (nat_le (x.start + x.pages) pool) _ here (and_right (nat_le (i.start + i.pages) pool) _ r))
 
 -- places lie in the pool, apart from one another and from what is held
-pub placed_apart : (pool pages count : ℕ) (held : List Interval) (starts : List ℕ) → places pool pages count held ≡ Some starts → ArePlaced pool pages count held starts
+pub placed_apart : (pool pages count : ℕ) (held : List Interval) (starts : List ℕ) → places pool pages count held ≡ Some starts →
+    ArePlaced pool pages count held starts
 placed_apart pool pages zero held starts h =
     let is : [] ≡ starts = cc in
     subst (ArePlaced pool pages 0 held) is (record { many = refl; apart = λ a. a; inside = λ i. i })
 placed_apart pool pages (suc count) held starts h =
-    let t = and_then-Some (λ start. option_map (λ starts. start ∷ starts) (places pool pages count (at_pages pages start ∷ held))) (least_start pool pages held) starts h in
+    let t = and_then-Some (λ start. option_map (λ starts. start ∷ starts) (places pool pages count (at_pages pages start ∷ held)))
+    (least_start pool pages held) starts h in
     let u = map-Some (λ starts. t.0 ∷ starts) (places pool pages count (at_pages pages t.0 ∷ held)) starts t.2 in
     let i : Interval = at_pages pages t.0 in
     let room = room_apart pool held i (start_has_room pool pages t.0 held t.1) in
@@ -116,14 +122,16 @@ apart_page a b page h k =
     ]
 
 -- an interval that meets none of these has no page of theirs
-apart_pages : (a : Interval) (is : List Interval) (page : ℕ) → list_any (meets a) is ≡ false → in_page page a ≡ true → list_any (in_page page) is ≡ false
+apart_pages : (a : Interval) (is : List Interval) (page : ℕ) → list_any (meets a) is ≡ false → in_page page a ≡ true →
+    list_any (in_page page) is ≡ false
 apart_pages a [] page h k = refl
 apart_pages a (i ∷ is) page h k =
     let r = or_parts (meets a i) _ h in
     or_both (in_page page i) _ (apart_page a i page r.0 k) (apart_pages a is page r.1 k)
 
 -- it adds its own pages to theirs
-taken_cons : (a : Interval) (is : List Interval) (n : ℕ) → list_any (meets a) is ≡ false → taken_below (a ∷ is) n ≡ has_below a n + taken_below is n
+taken_cons : (a : Interval) (is : List Interval) (n : ℕ) → list_any (meets a) is ≡ false →
+    taken_below (a ∷ is) n ≡ has_below a n + taken_below is n
 taken_cons a is zero h = refl
 taken_cons a is (suc n) h =
     let rest : taken_below (a ∷ is) n ≡ has_below a n + taken_below is n = taken_cons a is n h in
@@ -138,7 +146,8 @@ taken_cons a is (suc n) h =
     omega arith
 
 -- an interval that ends by n has all its pages below n
-has_all : (a : Interval) (n : ℕ) → (n ≤ a.start → has_below a n ≡ 0) × (a.start ≤ n → n ≤ a.start + a.pages → has_below a n + a.start ≡ n) × (a.start + a.pages ≤ n → has_below a n ≡ a.pages)
+has_all : (a : Interval) (n : ℕ) → (n ≤ a.start → has_below a n ≡ 0) × (a.start ≤ n → n ≤ a.start + a.pages → has_below a n + a.start ≡ n) ×
+    (a.start + a.pages ≤ n → has_below a n ≡ a.pages)
 has_all a zero = (λ h. refl, λ h k. omega arith, λ h. omega arith)
 has_all a (suc n) =
     let r = has_all a n in
@@ -164,7 +173,8 @@ has_all a (suc n) =
     ]
 
 -- intervals that lie in the pool, apart, have as many pages as are taken
-sum_is_taken : (pool : ℕ) (is : List Interval) → AreApart is → are_in pool is ≡ true → sum_by (λ (i : Interval). i.pages) is ≡ taken_below is pool
+sum_is_taken : (pool : ℕ) (is : List Interval) → AreApart is → are_in pool is ≡ true →
+    sum_by (λ (i : Interval). i.pages) is ≡ taken_below is pool
 sum_is_taken pool [] apart inside = sym (none pool)
   where
     none : (n : ℕ) → taken_below [] n ≡ 0
@@ -172,7 +182,8 @@ sum_is_taken pool [] apart inside = sym (none pool)
     none (suc n) = let x : taken_below [] n ≡ 0 = none n in omega arith
 sum_is_taken pool (a ∷ is) apart inside =
     let here : a.start + a.pages ≤ pool = leb-true (a.start + a.pages) pool (and_left (nat_le (a.start + a.pages) pool) _ inside) in
-    let rest : sum_by (λ (i : Interval). i.pages) is ≡ taken_below is pool = sum_is_taken pool is apart.1 (and_right (nat_le (a.start + a.pages) pool) _ inside) in
+    let rest : sum_by (λ (i : Interval). i.pages) is ≡ taken_below is pool =
+    sum_is_taken pool is apart.1 (and_right (nat_le (a.start + a.pages) pool) _ inside) in
     let all : has_below a pool ≡ a.pages = (has_all a pool).2 here in
     omega (arith, sum_by-cons (λ (i : Interval). i.pages) a is, taken_cons a is pool apart.0)
 
@@ -181,7 +192,8 @@ pub sum-le-pool : (pool : ℕ) (is : List Interval) → AreApart is → are_in p
 sum-le-pool pool is apart inside = omega (arith, sum_is_taken pool is apart inside, taken-le is pool)
 
 -- the same, said of pages
-pub no_common_page : (a b : Interval) → meets a b ≡ false → (page : ℕ) → a.start ≤ page → page < a.start + a.pages → b.start ≤ page → page < b.start + b.pages → ⊥
+pub no_common_page : (a b : Interval) → meets a b ≡ false → (page : ℕ) → a.start ≤ page → page < a.start + a.pages → b.start ≤ page →
+    page < b.start + b.pages → ⊥
 no_common_page a b h page a1 a2 b1 b2 =
     elim (either_way (nat_lt a.start (b.start + b.pages))) [
       | inr n ↦ let x : b.start + b.pages ≤ a.start = ltb-false a.start (b.start + b.pages) n in absurd (omega arith)

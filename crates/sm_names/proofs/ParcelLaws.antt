@@ -38,26 +38,33 @@ drawn-mark marks (Allocated head) h drawn = drawn
 drawn-mark marks (Ended head) h drawn = drawn
 
 -- a client for whom nothing waits is answered so
-waits : (marks : Timeline) (client : ℕ) → IsDrawn marks → ((parcels marks client ≡ []) → ⊥) → times (collects client) marks < length (given marks client)
+waits : (marks : Timeline) (client : ℕ) → IsDrawn marks → ((parcels marks client ≡ []) → ⊥) →
+    times (collects client) marks < length (given marks client)
 waits marks client drawn some =
     elim (eq-or-lt_of_le (drawn client)) [
       | inl e ↦
-          let all : drop (times (collects client) marks) (reverse (given marks client)) ≡ [] = rw (e, sym (length-reverse (given marks client))) (drop-length (reverse (given marks client))) in
+          let all : drop (times (collects client) marks) (reverse (given marks client)) ≡ [] =
+          rw (e, sym (length-reverse (given marks client))) (drop-length (reverse (given marks client))) in
           absurd (some all)
       | inr less ↦ less
     ]
 
 -- who collects had a parcel waiting
-strict : (limits : Bound) (marks : Timeline) (client caller : ℕ) (reply : Reply) (call : Call) → IsDrawn marks → IsAnswer limits (readings marks) caller call reply → collects client (Called caller reply call) ≡ true →
+strict : (limits : Bound) (marks : Timeline) (client caller : ℕ) (reply : Reply) (call : Call) → IsDrawn marks →
+    IsAnswer limits (readings marks) caller call reply → collects client (Called caller reply call) ≡ true →
     times (collects client) marks < length (given marks client)
 strict limits marks client caller (Reply.Collected key kind collection) Call.Collect drawn answer e =
-    let t = took_effect_all limits (readings marks) caller (record { slot = 0; generation = 0 }) Call.Collect (Reply.Collected key kind collection) refl refl answer.told in
+    let t = took_effect_all limits (readings marks) caller (record { slot = 0; generation = 0 }) Call.Collect
+    (Reply.Collected key kind collection) refl refl answer.told in
     let is : caller ≡ client = eqb-true caller client e in
-    waits marks client drawn (λ none. let no : Reply.Collected key kind collection ≡ Reply.Empty = t.answered ∙ ap (collected (readings marks)) (ap (parcels marks) is ∙ none) in cc)
+    waits marks client drawn (λ none. let no : Reply.Collected key kind collection ≡ Reply.Empty = t.answered
+    ∙ ap (collected (readings marks)) (ap (parcels marks) is ∙ none) in cc)
 strict limits marks client caller (Reply.CollectedHandle buffer strength) Call.Collect drawn answer e =
-    let t = took_effect_all limits (readings marks) caller (record { slot = 0; generation = 0 }) Call.Collect (Reply.CollectedHandle buffer strength) refl refl answer.told in
+    let t = took_effect_all limits (readings marks) caller (record { slot = 0; generation = 0 }) Call.Collect (Reply.CollectedHandle buffer
+    strength) refl refl answer.told in
     let is : caller ≡ client = eqb-true caller client e in
-    waits marks client drawn (λ none. let no : Reply.CollectedHandle buffer strength ≡ Reply.Empty = t.answered ∙ ap (collected (readings marks)) (ap (parcels marks) is ∙ none) in cc)
+    waits marks client drawn (λ none. let no : Reply.CollectedHandle buffer strength ≡ Reply.Empty = t.answered
+    ∙ ap (collected (readings marks)) (ap (parcels marks) is ∙ none) in cc)
 strict limits marks client caller _ _ drawn answer e = cc
 
 -- with one more parcel, or none, there are no fewer
@@ -66,19 +73,23 @@ more_given None ps = omega arith
 more_given (Some p) ps = omega arith
 
 -- each answer keeps it so
-pub drawn-called : (limits : Bound) (marks : Timeline) (entry : Entry) → IsAnswer limits (readings marks) entry.0 entry.1 entry.2 → IsDrawn marks → IsDrawn (Called entry.0 entry.2 entry.1 ∷ marks)
+pub drawn-called : (limits : Bound) (marks : Timeline) (entry : Entry) → IsAnswer limits (readings marks) entry.0 entry.1 entry.2 →
+    IsDrawn marks → IsDrawn (Called entry.0 entry.2 entry.1 ∷ marks)
 drawn-called limits marks entry answer drawn client =
     let mark : Mark = Called entry.0 entry.2 entry.1 in
-    let more : length (given marks client) ≤ length (given (mark ∷ marks) client) = more_given (given_at client mark) (given marks client) in
+    let more : length (given marks client) ≤ length (given (mark ∷ marks) client) =
+    more_given (given_at client mark) (given marks client) in
     elim (either_way (collects client mark)) [
       | inl e ↦
-          let less : times (collects client) marks < length (given marks client) = strict limits marks client entry.0 entry.2 entry.1 drawn answer e in
+          let less : times (collects client) marks < length (given marks client) =
+          strict limits marks client entry.0 entry.2 entry.1 drawn answer e in
           rw e (omega arith)
       | inr e ↦ let few : times (collects client) marks ≤ length (given marks client) = drawn client in rw e (omega arith)
     ]
 
 -- so does a history of answers
-pub drawn_history : (pool : ℕ) (limits : Bound) (marks : Timeline) (history : List Entry) → AreAnswers pool limits marks history → IsDrawn marks → IsDrawn (fold (after pool) marks history)
+pub drawn_history : (pool : ℕ) (limits : Bound) (marks : Timeline) (history : List Entry) → AreAnswers pool limits marks history →
+    IsDrawn marks → IsDrawn (fold (after pool) marks history)
 drawn_history pool limits marks [] answers drawn = drawn
 drawn_history pool limits marks (entry ∷ entries) answers drawn =
     drawn_history pool limits (after pool marks entry) entries answers.1
@@ -87,17 +98,23 @@ drawn_history pool limits marks (entry ∷ entries) answers drawn =
 -- ---- so parcels wait in order
 
 -- what is given waits last
-pub parcels-given : (marks : Timeline) (mark : Mark) (client : ℕ) (p : Parcel) → IsDrawn marks → collects client mark ≡ false → given_at client mark ≡ Some p → parcels (mark ∷ marks) client ≡ parcels marks client ++ p ∷ []
+pub parcels-given : (marks : Timeline) (mark : Mark) (client : ℕ) (p : Parcel) → IsDrawn marks → collects client mark ≡ false →
+    given_at client mark ≡ Some p → parcels (mark ∷ marks) client ≡ parcels marks client ++ p ∷ []
 parcels-given marks mark client p drawn idle is =
-    let few : times (collects client) marks ≤ length (reverse (given marks client)) = rw (length-reverse (given marks client)) (drawn client) in
-    rw (idle, is) (ap (drop (times (collects client) marks)) (reverse-append (p ∷ []) (given marks client)) ∙ drop-append-le (times (collects client) marks) (reverse (given marks client)) (p ∷ []) few)
+    let few : times (collects client) marks ≤ length (reverse (given marks client)) =
+    rw (length-reverse (given marks client)) (drawn client) in
+    rw (idle, is) (ap (drop (times (collects client) marks)) (reverse-append (p ∷ []) (given marks client))
+    ∙ drop-append-le (times (collects client) marks) (reverse (given marks client)) (p ∷ []) few)
 
 -- what is collected waited first
-pub parcels-collected : (marks : Timeline) (mark : Mark) (client : ℕ) → collects client mark ≡ true → given_at client mark ≡ None → parcels (mark ∷ marks) client ≡ drop 1 (parcels marks client)
-parcels-collected marks mark client takes none = rw (takes, none) (sym (drop-drop 1 (times (collects client) marks) (reverse (given marks client))))
+pub parcels-collected : (marks : Timeline) (mark : Mark) (client : ℕ) → collects client mark ≡ true → given_at client mark ≡ None →
+    parcels (mark ∷ marks) client ≡ drop 1 (parcels marks client)
+parcels-collected marks mark client takes none =
+    rw (takes, none) (sym (drop-drop 1 (times (collects client) marks) (reverse (given marks client))))
 
 -- and others' calls change nothing
-pub parcels-kept : (marks : Timeline) (mark : Mark) (client : ℕ) → collects client mark ≡ false → given_at client mark ≡ None → parcels (mark ∷ marks) client ≡ parcels marks client
+pub parcels-kept : (marks : Timeline) (mark : Mark) (client : ℕ) → collects client mark ≡ false → given_at client mark ≡ None →
+    parcels (mark ∷ marks) client ≡ parcels marks client
 parcels-kept marks mark client idle none = rw (idle, none) refl
 
 -- where nothing has happened, no client collected any

@@ -26,7 +26,8 @@ find_least test from (suc many) n h =
       | inl e ↦
           let same : Some from ≡ Some n = rw e at h in
           let is : from ≡ n = cc in
-          subst (IsLeast test from (suc many)) is (record { late = omega arith; early = omega arith; passes = e; others = λ k a b. absurd (omega arith) })
+          subst (IsLeast test from (suc many)) is
+          (record { late = omega arith; early = omega arith; passes = e; others = λ k a b. absurd (omega arith) })
       | inr e ↦
           let r : IsLeast test (from + 1) many n = find_least test (from + 1) many n (rw e at h) in
           let late : from + 1 ≤ n = r.late in
@@ -46,7 +47,8 @@ find_least test from (suc many) n h =
     ]
 
 -- where nothing is found, none passes
-find_none : (test : ℕ → Bool) (from many : ℕ) → find test (range_with_len from many) ≡ None → (k : ℕ) → from ≤ k → k < from + many → test k ≡ false
+find_none : (test : ℕ → Bool) (from many : ℕ) → find test (range_with_len from many) ≡ None → (k : ℕ) → from ≤ k → k < from + many →
+    test k ≡ false
 find_none test from zero h k a b = absurd (omega arith)
 find_none test from (suc many) h k a b =
     elim (either_way (test from)) [
@@ -114,7 +116,8 @@ map-None f None h = refl
 map-None f (Some x) h = cc
 
 -- places are first ones
-pub places_first : (pool pages count : ℕ) (held : List Interval) (starts : List ℕ) → places pool pages count held ≡ Some starts → (length starts ≡ count) × AreFirst pool pages held starts
+pub places_first : (pool pages count : ℕ) (held : List Interval) (starts : List ℕ) → places pool pages count held ≡ Some starts →
+    (length starts ≡ count) × AreFirst pool pages held starts
 places_first pool pages zero held starts h =
     let is : [] ≡ starts = cc in
     subst (λ (ss : List ℕ). (length ss ≡ 0) × AreFirst pool pages held ss) is (refl, tt)
@@ -122,14 +125,17 @@ places_first pool pages (suc count) held starts h =
     elim (none_or_some (least_start pool pages held)) [
       | inl e ↦ let no : None ≡ Some starts = rw e at h in cc
       | inr found ↦
-          let more : option_map (λ (ss : List ℕ). found.0 ∷ ss) (places pool pages count (at_pages pages found.0 ∷ held)) ≡ Some starts = rw found.1 at h in
+          let more : option_map (λ (ss : List ℕ). found.0 ∷ ss) (places pool pages count (at_pages pages found.0 ∷ held)) ≡ Some starts =
+          rw found.1 at h in
           let t = map-Some (λ (ss : List ℕ). found.0 ∷ ss) (places pool pages count (at_pages pages found.0 ∷ held)) starts more in
           let rest = places_first pool pages count (at_pages pages found.0 ∷ held) t.0 t.1 in
-          subst (λ (ss : List ℕ). (length ss ≡ suc count) × AreFirst pool pages held ss) t.2 (ap suc rest.0, (start_is_first pool pages held found.0 found.1, rest.1))
+          subst (λ (ss : List ℕ). (length ss ≡ suc count) × AreFirst pool pages held ss) t.2
+          (ap suc rest.0, (start_is_first pool pages held found.0 found.1, rest.1))
     ]
 
 -- and first ones are the places
-pub first_places : (pool pages count : ℕ) (held : List Interval) (starts : List ℕ) → length starts ≡ count → AreFirst pool pages held starts → places pool pages count held ≡ Some starts
+pub first_places : (pool pages count : ℕ) (held : List Interval) (starts : List ℕ) → length starts ≡ count →
+    AreFirst pool pages held starts → places pool pages count held ≡ Some starts
 first_places pool pages zero held [] many first = refl
 first_places pool pages zero held (start ∷ starts) many first = cc
 first_places pool pages (suc count) held [] many first = cc
@@ -139,7 +145,8 @@ first_places pool pages (suc count) held (start ∷ starts) many first =
 
 -- some buffers have places, but fewer than there are, and then there is no room for one more
 abbrev pub IsStuck : (pool pages count : ℕ) (held : List Interval) → Type 0
-IsStuck pool pages count held = (starts : List ℕ) × (length starts < count) × AreFirst pool pages held starts × IsFull pool pages (with_placed pages starts held)
+IsStuck pool pages count held =
+    (starts : List ℕ) × (length starts < count) × AreFirst pool pages held starts × IsFull pool pages (with_placed pages starts held)
 
 -- where there are no places, some buffer has no room
 pub places_stuck : (pool pages count : ℕ) (held : List Interval) → places pool pages count held ≡ None → IsStuck pool pages count held
@@ -148,29 +155,36 @@ places_stuck pool pages (suc count) held h =
     elim (none_or_some (least_start pool pages held)) [
       | inl e ↦ ([], omega arith, tt, no_start pool pages held e)
       | inr found ↦
-          let more : option_map (λ (ss : List ℕ). found.0 ∷ ss) (places pool pages count (at_pages pages found.0 ∷ held)) ≡ None = rw found.1 at h in
-          let rest : IsStuck pool pages count (at_pages pages found.0 ∷ held) = places_stuck pool pages count (at_pages pages found.0 ∷ held) (map-None (λ (ss : List ℕ). found.0 ∷ ss) (places pool pages count (at_pages pages found.0 ∷ held)) more) in
+          let more : option_map (λ (ss : List ℕ). found.0 ∷ ss) (places pool pages count (at_pages pages found.0 ∷ held)) ≡ None =
+          rw found.1 at h in
+          let rest : IsStuck pool pages count (at_pages pages found.0 ∷ held) =
+          places_stuck pool pages count (at_pages pages found.0 ∷ held) (map-None (λ (ss : List ℕ).
+          found.0 ∷ ss) (places pool pages count (at_pages pages found.0 ∷ held)) more) in
           let fewer : length rest.0 < count = rest.1 in
           (found.0 ∷ rest.0, omega (arith, fewer), (start_is_first pool pages held found.0 found.1, rest.2), rest.3)
     ]
 
 -- and where some buffer has no room, there are no places
-pub stuck_places : (pool pages count : ℕ) (held : List Interval) (starts : List ℕ) → length starts < count → AreFirst pool pages held starts → IsFull pool pages (with_placed pages starts held) →
+pub stuck_places : (pool pages count : ℕ) (held : List Interval) (starts : List ℕ) → length starts < count →
+    AreFirst pool pages held starts → IsFull pool pages (with_placed pages starts held) →
     places pool pages count held ≡ None
 stuck_places pool pages zero held starts fewer first full = absurd (omega arith)
 stuck_places pool pages (suc count) held [] fewer first full = rw (full_no_start pool pages held full) refl
 stuck_places pool pages (suc count) held (start ∷ starts) fewer first full =
     let less : length starts < count = omega (arith, fewer) in
-    rw (first_is_start pool pages held start first.0, stuck_places pool pages count (at_pages pages start ∷ held) starts less first.1 full) refl
+    rw (first_is_start pool pages held start first.0, stuck_places pool pages count (at_pages pages start ∷ held) starts less first.1 full)
+    refl
 
 -- ---- the order of the pages that are held
 
 -- where the same pages are held, in whatever order, the places are the same
-pub places_same : (pool pages count : ℕ) (held other : List Interval) → ((test : Interval → Bool) → list_any test held ≡ list_any test other) →
+pub places_same : (pool pages count : ℕ) (held other : List Interval) →
+    ((test : Interval → Bool) → list_any test held ≡ list_any test other) →
     places pool pages count held ≡ places pool pages count other
 places_same pool pages zero held other same = refl
 places_same pool pages (suc count) held other same =
     λ i. option_and_then
     (λ start. option_map (λ starts. start ∷ starts)
-    (places_same pool pages count (at_pages pages start ∷ held) (at_pages pages start ∷ other) (λ test j. test (at_pages pages start) || same test j) i))
+    (places_same pool pages count (at_pages pages start ∷ held) (at_pages pages start ∷ other) (λ test j.
+    test (at_pages pages start) || same test j) i))
     (find (λ start. nat_le (start + pages) pool && not (same (meets (at_pages pages start)) i)) (range_with_len 0 pool))

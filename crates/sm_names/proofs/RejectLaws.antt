@@ -55,19 +55,23 @@ pub wrong_kind_rejects : (r : Readings) (call : Call) → Rejects (wrong_kind r 
 wrong_kind_rejects r call = rejects_then _ (λ (e : OpenEnd). rejects_if _ _) (end_named r call)
 
 -- an answer that is no refusal comes after one that rejects
-pub strip : (o : Option Reply) (rest : List (Option Reply)) (e reply : Reply) → Rejects o → is_refusal reply ≡ false → reply ≡ unwrap_or (first_some (o ∷ rest)) e →
+pub strip : (o : Option Reply) (rest : List (Option Reply)) (e reply : Reply) → Rejects o → is_refusal reply ≡ false →
+    reply ≡ unwrap_or (first_some (o ∷ rest)) e →
     (o ≡ None) × (reply ≡ unwrap_or (first_some rest) e)
 strip None rest e reply rejects stands is = (refl, is)
 strip (Some x) rest e reply rejects stands is = both_ways (is_refusal reply) (ap is_refusal is ∙ rejects x refl) stands
 
 -- a call that is not refused names an end that is there, if it names one
-pub not_refused_end : (limits : Bound) (marks : Timeline) (client : ℕ) (call : Call) (reply : Reply) (key : NodeKey) → IsAnswer limits (readings marks) client call reply →
+pub not_refused_end : (limits : Bound) (marks : Timeline) (client : ℕ) (call : Call) (reply : Reply) (key : NodeKey) →
+    IsAnswer limits (readings marks) client call reply →
     is_refusal reply ≡ false → key_of call ≡ Some key → HasEnd marks key
 not_refused_end limits marks client call reply key answer stands is =
     let r : Readings = readings marks in
     let e : Reply = effect r client (option_map_or (λ key. key) (new_key reply) (record { slot = 0; generation = 0 })) call in
-    let last : List (Option Reply) = end_in_transit r call ∷ closing call ∷ peer_closed r call ∷ wrong_kind r call ∷ misuse r call ∷ no_handle r client call ∷ limits_met limits r call in
-    let a = strip (unknown_client r client call) (shut_client r client call ∷ no_end r client call ∷ last) e reply (unknown_rejects r client call) stands answer.told in
+    let last : List (Option Reply) = end_in_transit r call ∷ closing call ∷ peer_closed r call ∷ wrong_kind r call ∷ misuse r
+    call ∷ no_handle r client call ∷ limits_met limits r call in
+    let a = strip (unknown_client r client call) (shut_client r client call ∷ no_end r client call ∷ last) e reply
+    (unknown_rejects r client call) stands answer.told in
     let b = strip (shut_client r client call) (no_end r client call ∷ last) e reply (shut_rejects r client call) stands a.1 in
     let c = strip (no_end r client call) last e reply (no_end_rejects r client call) stands b.1 in
     has_end marks client call key c.0 is

@@ -31,7 +31,8 @@ find_birth [] b sound on = absurd on
 find_birth (c ∷ older) b sound (inl is) = rw (ap (λ (x : Birth). same_key c.node x.node) is ∙ same_key-refl c.node) (ap Some (sym is))
 find_birth (c ∷ older) b sound (inr on) =
     elim (either_way (same_key c.node b.node)) [
-      | inl e ↦ both_ways (was_born older b.node) (In-was_born older b on) (ap (was_born older) (sym (same_key-true c.node b.node e)) ∙ sound.0)
+      | inl e ↦ both_ways (was_born older b.node) (In-was_born older b on) (ap (was_born older) (sym (same_key-true c.node b.node e))
+          ∙ sound.0)
       | inr e ↦ rw e (find_birth older b sound.2 on)
     ]
 
@@ -42,11 +43,13 @@ head_itself (c ∷ older) b sound (inl is) h =
     rw (ap (λ (x : Birth). same_key c.node x.node) is ∙ same_key-refl c.node)
     (elim h [
       | inl e ↦ rw (ap (λ (x : Birth). x.attached) (sym is) ∙ e) refl
-      | inr e ↦ rw (ap (λ (x : Birth). x.parent) (sym is) ∙ e) (elim c.attached as (λ (a : Bool). cond a b.node b.node ≡ b.node) [ true ↦ refl | false ↦ refl ])
+      | inr e ↦ rw (ap (λ (x : Birth). x.parent) (sym is)
+          ∙ e) (elim c.attached as (λ (a : Bool). cond a b.node b.node ≡ b.node) [ true ↦ refl | false ↦ refl ])
     ])
 head_itself (c ∷ older) b sound (inr on) h =
     elim (either_way (same_key c.node b.node)) [
-      | inl e ↦ both_ways (was_born older b.node) (In-was_born older b on) (ap (was_born older) (sym (same_key-true c.node b.node e)) ∙ sound.0)
+      | inl e ↦ both_ways (was_born older b.node) (In-was_born older b on) (ap (was_born older) (sym (same_key-true c.node b.node e))
+          ∙ sound.0)
       | inr e ↦ rw e (head_itself older b sound.2 on h)
     ]
 
@@ -61,7 +64,8 @@ pub record Changes (marks : Timeline) (mark : Mark) : Type 0 where
   pub no_event : is_event mark ≡ false
   pub birth : Birth
   pub there : In birth (births marks)
-  pub new : ((gone marks birth.node ≡ false) × (gone (mark ∷ marks) birth.node ≡ true)) ⊎ ((allocated marks birth.node ≡ false) × (allocated (mark ∷ marks) birth.node ≡ true))
+  pub new : ((gone marks birth.node ≡ false) × (gone (mark ∷ marks) birth.node ≡ true)) ⊎ ((allocated marks birth.node ≡ false) ×
+      (allocated (mark ∷ marks) birth.node ≡ true))
 
 -- a mark that is no event is no birth
 pub same_births : (marks : Timeline) (mark : Mark) → is_event mark ≡ false → births (mark ∷ marks) ≡ births marks
@@ -83,7 +87,8 @@ not_or false b h = h
 -- one more mark that is no birth: what it allocates, and what was allocated
 allocated_next : (marks : Timeline) (mark : Mark) (node : NodeKey) → is_event mark ≡ false →
     allocated (mark ∷ marks) node ≡ (is_allocation (head (births marks) node) mark || allocated marks node)
-allocated_next marks mark node h = ap (λ (bs : List Birth). list_any (is_allocation (head bs node)) (mark ∷ marks)) (same_births marks mark h)
+allocated_next marks mark node h =
+    ap (λ (bs : List Birth). list_any (is_allocation (head bs node)) (mark ∷ marks)) (same_births marks mark h)
 
 -- what is left gets less with each mark that changes something
 lowers : (marks : Timeline) (mark : Mark) → Changes marks mark → left_over (mark ∷ marks) < left_over marks
@@ -95,7 +100,8 @@ lowers marks mark c =
     let a' : Birth → Bool = λ b. not (allocated (mark ∷ marks) b.node) in
     let gone_less : (b : Birth) → In b bs → g' b ≡ true → g b ≡ true = λ b _ h. not_or (takes marks mark b.node) (gone marks b.node) h in
     let allocated_less : (b : Birth) → In b bs → a' b ≡ true → a b ≡ true =
-    λ b _ h. not_or (is_allocation (head bs b.node) mark) (allocated marks b.node) (ap not (sym (allocated_next marks mark b.node c.no_event)) ∙ h) in
+    λ b _ h. not_or (is_allocation (head bs b.node) mark) (allocated marks b.node)
+    (ap not (sym (allocated_next marks mark b.node c.no_event)) ∙ h) in
     let same : births (mark ∷ marks) ≡ bs = same_births marks mark c.no_event in
     let sum : times g' bs + times a' bs < times g bs + times a bs =
     elim c.new [
@@ -111,10 +117,12 @@ lowers marks mark c =
 -- ---- what is forced, and why
 
 -- a node of the collection, as it stands, is that of a birth
-pub member_birth : (marks : Timeline) (collection : ℕ) (m : Member) → In m (members marks collection) → (b : Birth) × In b (births marks) × (m ≡ member marks b) × (b.collection == collection ≡ true)
+pub member_birth : (marks : Timeline) (collection : ℕ) (m : Member) → In m (members marks collection) → (b : Birth) × In b (births marks) ×
+    (m ≡ member marks b) × (b.collection == collection ≡ true)
 member_birth marks collection m on =
     let r = In-map (member marks) (births_in marks collection) m on in
-    let f = In-filter (λ (b : Birth). b.collection == collection) (births marks) r.0 (In-reverse (filter (λ (b : Birth). b.collection == collection) (births marks)) r.0 r.1) in
+    let f = In-filter (λ (b : Birth). b.collection == collection) (births marks) r.0 (In-reverse (filter (λ (b : Birth).
+    b.collection == collection) (births marks)) r.0 r.1) in
     (r.0, f.0, r.2, f.1)
 
 -- a parent that is said to be missing is not there
@@ -123,7 +131,8 @@ none_if None h = refl
 none_if (Some x) h = cc
 
 -- what there is in the end was there at first
-pub and_then-Some : {A B : Type 0} (f : A → Option B) (o : Option A) (y : B) → option_and_then f o ≡ Some y → (x : A) × (o ≡ Some x) × (f x ≡ Some y)
+pub and_then-Some : {A B : Type 0} (f : A → Option B) (o : Option A) (y : B) → option_and_then f o ≡ Some y → (x : A) × (o ≡ Some x) ×
+    (f x ≡ Some y)
 and_then-Some f None y h = cc
 and_then-Some f (Some x) y h = (x, refl, h)
 
@@ -162,7 +171,8 @@ next_head_parts : (ms : List Member) (m : Member) → is_next_head ms m ≡ true
 next_head_parts ms m h =
     let parent : Bool = option_map_or (is_allocated ms) m.parent false in
     let ready : Bool = is_ready m.key ms in
-    let a : (not m.gone && (not m.allocated && (parent && ready))) ≡ true = and_right m.attached (not m.gone && (not m.allocated && (parent && ready))) h in
+    let a : (not m.gone && (not m.allocated && (parent && ready))) ≡ true =
+    and_right m.attached (not m.gone && (not m.allocated && (parent && ready))) h in
     let b : (not m.allocated && (parent && ready)) ≡ true = and_right (not m.gone) (not m.allocated && (parent && ready)) a in
     let c : (parent && ready) ≡ true = and_right (not m.allocated) (parent && ready) b in (
       and_left m.attached (not m.gone && (not m.allocated && (parent && ready))) h,
@@ -187,13 +197,16 @@ module _ (pool collection : ℕ) (marks : Timeline) (mark : Mark) where
       let test : is_deserted ms (member marks b) ≡ true = subst (λ (m : Member). is_deserted ms m ≡ true) r.2 f.1 in
       let free : (not (gone marks b.node) && not (some_live (subtree b.node ms))) ≡ true =
       and_right (is_none b.parent || b.attached) (not (gone marks b.node) && not (some_live (subtree b.node ms))) test in
-      let here : gone marks b.node ≡ false = not_back (gone marks b.node) (and_left (not (gone marks b.node)) (not (some_live (subtree b.node ms))) free) in
-      let none : some_live (subtree b.node ms) ≡ false = not_back (some_live (subtree b.node ms)) (and_right (not (gone marks b.node)) (not (some_live (subtree b.node ms))) free) in
+      let here : gone marks b.node ≡ false =
+      not_back (gone marks b.node) (and_left (not (gone marks b.node)) (not (some_live (subtree b.node ms))) free) in
+      let none : some_live (subtree b.node ms) ≡ false =
+      not_back (some_live (subtree b.node ms)) (and_right (not (gone marks b.node)) (not (some_live (subtree b.node ms))) free) in
       subst (Why pool collection marks) t.2 (rw r.2 (No_live b r.1 r.3 here none))
 
   -- the root that is left
   root_is : (m : Member) → root_left (members marks collection) ≡ Some m →
-      (b : Birth) × In b (births marks) × (m ≡ member marks b) × (b.collection == collection ≡ true) × (b.parent ≡ None) × (gone marks b.node ≡ false)
+      (b : Birth) × In b (births marks) × (m ≡ member marks b) × (b.collection == collection ≡ true) × (b.parent ≡ None) ×
+      (gone marks b.node ≡ false)
   root_is m e =
       let f = In-find (λ m. is_root m && not m.gone) (members marks collection) m e in
       let r = member_birth marks collection m f.0 in
@@ -210,8 +223,10 @@ module _ (pool collection : ℕ) (marks : Timeline) (mark : Mark) where
       subst (Why pool collection marks) w.1 (rw r.2 (Fails r.0 Cause.NoStrong r.1 r.3 r.5))
 
   -- the root is allocated or fails
-  initial_outcome : (b : Birth) (o : Option Failure) → In b (births marks) → b.collection == collection ≡ true → b.parent ≡ None → gone marks b.node ≡ false → allocated marks b.node ≡ false →
-      root_left (members marks collection) ≡ Some (member marks b) → initial_failure pool now (asked now.members) ≡ o → Why pool collection marks (outcome b.node o)
+  initial_outcome : (b : Birth) (o : Option Failure) → In b (births marks) → b.collection == collection ≡ true → b.parent ≡ None →
+      gone marks b.node ≡ false → allocated marks b.node ≡ false →
+      root_left (members marks collection) ≡ Some (member marks b) → initial_failure pool now (asked now.members) ≡ o →
+      Why pool collection marks (outcome b.node o)
   initial_outcome b None on ours root free waits found fits = Initial b on ours root free waits found fits
   initial_outcome b (Some failure) on ours root free waits found fits = Fails b (Cause.Failed failure) on ours free
 
@@ -224,10 +239,12 @@ module _ (pool collection : ℕ) (marks : Timeline) (mark : Mark) where
       let w = when-Some _ _ mark t.2 in
       let waits : allocated marks b.node ≡ false = not_back _ (subst (λ (m : Member). not m.allocated ≡ true) r.2 (and_left _ _ w.0)) in
       let found : root_left (members marks collection) ≡ Some (member marks b) = t.1 ∙ ap Some r.2 in
-      subst (Why pool collection marks) w.1 (rw r.2 (initial_outcome b (initial_failure pool now (asked now.members)) r.1 r.3 r.4 r.5 waits found refl))
+      subst (Why pool collection marks) w.1 (rw r.2 (initial_outcome b (initial_failure pool now (asked now.members)) r.1 r.3 r.4 r.5 waits
+      found refl))
 
   -- an attached node is allocated or fails
-  logical_outcome : (b : Birth) (o : Option Failure) → In b (births marks) → b.collection == collection ≡ true → is_some b.parent ≡ true → gone marks b.node ≡ false → allocated marks b.node ≡ false →
+  logical_outcome : (b : Birth) (o : Option Failure) → In b (births marks) → b.collection == collection ≡ true → is_some b.parent ≡ true →
+      gone marks b.node ≡ false → allocated marks b.node ≡ false →
       b.attached ≡ true → Why pool collection marks (outcome b.node o)
   logical_outcome b None on ours child free waits attached = Logical b on ours child free waits attached
   logical_outcome b (Some failure) on ours child free waits attached = Fails b (Cause.Failed failure) on ours free
@@ -262,7 +279,8 @@ module _ (pool collection : ℕ) (marks : Timeline) (mark : Mark) where
 -- ---- each forced mark changes something
 
 -- an allocation of a unit that was not allocated
-allocation_changes : (marks : Timeline) (b : Birth) → AreSound (births marks) → In b (births marks) → (b.attached ≡ true) ⊎ (b.parent ≡ None) → allocated marks b.node ≡ false → Changes marks (Allocated b.node)
+allocation_changes : (marks : Timeline) (b : Birth) → AreSound (births marks) → In b (births marks) → (b.attached ≡ true) ⊎
+    (b.parent ≡ None) → allocated marks b.node ≡ false → Changes marks (Allocated b.node)
 allocation_changes marks b sound on heads waits = record {
   no_event = refl;
   birth = b;
@@ -271,7 +289,8 @@ allocation_changes marks b sound on heads waits = record {
 }
 
 -- each of them changes something
-why_changes : (pool collection : ℕ) (marks : Timeline) (mark : Mark) → AreSound (births marks) → Why pool collection marks mark → Changes marks mark
+why_changes : (pool collection : ℕ) (marks : Timeline) (mark : Mark) → AreSound (births marks) → Why pool collection marks mark →
+    Changes marks mark
 why_changes pool collection marks _ sound (No_live b on ours free none) = record {
   no_event = refl;
   birth = b;
@@ -284,11 +303,14 @@ why_changes pool collection marks _ sound (Fails b cause on ours free) = record 
   there = on;
   new = inl (free, or_left _ (gone marks b.node) (top_on _ b.node (ancestors (births marks) b.node)));
 }
-why_changes pool collection marks _ sound (Initial b on ours root free waits found fits) = allocation_changes marks b sound on (inr root) waits
-why_changes pool collection marks _ sound (Logical b on ours child free waits attached) = allocation_changes marks b sound on (inl attached) waits
+why_changes pool collection marks _ sound (Initial b on ours root free waits found fits) =
+    allocation_changes marks b sound on (inr root) waits
+why_changes pool collection marks _ sound (Logical b on ours child free waits attached) =
+    allocation_changes marks b sound on (inl attached) waits
 
 -- each forced mark changes something
-pub forced_changes : (pool collection : ℕ) (marks : Timeline) → AreSound (births marks) → (mark : Mark) → next_forced pool collection marks ≡ Some mark → Changes marks mark
+pub forced_changes : (pool collection : ℕ) (marks : Timeline) → AreSound (births marks) → (mark : Mark) →
+    next_forced pool collection marks ≡ Some mark → Changes marks mark
 forced_changes pool collection marks sound mark h = why_changes pool collection marks mark sound (forced_why pool collection marks mark h)
 
 -- and is no event
@@ -299,14 +321,16 @@ why_no_event pool collection marks _ (Initial b on ours root free waits found fi
 why_no_event pool collection marks _ (Logical b on ours child free waits attached) = refl
 
 -- so no forced mark is one
-pub forced_no_event : (pool collection : ℕ) (marks : Timeline) (mark : Mark) → next_forced pool collection marks ≡ Some mark → is_event mark ≡ false
+pub forced_no_event : (pool collection : ℕ) (marks : Timeline) (mark : Mark) → next_forced pool collection marks ≡ Some mark →
+    is_event mark ≡ false
 forced_no_event pool collection marks mark h = why_no_event pool collection marks mark (forced_why pool collection marks mark h)
 
 -- ---- so they come to an end
 
 -- where so many steps are enough, none applies after them
 pub settled_within_rests : (pool collection most : ℕ) (marks : Timeline) → AreSound (births marks) → left_over marks ≤ most →
-    (next_forced pool collection (settled_within pool collection most marks) ≡ None) × Settles pool collection marks (settled_within pool collection most marks)
+    (next_forced pool collection (settled_within pool collection most marks) ≡ None) ×
+    Settles pool collection marks (settled_within pool collection most marks)
 settled_within_rests pool collection zero marks sound few =
     elim (none_or_some (next_forced pool collection marks)) [
       | inl e ↦ (e, Rests marks e)
@@ -332,12 +356,14 @@ settled_rests pool collection marks sound =
     settled_within_rests pool collection (2 * length (births marks)) marks sound few
 
 -- marks that force nothing settle as they are
-at_rest : (pool collection : ℕ) (marks after : Timeline) → next_forced pool collection marks ≡ None → Settles pool collection marks after → marks ≡ after
+at_rest : (pool collection : ℕ) (marks after : Timeline) → next_forced pool collection marks ≡ None → Settles pool collection marks after →
+    marks ≡ after
 at_rest pool collection _ _ none (Rests marks e) = refl
 at_rest pool collection _ _ none (Forces marks after mark some r) = let x : None ≡ Some mark = sym none ∙ some in cc
 
 -- marks that force one more settle by way of it
-when_forced : (pool collection : ℕ) (marks after : Timeline) (mark : Mark) → next_forced pool collection marks ≡ Some mark → Settles pool collection marks after → Settles pool collection (mark ∷ marks) after
+when_forced : (pool collection : ℕ) (marks after : Timeline) (mark : Mark) → next_forced pool collection marks ≡ Some mark →
+    Settles pool collection marks after → Settles pool collection (mark ∷ marks) after
 when_forced pool collection _ _ mark some (Rests marks e) = let x : None ≡ Some mark = sym e ∙ some in cc
 when_forced pool collection _ _ mark some (Forces marks after other e r) =
     let x : Some other ≡ Some mark = sym e ∙ some in
@@ -345,6 +371,8 @@ when_forced pool collection _ _ mark some (Forces marks after other e r) =
     subst (λ (m : Mark). Settles pool collection (m ∷ marks) after) is r
 
 -- there is one way to settle
-pub Settles-one : (pool collection : ℕ) (marks one other : Timeline) → Settles pool collection marks one → Settles pool collection marks other → one ≡ other
+pub Settles-one : (pool collection : ℕ) (marks one other : Timeline) → Settles pool collection marks one →
+    Settles pool collection marks other → one ≡ other
 Settles-one pool collection _ _ other (Rests marks none) s = at_rest pool collection marks other none s
-Settles-one pool collection _ _ other (Forces marks after mark some r) s = Settles-one pool collection (mark ∷ marks) after other r (when_forced pool collection marks other mark some s)
+Settles-one pool collection _ _ other (Forces marks after mark some r) s =
+    Settles-one pool collection (mark ∷ marks) after other r (when_forced pool collection marks other mark some s)

@@ -31,7 +31,8 @@ In-append (y ∷ xs) ys x (inl is) = inl (inl is)
 In-append (y ∷ xs) ys x (inr on) = elim (In-append xs ys x on) [ inl there ↦ inl (inr there) | inr there ↦ inr there ]
 
 -- what is laid out is one of the buffers, with so many pages
-laid_out-In : (pages : ℕ) (bs : List BufferName) (starts : List ℕ) (h : HeldPages) → In h (laid_out pages bs starts) → In h.buffer bs × (h.pages.pages ≡ pages)
+laid_out-In : (pages : ℕ) (bs : List BufferName) (starts : List ℕ) (h : HeldPages) → In h (laid_out pages bs starts) →
+    In h.buffer bs × (h.pages.pages ≡ pages)
 laid_out-In pages [] starts h on = absurd on
 laid_out-In pages (b ∷ bs) [] h on = absurd on
 laid_out-In pages (b ∷ bs) (s ∷ ss) h (inl is) = (inl (ap (λ (k : HeldPages). k.buffer) is), ap (λ (k : HeldPages). k.pages.pages) is)
@@ -43,7 +44,8 @@ sized_by pool before mark old (Nothing_new e same) h on =
     let was : IsSized before h = old h (subst (λ (l : List HeldPages). In h (l ++ placed pool before)) e on) in
     (was.0, same h.buffer.collection ∙ was.1, was.2)
 sized_by pool before mark old (New collection buffers starts e there fresh given) h on =
-    elim (In-append (laid_out (pages_of buffers.size) (names collection buffers.count) starts) (placed pool before) h (subst (λ (l : List HeldPages). In h (l ++ placed pool before)) e on)) [
+    elim (In-append (laid_out (pages_of buffers.size) (names collection buffers.count) starts) (placed pool before) h
+    (subst (λ (l : List HeldPages). In h (l ++ placed pool before)) e on)) [
       | inl new ↦
           let r = laid_out-In (pages_of buffers.size) (names collection buffers.count) starts h new in
           let n = In-map (λ i. record { collection = collection; index = i }) (range_with_len 0 buffers.count) h.buffer r.0 in
@@ -65,11 +67,15 @@ sized_by pool before mark old (New collection buffers starts e there fresh given
 -- so it is in each timeline that grows from nothing
 are_sized : (pool : ℕ) (limits : Bound) (marks : Timeline) → Grows pool limits [] marks → AreSized pool marks
 are_sized pool limits _ Stays = λ h on. absurd on
-are_sized pool limits _ (Answers before client reply call g answer) = sized_by pool before (Called client reply call) (are_sized pool limits before g) (Nothing_new refl (λ c. refl))
-are_sized pool limits _ (Loses before origin cause g born) = sized_by pool before (Loss origin cause) (are_sized pool limits before g) (Nothing_new refl (λ c. refl))
-are_sized pool limits _ (Ends before c top g e) = sized_by pool before (Ended top) (are_sized pool limits before g) (Nothing_new refl (λ c. refl))
+are_sized pool limits _ (Answers before client reply call g answer) =
+    sized_by pool before (Called client reply call) (are_sized pool limits before g) (Nothing_new refl (λ c. refl))
+are_sized pool limits _ (Loses before origin cause g born) =
+    sized_by pool before (Loss origin cause) (are_sized pool limits before g) (Nothing_new refl (λ c. refl))
+are_sized pool limits _ (Ends before c top g e) =
+    sized_by pool before (Ended top) (are_sized pool limits before g) (Nothing_new refl (λ c. refl))
 are_sized pool limits _ (Allocates before c head g e) =
-    sized_by pool before (Allocated head) (are_sized pool limits before g) (allocation_lays pool limits before c g head (forced_why pool c before (Allocated head) e))
+    sized_by pool before (Allocated head) (are_sized pool limits before g) (allocation_lays pool limits before c g head
+    (forced_why pool c before (Allocated head) e))
 
 -- where each element passes, all do
 all_on : {A : Type 0} (test : A → Bool) (xs : List A) → ((x : A) → In x xs → test x ≡ true) → list_all test xs ≡ true
@@ -78,9 +84,12 @@ all_on test (x ∷ xs) passes = rw (passes x (inl refl)) (all_on test xs (λ y o
 
 -- so it is for each held buffer
 pub held_sized : (pool : ℕ) (limits : Bound) (marks : Timeline) → Grows pool limits [] marks →
-    list_all (λ (h : HeldPages). option_map_or (λ (b : Buffers). h.pages.pages == pages_of b.size) (buffers_of marks h.buffer.collection) false) (held pool marks) ≡ true
+    list_all (λ (h : HeldPages). option_map_or (λ (b : Buffers). h.pages.pages == pages_of b.size) (buffers_of marks h.buffer.collection)
+    false) (held pool marks) ≡ true
 held_sized pool limits marks g =
-    all_on (λ (h : HeldPages). option_map_or (λ (b : Buffers). h.pages.pages == pages_of b.size) (buffers_of marks h.buffer.collection) false) (held pool marks)
+    all_on (λ (h : HeldPages). option_map_or (λ (b : Buffers). h.pages.pages == pages_of b.size) (buffers_of marks h.buffer.collection)
+    false) (held pool marks)
     (λ h on.
-    let s : IsSized marks h = are_sized pool limits marks g h (In-filter (λ (k : HeldPages). not (home marks k.buffer)) (placed pool marks) h on).0 in
+    let s : IsSized marks h =
+    are_sized pool limits marks g h (In-filter (λ (k : HeldPages). not (home marks k.buffer)) (placed pool marks) h on).0 in
     rw s.1 (eq-eqb h.pages.pages (pages_of s.0.size) s.2))

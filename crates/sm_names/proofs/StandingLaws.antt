@@ -36,7 +36,8 @@ In-any test (y ∷ ys) x (inr on) is = or_right (test y) _ (In-any test ys x on 
 -- ---- the reach of a loss, as the nodes stand
 
 -- the top is the same where the tests agree along the line
-pub top-same : (f g : NodeKey → Bool) (node : NodeKey) (above : List NodeKey) → ((k : NodeKey) → In k (node ∷ above) → f k ≡ g k) → top f node above ≡ top g node above
+pub top-same : (f g : NodeKey → Bool) (node : NodeKey) (above : List NodeKey) → ((k : NodeKey) → In k (node ∷ above) → f k ≡ g k) →
+    top f node above ≡ top g node above
 top-same f g node [] same = refl
 top-same f g node (p ∷ above) same =
     let on : top f p above ≡ top g p above = top-same f g p above (λ k there. same k (inr there)) in
@@ -48,37 +49,47 @@ pub and_both : {a b : Bool} → a ≡ true → b ≡ true → (a && b) ≡ true
 and_both h k = rw (h, k) refl
 
 -- a node blocks as it stands
-member_blocks : (marks : Timeline) → AreSound (births marks) → (b : Birth) → In b (births marks) → blocked marks b.node ≡ blocks (member marks b)
+member_blocks : (marks : Timeline) → AreSound (births marks) → (b : Birth) → In b (births marks) →
+    blocked marks b.node ≡ blocks (member marks b)
 member_blocks marks sound b on = rw (find_birth (births marks) b sound on) refl
 
 -- and so it is found to do among the nodes of its collection
-blocks_so : (marks : Timeline) (collection : ℕ) → AreSound (births marks) → (node : NodeKey) → collection_in (births marks) node ≡ Some collection →
+blocks_so : (marks : Timeline) (collection : ℕ) → AreSound (births marks) → (node : NodeKey) →
+    collection_in (births marks) node ≡ Some collection →
     blocked marks node ≡ list_any (λ (n : Member). same_key n.key node && blocks n) (members marks collection)
 blocks_so marks collection sound node here =
     let s = stands_in marks collection node here in
     both_tests _ _
     (λ h. In-any (λ (n : Member). same_key n.key node && blocks n) (members marks collection) (member marks s.0) s.1
-    (and_both (ap (λ (k : NodeKey). same_key k node) s.2 ∙ same_key-refl node) (sym (member_blocks marks sound s.0 s.3) ∙ (ap (blocked marks) s.2 ∙ h))))
+    (and_both (ap (λ (k : NodeKey). same_key k node) s.2 ∙ same_key-refl node) (sym (member_blocks marks sound s.0 s.3)
+    ∙ (ap (blocked marks) s.2 ∙ h))))
     (λ h.
     let a = In-list_any (λ (n : Member). same_key n.key node && blocks n) (members marks collection) h in
     let r = member_birth marks collection a.0 a.1 in
-    let test : (same_key r.0.node node && blocks (member marks r.0)) ≡ true = subst (λ (n : Member). (same_key n.key node && blocks n) ≡ true) r.2 a.2 in
+    let test : (same_key r.0.node node && blocks (member marks r.0)) ≡ true =
+    subst (λ (n : Member). (same_key n.key node && blocks n) ≡ true) r.2 a.2 in
     let is : r.0.node ≡ node = same_key-true r.0.node node (and_left (same_key r.0.node node) (blocks (member marks r.0)) test) in
     ap (blocked marks) (sym is) ∙ (member_blocks marks sound r.0 r.1 ∙ and_right (same_key r.0.node node) (blocks (member marks r.0)) test))
 
 -- as the nodes stand they tell the highest one that a failure goes to
-pub highest-members : (marks : Timeline) (b : Birth) → AreSound (births marks) → AreTogether (births marks) → birth_of marks b.node ≡ Some b →
+pub highest-members : (marks : Timeline) (b : Birth) → AreSound (births marks) → AreTogether (births marks) →
+    birth_of marks b.node ≡ Some b →
     top (blocked marks) b.node (ancestors (births marks) b.node) ≡ highest (members marks b.collection) (member marks b)
 highest-members marks b sound together found =
     top-same (blocked marks) _ b.node (ancestors (births marks) b.node)
-    (λ k on. blocks_so marks b.collection sound k (sym (line_collection (births marks) sound together k b.node (In-any (same_key k) (b.node ∷ ancestors (births marks) b.node) k on (same_key-refl k))) ∙ ap (option_map (λ (x : Birth). x.collection)) found))
+    (λ k on. blocks_so marks b.collection sound k (sym (line_collection (births marks) sound together k b.node
+    (In-any (same_key k) (b.node ∷ ancestors (births marks) b.node) k on (same_key-refl k)))
+    ∙ ap (option_map (λ (x : Birth). x.collection)) found))
 
 -- so they tell what a loss takes
-pub members-lost : (marks : Timeline) (b : Birth) (cause : Cause) → AreSound (births marks) → AreTogether (births marks) → birth_of marks b.node ≡ Some b →
-    members (Loss b.node cause ∷ marks) b.collection ≡ map (after_end (highest (members marks b.collection) (member marks b))) (members marks b.collection)
+pub members-lost : (marks : Timeline) (b : Birth) (cause : Cause) → AreSound (births marks) → AreTogether (births marks) →
+    birth_of marks b.node ≡ Some b →
+    members (Loss b.node cause ∷ marks) b.collection ≡ map (after_end (highest (members marks b.collection) (member marks b)))
+    (members marks b.collection)
 members-lost marks b cause sound together found =
     map-map_same (member marks) (member (Loss b.node cause ∷ marks)) (after_end (highest (members marks b.collection) (member marks b)))
-    (λ x. ap (λ (k : NodeKey). record (member marks x) { gone = is_at_or_below (births marks) k x.node || gone marks x.node }) (highest-members marks b sound together found))
+    (λ x. ap (λ (k : NodeKey). record (member marks x) { gone = is_at_or_below (births marks) k x.node || gone marks x.node })
+    (highest-members marks b sound together found))
     (births_in marks b.collection)
 
 -- ---- what losses and ends give back
@@ -97,7 +108,8 @@ filter-less p q (x ∷ xs) less =
     ]
 
 -- where a map makes no element pass that did not, some passed before it if some do after
-any-map : {A : Type 0} (test : A → Bool) (f : A → A) (xs : List A) → ((x : A) → test (f x) ≡ true → test x ≡ true) → list_any test (map f xs) ≡ true → list_any test xs ≡ true
+any-map : {A : Type 0} (test : A → Bool) (f : A → A) (xs : List A) → ((x : A) → test (f x) ≡ true → test x ≡ true) →
+    list_any test (map f xs) ≡ true → list_any test xs ≡ true
 any-map test f [] less h = cc
 any-map test f (x ∷ xs) less h =
     elim (either_way (test (f x))) [
@@ -125,29 +137,37 @@ not_home false true less h = less refl
 not_home false false less h = refl
 
 -- a buffer that is home stays so
-pub home-lost : (marks : Timeline) (origin : NodeKey) (cause : Cause) (buffer : BufferName) → home marks buffer ≡ true → home (Loss origin cause ∷ marks) buffer ≡ true
+pub home-lost : (marks : Timeline) (origin : NodeKey) (cause : Cause) (buffer : BufferName) → home marks buffer ≡ true →
+    home (Loss origin cause ∷ marks) buffer ≡ true
 home-lost marks origin cause buffer h =
     home_still _ _ (some_strong_live (members marks buffer.collection)) _ _
     (λ live. any-map (λ (m : Member). is_live m && not m.weak) (after_loss (reaches marks origin)) (members marks buffer.collection)
-    (λ m. live_before (reaches marks origin m.key) m.gone m.released m.weak) (ap some_strong_live (sym (members-Loss marks buffer.collection origin cause)) ∙ live)) h
+    (λ m. live_before (reaches marks origin m.key) m.gone m.released m.weak)
+    (ap some_strong_live (sym (members-Loss marks buffer.collection origin cause)) ∙ live)) h
 
 -- so it does at an end
-pub home-ended : (marks : Timeline) (head : NodeKey) (buffer : BufferName) → home marks buffer ≡ true → home (Ended head ∷ marks) buffer ≡ true
+pub home-ended : (marks : Timeline) (head : NodeKey) (buffer : BufferName) → home marks buffer ≡ true →
+    home (Ended head ∷ marks) buffer ≡ true
 home-ended marks head buffer h =
     home_still _ _ (some_strong_live (members marks buffer.collection)) _ _
     (λ live. any-map (λ (m : Member). is_live m && not m.weak) (after_end head) (members marks buffer.collection)
-    (λ m. live_before (is_under head m) m.gone m.released m.weak) (ap some_strong_live (sym (members-Ended marks buffer.collection head)) ∙ live)) h
+    (λ m. live_before (is_under head m) m.gone m.released m.weak) (ap some_strong_live (sym (members-Ended marks buffer.collection head))
+    ∙ live)) h
 
 -- a loss gives pages back, and takes none
-pub held-lost : (pool : ℕ) (marks : Timeline) (origin : NodeKey) (cause : Cause) → held pool (Loss origin cause ∷ marks) ≡ still_out (Loss origin cause ∷ marks) (held pool marks)
+pub held-lost : (pool : ℕ) (marks : Timeline) (origin : NodeKey) (cause : Cause) →
+    held pool (Loss origin cause ∷ marks) ≡ still_out (Loss origin cause ∷ marks) (held pool marks)
 held-lost pool marks origin cause =
-    filter-less (λ (h : HeldPages). not (home (Loss origin cause ∷ marks) h.buffer)) (λ (h : HeldPages). not (home marks h.buffer)) (placed pool marks)
+    filter-less (λ (h : HeldPages). not (home (Loss origin cause ∷ marks) h.buffer)) (λ (h : HeldPages).
+    not (home marks h.buffer)) (placed pool marks)
     (λ h. not_home (home (Loss origin cause ∷ marks) h.buffer) (home marks h.buffer) (home-lost marks origin cause h.buffer))
 
 -- nor does an end
-pub held-ended : (pool : ℕ) (marks : Timeline) (head : NodeKey) → held pool (Ended head ∷ marks) ≡ still_out (Ended head ∷ marks) (held pool marks)
+pub held-ended : (pool : ℕ) (marks : Timeline) (head : NodeKey) →
+    held pool (Ended head ∷ marks) ≡ still_out (Ended head ∷ marks) (held pool marks)
 held-ended pool marks head =
-    filter-less (λ (h : HeldPages). not (home (Ended head ∷ marks) h.buffer)) (λ (h : HeldPages). not (home marks h.buffer)) (placed pool marks)
+    filter-less (λ (h : HeldPages). not (home (Ended head ∷ marks) h.buffer)) (λ (h : HeldPages).
+    not (home marks h.buffer)) (placed pool marks)
     (λ h. not_home (home (Ended head ∷ marks) h.buffer) (home marks h.buffer) (home-ended marks head h.buffer))
 
 -- ---- what the forced steps read of them
@@ -186,18 +206,22 @@ filter-same p q (x ∷ xs) same =
     rw (same x, on) refl
 
 -- where a map changes no test, some pass after it exactly if some did before
-any-map_same : {A : Type 0} (test : A → Bool) (f : A → A) (xs : List A) → ((x : A) → test (f x) ≡ test x) → list_any test (map f xs) ≡ list_any test xs
+any-map_same : {A : Type 0} (test : A → Bool) (f : A → A) (xs : List A) → ((x : A) → test (f x) ≡ test x) →
+    list_any test (map f xs) ≡ list_any test xs
 any-map_same test f [] same = refl
 any-map_same test f (x ∷ xs) same =
     let on : list_any test (map f xs) ≡ list_any test xs = any-map_same test f xs same in
     rw (same x, on) refl
 
 -- an allocation makes no node live
-strong-allocated : (marks : Timeline) (collection : ℕ) (head : NodeKey) → some_strong_live (members (Allocated head ∷ marks) collection) ≡ some_strong_live (members marks collection)
+strong-allocated : (marks : Timeline) (collection : ℕ) (head : NodeKey) →
+    some_strong_live (members (Allocated head ∷ marks) collection) ≡ some_strong_live (members marks collection)
 strong-allocated marks collection head =
-    ap some_strong_live (members-Allocated marks collection head) ∙ any-map_same (λ (m : Member). is_live m && not m.weak) (after_allocation head) (members marks collection) (λ m. refl)
+    ap some_strong_live (members-Allocated marks collection head)
+    ∙ any-map_same (λ (m : Member). is_live m && not m.weak) (after_allocation head) (members marks collection) (λ m. refl)
 
-module _ (marks : Timeline) (head : NodeKey) (b : Birth) (parent : NodeKey) (found : birth_of marks head ≡ Some b) (below : b.parent ≡ Some parent) where
+module _ (marks : Timeline) (head : NodeKey) (b : Birth) (parent : NodeKey) (found : birth_of marks head ≡ Some b)
+    (below : b.parent ≡ Some parent) where
   -- the allocation of a unit below another gives the collection no buffers
   buffers-attached : (collection : ℕ) → buffers_of (Allocated head ∷ marks) collection ≡ buffers_of marks collection
   buffers-attached collection = rw (found, below) refl
@@ -210,25 +234,30 @@ module _ (marks : Timeline) (head : NodeKey) (b : Birth) (parent : NodeKey) (fou
   pub held-attached : (pool : ℕ) → held pool (Allocated head ∷ marks) ≡ held pool marks
   held-attached pool =
       let none : placed pool (Allocated head ∷ marks) ≡ placed pool marks = rw (found, below) refl in
-      ap (still_out (Allocated head ∷ marks)) none ∙ filter-same (λ (h : HeldPages). not (home (Allocated head ∷ marks) h.buffer)) (λ (h : HeldPages). not (home marks h.buffer)) (placed pool marks)
+      ap (still_out (Allocated head ∷ marks)) none ∙ filter-same (λ (h : HeldPages). not (home (Allocated head ∷ marks) h.buffer))
+      (λ (h : HeldPages). not (home marks h.buffer)) (placed pool marks)
       (λ h. ap not (home-attached h.buffer))
 
   -- so the forced steps read the same, but for the nodes
   pub standing-attached : (pool collection : ℕ) →
-      standing pool (Allocated head ∷ marks) collection ≡ record (standing pool marks collection) { members = map (after_allocation head) (members marks collection) }
+      standing pool (Allocated head ∷ marks) collection ≡ record (standing pool marks
+      collection) { members = map (after_allocation head) (members marks collection) }
   standing-attached pool collection = λ i. record {
     members = members-Allocated marks collection head i;
     buffers = buffers-attached collection i;
-    strong_open = list_any (λ (x : BufferName). nat_lt 0 (open_total marks x Strength.Strong)) (option_map_or (λ (x : Buffers). names collection x.count) (buffers-attached collection i) []);
+    strong_open = list_any (λ (x : BufferName). nat_lt 0 (open_total marks x Strength.Strong)) (option_map_or (λ (x : Buffers).
+        names collection x.count) (buffers-attached collection i) []);
     held = map (λ (h : HeldPages). h.pages) (held-attached pool i);
   }
 
 -- so an allocation of any node but a root changes nodes alone
 pub standing-allocated : (pool collection : ℕ) (marks : Timeline) (head parent : NodeKey) → parent_of marks head ≡ Some parent →
-    standing pool (Allocated head ∷ marks) collection ≡ record (standing pool marks collection) { members = map (after_allocation head) (members marks collection) }
+    standing pool (Allocated head ∷ marks) collection ≡ record (standing pool marks
+    collection) { members = map (after_allocation head) (members marks collection) }
 standing-allocated pool collection marks head parent up = from (birth_of marks head) refl up
   where
     from : (o : Option Birth) → birth_of marks head ≡ o → option_map_or (λ (b : Birth). b.parent) o None ≡ Some parent →
-        standing pool (Allocated head ∷ marks) collection ≡ record (standing pool marks collection) { members = map (after_allocation head) (members marks collection) }
+        standing pool (Allocated head ∷ marks) collection ≡ record (standing pool marks
+        collection) { members = map (after_allocation head) (members marks collection) }
     from None found below = cc
     from (Some b) found below = standing-attached marks head b parent found below pool collection

@@ -15,7 +15,8 @@ one b = cond b 1 0
 
 -- one more element adds one, or nothing
 pub times-cons : {A : Type 0} (p : A → Bool) (x : A) (xs : List A) → times p (x ∷ xs) ≡ times p xs + one (p x)
-times-cons p x xs = elim (p x) as (λ (b : Bool). cond b (times p xs + 1) (times p xs) ≡ times p xs + one b) [ true ↦ refl | false ↦ omega arith ]
+times-cons p x xs = elim (p x) as (λ (b : Bool). cond b (times p xs + 1) (times p xs) ≡ times p xs + one b)
+    [ true ↦ refl | false ↦ omega arith ]
 
 -- so does one at the end
 pub times_push : {A : Type 0} (p : A → Bool) (xs : List A) (y : A) → times p (xs ++ y ∷ []) ≡ times p xs + one (p y)
@@ -43,7 +44,8 @@ any_one p xs true h = times_some p xs (omega (arith, h))
 any_one p xs false h = times_none p xs h
 
 -- if those that pass the first test are alike by the second, it keeps all of them or none
-pub times-filter : {A : Type 0} (f k : A → Bool) (t : Bool) (xs : List A) → ((x : A) → f x ≡ true → k x ≡ t) → times f (filter k xs) ≡ cond t (times f xs) 0
+pub times-filter : {A : Type 0} (f k : A → Bool) (t : Bool) (xs : List A) → ((x : A) → f x ≡ true → k x ≡ t) →
+    times f (filter k xs) ≡ cond t (times f xs) 0
 times-filter f k t [] alike = elim t as (λ (b : Bool). ◌≡◌ {A = ℕ} 0 (cond b 0 0)) [ true ↦ refl | false ↦ refl ]
 times-filter f k true (x ∷ xs) alike =
     let rest : times f (filter k xs) ≡ times f xs = times-filter f k true xs alike in
@@ -109,7 +111,8 @@ sum_absent k t (n ∷ ns) none =
     omega (arith, here, sum_by-cons (λ n. one ((k == n) && t)) n ns, sum_absent k t ns (or_none_right (n == k) (one_of ns k) none))
 
 -- and one that a listed number passes, at that one alone
-pub sum_once : (k : ℕ) (t : Bool) (ns : List ℕ) → AreOnce ns → (t ≡ true → one_of ns k ≡ true) → sum_by (λ n. one ((k == n) && t)) ns ≡ one t
+pub sum_once : (k : ℕ) (t : Bool) (ns : List ℕ) → AreOnce ns → (t ≡ true → one_of ns k ≡ true) →
+    sum_by (λ n. one ((k == n) && t)) ns ≡ one t
 sum_once k false ns once on = sum_by-same (λ n. one ((k == n) && false)) (λ n. 0) ns (λ n. neither (k == n)) ∙ sum_by-zero ns
   where
     neither : (b : Bool) → one (b && false) ≡ 0
@@ -131,9 +134,11 @@ sum_once k true (n ∷ ns) once on =
     ]
 
 -- what all did is the sum of what each did, where whoever did something is listed
-module _ {A : Type 0} (all : A → Bool) (each : ℕ → A → Bool) (whose : A → ℕ) (split : (n : ℕ) (x : A) → each n x ≡ (whose x == n && all x)) (ns : List ℕ) (once : AreOnce ns) where
+module _ {A : Type 0} (all : A → Bool) (each : ℕ → A → Bool) (whose : A → ℕ) (split : (n : ℕ) (x : A) →
+    each n x ≡ (whose x == n && all x)) (ns : List ℕ) (once : AreOnce ns) where
   -- by the list of what was done
-  pub times_split : (xs : List A) → ((x : A) → In x xs → all x ≡ true → one_of ns (whose x) ≡ true) → times all xs ≡ sum_by (λ n. times (each n) xs) ns
+  pub times_split : (xs : List A) → ((x : A) → In x xs → all x ≡ true → one_of ns (whose x) ≡ true) →
+      times all xs ≡ sum_by (λ n. times (each n) xs) ns
   times_split [] listed = sym (sum_by-zero ns)
   times_split (x ∷ xs) listed =
       let rest : times all xs ≡ sum_by (λ n. times (each n) xs) ns = times_split xs (λ y on. listed y (inr on)) in

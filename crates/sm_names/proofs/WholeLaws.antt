@@ -32,7 +32,8 @@ use Rattle.sm_names.specs.declared.outcomes.Fault.{Fault}
 -- ---- lines of nodes
 
 -- a node below another is in its collection
-pub parent_collection : (bs : List Birth) → AreSound bs → AreTogether bs → (node p : NodeKey) → parent_in bs node ≡ Some p → collection_in bs node ≡ collection_in bs p
+pub parent_collection : (bs : List Birth) → AreSound bs → AreTogether bs → (node p : NodeKey) → parent_in bs node ≡ Some p →
+    collection_in bs node ≡ collection_in bs p
 parent_collection [] sound together node p h = cc
 parent_collection (b ∷ older) sound together node p h =
     elim (either_way (same_key b.node node)) [
@@ -49,10 +50,13 @@ parent_collection (b ∷ older) sound together node p h =
     ]
 
 -- so is each node at or below another
-pub line_collection : (bs : List Birth) → AreSound bs → AreTogether bs → (top node : NodeKey) → is_at_or_below bs top node ≡ true → collection_in bs node ≡ collection_in bs top
-line_collection bs sound together top node h = along node (ancestors bs node) (ancestors_chain (parent_in bs) bs (λ k _. refl) sound node refl) h
+pub line_collection : (bs : List Birth) → AreSound bs → AreTogether bs → (top node : NodeKey) → is_at_or_below bs top node ≡ true →
+    collection_in bs node ≡ collection_in bs top
+line_collection bs sound together top node h =
+    along node (ancestors bs node) (ancestors_chain (parent_in bs) bs (λ k _. refl) sound node refl) h
   where
-    along : (n : NodeKey) (above : List NodeKey) → IsChain (parent_in bs) n above → list_any (same_key top) (n ∷ above) ≡ true → collection_in bs n ≡ collection_in bs top
+    along : (n : NodeKey) (above : List NodeKey) → IsChain (parent_in bs) n above → list_any (same_key top) (n ∷ above) ≡ true →
+        collection_in bs n ≡ collection_in bs top
     along n [] chain h =
         elim (either_way (same_key top n)) [
           | inl e ↦ ap (collection_in bs) (sym (same_key-true top n e))
@@ -65,7 +69,8 @@ line_collection bs sound together top node h = along node (ancestors bs node) (a
         ]
 
 -- what is at or below the parent has the child at or below it
-pub child_below : (bs : List Birth) → AreSound bs → (top child parent : NodeKey) → parent_in bs child ≡ Some parent → is_at_or_below bs top parent ≡ true → is_at_or_below bs top child ≡ true
+pub child_below : (bs : List Birth) → AreSound bs → (top child parent : NodeKey) → parent_in bs child ≡ Some parent →
+    is_at_or_below bs top parent ≡ true → is_at_or_below bs top child ≡ true
 child_below bs sound top child parent up h = rw (ancestors_on bs child parent sound up) (or_right (same_key top child) _ h)
 
 -- ---- the invariant
@@ -79,7 +84,8 @@ pub record IsWhole (marks : Timeline) : Type 0 where
 
 -- an end takes only nodes whose ends are spent
 abbrev pub Leaves : Timeline → Mark → Type 0
-Leaves marks (Ended top) = (node : NodeKey) → is_at_or_below (births marks) top node ≡ true → gone marks node ≡ false → spent marks node ≡ true
+Leaves marks (Ended top) =
+    (node : NodeKey) → is_at_or_below (births marks) top node ≡ true → gone marks node ≡ false → spent marks node ≡ true
 Leaves marks _ = Unit {0}
 
 -- a node that is gone was so before, or was taken now
@@ -89,7 +95,8 @@ either_gone false true h old new = old refl
 either_gone false false h old new = cc
 
 -- a node that was gone keeps its fault, and one that is taken gets one
-fails : (taken before : Bool) (f : Fault) (o : Option Fault) → (taken || before) ≡ true → (before ≡ true → is_some o ≡ true) → is_some (option_map_or Some (cond (taken && not before) (Some f) None) o) ≡ true
+fails : (taken before : Bool) (f : Fault) (o : Option Fault) → (taken || before) ≡ true → (before ≡ true → is_some o ≡ true) →
+    is_some (option_map_or Some (cond (taken && not before) (Some f) None) o) ≡ true
 fails true true f o h old = old refl
 fails true false f o h old = refl
 fails false true f o h old = old refl
@@ -105,7 +112,8 @@ whole-mark marks (Loss origin cause) h leaves w = record {
   below = λ child parent up g. either_gone (reaches marks origin parent) (gone marks parent) g
       (λ old. or_right (reaches marks origin child) _ (w.below child parent up old))
       (λ new. or_left (reaches marks origin child) _ (child_below (births marks) w.sound _ child parent up new));
-  failed = λ node g s. fails (reaches marks origin node) (gone marks node) (record { cause = cause; origin = origin }) (fault marks node) g (λ old. w.failed node old s);
+  failed = λ node g s. fails (reaches marks origin node) (gone marks node) (record { cause = cause; origin = origin }) (fault marks node) g
+      (λ old. w.failed node old s);
 }
 whole-mark marks (Ended head) h leaves w = record {
   sound = w.sound;
@@ -122,14 +130,16 @@ whole-mark marks (Ended head) h leaves w = record {
 -- ---- nodes as they stand
 
 -- a node of the collection stands among its nodes
-pub stands_in : (marks : Timeline) (collection : ℕ) (node : NodeKey) → collection_in (births marks) node ≡ Some collection → (b : Birth) × In (member marks b) (members marks collection) × (b.node ≡ node) × In b (births marks)
+pub stands_in : (marks : Timeline) (collection : ℕ) (node : NodeKey) → collection_in (births marks) node ≡ Some collection →
+    (b : Birth) × In (member marks b) (members marks collection) × (b.node ≡ node) × In b (births marks)
 stands_in marks collection node here =
     let bs : List Birth = births marks in
     let found = map-Some (λ (b : Birth). b.collection) (find (λ (b : Birth). same_key b.node node) bs) collection here in
     let b : Birth = found.0 in
     let there = In-find (λ (x : Birth). same_key x.node node) bs b found.1 in
     let ours : b.collection == collection ≡ true = eq-eqb b.collection collection found.2 in
-    let born : In b (births_in marks collection) = In-reverse-back _ b (In-filter-back (λ (x : Birth). x.collection == collection) bs b there.0 ours) in
+    let born : In b (births_in marks collection) =
+    In-reverse-back _ b (In-filter-back (λ (x : Birth). x.collection == collection) bs b there.0 ours) in
     (b, In-map-back (member marks) (births_in marks collection) b born, same_key-true b.node node there.1, there.0)
 
 -- ---- forced marks
@@ -155,10 +165,13 @@ not_live false true h k = refl
 not_live false false h k = cc
 
 -- a node at or below one of the collection stands among its nodes
-pub stands : (marks : Timeline) (collection : ℕ) → IsWhole marks → (head : Birth) → In head (births marks) → head.collection == collection ≡ true →
-    (node : NodeKey) → is_at_or_below (births marks) head.node node ≡ true → (b : Birth) × In (member marks b) (members marks collection) × (b.node ≡ node) × In b (births marks)
+pub stands : (marks : Timeline) (collection : ℕ) → IsWhole marks → (head : Birth) → In head (births marks) →
+    head.collection == collection ≡ true →
+    (node : NodeKey) → is_at_or_below (births marks) head.node node ≡ true → (b : Birth) × In (member marks b) (members marks collection) ×
+    (b.node ≡ node) × In b (births marks)
 stands marks collection w head on ours node h =
-    let here : collection_in (births marks) head.node ≡ Some head.collection = ap (option_map (λ (b : Birth). b.collection)) (find_birth (births marks) head w.sound on) in
+    let here : collection_in (births marks) head.node ≡ Some head.collection =
+    ap (option_map (λ (b : Birth). b.collection)) (find_birth (births marks) head w.sound on) in
     let is : head.collection ≡ collection = eqb-true head.collection collection ours in
     stands_in marks collection node (line_collection (births marks) w.sound w.together head.node node h ∙ (here ∙ ap Some is))
 
@@ -166,8 +179,10 @@ stands marks collection w head on ours node h =
 why_leaves : (pool collection : ℕ) (marks : Timeline) → IsWhole marks → (mark : Mark) → Why pool collection marks mark → Leaves marks mark
 why_leaves pool collection marks w _ (No_live b on ours here none) = λ node below free.
     (let s = stands marks collection w b on ours node below in
-    let under : is_under b.node (member marks s.0) ≡ true = subst (λ (k : NodeKey). is_at_or_below (births marks) b.node k ≡ true) (sym s.2) below in
-    let dead : is_live (member marks s.0) ≡ false = none-In (is_under b.node) is_live (members marks collection) (member marks s.0) none s.1 under in
+    let under : is_under b.node (member marks s.0) ≡ true =
+    subst (λ (k : NodeKey). is_at_or_below (births marks) b.node k ≡ true) (sym s.2) below in
+    let dead : is_live (member marks s.0) ≡ false =
+    none-In (is_under b.node) is_live (members marks collection) (member marks s.0) none s.1 under in
     let free' : gone marks s.0.node ≡ false = ap (gone marks) s.2 ∙ free in
     released_spent marks node (ap (released marks) (sym s.2) ∙ not_live (gone marks s.0.node) (released marks s.0.node) dead free'))
 why_leaves pool collection marks w _ (Fails b cause on ours here) = tt
@@ -175,7 +190,8 @@ why_leaves pool collection marks w _ (Initial b on ours root here waits found fi
 why_leaves pool collection marks w _ (Logical b on ours child here waits attached) = tt
 
 -- so does each forced mark
-pub forced_leaves : (pool collection : ℕ) (marks : Timeline) → IsWhole marks → (mark : Mark) → next_forced pool collection marks ≡ Some mark → Leaves marks mark
+pub forced_leaves : (pool collection : ℕ) (marks : Timeline) → IsWhole marks → (mark : Mark) →
+    next_forced pool collection marks ≡ Some mark → Leaves marks mark
 forced_leaves pool collection marks w mark h = why_leaves pool collection marks w mark (forced_why pool collection marks mark h)
 
 -- the marks that a collection forces
@@ -186,7 +202,8 @@ whole-settled pool collection (suc most) marks w =
       | inl e ↦ rw e w
       | inr some ↦
           let c : Changes marks some.0 = forced_changes pool collection marks w.sound some.0 some.1 in
-          rw some.1 (whole-settled pool collection most (some.0 ∷ marks) (whole-mark marks some.0 c.no_event (forced_leaves pool collection marks w some.0 some.1) w))
+          rw some.1 (whole-settled pool collection most (some.0 ∷ marks) (whole-mark marks some.0 c.no_event (forced_leaves pool collection
+          marks w some.0 some.1) w))
     ]
 
 -- ---- the mark of a call
@@ -197,22 +214,28 @@ pub record BornBelow (marks : Timeline) (b : Birth) (parent : NodeKey) : Type 0 
   pub not_gone : gone marks parent ≡ false
 
 -- the parent of a node that is born is in its collection, and not gone
-born_below : (limits : Bound) (marks : Timeline) (entry : Entry) (b : Birth) → IsWhole marks → IsAnswer limits (readings marks) entry.0 entry.1 entry.2 →
-    birth_at (events marks + 1) (Called entry.0 entry.2 entry.1) ≡ Some b → (parent : NodeKey) → b.parent ≡ Some parent → BornBelow marks b parent
-born_below limits marks entry b w answer at parent up = from (comes limits marks entry.0 (events marks + 1) entry.2 entry.1 b answer at).from
+born_below : (limits : Bound) (marks : Timeline) (entry : Entry) (b : Birth) → IsWhole marks →
+    IsAnswer limits (readings marks) entry.0 entry.1 entry.2 →
+    birth_at (events marks + 1) (Called entry.0 entry.2 entry.1) ≡ Some b → (parent : NodeKey) → b.parent ≡ Some parent →
+    BornBelow marks b parent
+born_below limits marks entry b w answer at parent up =
+    from (comes limits marks entry.0 (events marks + 1) entry.2 entry.1 b answer at).from
   where
-    from : ((b.parent ≡ None) × (b.collection ≡ events marks + 1)) ⊎ ((p : Birth) × In p (births marks) × (b.parent ≡ Some p.node) × (b.collection ≡ p.collection) × (spent marks p.node ≡ false) × (fault marks p.node ≡ None)) → BornBelow marks b parent
+    from : ((b.parent ≡ None) × (b.collection ≡ events marks + 1)) ⊎ ((p : Birth) × In p (births marks) × (b.parent ≡ Some p.node) ×
+        (b.collection ≡ p.collection) × (spent marks p.node ≡ false) × (fault marks p.node ≡ None)) → BornBelow marks b parent
     from (inl r) = let no : None ≡ Some parent = sym r.0 ∙ up in absurd (cc)
     from (inr r) =
         let same : Some r.0.node ≡ Some parent = sym r.2 ∙ up in
         let is : r.0.node ≡ parent = cc in
         let there : collection_in (births marks) r.0.node ≡ Some b.collection =
         ap (option_map (λ (x : Birth). x.collection)) (find_birth (births marks) r.0 w.sound r.1) ∙ ap Some (sym r.3) in
-        let here : gone marks r.0.node ≡ false = false_if (gone marks r.0.node) (λ g. (let no : false ≡ true = ap is_some (sym r.5) ∙ w.failed r.0.node g r.4 in cc)) in
+        let here : gone marks r.0.node ≡ false =
+        false_if (gone marks r.0.node) (λ g. (let no : false ≡ true = ap is_some (sym r.5) ∙ w.failed r.0.node g r.4 in cc)) in
         subst (BornBelow marks b) is (record { together = there; not_gone = here })
 
 -- a call that is answered
-pub whole-called : (limits : Bound) (marks : Timeline) (entry : Entry) → IsAnswer limits (readings marks) entry.0 entry.1 entry.2 → IsWhole marks → IsWhole (Called entry.0 entry.2 entry.1 ∷ marks)
+pub whole-called : (limits : Bound) (marks : Timeline) (entry : Entry) → IsAnswer limits (readings marks) entry.0 entry.1 entry.2 →
+    IsWhole marks → IsWhole (Called entry.0 entry.2 entry.1 ∷ marks)
 whole-called limits marks entry answer w = record {
   sound = sound_called limits marks entry answer w.sound;
   together = with_birth (birth_at (events marks + 1) (Called entry.0 entry.2 entry.1)) refl;
@@ -220,15 +243,18 @@ whole-called limits marks entry answer w = record {
   failed = λ node g s. w.failed node g (or_none_right (spends node (Called entry.0 entry.2 entry.1)) (spent marks node) s);
 }
   where
-    with_parent : (b : Birth) → birth_at (events marks + 1) (Called entry.0 entry.2 entry.1) ≡ Some b → (o : Option NodeKey) → b.parent ≡ o → IfSome o (λ p. collection_in (births marks) p ≡ Some b.collection)
+    with_parent : (b : Birth) → birth_at (events marks + 1) (Called entry.0 entry.2 entry.1) ≡ Some b → (o : Option NodeKey) →
+        b.parent ≡ o → IfSome o (λ p. collection_in (births marks) p ≡ Some b.collection)
     with_parent b at None e = tt
     with_parent b at (Some p) e = (born_below limits marks entry b w answer at p e).together
 
-    with_birth : (o : Option Birth) → birth_at (events marks + 1) (Called entry.0 entry.2 entry.1) ≡ o → AreTogether (cons_option o (births marks))
+    with_birth : (o : Option Birth) → birth_at (events marks + 1) (Called entry.0 entry.2 entry.1) ≡ o →
+        AreTogether (cons_option o (births marks))
     with_birth None e = w.together
     with_birth (Some b) e = (with_parent b e b.parent refl, w.together)
 
-    from_birth : (child parent : NodeKey) → gone marks parent ≡ true → (o : Option Birth) → birth_at (events marks + 1) (Called entry.0 entry.2 entry.1) ≡ o →
+    from_birth : (child parent : NodeKey) → gone marks parent ≡ true → (o : Option Birth) →
+        birth_at (events marks + 1) (Called entry.0 entry.2 entry.1) ≡ o →
         parent_in (cons_option o (births marks)) child ≡ Some parent → gone marks child ≡ true
     from_birth child parent g None e up = w.below child parent up g
     from_birth child parent g (Some b) e up =
@@ -240,23 +266,27 @@ whole-called limits marks entry answer w = record {
 -- ---- one more event, and so a history
 
 -- a loss under a test is no end
-is_no_end : (marks : Timeline) (b : Bool) (node : NodeKey) (cause : Cause) (mark : Mark) → when b (Loss node cause) ≡ Some mark → Leaves marks mark
+is_no_end : (marks : Timeline) (b : Bool) (node : NodeKey) (cause : Cause) (mark : Mark) → when b (Loss node cause) ≡ Some mark →
+    Leaves marks mark
 is_no_end marks true node cause mark e = let is : Loss node cause ≡ mark = cc in subst (Leaves marks) is tt
 is_no_end marks false node cause mark e = cc
 
 -- the loss by a misuse is no end
-misused_no_end : (marks : Timeline) (o : Option NodeKey) (misuse : Misuse) (mark : Mark) → option_map (λ key. Loss key (Cause.Misused misuse)) o ≡ Some mark → Leaves marks mark
+misused_no_end : (marks : Timeline) (o : Option NodeKey) (misuse : Misuse) (mark : Mark) →
+    option_map (λ key. Loss key (Cause.Misused misuse)) o ≡ Some mark → Leaves marks mark
 misused_no_end marks None misuse mark e = cc
 misused_no_end marks (Some key) misuse mark e = let is : Loss key (Cause.Misused misuse) ≡ mark = cc in subst (Leaves marks) is tt
 
 -- the loss that a call makes itself is no end
-own_loss_leaves : (before marks : Timeline) (call : Call) (reply : Reply) (mark : Mark) → own_loss before call reply ≡ Some mark → Leaves marks mark
+own_loss_leaves : (before marks : Timeline) (call : Call) (reply : Reply) (mark : Mark) → own_loss before call reply ≡ Some mark →
+    Leaves marks mark
 own_loss_leaves before marks (Call.Close key) Reply.Done mark e = is_no_end marks _ key Cause.Lost mark e
 own_loss_leaves before marks call (Reply.Misused misuse) mark e = misused_no_end marks (key_of call) misuse mark e
 own_loss_leaves before marks _ _ mark e = cc
 
 -- one more event and all that it forces keep it
-pub whole-after : (pool : ℕ) (limits : Bound) (marks : Timeline) (entry : Entry) → IsAnswer limits (readings marks) entry.0 entry.1 entry.2 → IsWhole marks → IsWhole (after pool marks entry)
+pub whole-after : (pool : ℕ) (limits : Bound) (marks : Timeline) (entry : Entry) →
+    IsAnswer limits (readings marks) entry.0 entry.1 entry.2 → IsWhole marks → IsWhole (after pool marks entry)
 whole-after pool limits marks entry answer w = settles (collection_of (Called entry.0 entry.2 entry.1 ∷ marks) entry.1 entry.2)
   where
     called : Timeline
@@ -267,19 +297,27 @@ whole-after pool limits marks entry answer w = settles (collection_of (Called en
 
     loses : (o : Option Mark) → own_loss marks entry.1 entry.2 ≡ o → IsWhole (cons_option o (Called entry.0 entry.2 entry.1 ∷ marks))
     loses None e = whole_called
-    loses (Some mark) e = whole-mark called mark (own_loss_no_event marks entry.1 entry.2 mark e) (own_loss_leaves marks called entry.1 entry.2 mark e) whole_called
+    loses (Some mark) e = whole-mark called mark (own_loss_no_event marks entry.1 entry.2 mark e) (own_loss_leaves marks called entry.1
+        entry.2 mark e) whole_called
 
     whole_lost : IsWhole (cons_option (own_loss marks entry.1 entry.2) (Called entry.0 entry.2 entry.1 ∷ marks))
     whole_lost = loses (own_loss marks entry.1 entry.2) refl
 
-    settles : (o : Option ℕ) → IsWhole (option_map_or (λ collection. settled pool collection (cons_option (own_loss marks entry.1 entry.2) (Called entry.0 entry.2 entry.1 ∷ marks))) o (cons_option (own_loss marks entry.1 entry.2) (Called entry.0 entry.2 entry.1 ∷ marks)))
+    settles : (o : Option ℕ) → IsWhole (option_map_or (λ collection.
+        settled pool collection (cons_option (own_loss marks entry.1 entry.2) (Called entry.0 entry.2 entry.1 ∷ marks))) o
+        (cons_option (own_loss marks entry.1 entry.2) (Called entry.0 entry.2 entry.1 ∷ marks)))
     settles None = whole_lost
-    settles (Some collection) = whole-settled pool collection (2 * length (births (cons_option (own_loss marks entry.1 entry.2) (Called entry.0 entry.2 entry.1 ∷ marks)))) (cons_option (own_loss marks entry.1 entry.2) (Called entry.0 entry.2 entry.1 ∷ marks)) whole_lost
+    settles (Some collection) =
+        whole-settled pool collection (2 * length
+        (births (cons_option (own_loss marks entry.1 entry.2) (Called entry.0 entry.2 entry.1 ∷ marks))))
+        (cons_option (own_loss marks entry.1 entry.2) (Called entry.0 entry.2 entry.1 ∷ marks)) whole_lost
 
 -- so it is in a legal history
-pub whole_history : (pool : ℕ) (limits : Bound) (marks : Timeline) (history : List Entry) → AreAnswers pool limits marks history → IsWhole marks → IsWhole (fold (after pool) marks history)
+pub whole_history : (pool : ℕ) (limits : Bound) (marks : Timeline) (history : List Entry) → AreAnswers pool limits marks history →
+    IsWhole marks → IsWhole (fold (after pool) marks history)
 whole_history pool limits marks [] answers w = w
-whole_history pool limits marks (entry ∷ entries) answers w = whole_history pool limits (after pool marks entry) entries answers.1 (whole-after pool limits marks entry answers.0 w)
+whole_history pool limits marks (entry ∷ entries) answers w =
+    whole_history pool limits (after pool marks entry) entries answers.1 (whole-after pool limits marks entry answers.0 w)
 
 -- it holds where nothing has happened
 pub whole_nothing : IsWhole []

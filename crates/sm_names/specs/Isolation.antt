@@ -44,7 +44,8 @@ pub record IsAsBefore (pool : ℕ) (earlier later : Timeline) (collection : ℕ)
   -- its ends, but for who holds them
   pub ends : (node : NodeKey) → collection_in (births earlier) node ≡ Some collection →
       (readings later).end_of node
-      ≡ option_map (λ (e : OpenEnd). record e { holder = holder later node; in_transit = in_transit later node }) ((readings earlier).end_of node)
+      ≡ option_map (λ (e : OpenEnd). record e { holder = holder later node; in_transit = in_transit later node })
+      ((readings earlier).end_of node)
   -- when its trackers fired
   pub trackers : (t : Tracked) → IsOf earlier collection t.condition → list_any (λ u. u.id == t.id) (tracked earlier) ≡ true →
       fired_at later t ≡ fired_at earlier t

@@ -15,17 +15,23 @@ use Rattle.trackers.proofs.Weights.{weigh_append}
 use Rattle.trackers.proofs.Walks.{filter_map_push}
 
 -- a row that waits is shown
-shown_at : (id cell : ℕ) (stage : Stage) (has : Bool) (rows : List Kept) → length (filter_map waiting_of_row rows) ≡ count_by is_waiting rows → length (cons_option (waiting_of_row (record { id = id; cell = cell; stage = stage; has_reader = has })) (filter_map waiting_of_row rows)) ≡ cond (is_waiting (record { id = id; cell = cell; stage = stage; has_reader = has })) 1 0 + count_by is_waiting rows
+shown_at : (id cell : ℕ) (stage : Stage) (has : Bool) (rows : List Kept) →
+    length (filter_map waiting_of_row rows) ≡ count_by is_waiting rows →
+    length (cons_option (waiting_of_row (record { id = id; cell = cell; stage = stage; has_reader = has }))
+    (filter_map waiting_of_row rows)) ≡ cond (is_waiting (record { id = id; cell = cell; stage = stage; has_reader = has })) 1
+    0 + count_by is_waiting rows
 shown_at id cell (Over event) has rows same = omega arith
 shown_at id cell (Waits place c) has rows same = omega arith
 
 -- as many rows wait as are shown
 pub count_shown : (rows : List Kept) → length (filter_map waiting_of_row rows) ≡ count_by is_waiting rows
 count_shown [] = refl
-count_shown (row ∷ rows) = shown_at row.id row.cell row.stage row.has_reader rows (count_shown rows) ∙ sym (sum_by-cons (λ r. cond (is_waiting r) 1 0) row rows)
+count_shown (row ∷ rows) =
+    shown_at row.id row.cell row.stage row.has_reader rows (count_shown rows) ∙ sym (sum_by-cons (λ r. cond (is_waiting r) 1 0) row rows)
 
 -- the ids of the cells are those of the rows
-pub all_below : (n : ℕ) (rows : List Kept) → AllByRecursion (λ (c : Cell). c.id < n) (map cell_of_row rows) → AllByRecursion (λ (r : Kept). r.id < n) rows
+pub all_below : (n : ℕ) (rows : List Kept) → AllByRecursion (λ (c : Cell). c.id < n) (map cell_of_row rows) →
+    AllByRecursion (λ (r : Kept). r.id < n) rows
 all_below n [] all = tt
 all_below n (row ∷ rows) all = (all.0, all_below n rows all.1)
 
@@ -36,7 +42,8 @@ fresh n (row ∷ rows) all = ((λ same. omega (arith, all.0)), fresh n rows all.
 
 module _ (row : Kept) where
   -- an id below all stays so, if the new one is greater
-  below_push : (n : ℕ) (rows : List Kept) → n < row.id → AllByRecursion (λ (r : Kept). n < r.id) rows → AllByRecursion (λ (r : Kept). n < r.id) (rows ++ row ∷ [])
+  below_push : (n : ℕ) (rows : List Kept) → n < row.id → AllByRecursion (λ (r : Kept). n < r.id) rows →
+      AllByRecursion (λ (r : Kept). n < r.id) (rows ++ row ∷ [])
   below_push n [] above below = (above, tt)
   below_push n (other ∷ rows) above below = (below.0, below_push n rows above below.1)
 
@@ -46,7 +53,9 @@ module _ (row : Kept) where
   rising_push (other ∷ rows) all rising = (below_push other.id rows all.0 rising.0, rising_push rows all.1 rising.1)
 
   -- each firing is found under its id with one row more
-  told_push : (fired : List Fired) (rows : List Kept) → firing_of fired row.id ≡ firing_of_row row → AllByRecursion (λ (r : Kept). firing_of fired r.id ≡ firing_of_row r) rows → AllByRecursion (λ (r : Kept). firing_of fired r.id ≡ firing_of_row r) (rows ++ row ∷ [])
+  told_push : (fired : List Fired) (rows : List Kept) → firing_of fired row.id ≡ firing_of_row row →
+      AllByRecursion (λ (r : Kept). firing_of fired r.id ≡ firing_of_row r) rows →
+      AllByRecursion (λ (r : Kept). firing_of fired r.id ≡ firing_of_row r) (rows ++ row ∷ [])
   told_push fired [] here told = (here, tt)
   told_push fired (other ∷ rows) here told = (told.0, told_push fired rows here told.1)
 
@@ -55,10 +64,13 @@ module _ (row : Kept) where
   none_push id [] none = tt
   none_push id (other ∷ rows) none = (none.0, none_push id rows none.1)
 
-module _ (limit capacity capacity' spare spare' : ℕ) (rows rows' : List Kept) (fired fired' : List Fired) (old new : Piles) (kept : IsKeptUp limit rows fired capacity spare old) (same : fired' ≡ fired) where
+module _ (limit capacity capacity' spare spare' : ℕ) (rows rows' : List Kept) (fired fired' : List Fired) (old new : Piles)
+    (kept : IsKeptUp limit rows fired capacity spare old) (same : fired' ≡ fired) where
   -- the table is right with one row more
-  pub kept_push : (id cell place : ℕ) (c : Condition) → AllByRecursion (λ (r : Kept). r.id < id) rows → count_by is_waiting rows < limit → length rows + 1 ≤ capacity' → count_by is_waiting rows + 1 ≤ spare' → rows' ≡ rows ++ attached id cell place c ∷ [] →
-      ((k : ℕ) (f : Wish → ℕ) → weigh f (entries_of new k) ≡ (if k == place then f (c, length rows) + weigh f (entries_of old k) else weigh f (entries_of old k))) → IsKeptUp limit rows' fired' capacity' spare' new
+  pub kept_push : (id cell place : ℕ) (c : Condition) → AllByRecursion (λ (r : Kept). r.id < id) rows → count_by is_waiting rows < limit →
+      length rows + 1 ≤ capacity' → count_by is_waiting rows + 1 ≤ spare' → rows' ≡ rows ++ attached id cell place c ∷ [] →
+      ((k : ℕ) (f : Wish → ℕ) → weigh f (entries_of new k) ≡ (if k == place then f (c, length rows) + weigh f (entries_of old k) else weigh
+      f (entries_of old k))) → IsKeptUp limit rows' fired' capacity' spare' new
   kept_push id cell place c all room_left room spare_left pushed filed =
       let row : Kept = attached id cell place c in
       rw (same, pushed) record {
@@ -73,10 +85,14 @@ module _ (limit capacity capacity' spare spare' : ℕ) (rows rows' : List Kept) 
         filed = record {
           at = λ k f.
               let had : weigh f (entries_of old k) ≡ weigh f (asked_from k 0 rows) = kept.filed.at k f in
-              let joined : weigh f (asked_from k 0 (rows ++ row ∷ [])) ≡ weigh f (asked_from k 0 rows) + weigh f (option_to_list (asked k (0 + length rows) row)) =
-              ap (weigh f) (asked_push k 0 rows row) ∙ weigh_append f (asked_from k 0 rows) (option_to_list (asked k (0 + length rows) row)) in
+              let joined : weigh f (asked_from k 0 (rows ++ row ∷ [])) ≡ weigh f (asked_from k 0 rows) + weigh f
+              (option_to_list (asked k (0 + length rows) row)) =
+              ap (weigh f) (asked_push k 0 rows row)
+              ∙ weigh_append f (asked_from k 0 rows) (option_to_list (asked k (0 + length rows) row)) in
               let place_is : 0 + length rows ≡ length rows = omega arith in
-              filed k f ∙ (elim (k == place) as (λ b. (if b then f (c, length rows) + weigh f (entries_of old k) else weigh f (entries_of old k)) ≡ weigh f (asked_from k 0 rows) + weigh f (option_to_list (if b then Some (c, 0 + length rows) else None))) [
+              filed k f ∙ (elim (k == place) as (λ b.
+              (if b then f (c, length rows) + weigh f (entries_of old k) else weigh f (entries_of old k)) ≡ weigh f
+              (asked_from k 0 rows) + weigh f (option_to_list (if b then Some (c, 0 + length rows) else None))) [
                 | true ↦ omega (arith, had, ap (λ m. f (c, m)) place_is)
                 | false ↦ omega (arith, had)
               ] ∙ sym joined);
@@ -85,7 +101,8 @@ module _ (limit capacity capacity' spare spare' : ℕ) (rows rows' : List Kept) 
       }
 
   -- and with more room alone
-  pub kept_grown : capacity ≤ capacity' → spare ≤ spare' → rows' ≡ rows → ((k : ℕ) (f : Wish → ℕ) → weigh f (entries_of new k) ≡ weigh f (entries_of old k)) → IsKeptUp limit rows' fired' capacity' spare' new
+  pub kept_grown : capacity ≤ capacity' → spare ≤ spare' → rows' ≡ rows →
+      ((k : ℕ) (f : Wish → ℕ) → weigh f (entries_of new k) ≡ weigh f (entries_of old k)) → IsKeptUp limit rows' fired' capacity' spare' new
   kept_grown more more_spare stay filed = rw (same, stay) record {
     held = record {
       rising = kept.held.rising;
@@ -100,13 +117,19 @@ module _ (limit capacity capacity' spare spare' : ℕ) (rows rows' : List Kept) 
   }
 
 -- the table shows a row more
-pub table_push : (limit : ℕ) (rows rows' : List Kept) (fired fired' : List Fired) (id cell place : ℕ) (c : Condition) → fired' ≡ fired → rows' ≡ rows ++ attached id cell place c ∷ [] → Attaches (table_of limit rows fired) (table_of limit rows' fired') (record { id = id; place = place; condition = c })
+pub table_push : (limit : ℕ) (rows rows' : List Kept) (fired fired' : List Fired) (id cell place : ℕ) (c : Condition) → fired' ≡ fired →
+    rows' ≡ rows ++ attached id cell place c ∷ [] →
+    Attaches (table_of limit rows fired) (table_of limit rows' fired') (record { id = id; place = place; condition = c })
 table_push limit rows rows' fired fired' id cell place c same pushed =
     let row : Kept = attached id cell place c in
     rw (same, pushed) record {
       name = cell;
       next =
-          ap (λ l. table_with limit l (filter_map waiting_of_row (rows ++ row ∷ [])) (filter_map untaken_of_row (rows ++ row ∷ [])) fired) (map_push cell_of_row rows row)
-          ∙ ap (λ l. table_with limit (map cell_of_row rows ++ cell_of_row row ∷ []) l (filter_map untaken_of_row (rows ++ row ∷ [])) fired) (filter_map_push waiting_of_row rows row)
-          ∙ ap (λ l. table_with limit (map cell_of_row rows ++ cell_of_row row ∷ []) (filter_map waiting_of_row rows ++ record { id = id; place = place; condition = c } ∷ []) l fired) (filter_map_push untaken_of_row rows row);
+          ap (λ l. table_with limit l (filter_map waiting_of_row (rows ++ row ∷ [])) (filter_map untaken_of_row (rows ++ row ∷ [])) fired)
+          (map_push cell_of_row rows row)
+          ∙ ap (λ l. table_with limit (map cell_of_row rows ++ cell_of_row row ∷ []) l (filter_map untaken_of_row (rows ++ row ∷ [])) fired)
+          (filter_map_push waiting_of_row rows row)
+          ∙ ap (λ l. table_with limit (map cell_of_row rows ++ cell_of_row row ∷ [])
+          (filter_map waiting_of_row rows ++ record { id = id; place = place; condition = c } ∷ []) l fired)
+          (filter_map_push untaken_of_row rows row);
     }

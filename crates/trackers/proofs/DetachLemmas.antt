@@ -64,9 +64,11 @@ waits_low : (n id cell : ℕ) (stage : Stage) (has : Bool) (more : List Waiting)
 waits_low n id cell (Waits place c) has more low all = (low, all)
 waits_low n id cell (Over event) has more low all = all
 
-waits_below : (n : ℕ) (rows : List Kept) → AllByRecursion (λ (r : Kept). r.id < n) rows → AllByRecursion (λ (t : Waiting). t.id < n) (filter_map waiting_of_row rows)
+waits_below : (n : ℕ) (rows : List Kept) → AllByRecursion (λ (r : Kept). r.id < n) rows →
+    AllByRecursion (λ (t : Waiting). t.id < n) (filter_map waiting_of_row rows)
 waits_below n [] all = tt
-waits_below n (row ∷ rows) all = waits_low n row.id row.cell row.stage row.has_reader (filter_map waiting_of_row rows) all.0 (waits_below n rows all.1)
+waits_below n (row ∷ rows) all =
+    waits_low n row.id row.cell row.stage row.has_reader (filter_map waiting_of_row rows) all.0 (waits_below n rows all.1)
 
 -- so has what is still to be taken
 untaken_low : (n id cell : ℕ) (stage : Stage) (has : Bool) (more : List ℕ) → id < n → AllByRecursion (λ (i : ℕ). i < n) more →
@@ -74,13 +76,16 @@ untaken_low : (n id cell : ℕ) (stage : Stage) (has : Bool) (more : List ℕ) �
 untaken_low n id cell stage true more low all = (low, all)
 untaken_low n id cell stage false more low all = all
 
-untaken_below : (n : ℕ) (rows : List Kept) → AllByRecursion (λ (r : Kept). r.id < n) rows → AllByRecursion (λ (i : ℕ). i < n) (filter_map untaken_of_row rows)
+untaken_below : (n : ℕ) (rows : List Kept) → AllByRecursion (λ (r : Kept). r.id < n) rows →
+    AllByRecursion (λ (i : ℕ). i < n) (filter_map untaken_of_row rows)
 untaken_below n [] all = tt
-untaken_below n (row ∷ rows) all = untaken_low n row.id row.cell row.stage row.has_reader (filter_map untaken_of_row rows) all.0 (untaken_below n rows all.1)
+untaken_below n (row ∷ rows) all =
+    untaken_low n row.id row.cell row.stage row.has_reader (filter_map untaken_of_row rows) all.0 (untaken_below n rows all.1)
 
 -- ---- the row that was attached last
 
-module _ (limit : ℕ) (rows : List Kept) (row : Kept) (fired : List Fired) (rising : AreRising (rows ++ row ∷ [])) (before : Table) (tracker : Waiting)
+module _ (limit : ℕ) (rows : List Kept) (row : Kept) (fired : List Fired) (rising : AreRising (rows ++ row ∷ [])) (before : Table)
+    (tracker : Waiting)
     (attaches : Attaches before (table_of limit (rows ++ row ∷ []) fired) tracker) where
   -- its cell is the last
   cells_same : (map cell_of_row rows ≡ before.cells) × (cell_of_row row ≡ record { id = tracker.id; name = attaches.name })
@@ -98,13 +103,18 @@ module _ (limit : ℕ) (rows : List Kept) (row : Kept) (fired : List Fired) (ris
       all : filter_map waiting_of_row rows ++ option_to_list (waiting_of_row row) ≡ before.unfired ++ tracker ∷ []
       all = sym (filter_map_push waiting_of_row rows row) ∙ ap (λ (t : Table). t.unfired) attaches.next
 
-      from : (o : Option Waiting) → waiting_of_row row ≡ o → (filter_map waiting_of_row rows ≡ before.unfired) × (waiting_of_row row ≡ Some tracker)
+      from : (o : Option Waiting) → waiting_of_row row ≡ o → (filter_map waiting_of_row rows ≡ before.unfired) ×
+          (waiting_of_row row ≡ Some tracker)
       from None e =
-          let there : filter_map waiting_of_row rows ≡ before.unfired ++ tracker ∷ [] = sym (append-nil (filter_map waiting_of_row rows)) ∙ (ap (λ o. filter_map waiting_of_row rows ++ option_to_list o) (sym e) ∙ all) in
-          let low : tracker.id < row.id = last_of (λ (t : Waiting). t.id < row.id) before.unfired tracker (subst (AllByRecursion (λ (t : Waiting). t.id < row.id)) there (waits_below row.id rows (below_last rows row rising))) in
+          let there : filter_map waiting_of_row rows ≡ before.unfired ++ tracker ∷ [] = sym (append-nil (filter_map waiting_of_row rows))
+          ∙ (ap (λ o. filter_map waiting_of_row rows ++ option_to_list o) (sym e) ∙ all) in
+          let low : tracker.id < row.id =
+          last_of (λ (t : Waiting). t.id < row.id) before.unfired tracker (subst (AllByRecursion (λ (t : Waiting). t.id < row.id)) there
+          (waits_below row.id rows (below_last rows row rising))) in
           absurd (omega (arith, low, same_id))
       from (Some t) e =
-          let last = last_same (filter_map waiting_of_row rows) before.unfired t tracker (ap (λ o. filter_map waiting_of_row rows ++ option_to_list o) (sym e) ∙ all) in
+          let last = last_same (filter_map waiting_of_row rows) before.unfired t tracker (ap (λ o.
+          filter_map waiting_of_row rows ++ option_to_list o) (sym e) ∙ all) in
           (last.0, e ∙ ap Some last.1)
 
   -- its reader is what is to be taken last
@@ -116,10 +126,15 @@ module _ (limit : ℕ) (rows : List Kept) (row : Kept) (fired : List Fired) (ris
 
       from : (o : Option ℕ) → untaken_of_row row ≡ o → filter_map untaken_of_row rows ≡ before.untaken
       from None e =
-          let there : filter_map untaken_of_row rows ≡ before.untaken ++ tracker.id ∷ [] = sym (append-nil (filter_map untaken_of_row rows)) ∙ (ap (λ o. filter_map untaken_of_row rows ++ option_to_list o) (sym e) ∙ all) in
-          let low : tracker.id < row.id = last_of (λ (i : ℕ). i < row.id) before.untaken tracker.id (subst (AllByRecursion (λ (i : ℕ). i < row.id)) there (untaken_below row.id rows (below_last rows row rising))) in
+          let there : filter_map untaken_of_row rows ≡ before.untaken ++ tracker.id ∷ [] = sym (append-nil (filter_map untaken_of_row rows))
+          ∙ (ap (λ o. filter_map untaken_of_row rows ++ option_to_list o) (sym e) ∙ all) in
+          let low : tracker.id < row.id =
+          last_of (λ (i : ℕ). i < row.id) before.untaken tracker.id (subst (AllByRecursion (λ (i : ℕ). i < row.id)) there
+          (untaken_below row.id rows (below_last rows row rising))) in
           absurd (omega (arith, low, same_id))
-      from (Some i) e = (last_same (filter_map untaken_of_row rows) before.untaken i tracker.id (ap (λ o. filter_map untaken_of_row rows ++ option_to_list o) (sym e) ∙ all)).0
+      from (Some i) e =
+          (last_same (filter_map untaken_of_row rows) before.untaken i tracker.id (ap (λ o.
+          filter_map untaken_of_row rows ++ option_to_list o) (sym e) ∙ all)).0
 
   -- without it the table shows what it showed
   pub table_popped : table_of limit rows fired ≡ before
@@ -134,20 +149,25 @@ module _ (limit : ℕ) (rows : List Kept) (row : Kept) (fired : List Fired) (ris
 -- ---- the rows that are left
 
 -- nothing behind the rows is asked
-none_at_row : (collection m n id cell : ℕ) (stage : Stage) (has : Bool) (f : Wish → ℕ) (more : List Wish) → n < m → weigh (weigh_at m f) more ≡ 0 →
+none_at_row : (collection m n id cell : ℕ) (stage : Stage) (has : Bool) (f : Wish → ℕ) (more : List Wish) → n < m →
+    weigh (weigh_at m f) more ≡ 0 →
     weigh (weigh_at m f) (cons_option (asked collection n (row_of id cell stage has)) more) ≡ 0
 none_at_row collection m n id cell (Over event) has f more less rest = rest
-none_at_row collection m n id cell (Waits p c) has f more less rest = elim (collection == p) as (λ b. weigh (weigh_at m f) (cons_option (if b then Some (c, n) else None) more) ≡ 0) [
-  | true ↦
-      let other : (n == m) ≡ false = grind (arith, nat_tests, less) in
-      let nought : weigh_at m f (c, n) ≡ 0 = rw other refl in
-      omega (arith, nought, rest)
-  | false ↦ rest
-]
+none_at_row collection m n id cell (Waits p c) has f more less rest =
+    elim (collection == p) as (λ b. weigh (weigh_at m f) (cons_option (if b then Some (c, n) else None) more) ≡ 0) [
+      | true ↦
+          let other : (n == m) ≡ false = grind (arith, nat_tests, less) in
+          let nought : weigh_at m f (c, n) ≡ 0 = rw other refl in
+          omega (arith, nought, rest)
+      | false ↦ rest
+    ]
 
-none_at : (collection m n : ℕ) (f : Wish → ℕ) (rows : List Kept) → n + length rows ≤ m → weigh (weigh_at m f) (asked_from collection n rows) ≡ 0
+none_at : (collection m n : ℕ) (f : Wish → ℕ) (rows : List Kept) → n + length rows ≤ m →
+    weigh (weigh_at m f) (asked_from collection n rows) ≡ 0
 none_at collection m n f [] within = refl
-none_at collection m n f (row ∷ rows) within = none_at_row collection m n row.id row.cell row.stage row.has_reader f _ (omega (arith, within)) (none_at collection m (n + 1) f rows (omega (arith, within)))
+none_at collection m n f (row ∷ rows) within =
+    none_at_row collection m n row.id row.cell row.stage row.has_reader f _ (omega (arith, within)) (none_at collection m (n + 1) f rows
+    (omega (arith, within)))
 
 -- and what is asked right there counts
 all_at : (m : ℕ) (c : Condition) (f : Wish → ℕ) → weigh_at m f (c, 0 + m) ≡ f (c, 0 + m)
@@ -164,7 +184,8 @@ waits_untold : (id cell : ℕ) (stage : Stage) (has : Bool) (tracker : Waiting) 
 waits_untold id cell (Waits place c) has tracker e = (refl, refl)
 waits_untold id cell (Over event) has tracker e = cc
 
-module _ (limit capacity spare : ℕ) (rows : List Kept) (row : Kept) (fired : List Fired) (old new : Piles) (kept : IsKeptUp limit (rows ++ row ∷ []) fired capacity spare old) (tracker : Waiting)
+module _ (limit capacity spare : ℕ) (rows : List Kept) (row : Kept) (fired : List Fired) (old new : Piles)
+    (kept : IsKeptUp limit (rows ++ row ∷ []) fired capacity spare old) (tracker : Waiting)
     (waits : waiting_of_row row ≡ Some tracker) where
   -- the last row waits
   waits_on : (firing_of_row row ≡ None) × (is_waiting row ≡ true)
@@ -187,7 +208,9 @@ module _ (limit capacity spare : ℕ) (rows : List Kept) (row : Kept) (fired : L
   asked_last c n = ap (λ o. option_map_or (λ (t : Waiting). if c == t.place then Some (t.condition, n) else None) o None) waits
 
   -- what was filed
-  was_filed : (c : ℕ) (g : Wish → ℕ) → weigh g (entries_of old c) ≡ weigh g (asked_from c 0 rows) + weigh g (option_to_list (if c == tracker.place then Some (tracker.condition, 0 + length rows) else None))
+  was_filed : (c : ℕ) (g : Wish → ℕ) →
+      weigh g (entries_of old c) ≡ weigh g (asked_from c 0 rows) + weigh g
+      (option_to_list (if c == tracker.place then Some (tracker.condition, 0 + length rows) else None))
   was_filed c g =
       kept.filed.at c g
       ∙ (ap (weigh g) (asked_push c 0 rows row)
@@ -195,7 +218,9 @@ module _ (limit capacity spare : ℕ) (rows : List Kept) (row : Kept) (fired : L
       ∙ ap (λ o. weigh g (asked_from c 0 rows) + weigh g (option_to_list o)) (asked_last c (0 + length rows))))
 
   -- the table is right without it
-  pub kept_popped : ((c : ℕ) (f : Wish → ℕ) → (if c == tracker.place then weigh f (entries_of new c) + weigh (weigh_at (length rows) f) (entries_of old c) else weigh f (entries_of new c)) ≡ weigh f (entries_of old c)) → IsKeptUp limit rows fired capacity spare new
+  pub kept_popped : ((c : ℕ) (f : Wish → ℕ) →
+      (if c == tracker.place then weigh f (entries_of new c) + weigh (weigh_at (length rows) f) (entries_of old c) else weigh f
+      (entries_of new c)) ≡ weigh f (entries_of old c)) → IsKeptUp limit rows fired capacity spare new
   kept_popped withdrawn = record {
     held = record {
       rising = front_rises rows row kept.held.rising;
@@ -220,9 +245,12 @@ module _ (limit capacity spare : ℕ) (rows : List Kept) (row : Kept) (fired : L
           let none_there : weigh (weigh_at (length rows) f) (asked_from c 0 rows) ≡ 0 = none_at c (length rows) 0 f rows (omega arith) in
           let there = all_at (length rows) tracker.condition f in
           (elim (c == tracker.place) as (λ b.
-          weigh f (entries_of old c) ≡ weigh f (asked_from c 0 rows) + weigh f (option_to_list (if b then Some (tracker.condition, 0 + length rows) else None)) →
-          weigh (weigh_at (length rows) f) (entries_of old c) ≡ weigh (weigh_at (length rows) f) (asked_from c 0 rows) + weigh (weigh_at (length rows) f) (option_to_list (if b then Some (tracker.condition, 0 + length rows) else None)) →
-          (if b then weigh f (entries_of new c) + weigh (weigh_at (length rows) f) (entries_of old c) else weigh f (entries_of new c)) ≡ weigh f (entries_of old c) →
+          weigh f (entries_of old c) ≡ weigh f (asked_from c 0 rows) + weigh f
+          (option_to_list (if b then Some (tracker.condition, 0 + length rows) else None)) →
+          weigh (weigh_at (length rows) f) (entries_of old c) ≡ weigh (weigh_at (length rows) f) (asked_from c 0 rows) + weigh
+          (weigh_at (length rows) f) (option_to_list (if b then Some (tracker.condition, 0 + length rows) else None)) →
+          (if b then weigh f (entries_of new c) + weigh (weigh_at (length rows) f) (entries_of old c) else weigh f
+          (entries_of new c)) ≡ weigh f (entries_of old c) →
           weigh f (entries_of new c) ≡ weigh f (asked_from c 0 rows)) [
             | true ↦ λ all some gone. omega (arith, all, some, gone, none_there, there)
             | false ↦ λ all some gone. omega (arith, all, gone)
@@ -230,14 +258,17 @@ module _ (limit capacity spare : ℕ) (rows : List Kept) (row : Kept) (fired : L
 
 -- ---- the last row, taken out
 
-module _ (limit capacity spare : ℕ) (rows left : List Kept) (fired : List Fired) (old new : Piles) (kept : IsKeptUp limit rows fired capacity spare old) where
+module _ (limit capacity spare : ℕ) (rows left : List Kept) (fired : List Fired) (old new : Piles) (kept : IsKeptUp limit rows fired
+    capacity spare old) where
   -- the row that was taken out
-  popped : (o : Option Kept) → rows ≡ left ++ option_to_list o → (o ≡ None → rows ≡ []) → (before : Table) (tracker : Waiting) → Attaches before (table_of limit rows fired) tracker →
+  popped : (o : Option Kept) → rows ≡ left ++ option_to_list o → (o ≡ None → rows ≡ []) → (before : Table) (tracker : Waiting) →
+      Attaches before (table_of limit rows fired) tracker →
       (row : Kept) × (rows ≡ left ++ row ∷ [])
   popped (Some row) is none before tracker attaches = (row, is)
   popped None is none before tracker attaches =
       let empty : rows ≡ [] = none refl in
-      let bad : Attaches before (table_of limit [] fired) tracker = subst (λ (rs : List Kept). Attaches before (table_of limit rs fired) tracker) empty attaches in
+      let bad : Attaches before (table_of limit [] fired) tracker =
+      subst (λ (rs : List Kept). Attaches before (table_of limit rs fired) tracker) empty attaches in
       absurd (some_cells (record { id = tracker.id; name = bad.name }) before.cells (ap (λ (t : Table). t.cells) bad.next))
     where
       some_cells : (c : Cell) (cs : List Cell) → ◌≡◌ {A = List Cell} [] (cs ++ c ∷ []) → ⊥
@@ -245,16 +276,22 @@ module _ (limit capacity spare : ℕ) (rows left : List Kept) (fired : List Fire
       some_cells c (d ∷ cs) e = cc
 
   -- the table shows what it showed before
-  pub shown_again : (o : Option Kept) → rows ≡ left ++ option_to_list o → (o ≡ None → rows ≡ []) → (before : Table) (tracker : Waiting) → Attaches before (table_of limit rows fired) tracker → table_of limit left fired ≡ before
+  pub shown_again : (o : Option Kept) → rows ≡ left ++ option_to_list o → (o ≡ None → rows ≡ []) → (before : Table) (tracker : Waiting) →
+      Attaches before (table_of limit rows fired) tracker → table_of limit left fired ≡ before
   shown_again o is none before tracker attaches =
       let p = popped o is none before tracker attaches in
-      table_popped limit left p.0 fired (subst AreRising p.1 kept.held.rising) before tracker (subst (λ (rs : List Kept). Attaches before (table_of limit rs fired) tracker) p.1 attaches)
+      table_popped limit left p.0 fired (subst AreRising p.1 kept.held.rising) before tracker (subst (λ (rs : List Kept).
+      Attaches before (table_of limit rs fired) tracker) p.1 attaches)
 
   -- and is right
-  pub kept_detached : (o : Option Kept) → rows ≡ left ++ option_to_list o → (o ≡ None → rows ≡ []) → (before : Table) (tracker : Waiting) → Attaches before (table_of limit rows fired) tracker →
-      ((c : ℕ) (f : Wish → ℕ) → (if c == tracker.place then weigh f (entries_of new c) + weigh (weigh_at (length left) f) (entries_of old c) else weigh f (entries_of new c)) ≡ weigh f (entries_of old c)) → IsKeptUp limit left fired capacity spare new
+  pub kept_detached : (o : Option Kept) → rows ≡ left ++ option_to_list o → (o ≡ None → rows ≡ []) → (before : Table) (tracker : Waiting) →
+      Attaches before (table_of limit rows fired) tracker →
+      ((c : ℕ) (f : Wish → ℕ) → (if c == tracker.place then weigh f (entries_of new c) + weigh (weigh_at (length left) f)
+      (entries_of old c) else weigh f (entries_of new c)) ≡ weigh f (entries_of old c)) → IsKeptUp limit left fired capacity spare new
   kept_detached o is none before tracker attaches withdrawn =
       let p = popped o is none before tracker attaches in
-      let so : Attaches before (table_of limit (left ++ p.0 ∷ []) fired) tracker = subst (λ (rs : List Kept). Attaches before (table_of limit rs fired) tracker) p.1 attaches in
-      kept_popped limit capacity spare left p.0 fired old new (subst (λ (rs : List Kept). IsKeptUp limit rs fired capacity spare old) p.1 kept) tracker
+      let so : Attaches before (table_of limit (left ++ p.0 ∷ []) fired) tracker =
+      subst (λ (rs : List Kept). Attaches before (table_of limit rs fired) tracker) p.1 attaches in
+      kept_popped limit capacity spare left p.0 fired old new (subst (λ (rs : List Kept). IsKeptUp limit rs fired capacity spare old) p.1
+      kept) tracker
       (waits_same limit left p.0 fired (subst AreRising p.1 kept.held.rising) before tracker so).1 withdrawn

@@ -24,7 +24,8 @@ none_below id [] below = tt
 none_below id (row ∷ rows) below = ((λ same. omega (arith, below.0)), none_below id rows below.1)
 
 -- each row of rising ones is found at its place
-pub found_at : (rows : List Kept) → AreRising rows → (at : ℕ) (d : Kept) → at < length rows → Found (get_or rows at d).id rows at (get_or rows at d)
+pub found_at : (rows : List Kept) → AreRising rows → (at : ℕ) (d : Kept) → at < length rows →
+    Found (get_or rows at d).id rows at (get_or rows at d)
 found_at [] rising at d within = absurd (omega arith)
 found_at (row ∷ rows) rising zero d within = here refl (none_below row.id rows rising.0)
 found_at (row ∷ rows) rising (suc at) d within =
@@ -53,36 +54,44 @@ module _ (id : ℕ) where
   found_cell (later {other = other} differ found) = rw (other_id other.id id differ) (found_cell found)
 
   -- what holds of all holds of it
-  pub found_told : {rows : List Kept} {at : ℕ} {row : Kept} (fired : List Fired) → Found id rows at row → AllByRecursion (λ (r : Kept). firing_of fired r.id ≡ firing_of_row r) rows → firing_of fired id ≡ firing_of_row row
+  pub found_told : {rows : List Kept} {at : ℕ} {row : Kept} (fired : List Fired) → Found id rows at row →
+      AllByRecursion (λ (r : Kept). firing_of fired r.id ≡ firing_of_row r) rows → firing_of fired id ≡ firing_of_row row
   found_told fired (here same rest) told = rw (← same) told.0
   found_told fired (later differ found) told = found_told fired found told.1
 
   -- no reader is here of an id that none has
   pub none_untaken : (rows : List Kept) → NoneHas id rows → is_untaken (filter_map untaken_of_row rows) id ≡ false
   none_untaken [] none = refl
-  none_untaken (row ∷ rows) none = elim row.has_reader as (λ b. is_untaken (cons_option (if b then Some row.id else None) (filter_map untaken_of_row rows)) id ≡ false) [
-    | true ↦ rw (other_id row.id id none.0) (none_untaken rows none.1)
-    | false ↦ none_untaken rows none.1
-  ]
+  none_untaken (row ∷ rows) none =
+      elim row.has_reader as (λ b. is_untaken (cons_option (if b then Some row.id else None) (filter_map untaken_of_row rows)) id ≡ false) [
+        | true ↦ rw (other_id row.id id none.0) (none_untaken rows none.1)
+        | false ↦ none_untaken rows none.1
+      ]
 
   -- and no id is lost with it
   pub none_without : (rows : List Kept) → NoneHas id rows → without (filter_map untaken_of_row rows) id ≡ filter_map untaken_of_row rows
   none_without [] none = refl
-  none_without (row ∷ rows) none = elim row.has_reader as (λ b. without (cons_option (if b then Some row.id else None) (filter_map untaken_of_row rows)) id ≡ cons_option (if b then Some row.id else None) (filter_map untaken_of_row rows)) [
-    | true ↦ rw (other_id row.id id none.0) (ap (λ l. row.id ∷ l) (none_without rows none.1))
-    | false ↦ none_without rows none.1
-  ]
+  none_without (row ∷ rows) none =
+      elim row.has_reader as (λ b. without (cons_option (if b then Some row.id else None) (filter_map untaken_of_row rows)) id ≡ cons_option
+      (if b then Some row.id else None) (filter_map untaken_of_row rows)) [
+        | true ↦ rw (other_id row.id id none.0) (ap (λ l. row.id ∷ l) (none_without rows none.1))
+        | false ↦ none_without rows none.1
+      ]
 
   -- its reader is here exactly if the id is untaken
-  pub found_untaken : {rows : List Kept} {at : ℕ} {row : Kept} → Found id rows at row → is_untaken (filter_map untaken_of_row rows) id ≡ row.has_reader
-  found_untaken (here {row = row} {rows = rows} same rest) = elim row.has_reader as (λ b. is_untaken (cons_option (if b then Some row.id else None) (filter_map untaken_of_row rows)) id ≡ b) [
-    | true ↦ rw same (rw (same_id id))
-    | false ↦ none_untaken rows rest
-  ]
-  found_untaken (later {row = row} {other = other} {rows = rows} differ found) = elim other.has_reader as (λ b. is_untaken (cons_option (if b then Some other.id else None) (filter_map untaken_of_row rows)) id ≡ row.has_reader) [
-    | true ↦ rw (other_id other.id id differ) (found_untaken found)
-    | false ↦ found_untaken found
-  ]
+  pub found_untaken : {rows : List Kept} {at : ℕ} {row : Kept} → Found id rows at row →
+      is_untaken (filter_map untaken_of_row rows) id ≡ row.has_reader
+  found_untaken (here {row = row} {rows = rows} same rest) =
+      elim row.has_reader as (λ b. is_untaken (cons_option (if b then Some row.id else None) (filter_map untaken_of_row rows)) id ≡ b) [
+        | true ↦ rw same (rw (same_id id))
+        | false ↦ none_untaken rows rest
+      ]
+  found_untaken (later {row = row} {other = other} {rows = rows} differ found) =
+      elim other.has_reader as (λ b. is_untaken (cons_option (if b then Some other.id else None) (filter_map untaken_of_row rows))
+      id ≡ row.has_reader) [
+        | true ↦ rw (other_id other.id id differ) (found_untaken found)
+        | false ↦ found_untaken found
+      ]
 
 -- a table of these parts
 abbrev pub table_with : ℕ → List Cell → List Waiting → List ℕ → List Fired → Table
@@ -94,34 +103,46 @@ taken row = record row { has_reader = false }
 
 module _ (id : ℕ) where
   -- what the change of its reader leaves of the rows
-  pub taken_cells : {rows : List Kept} {at : ℕ} {row : Kept} → Found id rows at row → map cell_of_row (set rows at (taken row)) ≡ map cell_of_row rows
+  pub taken_cells : {rows : List Kept} {at : ℕ} {row : Kept} → Found id rows at row →
+      map cell_of_row (set rows at (taken row)) ≡ map cell_of_row rows
   taken_cells (here same rest) = refl
   taken_cells (later {other = other} differ found) = ap (λ l. cell_of_row other ∷ l) (taken_cells found)
 
   -- it waits as before
-  pub taken_unfired : {rows : List Kept} {at : ℕ} {row : Kept} → Found id rows at row → filter_map waiting_of_row (set rows at (taken row)) ≡ filter_map waiting_of_row rows
+  pub taken_unfired : {rows : List Kept} {at : ℕ} {row : Kept} → Found id rows at row →
+      filter_map waiting_of_row (set rows at (taken row)) ≡ filter_map waiting_of_row rows
   taken_unfired (here same rest) = refl
   taken_unfired (later {other = other} differ found) = ap (cons_option (waiting_of_row other)) (taken_unfired found)
 
   -- it is filed as before
-  pub taken_asked : (collection : ℕ) {rows : List Kept} {at : ℕ} {row : Kept} → Found id rows at row → (n : ℕ) → asked_from collection n (set rows at (taken row)) ≡ asked_from collection n rows
+  pub taken_asked : (collection : ℕ) {rows : List Kept} {at : ℕ} {row : Kept} → Found id rows at row → (n : ℕ) →
+      asked_from collection n (set rows at (taken row)) ≡ asked_from collection n rows
   taken_asked collection (here same rest) n = refl
-  taken_asked collection (later {other = other} differ found) n = ap (cons_option (asked collection n other)) (taken_asked collection found (n + 1))
+  taken_asked collection (later {other = other} differ found) n =
+      ap (cons_option (asked collection n other)) (taken_asked collection found (n + 1))
 
   -- its id is no longer untaken
-  pub taken_untaken : {rows : List Kept} {at : ℕ} {row : Kept} → Found id rows at row → filter_map untaken_of_row (set rows at (taken row)) ≡ without (filter_map untaken_of_row rows) id
-  taken_untaken (here {row = row} {rows = rows} same rest) = elim row.has_reader as (λ b. filter_map untaken_of_row rows ≡ without (cons_option (if b then Some row.id else None) (filter_map untaken_of_row rows)) id) [
-    | true ↦ rw same (rw (same_id id) (sym (none_without id rows rest)))
-    | false ↦ sym (none_without id rows rest)
-  ]
-  taken_untaken (later {row = row} {other = other} {rows = rows} {at = at} differ found) = elim other.has_reader as (λ b. cons_option (if b then Some other.id else None) (filter_map untaken_of_row (set rows at (taken row))) ≡ without (cons_option (if b then Some other.id else None) (filter_map untaken_of_row rows)) id) [
-    | true ↦ rw (other_id other.id id differ) (ap (λ l. other.id ∷ l) (taken_untaken found))
-    | false ↦ taken_untaken found
-  ]
+  pub taken_untaken : {rows : List Kept} {at : ℕ} {row : Kept} → Found id rows at row →
+      filter_map untaken_of_row (set rows at (taken row)) ≡ without (filter_map untaken_of_row rows) id
+  taken_untaken (here {row = row} {rows = rows} same rest) =
+      elim row.has_reader as (λ b. filter_map untaken_of_row rows ≡ without (cons_option (if b then Some row.id else None)
+      (filter_map untaken_of_row rows)) id) [
+        | true ↦ rw same (rw (same_id id) (sym (none_without id rows rest)))
+        | false ↦ sym (none_without id rows rest)
+      ]
+  taken_untaken (later {row = row} {other = other} {rows = rows} {at = at} differ found) =
+      elim other.has_reader as (λ b. cons_option (if b then Some other.id else None)
+      (filter_map untaken_of_row (set rows at (taken row))) ≡ without (cons_option (if b then Some other.id else None)
+      (filter_map untaken_of_row rows)) id) [
+        | true ↦ rw (other_id other.id id differ) (ap (λ l. other.id ∷ l) (taken_untaken found))
+        | false ↦ taken_untaken found
+      ]
 
   -- as many wait
-  taken_count : {rows : List Kept} {at : ℕ} {row : Kept} → Found id rows at row → count_by is_waiting (set rows at (taken row)) ≡ count_by is_waiting rows
-  taken_count (here {row = row} {rows = rows} same rest) = sum_by-cons (λ r. cond (is_waiting r) 1 0) (taken row) rows ∙ sym (sum_by-cons (λ r. cond (is_waiting r) 1 0) row rows)
+  taken_count : {rows : List Kept} {at : ℕ} {row : Kept} → Found id rows at row →
+      count_by is_waiting (set rows at (taken row)) ≡ count_by is_waiting rows
+  taken_count (here {row = row} {rows = rows} same rest) =
+      sum_by-cons (λ r. cond (is_waiting r) 1 0) (taken row) rows ∙ sym (sum_by-cons (λ r. cond (is_waiting r) 1 0) row rows)
   taken_count (later {row = row} {other = other} {rows = rows} {at = at} differ found) =
       sum_by-cons (λ r. cond (is_waiting r) 1 0) other (set rows at (taken row))
       ∙ ap (λ n. cond (is_waiting other) 1 0 + n) (taken_count found)
@@ -133,7 +154,8 @@ module _ (id : ℕ) where
   taken_length (later differ found) = ap suc (taken_length found)
 
   -- an id below all stays so
-  taken_below : (n : ℕ) {rows : List Kept} {at : ℕ} {row : Kept} → Found id rows at row → AllByRecursion (λ (r : Kept). n < r.id) rows → AllByRecursion (λ (r : Kept). n < r.id) (set rows at (taken row))
+  taken_below : (n : ℕ) {rows : List Kept} {at : ℕ} {row : Kept} → Found id rows at row → AllByRecursion (λ (r : Kept). n < r.id) rows →
+      AllByRecursion (λ (r : Kept). n < r.id) (set rows at (taken row))
   taken_below n (here same rest) below = below
   taken_below n (later differ found) below = (below.0, taken_below n found below.1)
 
@@ -143,17 +165,21 @@ module _ (id : ℕ) where
   taken_rising (later {other = other} differ found) rising = (taken_below other.id found rising.0, taken_rising found rising.1)
 
   -- each firing is found under its id
-  taken_told : (fired : List Fired) {rows : List Kept} {at : ℕ} {row : Kept} → Found id rows at row → AllByRecursion (λ (r : Kept). firing_of fired r.id ≡ firing_of_row r) rows → AllByRecursion (λ (r : Kept). firing_of fired r.id ≡ firing_of_row r) (set rows at (taken row))
+  taken_told : (fired : List Fired) {rows : List Kept} {at : ℕ} {row : Kept} → Found id rows at row →
+      AllByRecursion (λ (r : Kept). firing_of fired r.id ≡ firing_of_row r) rows →
+      AllByRecursion (λ (r : Kept). firing_of fired r.id ≡ firing_of_row r) (set rows at (taken row))
   taken_told fired (here same rest) told = told
   taken_told fired (later differ found) told = (told.0, taken_told fired found told.1)
 
   -- no id is new
-  taken_none : (other : ℕ) {rows : List Kept} {at : ℕ} {row : Kept} → Found id rows at row → NoneHas other (set rows at (taken row)) → NoneHas other rows
+  taken_none : (other : ℕ) {rows : List Kept} {at : ℕ} {row : Kept} → Found id rows at row → NoneHas other (set rows at (taken row)) →
+      NoneHas other rows
   taken_none other (here same rest) none = none
   taken_none other (later differ found) none = (none.0, taken_none other found none.1)
 
   -- the rows stay sound
-  pub held_taken : (limit : ℕ) (fired : List Fired) (capacity : ℕ) {rows : List Kept} {at : ℕ} {row : Kept} → Found id rows at row → AreHeld limit rows fired capacity → AreHeld limit (set rows at (taken row)) fired capacity
+  pub held_taken : (limit : ℕ) (fired : List Fired) (capacity : ℕ) {rows : List Kept} {at : ℕ} {row : Kept} → Found id rows at row →
+      AreHeld limit rows fired capacity → AreHeld limit (set rows at (taken row)) fired capacity
   held_taken limit fired capacity found held = record {
     rising = taken_rising found held.rising;
     counted = ap (λ n. length fired + n) (taken_count found) ∙ held.counted ∙ sym (taken_length found);
@@ -164,7 +190,9 @@ module _ (id : ℕ) where
   }
 
   -- and so does the table
-  pub kept_taken : (limit : ℕ) (fired : List Fired) (capacity spare : ℕ) (piles : Piles) {rows : List Kept} {at : ℕ} {row : Kept} → Found id rows at row → IsKeptUp limit rows fired capacity spare piles → IsKeptUp limit (set rows at (taken row)) fired capacity spare piles
+  pub kept_taken : (limit : ℕ) (fired : List Fired) (capacity spare : ℕ) (piles : Piles) {rows : List Kept} {at : ℕ} {row : Kept} →
+      Found id rows at row → IsKeptUp limit rows fired capacity spare piles →
+      IsKeptUp limit (set rows at (taken row)) fired capacity spare piles
   kept_taken limit fired capacity spare piles found kept = record {
     held = held_taken limit fired capacity found kept.held;
     filed = record { at = λ collection f. kept.filed.at collection f ∙ ap (weigh f) (sym (taken_asked collection found 0)) };
@@ -172,17 +200,28 @@ module _ (id : ℕ) where
   }
 
   -- of what the table shows only those still to be taken change
-  pub table_taken : (limit : ℕ) (fired : List Fired) {rows : List Kept} {at : ℕ} {row : Kept} → Found id rows at row → table_of limit (set rows at (taken row)) fired ≡ record (table_of limit rows fired) { untaken = without (filter_map untaken_of_row rows) id }
+  pub table_taken : (limit : ℕ) (fired : List Fired) {rows : List Kept} {at : ℕ} {row : Kept} → Found id rows at row →
+      table_of limit (set rows at (taken row)) fired ≡ record (table_of limit rows
+      fired) { untaken = without (filter_map untaken_of_row rows) id }
   table_taken limit fired {rows} {at} {row} found =
-      ap (λ l. table_with limit l (filter_map waiting_of_row (set rows at (taken row))) (filter_map untaken_of_row (set rows at (taken row))) fired) (taken_cells found)
-      ∙ ap (λ l. table_with limit (map cell_of_row rows) l (filter_map untaken_of_row (set rows at (taken row))) fired) (taken_unfired found)
+      ap (λ l. table_with limit l (filter_map waiting_of_row (set rows at (taken row)))
+      (filter_map untaken_of_row (set rows at (taken row))) fired) (taken_cells found)
+      ∙ ap (λ l. table_with limit (map cell_of_row rows) l (filter_map untaken_of_row (set rows at (taken row))) fired)
+      (taken_unfired found)
       ∙ ap (λ l. table_with limit (map cell_of_row rows) (filter_map waiting_of_row rows) l fired) (taken_untaken found)
 
   -- the reader of the row is the one that the table gives
-  pub reader_taken : (limit : ℕ) (fired : List Fired) {rows : List Kept} {at : ℕ} {row : Kept} → Found id rows at row → AllByRecursion (λ (r : Kept). firing_of fired r.id ≡ firing_of_row r) rows → reader_of_row row ≡ (if is_untaken (table_of limit rows fired).untaken id then Some (reader_of (table_of limit rows fired) id) else None)
+  pub reader_taken : (limit : ℕ) (fired : List Fired) {rows : List Kept} {at : ℕ} {row : Kept} → Found id rows at row →
+      AllByRecursion (λ (r : Kept). firing_of fired r.id ≡ firing_of_row r) rows →
+      reader_of_row row ≡ (if is_untaken (table_of limit rows fired).untaken id then Some (reader_of (table_of limit rows fired)
+      id) else None)
   reader_taken limit fired {rows} {at} {row} found told =
       rw (found_untaken id found, found_cell id found, found_told id fired found told, found_id id found) refl
 
   -- and its cell is the one that the table has for the id
-  pub reader_cell : {rows : List Kept} {at : ℕ} {row : Kept} → Found id rows at row → IfSome (reader_of_row row) (λ (t : Reader). cell_of (map cell_of_row rows) id ≡ Some t.cell)
-  reader_cell {rows} {at} {row} found = elim row.has_reader as (λ b. IfSome (if b then Some (record { tracker = row.id; cell = row.cell; known = firing_of_row row }) else None) (λ (t : Reader). cell_of (map cell_of_row rows) id ≡ Some t.cell)) [ true ↦ found_cell id found | false ↦ tt ]
+  pub reader_cell : {rows : List Kept} {at : ℕ} {row : Kept} → Found id rows at row →
+      IfSome (reader_of_row row) (λ (t : Reader). cell_of (map cell_of_row rows) id ≡ Some t.cell)
+  reader_cell {rows} {at} {row} found =
+      elim row.has_reader as (λ b. IfSome
+      (if b then Some (record { tracker = row.id; cell = row.cell; known = firing_of_row row }) else None) (λ (t : Reader).
+      cell_of (map cell_of_row rows) id ≡ Some t.cell)) [ true ↦ found_cell id found | false ↦ tt ]

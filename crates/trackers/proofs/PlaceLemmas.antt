@@ -21,13 +21,15 @@ rises (row ∷ rows) rising (suc i) zero d le within = absurd (omega arith)
 rises (row ∷ rows) rising (suc i) (suc j) d le within = rises rows rising.1 i j d (omega arith) (omega arith)
 
 -- the comparisons with an id rise along the rows, as a binary search asks
-comparisons_rise : (id : ℕ) (rows : List Kept) → AreRising rows → IsNonDecreasingBy (λ (row : Kept). ordering_index (nat_cmp row.id id)) rows
+comparisons_rise : (id : ℕ) (rows : List Kept) → AreRising rows →
+    IsNonDecreasingBy (λ (row : Kept). ordering_index (nat_cmp row.id id)) rows
 comparisons_rise id rows rising i j d le within =
     let up = rises rows rising i j d le within in
     grind (arith, nat_tests)
 
 -- a binary search by the id ends at its row, or there is none
-pub searched : (id : ℕ) (rows : List Kept) → AreRising rows → (r : Result ℕ ℕ) → IsSearchInRange r (length rows) → IsBinarySearchResult (λ (row : Kept). nat_cmp row.id id) rows r → IsPlace id rows (result_ok r)
+pub searched : (id : ℕ) (rows : List Kept) → AreRising rows → (r : Result ℕ ℕ) → IsSearchInRange r (length rows) →
+    IsBinarySearchResult (λ (row : Kept). nat_cmp row.id id) rows r → IsPlace id rows (result_ok r)
 searched id rows rising (Ok at) in_range equal =
     let d : Kept = record { id = 0; cell = 0; stage = Over 0; has_reader = false } in
     let same : (get_or rows at d).id ≡ id = ranked _ id _ (sym (equal d)) in

@@ -13,18 +13,24 @@ use Rattle.trackers.proofs.HeldLemmas.{count_after, held_after, cells_after, unt
 
 module _ (w : World) (e : ℕ) (rows rows' : List Kept) (over : rows' ≡ map (after w e) rows) where
   -- of what the table shows those that wait and the firings change
-  pub swept_rest : (limit : ℕ) (fired fired' : List Fired) → table_of limit rows' fired' ≡ record (table_of limit rows fired) { unfired = filter_map waiting_of_row rows'; fired = fired' }
+  pub swept_rest : (limit : ℕ) (fired fired' : List Fired) →
+      table_of limit rows' fired' ≡ record (table_of limit rows fired) { unfired = filter_map waiting_of_row rows'; fired = fired' }
   swept_rest limit fired fired' =
-      ap (λ l. table_with limit l (filter_map waiting_of_row rows') (filter_map untaken_of_row rows') fired') (ap (map cell_of_row) over ∙ cells_after w e rows)
-      ∙ ap (λ l. table_with limit (map cell_of_row rows) (filter_map waiting_of_row rows') l fired') (ap (filter_map untaken_of_row) over ∙ untaken_after w e rows)
+      ap (λ l. table_with limit l (filter_map waiting_of_row rows') (filter_map untaken_of_row rows') fired') (ap (map cell_of_row) over
+      ∙ cells_after w e rows)
+      ∙ ap (λ l. table_with limit (map cell_of_row rows) (filter_map waiting_of_row rows') l fired') (ap (filter_map untaken_of_row) over
+      ∙ untaken_after w e rows)
 
   -- those wait that are not due
   pub swept_unfired : filter_map waiting_of_row rows' ≡ still_waiting w (filter_map waiting_of_row rows)
   swept_unfired = ap (filter_map waiting_of_row) over ∙ unfired_after w e rows
 
-  module _ (limit capacity capacity' spare spare' : ℕ) (fired fired' : List Fired) (old : Piles) (kept : IsKeptUp limit rows fired capacity spare old) (grown : fired' ≡ fired ++ filter_map (fires w e) rows) (same : capacity' ≡ capacity) (more : spare ≤ spare') where
+  module _ (limit capacity capacity' spare spare' : ℕ) (fired fired' : List Fired) (old : Piles) (kept : IsKeptUp limit rows fired capacity
+      spare old) (grown : fired' ≡ fired ++ filter_map (fires w e) rows) (same : capacity' ≡ capacity) (more : spare ≤ spare') where
     -- the table is right once what holds was taken out under the place
-    pub swept_dropped : (new : Piles) (place : ℕ) → AllByRecursion (Elsewhere w place) (filter_map waiting_of_row rows) → ((c : ℕ) (f : Wish → ℕ) → weigh f (entries_of new c) ≡ (if c == place then weigh f (undue_in w (entries_of old c)) else weigh f (entries_of old c))) →
+    pub swept_dropped : (new : Piles) (place : ℕ) → AllByRecursion (Elsewhere w place) (filter_map waiting_of_row rows) →
+        ((c : ℕ) (f : Wish → ℕ) → weigh f (entries_of new c) ≡ (if c == place then weigh f (undue_in w (entries_of old c)) else weigh f
+        (entries_of old c))) →
         IsKeptUp limit rows' fired' capacity' spare' new
     swept_dropped new place all dropped = rw (over, grown, same) record {
       held = held_after w e limit fired capacity rows kept.held;

@@ -9,20 +9,23 @@ use Rattle.trackers.specs.Row.{Kept, Stage, Waits, Over, is_waiting, waits}
 use Rattle.trackers.specs.Held.{is_met, after, fires, Reach, pass, pick}
 
 -- what h gives of a list with one more item
-pub filter_map_push : {X Y : Type 0} (h : X → Option Y) (xs : List X) (x : X) → filter_map h (xs ++ x ∷ []) ≡ filter_map h xs ++ option_to_list (h x)
+pub filter_map_push : {X Y : Type 0} (h : X → Option Y) (xs : List X) (x : X) →
+    filter_map h (xs ++ x ∷ []) ≡ filter_map h xs ++ option_to_list (h x)
 filter_map_push h [] x = elim (h x) as (λ o. cons_option o [] ≡ option_to_list o) [ None ↦ refl | Some y ↦ refl ]
-filter_map_push h (y ∷ ys) x = elim (h y) as (λ o. cons_option o (filter_map h (ys ++ x ∷ [])) ≡ cons_option o (filter_map h ys) ++ option_to_list (h x)) [
-  | None ↦ filter_map_push h ys x
-  | Some z ↦ ap (λ l. z ∷ l) (filter_map_push h ys x)
-]
+filter_map_push h (y ∷ ys) x =
+    elim (h y) as (λ o. cons_option o (filter_map h (ys ++ x ∷ [])) ≡ cons_option o (filter_map h ys) ++ option_to_list (h x)) [
+      | None ↦ filter_map_push h ys x
+      | Some z ↦ ap (λ l. z ∷ l) (filter_map_push h ys x)
+    ]
 
 -- what h gives of two lists in a row
 pub filter_map_append : {X Y : Type 0} (h : X → Option Y) (xs ys : List X) → filter_map h (xs ++ ys) ≡ filter_map h xs ++ filter_map h ys
 filter_map_append h [] ys = refl
-filter_map_append h (x ∷ xs) ys = elim (h x) as (λ o. cons_option o (filter_map h (xs ++ ys)) ≡ cons_option o (filter_map h xs) ++ filter_map h ys) [
-  | None ↦ filter_map_append h xs ys
-  | Some z ↦ ap (λ l. z ∷ l) (filter_map_append h xs ys)
-]
+filter_map_append h (x ∷ xs) ys =
+    elim (h x) as (λ o. cons_option o (filter_map h (xs ++ ys)) ≡ cons_option o (filter_map h xs) ++ filter_map h ys) [
+      | None ↦ filter_map_append h xs ys
+      | Some z ↦ ap (λ l. z ∷ l) (filter_map_append h xs ys)
+    ]
 
 -- a row as the record of its fields
 abbrev pub row_of : ℕ → ℕ → Stage → Bool → Kept
@@ -58,7 +61,8 @@ module _ (w : World) (e : ℕ) (start : List Kept) (had : List Fired) where
     pub reach : Reach w (length done + 1) todo due
 
   -- what is over with one more row that is not met
-  done_pass : (done : List Kept) (row : Kept) (todo rows : List Kept) → is_met w row ≡ false → rows ≡ map (after w e) done ++ row ∷ todo → rows ≡ map (after w e) (done ++ row ∷ []) ++ todo
+  done_pass : (done : List Kept) (row : Kept) (todo rows : List Kept) → is_met w row ≡ false → rows ≡ map (after w e) done ++ row ∷ todo →
+      rows ≡ map (after w e) (done ++ row ∷ []) ++ todo
   done_pass done row todo rows unmet now =
       now
       ∙ sym (append_assoc (map (after w e) done) (row ∷ []) todo)
@@ -66,7 +70,8 @@ module _ (w : World) (e : ℕ) (start : List Kept) (had : List Fired) where
       ∙ ap (λ l. l ++ todo) (sym (map_push (after w e) done row))
 
   -- the firings with one more row that is not met
-  grown_pass : (done : List Kept) (row : Kept) (fired : List Fired) → is_met w row ≡ false → fired ≡ had ++ filter_map (fires w e) done → fired ≡ had ++ filter_map (fires w e) (done ++ row ∷ [])
+  grown_pass : (done : List Kept) (row : Kept) (fired : List Fired) → is_met w row ≡ false → fired ≡ had ++ filter_map (fires w e) done →
+      fired ≡ had ++ filter_map (fires w e) (done ++ row ∷ [])
   grown_pass done row fired unmet grown =
       grown
       ∙ ap (λ l. had ++ l) (sym (filter_map_push (fires w e) done row
@@ -74,9 +79,12 @@ module _ (w : World) (e : ℕ) (start : List Kept) (had : List Fired) where
       ∙ append-nil (filter_map (fires w e) done)))
 
   -- the rows before the next place that is due are not met
-  stand_at : (n : ℕ) (todo : List Kept) (at : ℕ) (due : List ℕ) → Reach w n todo (at ∷ due) → (done : List Kept) (rows : List Kept) (fired : List Fired) → n ≡ length done → start ≡ done ++ todo → rows ≡ map (after w e) done ++ todo → fired ≡ had ++ filter_map (fires w e) done → Stands rows fired at due
+  stand_at : (n : ℕ) (todo : List Kept) (at : ℕ) (due : List ℕ) → Reach w n todo (at ∷ due) →
+      (done : List Kept) (rows : List Kept) (fired : List Fired) → n ≡ length done → start ≡ done ++ todo →
+      rows ≡ map (after w e) done ++ todo → fired ≡ had ++ filter_map (fires w e) done → Stands rows fired at due
   stand_at n [] at due reach done rows fired place whole now grown = elim reach [ ]
-  stand_at n (row ∷ todo) at due (pass unmet reach) done rows fired place whole now grown = stand_at (n + 1) todo at due reach (done ++ row ∷ []) rows fired
+  stand_at n (row ∷ todo) at due (pass unmet reach) done rows fired place whole now grown =
+      stand_at (n + 1) todo at due reach (done ++ row ∷ []) rows fired
       (omega (arith, length-append done (row ∷ [])))
       (whole ∙ sym (append_assoc done (row ∷ []) todo))
       (done_pass done row todo rows unmet now)
@@ -94,11 +102,14 @@ module _ (w : World) (e : ℕ) (start : List Kept) (had : List Fired) where
 
   -- where the walk stands when a place is left
   pub stand : (rows : List Kept) (fired : List Fired) (at : ℕ) (due : List ℕ) → Walked rows fired (at ∷ due) → Stands rows fired at due
-  stand rows fired at due walked = stand_at (length walked.done) walked.todo at due walked.reach walked.done rows fired refl walked.whole walked.now walked.grown
+  stand rows fired at due walked =
+      stand_at (length walked.done) walked.todo at due walked.reach walked.done rows fired refl walked.whole walked.now walked.grown
 
   -- the walk at an index of the places
-  pub stand_here : (rows : List Kept) (fired : List Fired) (due : List ℕ) (i : ℕ) → i < length due → Walked rows fired (drop i due) → Stands rows fired (get_or due i 0) (drop (i + 1) due)
-  stand_here rows fired due i below walked = stand rows fired (get_or due i 0) (drop (i + 1) due) (subst (Walked rows fired) (drop_more due i 0 below) walked)
+  pub stand_here : (rows : List Kept) (fired : List Fired) (due : List ℕ) (i : ℕ) → i < length due → Walked rows fired (drop i due) →
+      Stands rows fired (get_or due i 0) (drop (i + 1) due)
+  stand_here rows fired due i below walked =
+      stand rows fired (get_or due i 0) (drop (i + 1) due) (subst (Walked rows fired) (drop_more due i 0 below) walked)
 
   module _ (rows : List Kept) (fired : List Fired) (at : ℕ) (due : List ℕ) (stands : Stands rows fired at due) where
     -- so many rows are done
@@ -162,17 +173,21 @@ module _ (w : World) (e : ℕ) (start : List Kept) (had : List Fired) where
   walk_start due reach = record { done = []; todo = start; whole = refl; now = refl; grown = sym (append-nil had); reach = reach }
 
 -- the firings of a row and its change balance
-balance_at : (w : World) (e id cell : ℕ) (stage : Stage) (has : Bool) (row : Kept) → row ≡ record { id = id; cell = cell; stage = stage; has_reader = has } → length (option_to_list (fires w e row)) + cond (is_waiting (after w e row)) 1 0 ≡ cond (is_waiting row) 1 0
+balance_at : (w : World) (e id cell : ℕ) (stage : Stage) (has : Bool) (row : Kept) →
+    row ≡ record { id = id; cell = cell; stage = stage; has_reader = has } →
+    length (option_to_list (fires w e row)) + cond (is_waiting (after w e row)) 1 0 ≡ cond (is_waiting row) 1 0
 balance_at w e id cell (Over event) has row same = rw same
 balance_at w e id cell (Waits place c) has row same =
     let fired : Option Fired = Some (record { tracker = id; event = e }) in
     let none_fired : Option Fired = None in
     let over : Kept = record { id = id; cell = cell; stage = Over e; has_reader = has } in
     let still : Kept = record { id = id; cell = cell; stage = Waits place c; has_reader = has } in
-    rw same (elim (holds w c) as (λ b. length (option_to_list (if b then fired else none_fired)) + cond (is_waiting (if b then over else still)) 1 0 ≡ 1) [ true ↦ refl | false ↦ refl ])
+    rw same (elim (holds w c) as (λ b. length (option_to_list (if b then fired else none_fired)) + cond
+    (is_waiting (if b then over else still)) 1 0 ≡ 1) [ true ↦ refl | false ↦ refl ])
 
 -- the same for a row as it is
-pub balance : (w : World) (e : ℕ) (row : Kept) → length (option_to_list (fires w e row)) + cond (is_waiting (after w e row)) 1 0 ≡ cond (is_waiting row) 1 0
+pub balance : (w : World) (e : ℕ) (row : Kept) → length (option_to_list (fires w e row)) + cond (is_waiting (after w e row)) 1 0 ≡ cond
+    (is_waiting row) 1 0
 balance w e row = balance_at w e row.id row.cell row.stage row.has_reader row refl
 
 module _ (rows : List Kept) (at : ℕ) (row : Kept) (within : at < length rows) (here : get_or rows at row ≡ row) where
@@ -183,7 +198,8 @@ module _ (rows : List Kept) (at : ℕ) (row : Kept) (within : at < length rows) 
       omega (arith, rw (here, waits) at changed)
 
   -- the room for the firings stays when the row changes
-  pub room_step : (w : World) (e : ℕ) (fired : List Fired) (capacity : ℕ) → length fired + count_by is_waiting rows ≤ capacity → length (fired ++ option_to_list (fires w e row)) + count_by is_waiting (set rows at (after w e row)) ≤ capacity
+  pub room_step : (w : World) (e : ℕ) (fired : List Fired) (capacity : ℕ) → length fired + count_by is_waiting rows ≤ capacity →
+      length (fired ++ option_to_list (fires w e row)) + count_by is_waiting (set rows at (after w e row)) ≤ capacity
   room_step w e fired capacity room =
       let changed = sum_by-set (λ r. cond (is_waiting r) 1 0) rows at (after w e row) row within in
       omega (arith, balance w e row, rw here at changed, length-append fired (option_to_list (fires w e row)))

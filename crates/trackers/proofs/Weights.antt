@@ -17,10 +17,12 @@ module _ {X : Type 0} (f : X → ℕ) where
   -- those that pass a test
   pub weigh_filter : (test : X → Bool) (xs : List X) → weigh f (filter test xs) ≡ weigh (λ x. if test x then f x else 0) xs
   weigh_filter test [] = refl
-  weigh_filter test (x ∷ xs) = elim (test x) as (λ b. weigh f (cond b (x ∷ filter test xs) (filter test xs)) ≡ (if b then f x else 0) + weigh (λ x. if test x then f x else 0) xs) [
-    | true ↦ omega (arith, weigh_filter test xs)
-    | false ↦ omega (arith, weigh_filter test xs)
-  ]
+  weigh_filter test (x ∷ xs) =
+      elim (test x) as (λ b. weigh f (cond b (x ∷ filter test xs) (filter test xs)) ≡ (if b then f x else 0) + weigh (λ x.
+      if test x then f x else 0) xs) [
+        | true ↦ omega (arith, weigh_filter test xs)
+        | false ↦ omega (arith, weigh_filter test xs)
+      ]
 
   -- as std sums
   weigh_sum : (xs : List X) → sum_by f xs ≡ weigh f xs
@@ -92,7 +94,8 @@ not_less x y xs ys rise alike less =
     let one = one_here x xs in
     absurd (omega (arith, none, one, alike (one_at x)))
 
-same_first : (x y : ℕ) (xs ys : List ℕ) → AllByRecursion (λ (z : ℕ). x ≤ z) xs → AllByRecursion (λ (z : ℕ). y ≤ z) ys → AreAlike (x ∷ xs) (y ∷ ys) → x ≡ y
+same_first : (x y : ℕ) (xs ys : List ℕ) → AllByRecursion (λ (z : ℕ). x ≤ z) xs → AllByRecursion (λ (z : ℕ). y ≤ z) ys →
+    AreAlike (x ∷ xs) (y ∷ ys) → x ≡ y
 same_first x y xs ys left right alike =
     let no : x < y → ⊥ = not_less x y xs ys right alike in
     let back : y < x → ⊥ = not_less y x ys xs left (λ f. sym (alike f)) in
@@ -111,7 +114,8 @@ rising_same (x ∷ xs) (y ∷ ys) left right alike =
 -- a sorted list rises
 pub do_rise : (xs : List ℕ) → IsNonDecreasing xs → DoRise xs
 do_rise [] sorted = tt
-do_rise (x ∷ xs) sorted = (first 0 xs (λ k d within. sorted 0 (suc k) d (omega arith) (omega (arith, within))), do_rise xs (λ i j d le within. sorted (suc i) (suc j) d (omega (arith, le)) (omega (arith, within))))
+do_rise (x ∷ xs) sorted =
+    (first 0 xs (λ k d within. sorted 0 (suc k) d (omega arith) (omega (arith, within))), do_rise xs (λ i j d le within. sorted (suc i) (suc j) d (omega (arith, le)) (omega (arith, within))))
   where
     first : (n : ℕ) (ys : List ℕ) → ((k : ℕ) (d : ℕ) → k < length ys → x ≤ get_or ys k d) → AllByRecursion (λ (y : ℕ). x ≤ y) ys
     first n [] at = tt

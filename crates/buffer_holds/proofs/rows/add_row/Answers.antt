@@ -15,6 +15,7 @@ returns-clause-ok c =
     let old_row = lookup_found derived.it same_hold derived_hold same_hold-one rows rows c.args.hold _ added.old in
     record {
       resets = rw (ap (λ o. unwrap_or o 0) absent)
-          (resets_added derived.it same_hold derived_hold same_hold-one same_hold-refl rows new c.args.hold 1 absent added.entries added.updates added.unique);
+          (resets_added derived.it same_hold derived_hold same_hold-one same_hold-refl rows new c.args.hold 1 absent added.entries
+          added.updates added.unique);
       longer = subst (λ o. length new.entries ≡ length rows.entries + (if is_some o then 0 else 1)) (sym old_row) added.len;
     }

@@ -9,7 +9,8 @@ use Rattle.buffer_holds.proofs.rows.lower.Goals as goal
 -- without a row
 pub returns-in_default-clause-had : goal.returns-in_default-clause-had
 returns-in_default-clause-had c =
-    let row = lookup_found _ same_hold derived_hold same_hold-one c.args.rows.now c.args.rows.now c.args.hold _ c.in_default.ensures.value in
+    let row = lookup_found _ same_hold derived_hold same_hold-one c.args.rows.now c.args.rows.now c.args.hold _
+    c.in_default.ensures.value in
     grind (arith, common_steps, row)
 
 -- with a row of 0
@@ -33,4 +34,5 @@ returns-clause-lowered c =
     let less = c.in-Some.count.now - 1 in
     let row = lookup_found _ same_hold derived_hold same_hold-one c.args.rows.now c.args.rows.now c.args.hold _ c.in-Some.ensures.value in
     rw (ap (λ o. unwrap_or o 0) row)
-    (resets_written _ same_hold derived_hold same_hold-one c.args.rows.now (c.get_mut.follows.lender less) c.args.hold c.in-Some.count.now less c.in-Some.ensures.value (c.get_mut.follows.holds less))
+    (resets_written _ same_hold derived_hold same_hold-one c.args.rows.now (c.get_mut.follows.lender less) c.args.hold c.in-Some.count.now
+    less c.in-Some.ensures.value (c.get_mut.follows.holds less))

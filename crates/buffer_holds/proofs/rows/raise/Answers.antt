@@ -20,8 +20,10 @@ pub overflow_add-count : goal.overflow_add-count
 overflow_add-count c =
     let rows = c.args.rows.now in
     let found = c.in-Some.ensures.found in
-    let here = value_lent_at rows c.in-Some.found c.args.hold found.0 found.1 c.get_index_mut.result c.get_index_mut.ensures.value c.unwrap-count.result c.unwrap-count.ensures in
-    let row = lookup_placed derived.it same_hold derived_hold same_hold-one same_hold-refl rows rows c.args.hold c.in-Some.found found.0 found.1 c.get_index_mut.ensures.unique in
+    let here = value_lent_at rows c.in-Some.found c.args.hold found.0 found.1 c.get_index_mut.result c.get_index_mut.ensures.value
+    c.unwrap-count.result c.unwrap-count.ensures in
+    let row = lookup_placed derived.it same_hold derived_hold same_hold-one same_hold-refl rows rows c.args.hold c.in-Some.found found.0
+    found.1 c.get_index_mut.ensures.unique in
     grind (arith, common_steps, row, here)
 
 -- a row that was there
@@ -31,12 +33,17 @@ returns-clause-ok c =
     let place = c.in-Some.found in
     let found = c.in-Some.ensures.found in
     let unique = c.get_index_mut.ensures.unique in
-    let here = value_lent_at rows place c.args.hold found.0 found.1 c.get_index_mut.result c.get_index_mut.ensures.value c.unwrap-count.result c.unwrap-count.ensures in
-    let row = lookup_placed derived.it same_hold derived_hold same_hold-one same_hold-refl rows rows c.args.hold place found.0 found.1 unique in
+    let here = value_lent_at rows place c.args.hold found.0 found.1 c.get_index_mut.result c.get_index_mut.ensures.value
+    c.unwrap-count.result c.unwrap-count.ensures in
+    let row = lookup_placed derived.it same_hold derived_hold same_hold-one same_hold-refl rows rows c.args.hold place found.0 found.1
+    unique in
     let more = c.unwrap-count.result.now + 1 in
     let after = set_value_at rows.entries place more in
     record {
-      resets = subst (λ n. Resets same_hold rows.entries after c.args.hold (row_at rows.entries c.args.hold) (Some (n + 1))) (here ∙ sym (ap (λ o. unwrap_or o 0) row))
-          (resets_placed derived.it same_hold derived_hold same_hold-one same_hold-refl rows rows c.args.hold place found.0 found.1 unique more);
-      longer = subst (λ o. length after ≡ length rows.entries + (if is_some o then 0 else 1)) (sym row) (omega (arith, length-set_value_at rows.entries place more));
+      resets = subst (λ n. Resets same_hold rows.entries after c.args.hold (row_at rows.entries c.args.hold) (Some (n + 1))) (here
+          ∙ sym (ap (λ o. unwrap_or o 0) row))
+          (resets_placed derived.it same_hold derived_hold same_hold-one same_hold-refl rows rows c.args.hold place found.0 found.1 unique
+          more);
+      longer = subst (λ o. length after ≡ length rows.entries + (if is_some o then 0 else 1)) (sym row)
+          (omega (arith, length-set_value_at rows.entries place more));
     }

@@ -10,7 +10,8 @@ use Rattle.buffer_holds.proofs.tally.leave.Goals as goal
 
 pub overflow_sub-left : goal.overflow_sub-left
 overflow_sub-left c =
-    let row = row_read c.args.tallies.now c.args.kind c.find_tally.result c.find_tally.ensures.found c.unwrap-place.result c.unwrap-place.ensures
+    let row = row_read c.args.tallies.now c.args.kind c.find_tally.result c.find_tally.ensures.found c.unwrap-place.result
+    c.unwrap-place.ensures
     c.get_index.result c.get_index.ensures.entry c.get_index.ensures.value c.unwrap.result c.unwrap.ensures in
     subst (λ o. 0 < (unwrap_or o no_tally).clients) row c.requires
 
@@ -23,13 +24,18 @@ returns-then-is_idle c =
     let tally = c.unwrap.result.1.now in
     let left : Tally = record tally { clients = tally.clients - 1 } in
     let at = c.get_index.ensures in
-    let stands = stands_read tallies kind c.find_tally.result c.find_tally.ensures.found place c.unwrap-place.ensures c.get_index.result at.entry at.value c.unwrap.result c.unwrap.ensures in
-    let found = found_read tallies kind c.find_tally.result c.find_tally.ensures.found place c.unwrap-place.ensures c.get_index.result at.entry at.value c.unwrap.result c.unwrap.ensures in
-    let row = row_read tallies kind c.find_tally.result c.find_tally.ensures.found place c.unwrap-place.ensures c.get_index.result at.entry at.value c.unwrap.result c.unwrap.ensures in
-    let none = ap (λ o. without_client (unwrap_or o no_tally)) row ∙ ap (λ (b : Bool). if b then None else Some left) (sym c.is_idle.ensures ∙ c.if-is_idle.true) in
+    let stands = stands_read tallies kind c.find_tally.result c.find_tally.ensures.found place c.unwrap-place.ensures c.get_index.result
+    at.entry at.value c.unwrap.result c.unwrap.ensures in
+    let found = found_read tallies kind c.find_tally.result c.find_tally.ensures.found place c.unwrap-place.ensures c.get_index.result
+    at.entry at.value c.unwrap.result c.unwrap.ensures in
+    let row = row_read tallies kind c.find_tally.result c.find_tally.ensures.found place c.unwrap-place.ensures c.get_index.result at.entry
+    at.value c.unwrap.result c.unwrap.ensures in
+    let none = ap (λ o. without_client (unwrap_or o no_tally)) row ∙ ap (λ (b : Bool). if b then None else Some left) (sym c.is_idle.ensures
+    ∙ c.if-is_idle.true) in
     let gone = c.swap_remove_index.ensures in
     rw none
-    (resets_taken derived.it same_kind derived_kind same_kind-one same_kind-refl tallies c.swap_remove_index.new.self kind place tally stands found
+    (resets_taken derived.it same_kind derived_kind same_kind-one same_kind-refl tallies c.swap_remove_index.new.self kind place tally
+    stands found
     c.swap_remove_index.result gone.entry gone.entries gone.updates gone.unique)
 
 -- it still says something
@@ -41,7 +47,11 @@ returns-else-is_idle c =
     let tally = c.unwrap.result.1.now in
     let left : Tally = record tally { clients = tally.clients - 1 } in
     let at = c.get_index.ensures in
-    let stands = stands_read tallies kind c.find_tally.result c.find_tally.ensures.found place c.unwrap-place.ensures c.get_index.result at.entry at.value c.unwrap.result c.unwrap.ensures in
-    let row = row_read tallies kind c.find_tally.result c.find_tally.ensures.found place c.unwrap-place.ensures c.get_index.result at.entry at.value c.unwrap.result c.unwrap.ensures in
-    let some = ap (λ o. without_client (unwrap_or o no_tally)) row ∙ ap (λ (b : Bool). if b then None else Some left) (sym c.is_idle.ensures ∙ c.if-is_idle.false) in
-    rw some (resets_placed derived.it same_kind derived_kind same_kind-one same_kind-refl tallies tallies kind place tally stands c.get_index_mut.ensures.unique left)
+    let stands = stands_read tallies kind c.find_tally.result c.find_tally.ensures.found place c.unwrap-place.ensures c.get_index.result
+    at.entry at.value c.unwrap.result c.unwrap.ensures in
+    let row = row_read tallies kind c.find_tally.result c.find_tally.ensures.found place c.unwrap-place.ensures c.get_index.result at.entry
+    at.value c.unwrap.result c.unwrap.ensures in
+    let some = ap (λ o. without_client (unwrap_or o no_tally)) row ∙ ap (λ (b : Bool). if b then None else Some left) (sym c.is_idle.ensures
+    ∙ c.if-is_idle.false) in
+    rw some (resets_placed derived.it same_kind derived_kind same_kind-one same_kind-refl tallies tallies kind place tally stands
+    c.get_index_mut.ensures.unique left)

@@ -20,45 +20,55 @@ unwrap-tally-requires c =
 -- as many as may be
 pub returns-then-tally-limit-clause-too_many : goal.returns-then-tally-limit-clause-too_many
 returns-then-tally-limit-clause-too_many c =
-    let kept = tally_lent_at c.args.tallies.now c.args.hold.kind c.in-Some.place c.in-Some.ensures.found c.get_index_mut.result c.get_index_mut.ensures.value c.get_index_mut.ensures.unique c.unwrap-tally.result c.unwrap-tally.ensures in
+    let kept = tally_lent_at c.args.tallies.now c.args.hold.kind c.in-Some.place c.in-Some.ensures.found c.get_index_mut.result
+    c.get_index_mut.ensures.value c.get_index_mut.ensures.unique c.unwrap-tally.result c.unwrap-tally.ensures in
     (λ e. ap (λ (t : Tally). t.total) kept ∙ c.if-tally-limit.true, λ e. refl)
 
 pub returns-then-tally-limit-clause-err_tallies : goal.returns-then-tally-limit-clause-err_tallies
 returns-then-tally-limit-clause-err_tallies c =
     let found = c.in-Some.ensures.found in
-    let here = value_lent_at c.args.tallies.now c.in-Some.place c.args.hold.kind found.0 found.1 c.get_index_mut.result c.get_index_mut.ensures.value c.unwrap-tally.result c.unwrap-tally.ensures in
-    set_value_at-same c.args.tallies.now.entries c.in-Some.place c.args.hold.kind c.unwrap-tally.result.now (found.1 ∙ ap (λ t. Some (c.args.hold.kind, t)) (sym here))
+    let here = value_lent_at c.args.tallies.now c.in-Some.place c.args.hold.kind found.0 found.1 c.get_index_mut.result
+    c.get_index_mut.ensures.value c.unwrap-tally.result c.unwrap-tally.ensures in
+    set_value_at-same c.args.tallies.now.entries c.in-Some.place c.args.hold.kind c.unwrap-tally.result.now (found.1
+    ∙ ap (λ t. Some (c.args.hold.kind, t)) (sym here))
 
 -- fewer
 pub raise-requires : goal.raise-requires
 raise-requires c =
-    let kept = tally_lent_at c.args.tallies.now c.args.hold.kind c.in-Some.place c.in-Some.ensures.found c.get_index_mut.result c.get_index_mut.ensures.value c.get_index_mut.ensures.unique c.unwrap-tally.result c.unwrap-tally.ensures in
+    let kept = tally_lent_at c.args.tallies.now c.args.hold.kind c.in-Some.place c.in-Some.ensures.found c.get_index_mut.result
+    c.get_index_mut.ensures.value c.get_index_mut.ensures.unique c.unwrap-tally.result c.unwrap-tally.ensures in
     omega (arith, c.requires.within, c.requires.counted, c.if-tally-limit.false, c.ranges.limit.fits, ap (λ (t : Tally). t.total) kept)
 
 pub returns-in_default-raise-clause-too_many : goal.returns-in_default-raise-clause-too_many
 returns-in_default-raise-clause-too_many c =
-    let kept = tally_lent_at c.args.tallies.now c.args.hold.kind c.in-Some.place c.in-Some.ensures.found c.get_index_mut.result c.get_index_mut.ensures.value c.get_index_mut.ensures.unique c.unwrap-tally.result c.unwrap-tally.ensures in
+    let kept = tally_lent_at c.args.tallies.now c.args.hold.kind c.in-Some.place c.in-Some.ensures.found c.get_index_mut.result
+    c.get_index_mut.ensures.value c.get_index_mut.ensures.unique c.unwrap-tally.result c.unwrap-tally.ensures in
     (λ e. cc, λ full. absurd (c.if-tally-limit.false (sym (ap (λ (t : Tally). t.total) kept) ∙ full)))
 
 pub returns-in_default-raise-clause-err_tallies : goal.returns-in_default-raise-clause-err_tallies
 returns-in_default-raise-clause-err_tallies c =
     let found = c.in-Some.ensures.found in
-    let here = value_lent_at c.args.tallies.now c.in-Some.place c.args.hold.kind found.0 found.1 c.get_index_mut.result c.get_index_mut.ensures.value c.unwrap-tally.result c.unwrap-tally.ensures in
-    set_value_at-same c.args.tallies.now.entries c.in-Some.place c.args.hold.kind c.unwrap-tally.result.now (found.1 ∙ ap (λ t. Some (c.args.hold.kind, t)) (sym here))
+    let here = value_lent_at c.args.tallies.now c.in-Some.place c.args.hold.kind found.0 found.1 c.get_index_mut.result
+    c.get_index_mut.ensures.value c.unwrap-tally.result c.unwrap-tally.ensures in
+    set_value_at-same c.args.tallies.now.entries c.in-Some.place c.args.hold.kind c.unwrap-tally.result.now (found.1
+    ∙ ap (λ t. Some (c.args.hold.kind, t)) (sym here))
 
 pub overflow_add-tally : goal.overflow_add-tally
 overflow_add-tally c =
-    let kept = tally_lent_at c.args.tallies.now c.args.hold.kind c.in-Some.place c.in-Some.ensures.found c.get_index_mut.result c.get_index_mut.ensures.value c.get_index_mut.ensures.unique c.unwrap-tally.result c.unwrap-tally.ensures in
+    let kept = tally_lent_at c.args.tallies.now c.args.hold.kind c.in-Some.place c.in-Some.ensures.found c.get_index_mut.result
+    c.get_index_mut.ensures.value c.get_index_mut.ensures.unique c.unwrap-tally.result c.unwrap-tally.ensures in
     omega (arith, c.requires.within, c.if-tally-limit.false, c.ranges.limit.fits, ap (λ (t : Tally). t.total) kept)
 
 pub overflow_add-tally-2 : goal.overflow_add-tally-2
 overflow_add-tally-2 c =
-    let kept = tally_lent_at c.args.tallies.now c.args.hold.kind c.in-Some.place c.in-Some.ensures.found c.get_index_mut.result c.get_index_mut.ensures.value c.get_index_mut.ensures.unique c.unwrap-tally.result c.unwrap-tally.ensures in
+    let kept = tally_lent_at c.args.tallies.now c.args.hold.kind c.in-Some.place c.in-Some.ensures.found c.get_index_mut.result
+    c.get_index_mut.ensures.value c.get_index_mut.ensures.unique c.unwrap-tally.result c.unwrap-tally.ensures in
     omega (arith, c.requires.listed, c.len-before.ensures.len, c.len-before.ensures.small, c.len.ensures.small, ap (λ (t : Tally). t.clients) kept)
 
 pub returns-clause-too_many : goal.returns-clause-too_many
 returns-clause-too_many c =
-    let kept = tally_lent_at c.args.tallies.now c.args.hold.kind c.in-Some.place c.in-Some.ensures.found c.get_index_mut.result c.get_index_mut.ensures.value c.get_index_mut.ensures.unique c.unwrap-tally.result c.unwrap-tally.ensures in
+    let kept = tally_lent_at c.args.tallies.now c.args.hold.kind c.in-Some.place c.in-Some.ensures.found c.get_index_mut.result
+    c.get_index_mut.ensures.value c.get_index_mut.ensures.unique c.unwrap-tally.result c.unwrap-tally.ensures in
     (λ e. cc, λ full. absurd (c.if-tally-limit.false (sym (ap (λ (t : Tally). t.total) kept) ∙ full)))
 
 pub returns-clause-tallied : goal.returns-clause-tallied
@@ -68,7 +78,8 @@ returns-clause-tallied c =
     let place = c.in-Some.place in
     let found = c.in-Some.ensures.found in
     let unique = c.get_index_mut.ensures.unique in
-    let kept = tally_lent_at tallies kind place found c.get_index_mut.result c.get_index_mut.ensures.value unique c.unwrap-tally.result c.unwrap-tally.ensures in
+    let kept = tally_lent_at tallies kind place found c.get_index_mut.result c.get_index_mut.ensures.value unique c.unwrap-tally.result
+    c.unwrap-tally.ensures in
     let more = one_more c.unwrap-tally.result.now (c.len.result - c.len-before.result) in
     let after = set_value_at tallies.entries place more in
     let same : more ≡ one_more (tally_at tallies.entries kind) (length c.raise.new.rows.entries - length c.args.rows.now.entries) =

@@ -23,10 +23,12 @@ returns-clause-tallied c =
     let first : Tally = record { total = 1; moving = 0; clients = count } in
     let done : IsOk c.insert.result = c.insert.ensures.succeeds (omega (arith, c.in-Ok.ensures.ok)) in
     let absent = c.requires.first in
-    let counted : count ≡ 0 + (length c.raise.new.rows.entries - length c.args.rows.now.entries) = omega (arith, c.len.ensures.len, c.len-before.ensures.len) in
+    let counted : count ≡ 0 + (length c.raise.new.rows.entries - length c.args.rows.now.entries) =
+    omega (arith, c.len.ensures.len, c.len-before.ensures.len) in
     let same : roomy.entries ≡ tallies.entries = c.reserve.ensures.entries in
     let added : Resets same_kind roomy.entries new.entries kind (tally_row roomy.entries kind) (Some first) =
-    resets_added derived.it same_kind derived_kind same_kind-one same_kind-refl roomy new kind first (subst (λ es. tally_row es kind ≡ None) (sym same) absent)
+    resets_added derived.it same_kind derived_kind same_kind-one same_kind-refl roomy new kind first (subst (λ es.
+    tally_row es kind ≡ None) (sym same) absent)
     (at_ok (new.entries ≡ insert_entry derived.it roomy.entries kind first) c.insert.result done c.insert.ensures.entries)
     (at_ok (Updates derived.it roomy new kind (Some first)) c.insert.result done c.insert.ensures.updates)
     c.insert.ensures.unique in

@@ -14,5 +14,6 @@ insert-requires-clause-within c =
 pub returns : goal.returns
 returns c =
     let items : c.insert.new.self.items ≡ with_interval c.args.new c.args.held.now.items =
-    c.insert.ensures.items ∙ ap (λ at. insert c.args.held.now.items at c.args.new) c.starts_before-at.ensures ∙ insert_in_place c.args.new c.args.held.now.items in
+    c.insert.ensures.items ∙ ap (λ at. insert c.args.held.now.items at c.args.new) c.starts_before-at.ensures
+    ∙ insert_in_place c.args.new c.args.held.now.items in
     record { items = items; up = rw items (with_interval-rises c.args.new c.args.held.now.items c.requires.up); capacity = c.insert.ensures.capacity }

@@ -8,9 +8,11 @@ starts_before-at-requires c = in_order-rises 0 1048576 c.args.held.now.items c.r
 
 pub remove-requires : goal.remove-requires
 remove-requires c =
-    (removed_in_place c.args.back 1048576 c.starts_before-at.result c.args.held.now.items c.args.held.now.items c.requires.up c.requires.there refl c.starts_before-at.ensures).0
+    (removed_in_place c.args.back 1048576 c.starts_before-at.result c.args.held.now.items c.args.held.now.items c.requires.up
+    c.requires.there refl c.starts_before-at.ensures).0
 
 pub returns : goal.returns
 returns c =
     c.remove.ensures.items
-    ∙ (removed_in_place c.args.back 1048576 c.starts_before-at.result c.args.held.now.items c.args.held.now.items c.requires.up c.requires.there refl c.starts_before-at.ensures).1
+    ∙ (removed_in_place c.args.back 1048576 c.starts_before-at.result c.args.held.now.items c.args.held.now.items c.requires.up
+    c.requires.there refl c.starts_before-at.ensures).1

@@ -10,8 +10,10 @@ overflow_sub-holes c = omega (arith, c.loop-at.invariant, prefix_len-le-length (
 
 pub loop-at-preserved : goal.loop-at-preserved
 loop-at-preserved c =
-    search_passes_many c.args.pages_each c.loop-at.at (c.loop-at.at + 8) c.args.holes.now (record { start = 0; pages = 0 }) c.loop-at.invariant (omega arith)
-    (omega (arith, c.loop-at-test.true, c.loop-at.invariant, prefix_len-le-length (too_small c.args.pages_each) c.args.holes.now)) (c.one_fits.ensures c.if-not-one_fits.true)
+    search_passes_many c.args.pages_each c.loop-at.at (c.loop-at.at + 8) c.args.holes.now (record { start = 0; pages = 0 })
+    c.loop-at.invariant (omega arith)
+    (omega (arith, c.loop-at-test.true, c.loop-at.invariant, prefix_len-le-length (too_small c.args.pages_each) c.args.holes.now))
+    (c.one_fits.ensures c.if-not-one_fits.true)
 
 pub loop-at-2-preserved : goal.loop-at-2-preserved
 loop-at-2-preserved c =

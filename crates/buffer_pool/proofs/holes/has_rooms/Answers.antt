@@ -5,4 +5,5 @@ use Rattle.buffer_pool.proofs.Fits.{rooms-small}
 use Rattle.buffer_pool.proofs.holes.has_rooms.Goals as goal
 
 pub loop-at-init : goal.loop-at-init
-loop-at-init c = sym (ap (λ n. rooms c.args.pages_each (take n c.args.holes.now.items)) c.requires.first ∙ rooms-small c.args.pages_each c.args.holes.now.items c.requires.pages)
+loop-at-init c = sym (ap (λ n. rooms c.args.pages_each (take n c.args.holes.now.items)) c.requires.first
+    ∙ rooms-small c.args.pages_each c.args.holes.now.items c.requires.pages)

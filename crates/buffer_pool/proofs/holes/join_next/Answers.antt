@@ -11,7 +11,8 @@ returns-clause-holes c =
     ∙ elim c.if-begins_at.branch [
       | then-begins_at w ↦
           rw (w.holes-is, w.pages-is, w.remove-pages.ensures.items)
-          (join_touching c.args.hole w.remove-pages.result c.args.at c.args.holes.now.items w.remove-pages.ensures.value (sym test ∙ w.if-begins_at.true))
+          (join_touching c.args.hole w.remove-pages.result c.args.at c.args.holes.now.items w.remove-pages.ensures.value (sym test
+          ∙ w.if-begins_at.true))
       | else-begins_at w ↦
           rw (w.holes-is, w.pages-is)
           (join_apart c.args.hole c.args.at c.args.holes.now.items c.requires.there (sym test ∙ w.if-begins_at.false))

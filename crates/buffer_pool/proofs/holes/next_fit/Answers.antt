@@ -9,12 +9,14 @@ use Rattle.buffer_pool.proofs.holes.next_fit.Goals.{else-from-front, then-from-f
 
 pub fit_in-at-requires : goal.fit_in-at-requires
 fit_in-at-requires c =
-    search_from_front c.args.pages_each c.args.from c.parts.result.0.now c.parts.result.1.now (rw c.parts.ensures.items c.requires) c.if-from-front.true
+    search_from_front c.args.pages_each c.args.from c.parts.result.0.now c.parts.result.1.now (rw c.parts.ensures.items c.requires)
+    c.if-from-front.true
 
 pub returns-then-at-front : goal.returns-then-at-front
 returns-then-at-front c =
     c.fit_in-at.ensures
-    ∙ sym (search_front c.args.pages_each c.parts.result.0.now c.parts.result.1.now (omega (arith, c.fit_in-at.ensures, c.if-at-front.true)))
+    ∙ sym (search_front c.args.pages_each c.parts.result.0.now c.parts.result.1.now
+    (omega (arith, c.fit_in-at.ensures, c.if-at-front.true)))
     ∙ ap (prefix_len (too_small c.args.pages_each)) c.parts.ensures.items
 
 pub fit_in-requires : goal.fit_in-requires
@@ -23,7 +25,8 @@ fit_in-requires c =
       | then-from-front+else-at-front w ↦ rw w.behind-is (omega arith)
       | else-from-front w ↦
           rw w.behind-is
-          (search_from_back c.args.pages_each c.args.from c.parts.result.0.now c.parts.result.1.now (rw c.parts.ensures.items c.requires) w.if-from-front.false).0
+          (search_from_back c.args.pages_each c.args.from c.parts.result.0.now c.parts.result.1.now (rw c.parts.ensures.items c.requires)
+          w.if-from-front.false).0
     ]
 
 pub overflow_add-result : goal.overflow_add-result
@@ -39,7 +42,8 @@ returns c =
     elim c.if-from-front.branch [
       | then-from-front+else-at-front w ↦ omega (arith, w.if-at-front.false, w.fit_in-at.ensures)
       | else-from-front w ↦
-          (search_from_back c.args.pages_each c.args.from c.parts.result.0.now c.parts.result.1.now (rw c.parts.ensures.items c.requires) w.if-from-front.false).1
+          (search_from_back c.args.pages_each c.args.from c.parts.result.0.now c.parts.result.1.now (rw c.parts.ensures.items c.requires)
+          w.if-from-front.false).1
     ] in
     ap (λ n. length c.parts.result.0.now + n) c.fit_in.ensures
     ∙ sym (search_back c.args.pages_each c.parts.result.0.now c.parts.result.1.now past)

@@ -14,7 +14,8 @@ pub overflow_add-rest : goal.overflow_add-rest
 overflow_add-rest c =
     let f = the_fit (goal.at.overflow_add-rest c).After-get-hole in
     let small : end_of c.get-hole.result < 4294967296 =
-    subst (λ (h : Interval). end_of h < 4294967296) (sym c.get-hole.ensures) (c.requires.fits c.args.at c.get-hole.result c.requires.some) in
+    subst (λ (h : Interval). end_of h < 4294967296) (sym c.get-hole.ensures) (c.requires.fits c.args.at c.get-hole.result
+    c.requires.some) in
     let has : c.args.pages_each ≤ c.get-hole.result.pages = f.has_pages in
     search rules
 
@@ -27,7 +28,8 @@ returns-then-hole-pages_each-clause-start c = sym (the_fit (goal.at.returns-then
 pub returns-then-hole-pages_each-clause-holes : goal.returns-then-hole-pages_each-clause-holes
 returns-then-hole-pages_each-clause-holes c =
     c.remove.ensures.items
-    ∙ taken_whole c.args.pages_each c.args.holes.now.items c.args.at c.get-hole.result (the_fit (goal.at.returns-then-hole-pages_each-clause-holes c).After-get-hole) c.if-hole-pages_each.true
+    ∙ taken_whole c.args.pages_each c.args.holes.now.items c.args.at c.get-hole.result
+    (the_fit (goal.at.returns-then-hole-pages_each-clause-holes c).After-get-hole) c.if-hole-pages_each.true
 
 pub returns-else-hole-pages_each-clause-start : goal.returns-else-hole-pages_each-clause-start
 returns-else-hole-pages_each-clause-start c = sym (the_fit (goal.at.returns-else-hole-pages_each-clause-start c).After-get-hole).start
@@ -35,4 +37,5 @@ returns-else-hole-pages_each-clause-start c = sym (the_fit (goal.at.returns-else
 pub returns-else-hole-pages_each-clause-holes : goal.returns-else-hole-pages_each-clause-holes
 returns-else-hole-pages_each-clause-holes c =
     c.shorten.ensures.items
-    ∙ taken_part c.args.pages_each c.args.holes.now.items c.args.at c.get-hole.result (the_fit (goal.at.returns-else-hole-pages_each-clause-holes c).After-get-hole) c.if-hole-pages_each.false c.requires.some
+    ∙ taken_part c.args.pages_each c.args.holes.now.items c.args.at c.get-hole.result
+    (the_fit (goal.at.returns-else-hole-pages_each-clause-holes c).After-get-hole) c.if-hole-pages_each.false c.requires.some

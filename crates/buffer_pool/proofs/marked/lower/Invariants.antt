@@ -6,4 +6,5 @@ use Rattle.buffer_pool.proofs.Marking.{AreLowered}
 use Rattle.buffer_pool.proofs.marked.lower.Given as goal
 
 abbrev pub invariant-loop-place : goal.invariant-loop-place
-invariant-loop-place l = (length l.marks ≡ length l.initial.marks) × ((holes : List Interval) → AreMarks l.initial.marks holes → AreLowered l.place l.new l.marks holes)
+invariant-loop-place l = (length l.marks ≡ length l.initial.marks) × ((holes : List Interval) → AreMarks l.initial.marks holes →
+    AreLowered l.place l.new l.marks holes)

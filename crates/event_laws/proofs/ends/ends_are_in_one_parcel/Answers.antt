@@ -7,10 +7,13 @@ pub returns-clause-once : goal.returns-clause-once
 returns-clause-once c pool limits history legal = at_most_one pool limits (timeline pool history) (legal_grows pool limits history legal)
 
 pub returns-clause-waits : goal.returns-clause-waits
-returns-clause-waits c pool limits history legal = waits_in_transit pool limits (timeline pool history) (legal_grows pool limits history legal)
+returns-clause-waits c pool limits history legal =
+    waits_in_transit pool limits (timeline pool history) (legal_grows pool limits history legal)
 
 pub returns-clause-born : goal.returns-clause-born
-returns-clause-born c pool limits history legal = in_transit_born pool limits (timeline pool history) (legal_grows pool limits history legal)
+returns-clause-born c pool limits history legal =
+    in_transit_born pool limits (timeline pool history) (legal_grows pool limits history legal)
 
 pub returns-clause-unspent : goal.returns-clause-unspent
-returns-clause-unspent c pool limits history legal = in_transit_unspent pool limits (timeline pool history) (legal_grows pool limits history legal)
+returns-clause-unspent c pool limits history legal =
+    in_transit_unspent pool limits (timeline pool history) (legal_grows pool limits history legal)

@@ -13,4 +13,5 @@ pub returns-clause-kept : goal.returns-clause-kept
 returns-clause-kept c = idle_event
 
 pub returns-clause-strangers : goal.returns-clause-strangers
-returns-clause-strangers c pool limits history legal = stranger_waits_for_none pool limits (timeline pool history) (legal_grows pool limits history legal)
+returns-clause-strangers c pool limits history legal =
+    stranger_waits_for_none pool limits (timeline pool history) (legal_grows pool limits history legal)

@@ -10,7 +10,9 @@ pub returns-clause-in_all : goal.returns-clause-in_all
 returns-clause-in_all c pool limits history legal = open_named pool limits (timeline pool history) (legal_grows pool limits history legal)
 
 pub returns-clause-in_parcels : goal.returns-clause-in_parcels
-returns-clause-in_parcels c pool limits history legal = moving_named pool limits (timeline pool history) (legal_grows pool limits history legal)
+returns-clause-in_parcels c pool limits history legal =
+    moving_named pool limits (timeline pool history) (legal_grows pool limits history legal)
 
 pub returns-clause-strangers : goal.returns-clause-strangers
-returns-clause-strangers c pool limits history legal = stranger_has_none pool limits (timeline pool history) (legal_grows pool limits history legal)
+returns-clause-strangers c pool limits history legal =
+    stranger_has_none pool limits (timeline pool history) (legal_grows pool limits history legal)

@@ -10,4 +10,5 @@ returns-clause-mark c = same_hands
 
 pub returns-clause-event : goal.returns-clause-event
 returns-clause-event c pool history entry =
-    subst (SameHands (mark_of entry ∷ timeline pool history)) (sym (timeline-push pool history entry)) (same_after pool (timeline pool history) entry)
+    subst (SameHands (mark_of entry ∷ timeline pool history)) (sym (timeline-push pool history entry))
+    (same_after pool (timeline pool history) entry)

@@ -17,4 +17,5 @@ returns c pool limits history entry legal collection away =
     let undue : Timeline → Tracked → Type 0 = λ m t. IsOf before collection t.condition → is_due (world m) t ≡ false in
     subst (λ (m : Timeline). All (undue m) (asked before entry)) (sym (timeline-push pool history entry))
     (all-In (undue (after pool before entry)) (asked before entry)
-    (others_not_due pool limits before entry collection (legal_grows_on pool limits history (entry ∷ []) legal).first (AreAnswers-last pool limits [] history entry legal.answers).1 away))
+    (others_not_due pool limits before entry collection (legal_grows_on pool limits history (entry ∷ []) legal).first
+    (AreAnswers-last pool limits [] history entry legal.answers).1 away))

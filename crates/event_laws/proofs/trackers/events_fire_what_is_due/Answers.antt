@@ -12,14 +12,18 @@ use Rattle.event_laws.proofs.trackers.events_fire_what_is_due.Goals as goal
 pub returns-clause-fired : goal.returns-clause-fired
 returns-clause-fired c pool limits history entry legal =
     let before : Timeline = timeline pool history in
-    subst (λ (m : Timeline). fired m ≡ fired before ++ map (firing (events m)) (filter (is_due (world m)) (asked before entry))) (sym (timeline-push pool history entry))
-    (fired_next pool limits before entry (legal_grows_on pool limits history (entry ∷ []) legal).first (AreAnswers-last pool limits [] history entry legal.answers).1)
+    subst (λ (m : Timeline). fired m ≡ fired before ++ map (firing (events m)) (filter (is_due (world m)) (asked before entry)))
+    (sym (timeline-push pool history entry))
+    (fired_next pool limits before entry (legal_grows_on pool limits history (entry ∷ []) legal).first (AreAnswers-last pool limits []
+    history entry legal.answers).1)
 
 pub returns-clause-waiting : goal.returns-clause-waiting
 returns-clause-waiting c pool limits history entry legal =
     let before : Timeline = timeline pool history in
-    subst (λ (m : Timeline). waiting m ≡ filter (λ t. not (is_due (world m) t)) (asked before entry)) (sym (timeline-push pool history entry))
-    (waiting_next pool limits before entry (legal_grows_on pool limits history (entry ∷ []) legal).first (AreAnswers-last pool limits [] history entry legal.answers).1)
+    subst (λ (m : Timeline). waiting m ≡ filter (λ t. not (is_due (world m) t)) (asked before entry))
+    (sym (timeline-push pool history entry))
+    (waiting_next pool limits before entry (legal_grows_on pool limits history (entry ∷ []) legal).first (AreAnswers-last pool limits []
+    history entry legal.answers).1)
 
 pub returns-clause-nothing : goal.returns-clause-nothing
 returns-clause-nothing c = refl

@@ -14,7 +14,8 @@ use Rattle.event_laws.proofs.trackers.trackers_are_numbered.Goals as goal
 pub returns-clause-rising : goal.returns-clause-rising
 returns-clause-rising c pool limits history legal =
     let marks : Timeline = timeline pool history in
-    AllPairs-filter IsBefore (λ t. is_none (fired_at marks t)) (reverse (tracked marks)) (numbered pool limits marks (legal_grows pool limits history legal)).rising
+    AllPairs-filter IsBefore (λ t. is_none (fired_at marks t)) (reverse (tracked marks))
+    (numbered pool limits marks (legal_grows pool limits history legal)).rising
 
 pub returns-clause-early : goal.returns-clause-early
 returns-clause-early c pool limits history legal =
@@ -24,14 +25,18 @@ returns-clause-early c pool limits history legal =
 pub returns-clause-waiting : goal.returns-clause-waiting
 returns-clause-waiting c pool limits history entry legal =
     let marks : Timeline = timeline pool history in
-    let next : events (timeline pool (history ++ entry ∷ [])) ≡ events marks + 1 = ap events (timeline-push pool history entry) ∙ events_after pool marks entry in
+    let next : events (timeline pool (history ++ entry ∷ [])) ≡ events marks + 1 =
+    ap events (timeline-push pool history entry) ∙ events_after pool marks entry in
     all-In (λ (t : Tracked). t.id < events (timeline pool (history ++ entry ∷ []))) (waiting marks)
-    (λ t on. let early : t.id ≤ events marks = (numbered pool limits marks (legal_grows_on pool limits history (entry ∷ []) legal).first).early t (In-waiting marks t on).0 in omega (arith, next, early))
+    (λ t on. let early : t.id ≤ events marks =
+    (numbered pool limits marks (legal_grows_on pool limits history (entry ∷ []) legal).first).early t (In-waiting marks t on).0 in
+    omega (arith, next, early))
 
 pub returns-clause-made : goal.returns-clause-made
 returns-clause-made c pool limits history entry legal =
     let marks : Timeline = timeline pool history in
-    let next : events (timeline pool (history ++ entry ∷ [])) ≡ events marks + 1 = ap events (timeline-push pool history entry) ∙ events_after pool marks entry in
+    let next : events (timeline pool (history ++ entry ∷ [])) ≡ events marks + 1 =
+    ap events (timeline-push pool history entry) ∙ events_after pool marks entry in
     all-In (λ (t : Tracked). t.id ≡ events (timeline pool (history ++ entry ∷ []))) (made marks entry)
     (λ t on. made_numbered limits marks entry t (AreAnswers-last pool limits [] history entry legal.answers).1 on ∙ sym next)
 

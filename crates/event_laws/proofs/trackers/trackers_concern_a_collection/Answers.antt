@@ -13,15 +13,18 @@ use Rattle.event_laws.proofs.trackers.trackers_concern_a_collection.Goals as goa
 pub returns-clause-each : goal.returns-clause-each
 returns-clause-each c pool limits history legal =
     let marks : Timeline = timeline pool history in
-    all-In (λ (t : Tracked). (collection : ℕ) × IsOf marks collection t.condition) (tracked marks) (concerned pool limits marks (legal_grows pool limits history legal))
+    all-In (λ (t : Tracked). (collection : ℕ) × IsOf marks collection t.condition) (tracked marks)
+    (concerned pool limits marks (legal_grows pool limits history legal))
 
 pub returns-clause-made : goal.returns-clause-made
 returns-clause-made c pool limits history entry legal =
     let marks : Timeline = timeline pool history in
-    all-In (λ (t : Tracked). (collection : ℕ) × (collection_at marks entry ≡ Some collection) × IsOf marks collection t.condition) (made marks entry)
+    all-In (λ (t : Tracked). (collection : ℕ) × (collection_at marks entry ≡ Some collection) × IsOf marks collection t.condition)
+    (made marks entry)
     (λ t on. made_together limits marks entry t (AreAnswers-last pool limits [] history entry legal.answers).1 on)
 
 pub returns-clause-kept : goal.returns-clause-kept
 returns-clause-kept c pool limits history entry legal collection condition here =
     subst (λ (m : Timeline). IsOf m collection condition) (sym (timeline-push pool history entry))
-    (of_after pool limits (timeline pool history) entry collection condition (AreAnswers-last pool limits [] history entry legal.answers).1 here)
+    (of_after pool limits (timeline pool history) entry collection condition (AreAnswers-last pool limits [] history entry legal.answers).1
+    here)

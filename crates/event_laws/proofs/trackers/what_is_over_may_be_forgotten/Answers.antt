@@ -15,4 +15,5 @@ returns c pool limits history entry legal w recalled =
     let later : Timeline = timeline pool (history ++ entry ∷ []) in
     let grows : GrowsOn pool limits history (entry ∷ []) = legal_grows_on pool limits history (entry ∷ []) legal in
     all-In (λ (t : Tracked). is_due w t ≡ is_due (world later) t) (asked before entry)
-    (recalled_due pool limits before later entry w grows.first grows.then (AreAnswers-last pool limits [] history entry legal.answers).1 recalled)
+    (recalled_due pool limits before later entry w grows.first grows.then (AreAnswers-last pool limits [] history entry legal.answers).1
+    recalled)

@@ -36,4 +36,5 @@ returns-then-is_of-clause-err c =
 -- a new group has the place
 pub returns-clause-ok : goal.returns-clause-ok
 returns-clause-ok c = λ f. ap (λ l. weigh f (entries_in l)) c.in_ok-insert.ensures.items
-    ∙ join_step f c.args.groups.now.items c.place_for-at.result c.put-2.new.group c.args.condition c.args.place (heap_items c.new.result) c.new.ensures.items (c.in_ok-put.ensures.ok f)
+    ∙ join_step f c.args.groups.now.items c.place_for-at.result c.put-2.new.group c.args.condition c.args.place (heap_items c.new.result)
+    c.new.ensures.items (c.in_ok-put.ensures.ok f)

@@ -6,4 +6,5 @@ use Rattle.trackers.proofs.filing.keep_filled.Goals as goal
 
 -- the closure computes the test
 pub returns : goal.returns
-returns c = ap entries_in (filter_same _ is_filled _ (λ x b f' h. search rules) _ _ c.retain.ensures.filtered) ∙ entries_filled c.args.groups.now.items
+returns c = ap entries_in (filter_same _ is_filled _ (λ x b f' h. search rules) _ _ c.retain.ensures.filtered)
+    ∙ entries_filled c.args.groups.now.items

@@ -12,7 +12,8 @@ take_due-requires g c =
     let start = c.args.groups.now.items in
     let there : c.loop-at.at < length start = omega (arith, c.loop-at-test.true, c.len-at-end.ensures) in
     let within : c.loop-at.at < length c.loop-at.groups.items = omega (arith, there, c.loop-at.invariant.long) in
-    let fits = due_fits w c.loop-at.groups.items start c.loop-at.at c.index_mut.result.now within there c.loop-at.invariant.others c.index_mut.ensures.value in
+    let fits = due_fits w c.loop-at.groups.items start c.loop-at.at c.index_mut.result.now within there c.loop-at.invariant.others
+    c.index_mut.ensures.value in
     omega (
       arith,
       c.requires,
@@ -36,10 +37,13 @@ loop-at-preserved g c =
         arith,
         c.take_due.ensures.due f,
         c.loop-at.invariant.due f,
-        due_step w f c.loop-at.groups.items start c.loop-at.at c.index_mut.result.now within there c.loop-at.invariant.others c.index_mut.ensures.value,
+        due_step w f c.loop-at.groups.items start c.loop-at.at c.index_mut.result.now within there c.loop-at.invariant.others
+            c.index_mut.ensures.value,
       );
-      so_far = λ f. part_step f (weigh_met w f) c.loop-at.groups.items start c.loop-at.at c.index_mut.result.now c.take_due.new.group within there
-          c.loop-at.invariant.others c.index_mut.ensures.value (kept_part w f (asking c.index_mut.result.now) (asking c.take_due.new.group) (c.take_due.ensures.kept f)) (c.loop-at.invariant.so_far f);
+      so_far = λ f. part_step f (weigh_met w f) c.loop-at.groups.items start c.loop-at.at c.index_mut.result.now c.take_due.new.group within
+          there
+          c.loop-at.invariant.others c.index_mut.ensures.value (kept_part w f (asking c.index_mut.result.now) (asking c.take_due.new.group)
+          (c.take_due.ensures.kept f)) (c.loop-at.invariant.so_far f);
       others = drop-set-lt (c.loop-at.at + 1) c.loop-at.groups.items c.loop-at.at c.take_due.new.group (omega arith)
           ∙ (drop_next c.loop-at.groups.items start c.loop-at.at c.index_mut.result.now within there c.loop-at.invariant.others).1;
       long = length-set c.loop-at.groups.items c.loop-at.at c.take_due.new.group ∙ c.loop-at.invariant.long;

@@ -37,4 +37,5 @@ loop-place-preserved g c =
 pub returns-clause-kept : goal.returns-clause-kept
 returns-clause-kept g c = λ f.
     let w : World = g.W.World.seen c.args.world.now in
-    ap (weigh f) (c.in_default.ensures.kept ∙ sym (none_due w (asking c.loop-place.group) c.in_default.ensures.none)) ∙ c.loop-place.invariant.kept f
+    ap (weigh f) (c.in_default.ensures.kept ∙ sym (none_due w (asking c.loop-place.group) c.in_default.ensures.none))
+    ∙ c.loop-place.invariant.kept f

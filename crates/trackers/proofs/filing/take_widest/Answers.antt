@@ -13,10 +13,12 @@ pub returns-then-not-holds_in-clause-none : goal.returns-then-not-holds_in-claus
 returns-then-not-holds_in-clause-none g c =
     let w : World = g.W.World.seen c.args.world.now in
     let top : ℕ × ℕ = c.in_ok-most.field-0.now in
-    let unmet : holds w (at_most c.args.group.now.condition top.0) ≡ false = ap (holds w) (sym c.at_most.ensures) ∙ (sym c.holds_in.ensures ∙ c.if-not-holds_in.true) in
+    let unmet : holds w (at_most c.args.group.now.condition top.0) ≡ false =
+    ap (holds w) (sym c.at_most.ensures) ∙ (sym c.holds_in.ensures ∙ c.if-not-holds_in.true) in
     let items = heap_items c.args.group.now.waiting in
     none_met w c.args.group.now.condition top.0 items unmet
-    (recursion_from_All (λ (e : ℕ × ℕ). e.0 ≤ top.0) items (first_le_from_greatest nat_cmp top items (c.in_ok-most.ensures.greatest c.args.group.now.widest_first)))
+    (recursion_from_All (λ (e : ℕ × ℕ). e.0 ≤ top.0) items (first_le_from_greatest nat_cmp top items (c.in_ok-most.ensures.greatest
+    c.args.group.now.widest_first)))
 
 -- what was taken is the widest
 pub returns-clause-some : goal.returns-clause-some
@@ -25,7 +27,9 @@ returns-clause-some g c =
     let top : ℕ × ℕ = c.in_ok-most.field-0.now in
     let items = heap_items c.args.group.now.waiting in
     let some : 0 < length items = omega (arith, c.in_ok-place.ensures.len) in
-    let same : top ≡ (c.in_ok-place.field-0-0, c.in_ok-place.place) = same_top top (c.in_ok-place.field-0-0, c.in_ok-place.place) items some c.in_ok-most.ensures.lookup c.in_ok-place.ensures.top in
+    let same : top ≡ (c.in_ok-place.field-0-0, c.in_ok-place.place) =
+    same_top top (c.in_ok-place.field-0-0, c.in_ok-place.place) items some c.in_ok-most.ensures.lookup c.in_ok-place.ensures.top in
     let met : holds w (at_most c.args.group.now.condition c.in_ok-place.field-0-0) ≡ true =
-    ap (λ (e : ℕ × ℕ). holds w (at_most c.args.group.now.condition e.0)) (sym same) ∙ (ap (holds w) (sym c.at_most.ensures) ∙ (sym c.holds_in.ensures ∙ c.if-not-holds_in.false)) in
+    ap (λ (e : ℕ × ℕ). holds w (at_most c.args.group.now.condition e.0)) (sym same) ∙ (ap (holds w) (sym c.at_most.ensures)
+    ∙ (sym c.holds_in.ensures ∙ c.if-not-holds_in.false)) in
     asking_pop w c.args.group.now.condition c.in_ok-place.field-0-0 c.in_ok-place.place items _ met c.in_ok-place.ensures.permutation

@@ -4,7 +4,8 @@ use Rattle.trackers.proofs.Walks.{Walked, stand_here, stands_within, stands_row,
 use Rattle.trackers.proofs.walk.fire_due.Goals as goal
 
 pub index_mut-requires : goal.index_mut-requires
-index_mut-requires g c = omega (arith, stands_within _ _ _ _ _ _ _ _ (stand_here _ _ _ _ _ _ c.args.due.now c.loop-at.at-index c.loop-at-test.true c.loop-at.invariant.walked))
+index_mut-requires g c =
+    omega (arith, stands_within _ _ _ _ _ _ _ _ (stand_here _ _ _ _ _ _ c.args.due.now c.loop-at.at-index c.loop-at-test.true c.loop-at.invariant.walked))
 
 pub visit-requires : goal.visit-requires
 visit-requires g c =
@@ -21,12 +22,15 @@ loop-at-preserved g c =
     let step = stands_step _ _ _ _ _ _ _ _ stands in
     rw (c.visit.ensures.row, c.visit.ensures.fired) record {
       walked = rw here step;
-      room = room_step c.loop-at.rows.items _ c.index_mut.result.now within (sym c.index_mut.ensures.value) w c.args.event c.loop-at.fired.items _ c.loop-at.invariant.room;
+      room = room_step c.loop-at.rows.items _ c.index_mut.result.now within (sym c.index_mut.ensures.value) w c.args.event
+          c.loop-at.fired.items _ c.loop-at.invariant.room;
       capacity = c.visit.ensures.capacity ∙ c.loop-at.invariant.capacity;
     }
 
 pub returns-clause-rows : goal.returns-clause-rows
-returns-clause-rows g c = walked_rows _ _ _ _ _ _ (subst (Walked _ _ _ _ _ _) (drop_all c.loop-at.at-index c.args.due.now (omega arith)) c.loop-at.invariant.walked)
+returns-clause-rows g c = walked_rows _ _ _ _ _ _ (subst (Walked _ _ _ _ _ _) (drop_all c.loop-at.at-index c.args.due.now (omega arith))
+    c.loop-at.invariant.walked)
 
 pub returns-clause-fired : goal.returns-clause-fired
-returns-clause-fired g c = walked_fired _ _ _ _ _ _ (subst (Walked _ _ _ _ _ _) (drop_all c.loop-at.at-index c.args.due.now (omega arith)) c.loop-at.invariant.walked)
+returns-clause-fired g c = walked_fired _ _ _ _ _ _ (subst (Walked _ _ _ _ _ _) (drop_all c.loop-at.at-index c.args.due.now (omega arith))
+    c.loop-at.invariant.walked)

@@ -34,12 +34,16 @@ invariant_of-self c =
     let hold = hold_of c.args.client c.args.buffer c.args.strength in
     let rows' = c.open.new.rows.entries in
     by_outcome c.open.result
-    (λ ok. sound_after (Step-opened inside.limit inside.rows.entries rows' inside.tallies.entries c.open.new.tallies.entries c.self.invariant hold
+    (λ ok. sound_after (Step-opened inside.limit inside.rows.entries rows' inside.tallies.entries c.open.new.tallies.entries
+    c.self.invariant hold
     (at_ok (Raises inside.rows.entries rows' hold) c.open.result ok c.open.ensures.raised)
-    (at_ok (Opens inside.rows.entries rows' inside.tallies.entries c.open.new.tallies.entries hold.kind) c.open.result ok c.open.ensures.tallied)
+    (at_ok (Opens inside.rows.entries rows' inside.tallies.entries c.open.new.tallies.entries hold.kind) c.open.result ok
+    c.open.ensures.tallied)
     (λ full. ok-not-err c.open.result TooMany ok (c.open.ensures.too_many.1 full))))
-    (λ err. subst (λ rows. IsSound inside.limit rows c.open.new.tallies.entries) (sym (at_err (rows' ≡ inside.rows.entries) c.open.result err c.open.ensures.err_rows))
-    (subst (IsSound inside.limit inside.rows.entries) (sym (at_err (c.open.new.tallies.entries ≡ inside.tallies.entries) c.open.result err c.open.ensures.err_tallies)) c.self.invariant))
+    (λ err. subst (λ rows. IsSound inside.limit rows c.open.new.tallies.entries)
+    (sym (at_err (rows' ≡ inside.rows.entries) c.open.result err c.open.ensures.err_rows))
+    (subst (IsSound inside.limit inside.rows.entries) (sym (at_err (c.open.new.tallies.entries ≡ inside.tallies.entries) c.open.result err
+    c.open.ensures.err_tallies)) c.self.invariant))
 
 pub returns-clause-opened : goal.returns-clause-opened
 returns-clause-opened c =
@@ -49,7 +53,8 @@ returns-clause-opened c =
     on_ok _ c.open.result (λ ok. sets_by c.args.client c.args.buffer c.args.strength
     (Step-opened inside.limit inside.rows.entries rows' inside.tallies.entries c.open.new.tallies.entries c.self.invariant hold
     (at_ok (Raises inside.rows.entries rows' hold) c.open.result ok c.open.ensures.raised)
-    (at_ok (Opens inside.rows.entries rows' inside.tallies.entries c.open.new.tallies.entries hold.kind) c.open.result ok c.open.ensures.tallied)
+    (at_ok (Opens inside.rows.entries rows' inside.tallies.entries c.open.new.tallies.entries hold.kind) c.open.result ok
+    c.open.ensures.tallied)
     (λ full. ok-not-err c.open.result TooMany ok (c.open.ensures.too_many.1 full)))
     c.args.self.now c.self.view_is (λ n. n + 1) (λ n. n) (λ n. n + 1)
     refl refl refl)

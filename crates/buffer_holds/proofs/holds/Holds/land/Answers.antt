@@ -52,7 +52,8 @@ overflow_add-tally c =
       c.len-before.ensures.len,
       c.len-before.ensures.small,
       clients-le-length inside.limit inside.rows.entries inside.tallies.entries c.self.invariant hold,
-      ap (λ (t : Tally). t.clients) (tally_lent inside.tallies hold.kind _ c.unwrap-tally.result c.unwrap-tally.ensures c.get_mut.ensures.value),
+      ap (λ (t : Tally). t.clients) (tally_lent inside.tallies hold.kind _ c.unwrap-tally.result c.unwrap-tally.ensures
+          c.get_mut.ensures.value),
     )
 
 pub invariant_of-self-2 : goal.invariant_of-self-2
@@ -60,7 +61,8 @@ invariant_of-self-2 c =
     let inside = c.self.inside in
     let hold = hold_of c.args.client c.args.buffer c.args.strength in
     let tally = c.unwrap-tally.result.now in
-    let landed : Tally = record { total = tally.total; moving = tally.moving - 1; clients = tally.clients + (c.len.result - c.len-before.result) } in
+    let landed : Tally =
+    record { total = tally.total; moving = tally.moving - 1; clients = tally.clients + (c.len.result - c.len-before.result) } in
     let kept = tally_lent inside.tallies hold.kind _ c.unwrap-tally.result c.unwrap-tally.ensures c.get_mut.ensures.value in
     let lies : 0 < tally.moving = omega (
       arith,
@@ -70,7 +72,8 @@ invariant_of-self-2 c =
       ap (λ (t : Tally). t.moving) kept,
     ) in
     sound_after (Step-raised inside.limit inside.rows.entries c.raise.new.rows.entries inside.tallies.entries _ c.self.invariant hold landed
-    (row_written inside.tallies hold.kind _ c.unwrap-tally.result c.unwrap-tally.ensures c.get_mut.ensures.value (c.get_mut.follows.lender landed) landed (c.get_mut.follows.holds landed))
+    (row_written inside.tallies hold.kind _ c.unwrap-tally.result c.unwrap-tally.ensures c.get_mut.ensures.value
+    (c.get_mut.follows.lender landed) landed (c.get_mut.follows.holds landed))
     c.in-Ok.ensures.ok (omega (arith, c.len.ensures.len, c.len-before.ensures.len, ap (λ (t : Tally). t.clients) kept))
     (omega (arith, (c.self.invariant.tallied hold.kind).within, ap (λ (t : Tally). t.total) kept))
     (omega (arith, lies, ap (λ (t : Tally). t.total) kept, ap (λ (t : Tally). t.moving) kept)))
@@ -80,7 +83,8 @@ returns-clause-landed c =
     let inside = c.self.inside in
     let hold = hold_of c.args.client c.args.buffer c.args.strength in
     let tally = c.unwrap-tally.result.now in
-    let landed : Tally = record { total = tally.total; moving = tally.moving - 1; clients = tally.clients + (c.len.result - c.len-before.result) } in
+    let landed : Tally =
+    record { total = tally.total; moving = tally.moving - 1; clients = tally.clients + (c.len.result - c.len-before.result) } in
     let kept = tally_lent inside.tallies hold.kind _ c.unwrap-tally.result c.unwrap-tally.ensures c.get_mut.ensures.value in
     let lies : 0 < tally.moving = omega (
       arith,
@@ -90,7 +94,8 @@ returns-clause-landed c =
       ap (λ (t : Tally). t.moving) kept,
     ) in
     let step = Step-raised inside.limit inside.rows.entries c.raise.new.rows.entries inside.tallies.entries _ c.self.invariant hold landed
-    (row_written inside.tallies hold.kind _ c.unwrap-tally.result c.unwrap-tally.ensures c.get_mut.ensures.value (c.get_mut.follows.lender landed) landed (c.get_mut.follows.holds landed))
+    (row_written inside.tallies hold.kind _ c.unwrap-tally.result c.unwrap-tally.ensures c.get_mut.ensures.value
+    (c.get_mut.follows.lender landed) landed (c.get_mut.follows.holds landed))
     c.in-Ok.ensures.ok (omega (arith, c.len.ensures.len, c.len-before.ensures.len, ap (λ (t : Tally). t.clients) kept))
     (omega (arith, (c.self.invariant.tallied hold.kind).within, ap (λ (t : Tally). t.total) kept))
     (omega (arith, lies, ap (λ (t : Tally). t.total) kept, ap (λ (t : Tally). t.moving) kept)) in

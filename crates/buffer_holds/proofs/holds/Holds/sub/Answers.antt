@@ -24,7 +24,8 @@ overflow_sub-tally c =
       arith,
       c.if-not-lower.ensures.had.0 refl,
       count_at-le-total inside.limit inside.rows.entries inside.tallies.entries c.self.invariant hold,
-      ap (λ (t : Tally). t.total) (tally_lent inside.tallies hold.kind _ c.unwrap-tally.result c.unwrap-tally.ensures c.get_mut.ensures.value),
+      ap (λ (t : Tally). t.total) (tally_lent inside.tallies hold.kind _ c.unwrap-tally.result c.unwrap-tally.ensures
+          c.get_mut.ensures.value),
     )
 
 pub invariant_of-self-2 : goal.invariant_of-self-2
@@ -37,9 +38,11 @@ invariant_of-self-2 c =
     let had = c.if-not-lower.ensures.had.0 refl in
     let among = count_at-le-total inside.limit inside.rows.entries inside.tallies.entries c.self.invariant hold in
     sound_after (Step-lowered inside.limit inside.rows.entries c.lower.new.rows.entries inside.tallies.entries _ c.self.invariant hold left
-    (row_written inside.tallies hold.kind _ c.unwrap-tally.result c.unwrap-tally.ensures c.get_mut.ensures.value (c.get_mut.follows.lender left) left (c.get_mut.follows.holds left))
+    (row_written inside.tallies hold.kind _ c.unwrap-tally.result c.unwrap-tally.ensures c.get_mut.ensures.value
+    (c.get_mut.follows.lender left) left (c.get_mut.follows.holds left))
     had (c.if-not-lower.ensures.lowered)
-    (ap (λ (t : Tally). t.clients) (sym kept)) (omega (arith, ap (λ (t : Tally). t.total) kept)) (omega (arith, had, among, ap (λ (t : Tally). t.total) kept, ap (λ (t : Tally). t.moving) kept)))
+    (ap (λ (t : Tally). t.clients) (sym kept)) (omega (arith, ap (λ (t : Tally). t.total) kept))
+    (omega (arith, had, among, ap (λ (t : Tally). t.total) kept, ap (λ (t : Tally). t.moving) kept)))
 
 pub returns-clause-closed : goal.returns-clause-closed
 returns-clause-closed c =
@@ -51,8 +54,10 @@ returns-clause-closed c =
     let had = c.if-not-lower.ensures.had.0 refl in
     let among = count_at-le-total inside.limit inside.rows.entries inside.tallies.entries c.self.invariant hold in
     let step = Step-lowered inside.limit inside.rows.entries c.lower.new.rows.entries inside.tallies.entries _ c.self.invariant hold left
-    (row_written inside.tallies hold.kind _ c.unwrap-tally.result c.unwrap-tally.ensures c.get_mut.ensures.value (c.get_mut.follows.lender left) left (c.get_mut.follows.holds left))
+    (row_written inside.tallies hold.kind _ c.unwrap-tally.result c.unwrap-tally.ensures c.get_mut.ensures.value
+    (c.get_mut.follows.lender left) left (c.get_mut.follows.holds left))
     had (c.if-not-lower.ensures.lowered)
-    (ap (λ (t : Tally). t.clients) (sym kept)) (omega (arith, ap (λ (t : Tally). t.total) kept)) (omega (arith, had, among, ap (λ (t : Tally). t.total) kept, ap (λ (t : Tally). t.moving) kept)) in
+    (ap (λ (t : Tally). t.clients) (sym kept)) (omega (arith, ap (λ (t : Tally). t.total) kept))
+    (omega (arith, had, among, ap (λ (t : Tally). t.total) kept, ap (λ (t : Tally). t.moving) kept)) in
     sets_by c.args.client c.args.buffer c.args.strength step c.args.self.now c.self.view_is (λ n. n - 1) (λ n. n) (λ n. n - 1)
     refl (ap (λ (t : Tally). t.moving) (sym kept)) (ap (λ (t : Tally). t.total - 1) (sym kept))

@@ -14,7 +14,10 @@ invariant_of-self c =
     elim c.if-at-len.branch [
       | then-at-len w ↦
           rw w.page-is
-          (passes-before holes c.args.at c.args.pages_each w.get-page.result up passed (omega (arith, w.if-at-len.true, c.len.ensures.count)) w.get-page.ensures)
-      | else-at-len w ↦ rw w.page-is (passes-all holes c.args.at c.args.pages_each _ passed (omega (arith, w.if-at-len.false, c.len.ensures.count)))
+          (passes-before holes c.args.at c.args.pages_each w.get-page.result up passed
+          (omega (arith, w.if-at-len.true, c.len.ensures.count)) w.get-page.ensures)
+      | else-at-len w ↦
+          rw w.page-is (passes-all holes c.args.at c.args.pages_each _ passed (omega (arith, w.if-at-len.false, c.len.ensures.count)))
     ] in
-    marks-learned c.self.inside.marks holes (c.args.pages_each % 16) (record { pages = c.args.pages_each; page = c.if-at-len.page }) new c.self.invariant
+    marks-learned c.self.inside.marks holes (c.args.pages_each % 16) (record { pages = c.args.pages_each; page = c.if-at-len.page }) new
+    c.self.invariant

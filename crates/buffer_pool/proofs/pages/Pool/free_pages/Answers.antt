@@ -3,4 +3,5 @@ use Rattle.buffer_pool.proofs.Sounds.{sound_from}
 use Rattle.buffer_pool.proofs.pages.Pool.free_pages.Goals as goal
 
 pub returns-clause-sound : goal.returns-clause-sound
-returns-clause-sound c = rw (← c.self.view_is) (sound_from c.self.inside.size c.self.inside.held.items c.self.invariant.sized c.self.invariant.in_order)
+returns-clause-sound c =
+    rw (← c.self.view_is) (sound_from c.self.inside.size c.self.inside.held.items c.self.invariant.sized c.self.invariant.in_order)

@@ -17,26 +17,33 @@ returns-then-not-has_rooms-clause-full c =
     (λ _. is_full c.self.inside.size c.self.inside.free c.args.count c.args.pages_each c.self.inside.holes.items c.self.inside.held.items c.self.inside.holes.capacity c.requires.1 c.self.invariant few, λ _. refl)
 
 pub returns-then-not-has_rooms-clause-sound : goal.returns-then-not-has_rooms-clause-sound
-returns-then-not-has_rooms-clause-sound c = sound_from c.self.inside.size c.self.inside.held.items c.self.invariant.sized c.self.invariant.in_order
+returns-then-not-has_rooms-clause-sound c =
+    sound_from c.self.inside.size c.self.inside.held.items c.self.invariant.sized c.self.invariant.in_order
 
 -- all buffers have room
-all_fit : (c : Else-not-has_rooms) → KeepsRun c.self.inside.size c.self.inside.free c.args.count c.args.pages_each c.self.inside.holes.items c.self.inside.held.items
+all_fit : (c : Else-not-has_rooms) → KeepsRun c.self.inside.size c.self.inside.free c.args.count c.args.pages_each c.self.inside.holes.items
+    c.self.inside.held.items
 all_fit c =
     let test = c.has_rooms.ensures in
-    keeps_run c.self.inside.size c.self.inside.free c.args.count c.args.pages_each c.self.inside.holes.items c.self.inside.held.items c.self.inside.holes.capacity c.requires.1 c.self.invariant
-    (subst (λ (l : Listed). c.args.count ≤ rooms c.args.pages_each l.items) c.seek-first.ensures.same (leb-true _ _ (sym test ∙ c.if-not-has_rooms.false)))
+    keeps_run c.self.inside.size c.self.inside.free c.args.count c.args.pages_each c.self.inside.holes.items c.self.inside.held.items
+    c.self.inside.holes.capacity c.requires.1 c.self.invariant
+    (subst (λ (l : Listed). c.args.count ≤ rooms c.args.pages_each l.items) c.seek-first.ensures.same (leb-true _ _ (sym test
+    ∙ c.if-not-has_rooms.false)))
 
 pub fill-placed-requires-clause-fits : goal.fill-placed-requires-clause-fits
 fill-placed-requires-clause-fits c =
-    rw (c.reserve.ensures.holes, c.seek-first.ensures.same) (lists_of c.self.inside.size c.self.inside.free c.self.inside.holes.items c.self.inside.held.items c.self.inside.holes.capacity c.self.invariant).fits
+    rw (c.reserve.ensures.holes, c.seek-first.ensures.same) (lists_of c.self.inside.size c.self.inside.free c.self.inside.holes.items
+    c.self.inside.held.items c.self.inside.holes.capacity c.self.invariant).fits
 
 pub fill-placed-requires-clause-few : goal.fill-placed-requires-clause-few
 fill-placed-requires-clause-few c =
-    rw (c.reserve.ensures.holes, c.seek-first.ensures.same) (lists_of c.self.inside.size c.self.inside.free c.self.inside.holes.items c.self.inside.held.items c.self.inside.holes.capacity c.self.invariant).few
+    rw (c.reserve.ensures.holes, c.seek-first.ensures.same) (lists_of c.self.inside.size c.self.inside.free c.self.inside.holes.items
+    c.self.inside.held.items c.self.inside.holes.capacity c.self.invariant).few
 
 pub fill-placed-requires-clause-up : goal.fill-placed-requires-clause-up
 fill-placed-requires-clause-up c =
-    rw c.reserve.ensures.held (lists_of c.self.inside.size c.self.inside.free c.self.inside.holes.items c.self.inside.held.items c.self.inside.holes.capacity c.self.invariant).rises
+    rw c.reserve.ensures.held (lists_of c.self.inside.size c.self.inside.free c.self.inside.holes.items c.self.inside.held.items
+    c.self.inside.holes.capacity c.self.invariant).rises
 
 pub overflow_mul-self : goal.overflow_mul-self
 overflow_mul-self c = let small = (all_fit (goal.at.overflow_mul-self c).Else-not-has_rooms).small in search rules
@@ -46,7 +53,8 @@ overflow_sub-self c = (all_fit (goal.at.overflow_sub-self c).Else-not-has_rooms)
 
 pub seek-first-requires : goal.seek-first-requires
 seek-first-requires c =
-    (lists_of c.self.inside.size c.self.inside.free c.self.inside.holes.items c.self.inside.held.items c.self.inside.holes.capacity c.self.invariant).begins
+    (lists_of c.self.inside.size c.self.inside.free c.self.inside.holes.items c.self.inside.held.items c.self.inside.holes.capacity
+    c.self.invariant).begins
 
 pub invariant_of-self : goal.invariant_of-self
 invariant_of-self c = rw c.seek-first.ensures.same c.self.invariant
@@ -61,14 +69,18 @@ pub returns-in-Ok : goal.returns-in-Ok
 returns-in-Ok c =
     let k = all_fit (goal.at.returns-in-Ok c).Else-not-has_rooms in
     let kept = k.kept c.reserve.new.holes.capacity (rw c.reserve.ensures.held at c.in-Ok.ensures.holes_room) in
-    let p = places_buffers c.self.inside.size c.self.inside.free c.args.count c.args.pages_each c.self.inside.holes.items c.self.inside.held.items c.reserve.new.holes.items c.reserve.new.held.items c.fill-placed.new.held.items c.fill-placed.result.starts.items c.fill-placed.result.looks k
-    (c.reserve.ensures.holes ∙ ap (λ (l : Listed). l.items) c.seek-first.ensures.same) c.reserve.ensures.held c.fill-placed.ensures.starts c.fill-placed.ensures.looks c.fill-placed.ensures.held in
+    let p = places_buffers c.self.inside.size c.self.inside.free c.args.count c.args.pages_each c.self.inside.holes.items
+    c.self.inside.held.items c.reserve.new.holes.items c.reserve.new.held.items c.fill-placed.new.held.items
+    c.fill-placed.result.starts.items c.fill-placed.result.looks k
+    (c.reserve.ensures.holes ∙ ap (λ (l : Listed). l.items) c.seek-first.ensures.same) c.reserve.ensures.held c.fill-placed.ensures.starts
+    c.fill-placed.ensures.looks c.fill-placed.ensures.held in
     rw (← c.self.view_is)
     (record {
       ok = p;
       err = tt;
       full = (λ same. cc, not_full c.self.inside.size c.args.pages_each c.args.count c.self.inside.held.items c.fill-placed.result.starts.items _ p.starts_are);
-      sound = rw (c.fill-placed.ensures.held, c.reserve.ensures.holes, c.reserve.ensures.held, c.seek-first.ensures.same) (sound_from c.self.inside.size _ kept.sized kept.in_order);
+      sound = rw (c.fill-placed.ensures.held, c.reserve.ensures.holes, c.reserve.ensures.held, c.seek-first.ensures.same)
+          (sound_from c.self.inside.size _ kept.sized kept.in_order);
     })
 
 pub returns-in-Err : goal.returns-in-Err
@@ -79,5 +91,6 @@ returns-in-Err c =
       ok = tt;
       err = λ i. record { size = c.self.inside.size; held = c.reserve.ensures.held i };
       full = (λ same. cc, not_full c.self.inside.size c.args.pages_each c.args.count c.self.inside.held.items _ _ k.run.places_are);
-      sound = rw c.reserve.ensures.held (sound_from c.self.inside.size c.self.inside.held.items c.self.invariant.sized c.self.invariant.in_order);
+      sound = rw c.reserve.ensures.held (sound_from c.self.inside.size c.self.inside.held.items c.self.invariant.sized
+          c.self.invariant.in_order);
     })

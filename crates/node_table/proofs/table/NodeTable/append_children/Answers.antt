@@ -10,29 +10,35 @@ pub children-preserved : goal.children-preserved
 children-preserved g c =
     let pushed : c.push.new.self.items ≡ c.children.keys.items ++ c.in-Some.child ∷ [] = search rules in
     record {
-      appends = subst (λ items. Appends (children_at c.args.self.now c.args.key) c.args.keys.now.items items c.next_sibling-at.result) (sym pushed)
-          (appends-more c.args.self.now c.children.invariant.forest c.args.key c.args.keys.now.items c.children.keys.items c.children.at c.next_sibling-at.result c.in-Some.child
+      appends = subst (λ items. Appends (children_at c.args.self.now c.args.key) c.args.keys.now.items items c.next_sibling-at.result)
+          (sym pushed)
+          (appends-more c.args.self.now c.children.invariant.forest c.args.key c.args.keys.now.items c.children.keys.items c.children.at
+          c.next_sibling-at.result c.in-Some.child
           c.children.invariant.appends c.in-Some.is c.next_sibling-at.ensures.value);
       forest = c.children.invariant.forest;
       capacity = omega (arith, c.push.ensures.capacity, c.children.invariant.capacity);
     }
 
 pub children-init : goal.children-init
-children-init g c = record { appends = appends-none (children_at c.args.self.now c.args.key) c.args.keys.now.items c.first_child-at.result c.first_child-at.ensures.value; forest = c.first_child-at.ensures.forest; capacity = omega arith }
+children-init g c =
+    record { appends = appends-none (children_at c.args.self.now c.args.key) c.args.keys.now.items c.first_child-at.result c.first_child-at.ensures.value; forest = c.first_child-at.ensures.forest; capacity = omega arith }
 
 pub children-smaller : goal.children-smaller
 children-smaller g c =
     let pushed : c.push.new.self.items ≡ c.children.keys.items ++ c.in-Some.child ∷ [] = search rules in
-    let size : length c.push.new.self.items ≡ length c.children.keys.items + 1 = ap length pushed ∙ length_push c.children.keys.items c.in-Some.child in
+    let size : length c.push.new.self.items ≡ length c.children.keys.items + 1 =
+    ap length pushed ∙ length_push c.children.keys.items c.in-Some.child in
     let within : length c.children.keys.items < length c.args.keys.now.items + length (children_at c.args.self.now c.args.key) =
-    appends-within (children_at c.args.self.now c.args.key) c.args.keys.now.items c.children.keys.items c.children.at c.in-Some.child c.children.invariant.appends c.in-Some.is in
+    appends-within (children_at c.args.self.now c.args.key) c.args.keys.now.items c.children.keys.items c.children.at c.in-Some.child
+    c.children.invariant.appends c.in-Some.is in
     omega (arith, size, within)
 
 -- no child is left
 pub returns : goal.returns
 returns g c =
     record {
-      ok = appends-all c.args.self.now c.children.invariant.forest c.args.key c.args.keys.now.items c.children.keys.items c.children.at c.children.invariant.appends c.in_default.is;
+      ok = appends-all c.args.self.now c.children.invariant.forest c.args.key c.args.keys.now.items c.children.keys.items c.children.at
+          c.children.invariant.appends c.in_default.is;
       err = tt;
       room = λ _. refl;
       capacity = c.children.invariant.capacity;

@@ -27,7 +27,8 @@ returns-clause-born g c =
     rw (c.reserve_to.ensures.items, c.reserve.ensures.rest_kept) c.self.view_is in
     let key_is : c.insert_reserved-self-inside.result ≡ c.vacant_key-slot.result =
     c.insert_reserved-self-inside.ensures.key ∙ c.link.ensures.kept.vacant_key ∙ sym c.vacant_key-slot.ensures.value in
-    subst (λ t. Births t (table_of c.insert_reserved-self-inside.new.self.slots c.bump.new.nexts.items c.self.inside.first c.self.inside.limit)
+    subst (λ t. Births t (table_of c.insert_reserved-self-inside.new.self.slots c.bump.new.nexts.items c.self.inside.first
+    c.self.inside.limit)
     c.args.parent c.args.node (record { slot = c.vacant_key-slot.result; generation = c.next_of-next.result })) same
     (born c.reserve.new.self c.link.new.slots c.insert_reserved-self-inside.new.self c.reserve_to.new.nexts.items c.bump.new.nexts.items
     c.self.inside.first c.self.inside.count c.self.inside.limit c.args.parent
@@ -55,7 +56,8 @@ link-requires-clause-parent g c =
 pub link-requires-clause-last : goal.link-requires-clause-last
 link-requires-clause-last g c =
     last-entry c.reserve.new.self.slots c.reserve_to.new.nexts.items c.self.inside.first c.self.inside.count c.self.inside.limit
-    (rw (c.reserve_to.ensures.items, c.reserve.ensures.rest_kept) c.self.invariant) c.args.parent c.last_below-last.result c.last_below-last.ensures
+    (rw (c.reserve_to.ensures.items, c.reserve.ensures.rest_kept) c.self.invariant) c.args.parent c.last_below-last.result
+    c.last_below-last.ensures
 
 -- the new links took no room in the slab
 pub insert_reserved-self-inside-requires : goal.insert_reserved-self-inside-requires

@@ -8,22 +8,26 @@ use Rattle.node_table.proofs.table.NodeTable.node_mut.Goals as goal
 -- a write of the node keeps the table sound
 pub invariant_of-self-lent : goal.invariant_of-self-lent
 invariant_of-self-lent g c w =
-    sound-written c.self.inside.slots c.self.inside.nexts.items c.self.inside.first c.self.inside.count c.self.inside.limit c.args.key c.entry_mut-entry.result.now w
+    sound-written c.self.inside.slots c.self.inside.nexts.items c.self.inside.first c.self.inside.count c.self.inside.limit c.args.key
+    c.entry_mut-entry.result.now w
     (c.index_mut.ensures.value ∙ taken-by (Some c.index_mut.result.now) c.entry_mut-entry.result.now c.entry_mut-entry.ensures.value)
     c.self.invariant (subst (λ t. IsSome (row_at t c.args.key)) (sym c.self.view_is) c.requires)
 
 pub returns : goal.returns
 returns g c =
-    let was = c.index_mut.ensures.value ∙ taken-by (Some c.index_mut.result.now) c.entry_mut-entry.result.now c.entry_mut-entry.ensures.value in (
+    let was = c.index_mut.ensures.value
+    ∙ taken-by (Some c.index_mut.result.now) c.entry_mut-entry.result.now c.entry_mut-entry.ensures.value in (
       (
         refl,
-        λ w. table-written c.self.inside.slots c.self.inside.nexts.items c.self.inside.first c.self.inside.count c.self.inside.limit c.args.key c.entry_mut-entry.result.now w was
+        λ w. table-written c.self.inside.slots c.self.inside.nexts.items c.self.inside.first c.self.inside.count c.self.inside.limit
+            c.args.key c.entry_mut-entry.result.now w was
             ∙ ap (λ t. table_with_node t c.args.key w) c.self.view_is,
       ),
       record {
         writes_back = tt;
         value = subst (λ t. node_at t c.args.key ≡ Some c.entry_mut-entry.result.now.node) c.self.view_is
-            (node-there c.self.inside.slots c.self.inside.nexts.items c.self.inside.first c.self.inside.limit c.args.key c.entry_mut-entry.result.now was
+            (node-there c.self.inside.slots c.self.inside.nexts.items c.self.inside.first c.self.inside.limit c.args.key
+            c.entry_mut-entry.result.now was
             (subst (λ t. IsSome (row_at t c.args.key)) (sym c.self.view_is) c.requires));
       },
     )

@@ -9,18 +9,21 @@ use Rattle.node_table.proofs.table.NodeTable.remove.Goals as goal
 pub take_entry-entry-requires : goal.take_entry-entry-requires
 take_entry-entry-requires g c =
     entry-there c.self.inside.slots.slots c.self.inside.nexts.items c.self.inside.first c.self.inside.limit c.args.key
-    (subst (λ t. IsSome (row_at t c.args.key)) (sym c.self.view_is) (ap is_some c.cut.ensures.loose ∙ is_some-option_map without_parent (row_at c.args.self.now c.args.key) ∙ c.requires.there))
+    (subst (λ t. IsSome (row_at t c.args.key)) (sym c.self.view_is) (ap is_some c.cut.ensures.loose
+    ∙ is_some-option_map without_parent (row_at c.args.self.now c.args.key) ∙ c.requires.there))
 
 pub invariant_of-self : goal.invariant_of-self
 invariant_of-self g c =
-    sound-removed c.args.self.now c.self.inside.slots c.take_entry-entry.new.slots c.self.inside.nexts.items c.self.inside.first c.self.inside.count c.self.inside.limit c.args.key c.take_entry-entry.result
+    sound-removed c.args.self.now c.self.inside.slots c.take_entry-entry.new.slots c.self.inside.nexts.items c.self.inside.first
+    c.self.inside.count c.self.inside.limit c.args.key c.take_entry-entry.result
     c.requires.there c.requires.leaf (subst (λ t. Cuts c.args.self.now t c.args.key) (sym c.self.view_is) c.cut.ensures)
     c.self.invariant c.take_entry-entry.ensures.was c.take_entry-entry.ensures.none c.take_entry-entry.ensures.others
     (λ last. c.take_entry-entry.ensures.retired (search rules)) (search rules)
 
 pub returns : goal.returns
 returns g c =
-    removes c.args.self.now c.self.inside.slots c.take_entry-entry.new.slots c.self.inside.nexts.items c.self.inside.first c.self.inside.count c.self.inside.limit c.args.key c.take_entry-entry.result
+    removes c.args.self.now c.self.inside.slots c.take_entry-entry.new.slots c.self.inside.nexts.items c.self.inside.first
+    c.self.inside.count c.self.inside.limit c.args.key c.take_entry-entry.result
     c.requires.there c.requires.leaf (subst (λ t. Cuts c.args.self.now t c.args.key) (sym c.self.view_is) c.cut.ensures)
     c.self.invariant c.take_entry-entry.ensures.was c.take_entry-entry.ensures.none c.take_entry-entry.ensures.others
     (λ last. c.take_entry-entry.ensures.retired (search rules)) (search rules)

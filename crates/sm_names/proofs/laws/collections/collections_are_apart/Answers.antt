@@ -10,12 +10,15 @@ returns-clause-reach c pool limits history legal origin node =
 
 pub returns-clause-loss : goal.returns-clause-loss
 returns-clause-loss c pool limits history legal ours theirs other =
-    members_loss (timeline pool history) ours theirs (whole pool limits (timeline pool history) (legal_grows pool limits history legal)) other
+    members_loss (timeline pool history) ours theirs (whole pool limits (timeline pool history) (legal_grows pool limits history legal))
+    other
 
 pub returns-clause-allocation : goal.returns-clause-allocation
 returns-clause-allocation c pool limits history legal ours theirs other =
-    members_allocation (timeline pool history) ours theirs (whole pool limits (timeline pool history) (legal_grows pool limits history legal)) other
+    members_allocation (timeline pool history) ours theirs (whole pool limits (timeline pool history) (legal_grows pool limits history
+    legal)) other
 
 pub returns-clause-end : goal.returns-clause-end
 returns-clause-end c pool limits history legal ours theirs other =
-    members_end (timeline pool history) ours theirs (whole pool limits (timeline pool history) (legal_grows pool limits history legal)) other
+    members_end (timeline pool history) ours theirs (whole pool limits (timeline pool history) (legal_grows pool limits history legal))
+    other

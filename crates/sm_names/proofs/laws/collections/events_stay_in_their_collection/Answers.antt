@@ -11,4 +11,5 @@ pub returns : goal.returns
 returns c pool limits history entry legal collection away =
     let before : Timeline = timeline pool history in
     subst (λ (m : Timeline). IsAsBefore pool before m collection) (sym (timeline-push pool history entry))
-    (as_before pool limits before entry collection (legal_grows_on pool limits history (entry ∷ []) legal).first (AreAnswers-last pool limits [] history entry legal.answers).1 away)
+    (as_before pool limits before entry collection (legal_grows_on pool limits history (entry ∷ []) legal).first
+    (AreAnswers-last pool limits [] history entry legal.answers).1 away)

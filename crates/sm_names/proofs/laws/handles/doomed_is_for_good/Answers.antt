@@ -10,15 +10,18 @@ use Rattle.sm_names.proofs.laws.handles.doomed_is_for_good.Goals as goal
 
 pub returns-clause-taken : goal.returns-clause-taken
 returns-clause-taken c pool limits history client collection strength set call legal =
-    (took limits (timeline pool history) client collection strength set call (AreAnswers-last pool limits [] history (client, call, Reply.Taken collection strength set) legal.answers).1).set_is
+    (took limits (timeline pool history) client collection strength set call (AreAnswers-last pool limits [] history
+    (client, call, Reply.Taken collection strength set) legal.answers).1).set_is
 
 pub returns-clause-opened : goal.returns-clause-opened
 returns-clause-opened c pool limits history client collection strength set key legal =
-    take_opens limits (timeline pool history) client collection strength set key (AreAnswers-last pool limits [] history (client, Call.Take key, Reply.Taken collection strength set) legal.answers).1
+    take_opens limits (timeline pool history) client collection strength set key (AreAnswers-last pool limits [] history
+    (client, Call.Take key, Reply.Taken collection strength set) legal.answers).1
 
 pub returns-clause-by_take : goal.returns-clause-by_take
 returns-clause-by_take c pool limits history client collection strength set call legal =
-    (took limits (timeline pool history) client collection strength set call (AreAnswers-last pool limits [] history (client, call, Reply.Taken collection strength set) legal.answers).1).by_take
+    (took limits (timeline pool history) client collection strength set call (AreAnswers-last pool limits [] history
+    (client, call, Reply.Taken collection strength set) legal.answers).1).by_take
 
 pub returns-clause-doomed : goal.returns-clause-doomed
 returns-clause-doomed c pool limits history more legal buffer h =

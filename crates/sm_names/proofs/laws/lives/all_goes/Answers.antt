@@ -19,6 +19,7 @@ returns-clause-held c pool limits history legal all none =
 
 pub returns-clause-free : goal.returns-clause-free
 returns-clause-free c pool limits history legal all none =
-    let e : held pool (timeline pool history) ≡ [] = none_held pool limits history legal (λ b on. all b.node (In-was_born (births (timeline pool history)) b on)) none in
+    let e : held pool (timeline pool history) ≡ [] =
+    none_held pool limits history legal (λ b on. all b.node (In-was_born (births (timeline pool history)) b on)) none in
     let whole : pool - 0 ≡ pool = omega arith in
     ap (λ (l : List HeldPages). pool - sum_by (λ (h : HeldPages). h.pages.pages) l) e ∙ whole

@@ -7,7 +7,8 @@ pub returns-clause-read : goal.returns-clause-read
 returns-clause-read c = readings-quiet
 
 pub returns-clause-forced : goal.returns-clause-forced
-returns-clause-forced c pool collection marks client reply call h = ap (forced pool) (standing-quiet pool marks client reply call collection h)
+returns-clause-forced c pool collection marks client reply call h =
+    ap (forced pool) (standing-quiet pool marks client reply call collection h)
 
 pub returns-clause-live : goal.returns-clause-live
 returns-clause-live c marks client reply call h = (seen-quiet 0 marks client reply call h).0

@@ -5,19 +5,23 @@ use Rattle.sm_names.proofs.SizeLaws.{held_sized}
 use Rattle.sm_names.proofs.laws.pages.held_buffers_are_apart.Goals as goal
 
 pub returns-clause-apart : goal.returns-clause-apart
-returns-clause-apart c pool limits history legal = (are_held pool limits (timeline pool history) (legal_grows pool limits history legal)).apart
+returns-clause-apart c pool limits history legal =
+    (are_held pool limits (timeline pool history) (legal_grows pool limits history legal)).apart
 
 pub returns-clause-inside : goal.returns-clause-inside
-returns-clause-inside c pool limits history legal = (are_held pool limits (timeline pool history) (legal_grows pool limits history legal)).inside
+returns-clause-inside c pool limits history legal =
+    (are_held pool limits (timeline pool history) (legal_grows pool limits history legal)).inside
 
 pub returns-clause-stands : goal.returns-clause-stands
-returns-clause-stands c pool limits history legal buffer = stands_held pool limits (timeline pool history) (legal_grows pool limits history legal) buffer
+returns-clause-stands c pool limits history legal buffer =
+    stands_held pool limits (timeline pool history) (legal_grows pool limits history legal) buffer
 
 pub returns-clause-free : goal.returns-clause-free
 returns-clause-free c pool limits history legal = free_and_held pool limits (timeline pool history) (legal_grows pool limits history legal)
 
 pub returns-clause-once : goal.returns-clause-once
-returns-clause-once c pool limits history legal buffer = held_once pool limits (timeline pool history) (legal_grows pool limits history legal) buffer
+returns-clause-once c pool limits history legal buffer =
+    held_once pool limits (timeline pool history) (legal_grows pool limits history legal) buffer
 
 pub returns-clause-sizes : goal.returns-clause-sizes
 returns-clause-sizes c pool limits history legal = held_sized pool limits (timeline pool history) (legal_grows pool limits history legal)

@@ -14,13 +14,15 @@ invariant_of-self c =
       | in-Ok w ↦
           let long : vec_len c.self.inside.rows ≡ length c.self.inside.rows.items = omega arith in
           let all = all_below c.args.id c.self.inside.rows.items (recursion_from_All _ _ (rw (← c.self.view_is) at c.requires.rising)) in
-          kept_push _ _ _ _ _ _ _ _ _ _ _ c.self.invariant c.add.ensures.fired c.args.id w.in-Ok.ensures.row.0 c.args.collection c.args.condition all
+          kept_push _ _ _ _ _ _ _ _ _ _ _ c.self.invariant c.add.ensures.fired c.args.id w.in-Ok.ensures.row.0 c.args.collection
+          c.args.condition all
           (omega (arith, held.counted, c.len.ensures, c.len-2.ensures))
           (omega (arith, w.in-Ok.ensures.room, held.counted, c.len.ensures, c.len-2.ensures))
           (omega (arith, w.in-Ok.ensures.spare, held.counted, c.len.ensures, c.len-2.ensures))
           w.in-Ok.ensures.row.1
           (rw (← long) w.in-Ok.ensures.filed)
-      | in-Err w ↦ kept_grown _ _ _ _ _ _ _ _ _ _ _ c.self.invariant c.add.ensures.fired c.add.ensures.capacity c.add.ensures.more_spare w.in-Err.ensures.rows_kept w.in-Err.ensures.piles_kept
+      | in-Err w ↦ kept_grown _ _ _ _ _ _ _ _ _ _ _ c.self.invariant c.add.ensures.fired c.add.ensures.capacity c.add.ensures.more_spare
+          w.in-Err.ensures.rows_kept w.in-Err.ensures.piles_kept
     ]
 
 -- as many wait as may
@@ -28,12 +30,14 @@ pub returns-then-waiting-self-clause-full : goal.returns-then-waiting-self-claus
 returns-then-waiting-self-clause-full c =
     let shown = count_shown c.self.inside.rows.items in
     let held = c.self.invariant.held in
-    let full : length (filter_map waiting_of_row c.self.inside.rows.items) ≡ c.self.inside.limit = omega (arith, shown, held.counted, held.within, c.len.ensures, c.len-2.ensures) in
+    let full : length (filter_map waiting_of_row c.self.inside.rows.items) ≡ c.self.inside.limit =
+    omega (arith, shown, held.counted, held.within, c.len.ensures, c.len-2.ensures) in
     rw (← c.self.view_is) ((λ e. full), (λ e. refl))
 
 pub returns-clause-ok : goal.returns-clause-ok
 returns-clause-ok c = elim c.match-add.branch [
-  | in-Ok w ↦ rw (w.result-is, ← c.self.view_is) (table_push c.self.inside.limit _ _ _ _ c.args.id w.in-Ok.ensures.row.0 c.args.collection c.args.condition c.add.ensures.fired w.in-Ok.ensures.row.1)
+  | in-Ok w ↦ rw (w.result-is, ← c.self.view_is) (table_push c.self.inside.limit _ _ _ _ c.args.id w.in-Ok.ensures.row.0 c.args.collection
+      c.args.condition c.add.ensures.fired w.in-Ok.ensures.row.1)
   | in-Err w ↦ rw w.result-is tt
 ]
 
@@ -43,6 +47,8 @@ returns-clause-full c =
     let shown = count_shown c.self.inside.rows.items in
     let held = c.self.invariant.held in
     elim c.match-add.branch [
-      | in-Ok w ↦ rw (w.result-is, ← c.self.view_is) ((λ e. absurd (cc)), (λ full. absurd (omega (arith, shown, full, held.counted, c.len.ensures, c.len-2.ensures))))
-      | in-Err w ↦ rw (w.result-is, ← c.self.view_is) ((λ e. absurd (cc)), (λ full. absurd (omega (arith, shown, full, held.counted, c.len.ensures, c.len-2.ensures))))
+      | in-Ok w ↦ rw (w.result-is, ← c.self.view_is)
+          ((λ e. absurd (cc)), (λ full. absurd (omega (arith, shown, full, held.counted, c.len.ensures, c.len-2.ensures))))
+      | in-Err w ↦
+          rw (w.result-is, ← c.self.view_is) ((λ e. absurd (cc)), (λ full. absurd (omega (arith, shown, full, held.counted, c.len.ensures, c.len-2.ensures))))
     ]

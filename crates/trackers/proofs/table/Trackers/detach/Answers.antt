@@ -9,7 +9,8 @@ invariant_of-self c =
     let here : c.len.result ≡ length c.pop.new.self.items = omega (arith, c.len.ensures) in
     let last = rw (← c.self.view_is) at c.requires.last in
     kept_detached _ _ _ _ _ _ _ _ c.self.invariant c.pop.result c.pop.ensures.items
-    (λ none. no_items c.self.inside.rows.items (let empty = rw none at c.pop.ensures.cases in omega (arith, empty.0, long))) last.0 last.1 last.2
+    (λ none. no_items c.self.inside.rows.items (let empty = rw none at c.pop.ensures.cases in omega (arith, empty.0, long))) last.0 last.1
+    last.2
     (rw (last.3, ← here) c.withdraw.ensures)
 
 -- the table is as it was
@@ -17,4 +18,5 @@ pub returns : goal.returns
 returns c = λ before tracker attaches.
     let long : vec_len c.self.inside.rows ≡ length c.self.inside.rows.items = omega arith in
     shown_again _ _ _ _ _ _ c.self.inside.piles c.self.inside.piles c.self.invariant c.pop.result c.pop.ensures.items
-    (λ none. no_items c.self.inside.rows.items (let empty = rw none at c.pop.ensures.cases in omega (arith, empty.0, long))) before tracker (rw (← c.self.view_is) at attaches)
+    (λ none. no_items c.self.inside.rows.items (let empty = rw none at c.pop.ensures.cases in omega (arith, empty.0, long))) before tracker
+    (rw (← c.self.view_is) at attaches)
