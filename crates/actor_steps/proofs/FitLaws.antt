@@ -15,12 +15,14 @@ pub takes : {A : Type 0} (P : A → Type 0) (made call : A) → Some made ≡ So
 takes P made call is so = let same : made ≡ call = cc in subst P same so
 
 -- and where it was made of a client
-pub takes_for : (P : Call → Type 0) (f : ℕ → Call) (to : Option ℕ) (call : Call) → option_map f to ≡ Some call → ((n : ℕ) → P (f n)) → P call
+pub takes_for : (P : Call → Type 0) (f : ℕ → Call) (to : Option ℕ) (call : Call) → option_map f to ≡ Some call → ((n : ℕ) → P (f n)) →
+    P call
 takes_for P f None call is so = cc
 takes_for P f (Some n) call is so = takes P (f n) call is (so n)
 
 -- an end that is asked takes the call
-pub fits_end : (clients : List ℕ) (verb : Verb) (thing : Thing) (call : Call) → end_call clients verb thing ≡ Some call → FitsThing thing call
+pub fits_end : (clients : List ℕ) (verb : Verb) (thing : Thing) (call : Call) → end_call clients verb thing ≡ Some call →
+    FitsThing thing call
 fits_end clients Verb.Sync (Thing.Token key collection) call is = takes (FitsToken key) (Call.Sync key) call is refl
 fits_end clients Verb.Sync (Thing.Collection key collection) call is = takes (FitsCollection key) (Call.Sync key) call is refl
 fits_end clients Verb.Sync (Thing.Handle buffer strength) call is = cc
@@ -33,8 +35,10 @@ fits_end clients Verb.Dispensable (Thing.Handle buffer strength) call is = cc
 fits_end clients Verb.Weak (Thing.Token key collection) call is = takes (FitsToken key) (Call.SetWeak key) call is refl
 fits_end clients Verb.Weak (Thing.Collection key collection) call is = takes (FitsCollection key) (Call.SetWeak key) call is refl
 fits_end clients Verb.Weak (Thing.Handle buffer strength) call is = cc
-fits_end clients (Verb.WeakOk children) (Thing.Token key collection) call is = takes (FitsToken key) (Call.SetWeakOk key children) call is refl
-fits_end clients (Verb.WeakOk children) (Thing.Collection key collection) call is = takes (FitsCollection key) (Call.SetWeakOk key children) call is refl
+fits_end clients (Verb.WeakOk children) (Thing.Token key collection) call is =
+    takes (FitsToken key) (Call.SetWeakOk key children) call is refl
+fits_end clients (Verb.WeakOk children) (Thing.Collection key collection) call is =
+    takes (FitsCollection key) (Call.SetWeakOk key children) call is refl
 fits_end clients (Verb.WeakOk children) (Thing.Handle buffer strength) call is = cc
 fits_end clients Verb.Check (Thing.Token key collection) call is = cc
 fits_end clients Verb.Check (Thing.Collection key collection) call is = takes (FitsCollection key) (Call.Check key) call is refl
@@ -52,23 +56,30 @@ fits_end clients (Verb.Duplicate child) (Thing.Token key collection) call is = t
 fits_end clients (Verb.Duplicate child) (Thing.Collection key collection) call is = cc
 fits_end clients (Verb.Duplicate child) (Thing.Handle buffer strength) call is = cc
 fits_end clients (Verb.Attach child) (Thing.Token key collection) call is = cc
-fits_end clients (Verb.Attach child) (Thing.Collection key collection) call is = takes (FitsCollection key) (Call.AttachToken key) call is refl
+fits_end clients (Verb.Attach child) (Thing.Collection key collection) call is =
+    takes (FitsCollection key) (Call.AttachToken key) call is refl
 fits_end clients (Verb.Attach child) (Thing.Handle buffer strength) call is = cc
-fits_end clients (Verb.Give to) (Thing.Token key collection) call is = takes_for (FitsToken key) (Call.Give key) (slice_get clients to) call is (λ n. refl)
-fits_end clients (Verb.Give to) (Thing.Collection key collection) call is = takes_for (FitsCollection key) (Call.Give key) (slice_get clients to) call is (λ n. refl)
+fits_end clients (Verb.Give to) (Thing.Token key collection) call is =
+    takes_for (FitsToken key) (Call.Give key) (slice_get clients to) call is (λ n. refl)
+fits_end clients (Verb.Give to) (Thing.Collection key collection) call is =
+    takes_for (FitsCollection key) (Call.Give key) (slice_get clients to) call is (λ n. refl)
 fits_end clients (Verb.Give to) (Thing.Handle buffer strength) call is = cc
 fits_end clients (Verb.Constrain constraints) (Thing.Token key collection) call is = cc
-fits_end clients (Verb.Constrain constraints) (Thing.Collection key collection) call is = takes (FitsCollection key) (Call.SetConstraints key constraints) call is refl
+fits_end clients (Verb.Constrain constraints) (Thing.Collection key collection) call is =
+    takes (FitsCollection key) (Call.SetConstraints key constraints) call is refl
 fits_end clients (Verb.Constrain constraints) (Thing.Handle buffer strength) call is = cc
 fits_end clients (Verb.TrackNode tracker) (Thing.Token key collection) call is = takes (FitsToken key) (Call.TrackNode key) call is refl
-fits_end clients (Verb.TrackNode tracker) (Thing.Collection key collection) call is = takes (FitsCollection key) (Call.TrackNode key) call is refl
+fits_end clients (Verb.TrackNode tracker) (Thing.Collection key collection) call is =
+    takes (FitsCollection key) (Call.TrackNode key) call is refl
 fits_end clients (Verb.TrackNode tracker) (Thing.Handle buffer strength) call is = cc
 fits_end clients (Verb.TrackLifetime most tracker) (Thing.Token key collection) call is = cc
-fits_end clients (Verb.TrackLifetime most tracker) (Thing.Collection key collection) call is = takes (FitsCollection key) (Call.TrackLifetime key most) call is refl
+fits_end clients (Verb.TrackLifetime most tracker) (Thing.Collection key collection) call is =
+    takes (FitsCollection key) (Call.TrackLifetime key most) call is refl
 fits_end clients (Verb.TrackLifetime most tracker) (Thing.Handle buffer strength) call is = cc
 
 -- so does a handle
-pub fits_handle : (clients : List ℕ) (verb : BufferVerb) (thing : Thing) (call : Call) → handle_call clients verb thing ≡ Some call → FitsThing thing call
+pub fits_handle : (clients : List ℕ) (verb : BufferVerb) (thing : Thing) (call : Call) → handle_call clients verb thing ≡ Some call →
+    FitsThing thing call
 fits_handle clients (BufferVerb.Duplicate strength) (Thing.Handle buffer held) call is =
     takes (FitsHandle buffer held) (Call.DupHandle buffer held) call is (refl, refl)
 fits_handle clients (BufferVerb.Drop strength) (Thing.Handle buffer held) call is =
@@ -86,7 +97,8 @@ fits_handle clients (BufferVerb.Drop strength) (Thing.Collection key collection)
 fits_handle clients (BufferVerb.Give strength to) (Thing.Collection key collection) call is = cc
 fits_handle clients (BufferVerb.Track tracker) (Thing.Collection key collection) call is = cc
 
-module _ (things : List (Option Thing)) (f : Thing → Option Call) (fits : (thing : Thing) (call : Call) → f thing ≡ Some call → FitsThing thing call) where
+module _ (things : List (Option Thing)) (f : Thing → Option Call) (fits : (thing : Thing) (call : Call) → f thing ≡ Some call →
+    FitsThing thing call) where
   -- the call that was made of a thing
   pub fits_made : (slot : ℕ) (thing : Thing) (made : Option Call) (asked : Asked) → thing_at things slot ≡ Some thing → f thing ≡ made →
       option_map (λ (c : Call). record { call = c; slot = Some slot }) made ≡ Some asked → Fits things asked.slot asked.call
@@ -103,12 +115,14 @@ module _ (things : List (Option Thing)) (f : Thing → Option Call) (fits : (thi
   fits_lying slot (Some thing) asked is so = fits_made slot thing (f thing) asked is refl so
 
   -- of what lies in some slot
-  pub fits_slot : (slot : Option ℕ) (asked : Asked) → option_and_then (asked_at things f) slot ≡ Some asked → Fits things asked.slot asked.call
+  pub fits_slot : (slot : Option ℕ) (asked : Asked) → option_and_then (asked_at things f) slot ≡ Some asked →
+      Fits things asked.slot asked.call
   fits_slot None asked so = cc
   fits_slot (Some slot) asked so = fits_lying slot (thing_at things slot) asked refl so
 
 -- the call of a step
-pub fits_step : (clients : List ℕ) (desk : Known) (step : Step) (asked : Asked) → call_at clients desk step ≡ Some asked → Fits desk.things asked.slot asked.call
+pub fits_step : (clients : List ℕ) (desk : Known) (step : Step) (asked : Asked) → call_at clients desk step ≡ Some asked →
+    Fits desk.things asked.slot asked.call
 fits_step clients desk Step.Shut asked is =
     takes (λ (a : Asked). Fits desk.things a.slot a.call) (record { call = Call.Shut; slot = None }) asked is tt
 fits_step clients desk (Step.Open root) asked is =

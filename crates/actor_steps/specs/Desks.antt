@@ -136,7 +136,8 @@ handle_slot desk strength label index =
 -- the call that is made on what lies in the slot
 abbrev pub asked_at : List (Option Thing) → (Thing → Option Call) → ℕ → Option Asked
 asked_at things call slot =
-    option_and_then (λ (thing : Thing). option_map (λ (c : Call). record { call = c; slot = Some slot }) (call thing)) (thing_at things slot)
+    option_and_then (λ (thing : Thing). option_map (λ (c : Call). record { call = c; slot = Some slot }) (call thing))
+    (thing_at things slot)
 
 -- the call of the step, whatever label it binds
 abbrev pub call_at : List ℕ → Known → Step → Option Asked

@@ -120,6 +120,8 @@ is_kept_up t before after head attached =
     || (nat_lt 0 after.unready || option_map_or (λ n. n.allocated) (node_at t head) false)))
 
 -- the change was made in its place, by which these nodes went, as they are then
-pub record IsLost (t now : Table Node) (us : List Unit) (ss : List Shelf) (s : Shelf) (change : Change) (lives : ℕ) (fallen : List Node) : Type 0 where
+pub record IsLost (t now : Table Node) (us : List Unit) (ss : List Shelf) (s : Shelf) (change : Change) (lives : ℕ)
+    (fallen : List Node) : Type 0 where
   pub done : IsDone t now us ss s change lives
-  pub over : (p : Node → Bool) → list_any p fallen ≡ false → list_any p (nodes_with t s.keys) ≡ false → list_any p (nodes_with now s.keys) ≡ false
+  pub over : (p : Node → Bool) → list_any p fallen ≡ false → list_any p (nodes_with t s.keys) ≡ false →
+      list_any p (nodes_with now s.keys) ≡ false

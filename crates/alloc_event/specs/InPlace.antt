@@ -40,7 +40,8 @@ pub record IsOpen (t : Table Node) (us : List Unit) (ss : List Shelf) (s : Shelf
 -- the change was made, nothing is forced by it, and so many strong nodes are live then
 pub record IsDone (t now : Table Node) (us : List Unit) (ss : List Shelf) (s : Shelf) (change : Change) (lives : ℕ) : Type 0 where
   pub kept : IsKept now ss
-  pub finishes : (pool : ℕ) (handles : Handles) → Finishes pool handles t ss now ss (changed change no_key (collection_or_new (forest_of t ss) s.id))
+  pub finishes : (pool : ℕ) (handles : Handles) →
+      Finishes pool handles t ss now ss (changed change no_key (collection_or_new (forest_of t ss) s.id))
   pub calm : IsCalm (collection_in now s)
   pub strong : lives ≡ strong_count (nodes_with now s.keys)
   pub others : (x : Shelf) → x.id ≢ s.id → list_all (is_filed t x.id) x.keys ≡ true → collection_in now x ≡ collection_in t x

@@ -67,7 +67,8 @@ pub data Settles (pool : ℕ) (handles : Handles) (others : List Interval) : Col
 
 -- the buffer is home
 abbrev pub is_home_in : Handles → Collection → BufferName → Bool
-is_home_in handles c buffer = is_home (handles buffer Strength.Strong) (handles buffer Strength.Weak) (some_strong_live (members_of c.nodes))
+is_home_in handles c buffer =
+    is_home (handles buffer Strength.Strong) (handles buffer Strength.Weak) (some_strong_live (members_of c.nodes))
 
 -- the collection, once the buffers that are home gave their pages back
 abbrev pub given_back : Handles → Collection → Collection

@@ -25,49 +25,60 @@ use Rattle.client_actors.specs.Acting.{Answers, Asks, left_in, left_of, pairs_of
 -- ---- one slot
 
 -- where something takes the call, there is a slot
-pub within : {E S W : Type 0} (items : List (Option (End E S W))) (slot : ℕ) (call : Call) → FitsThere (thing_at (lies items) slot) call → slot < length items
+pub within : {E S W : Type 0} (items : List (Option (End E S W))) (slot : ℕ) (call : Call) → FitsThere (thing_at (lies items) slot) call →
+    slot < length items
 within [] slot call fits = absurd fits
 within (x ∷ xs) zero call fits = omega arith
 within (x ∷ xs) (suc slot) call fits = let more = within xs slot call fits in omega (arith, more)
 
 -- what lies there
-pub at_slot : {E S W : Type 0} (items : List (Option (End E S W))) (slot : ℕ) (on : Option (End E S W)) → slot < length items → on ≡ slice_index_or items slot on →
+pub at_slot : {E S W : Type 0} (items : List (Option (End E S W))) (slot : ℕ) (on : Option (End E S W)) → slot < length items →
+    on ≡ slice_index_or items slot on →
     thing_at (lies items) slot ≡ there on
 at_slot [] slot on lt is = absurd (omega (arith, lt))
 at_slot (x ∷ xs) zero on lt is = sym (ap there is)
 at_slot (x ∷ xs) (suc slot) on lt is = at_slot xs slot on (omega (arith, lt)) is
 
 -- the same thing put back changes nothing
-set_same : {E S W : Type 0} (items : List (Option (End E S W))) (slot : ℕ) (on : Option (End E S W)) → slot < length items → on ≡ slice_index_or items slot on →
+set_same : {E S W : Type 0} (items : List (Option (End E S W))) (slot : ℕ) (on : Option (End E S W)) → slot < length items →
+    on ≡ slice_index_or items slot on →
     set (lies items) slot (there on) ≡ lies items
 set_same [] slot on lt is = refl
 set_same (x ∷ xs) zero on lt is = ap (λ o. there o ∷ lies xs) is
 set_same (x ∷ xs) (suc slot) on lt is = ap (λ l. there x ∷ l) (set_same xs slot on (omega (arith, lt)) is)
 
 -- a thing is gone, or still there
-set_if : {E S W : Type 0} (items : List (Option (End E S W))) (slot : ℕ) (on : Option (End E S W)) → slot < length items → on ≡ slice_index_or items slot on → (gone : Bool) →
+set_if : {E S W : Type 0} (items : List (Option (End E S W))) (slot : ℕ) (on : Option (End E S W)) → slot < length items →
+    on ≡ slice_index_or items slot on → (gone : Bool) →
     set (lies items) slot (if gone then None else there on) ≡ (if gone then emptied (lies items) (Some slot) else lies items)
 set_if items slot on lt is true = refl
 set_if items slot on lt is false = set_same items slot on lt is
 
 -- a call on what lies in a slot
-pub asks_at : {E S W : Type 0} (old new : Seen) (call : Call) (items items' : List (Option (End E S W))) (slot : ℕ) (on on' : Option (End E S W)) (brought : Brought E S W) →
-    slot < length items → on ≡ slice_index_or items slot on → items' ≡ set items slot on' → Did old new call (there on) (there on') brought →
+pub asks_at : {E S W : Type 0} (old new : Seen) (call : Call) (items items' : List (Option (End E S W))) (slot : ℕ)
+    (on on' : Option (End E S W)) (brought : Brought E S W) →
+    slot < length items → on ≡ slice_index_or items slot on → items' ≡ set items slot on' →
+    Did old new call (there on) (there on') brought →
     Asks old new call (Some slot) (lies items) (lies items') brought
 asks_at old new call items items' slot on on' brought lt is put did = record {
   reply = did.reply;
   made = did.made;
-  left = ap lies put ∙ (map-set there items slot on' ∙ (ap (set (lies items) slot) did.left ∙ set_if items slot on lt is (spends call did.reply)));
+  left = ap lies put ∙ (map-set there items slot on' ∙ (ap (set (lies items) slot) did.left
+      ∙ set_if items slot on lt is (spends call did.reply)));
   things = did.things ∙ ap (λ o. given o call did.reply) (sym (at_slot items slot on lt is));
   owned = did.owned;
 }
 
 -- whatever comes of it
-pub asks_there : {E S W : Type 0} (old new : Seen) (call : Call) (told : Option ℕ) (items : List (Option (End E S W))) (slot : ℕ) (on on' : Option (End E S W)) (result : Result (Brought E S W) StepFault) →
-    told ≡ Some slot → slot < length items → on ≡ slice_index_or items slot on → MatchResult result (λ b. Did old new call (there on) (there on') b) (λ _. (new ≡ old) × (on' ≡ on)) →
-    MatchResult result (λ b. Asks old new call told (lies items) (lies (set items slot on')) b) (λ _. (new ≡ old) × (lies (set items slot on') ≡ lies items))
+pub asks_there : {E S W : Type 0} (old new : Seen) (call : Call) (told : Option ℕ) (items : List (Option (End E S W))) (slot : ℕ)
+    (on on' : Option (End E S W)) (result : Result (Brought E S W) StepFault) →
+    told ≡ Some slot → slot < length items → on ≡ slice_index_or items slot on →
+    MatchResult result (λ b. Did old new call (there on) (there on') b) (λ _. (new ≡ old) × (on' ≡ on)) →
+    MatchResult result (λ b. Asks old new call told (lies items) (lies (set items slot on')) b) (λ _. (new ≡ old) ×
+    (lies (set items slot on') ≡ lies items))
 asks_there old new call told items slot on on' (Ok b) so lt is did =
-    subst (λ s. Asks old new call s (lies items) (lies (set items slot on')) b) (sym so) (asks_at old new call items (set items slot on') slot on on' b lt is refl did)
+    subst (λ s. Asks old new call s (lies items) (lies (set items slot on')) b) (sym so) (asks_at old new call items (set items slot on')
+    slot on on' b lt is refl did)
 asks_there old new call told items slot on on' (Err fault) so lt is did =
     (did.0, map-set there items slot on' ∙ (ap (λ o. set (lies items) slot (there o)) did.1 ∙ set_same items slot on lt is))
 
@@ -90,20 +101,26 @@ as_many (Brought.Handles handles) = length-map handles.items full ∙ sym (lengt
 as_many (Brought.Tracker tracker) = refl
 
 -- they are the client's
-full_owned : {E S W : Type 0} (client : ℕ) (hs : List Grip) → All (λ (h : Grip). h.client ≡ client) hs → All (IsOf {E = E} {S = S} {W = W} client) (map full hs)
+full_owned : {E S W : Type 0} (client : ℕ) (hs : List Grip) → All (λ (h : Grip). h.client ≡ client) hs →
+    All (IsOf {E = E} {S = S} {W = W} client) (map full hs)
 full_owned client [] all = All-nil (IsOf client)
 full_owned client (h ∷ hs) all = All-cons (IsOf client) (full h) (map full hs) (All-head (λ (x : Grip). x.client ≡ client) h hs all)
     (full_owned client hs (All-tail (λ (x : Grip). x.client ≡ client) h hs all))
 
-pub stored_owned : {E S W : Type 0} (client : ℕ) (slots : List (Option (End E S W))) (brought : Brought E S W) → All (IsOf client) slots → AreOf client brought → All (IsOf client) (slots ++ slots_for brought)
+pub stored_owned : {E S W : Type 0} (client : ℕ) (slots : List (Option (End E S W))) (brought : Brought E S W) → All (IsOf client) slots →
+    AreOf client brought → All (IsOf client) (slots ++ slots_for brought)
 stored_owned client slots Brought.Nothing all of = All-append (IsOf client) slots [] all (All-nil (IsOf client))
-stored_owned client slots (Brought.One end) all of = All-append (IsOf client) slots (Some end ∷ []) all (All-cons (IsOf client) (Some end) [] of (All-nil (IsOf client)))
-stored_owned client slots (Brought.Handles handles) all of = All-append (IsOf client) slots (map full handles.items) all (full_owned client handles.items of)
+stored_owned client slots (Brought.One end) all of =
+    All-append (IsOf client) slots (Some end ∷ []) all (All-cons (IsOf client) (Some end) [] of (All-nil (IsOf client)))
+stored_owned client slots (Brought.Handles handles) all of =
+    All-append (IsOf client) slots (map full handles.items) all (full_owned client handles.items of)
 stored_owned client slots (Brought.Tracker tracker) all of = All-append (IsOf client) slots [] all (All-nil (IsOf client))
 
 -- with what it brought
-pub answers : {E S W : Type 0} (old new : Seen) (asked : Asked) (before : List (Option Thing)) (mid after : List (Option (End E S W))) (brought : Brought E S W) →
-    Asks old new asked.call asked.slot before (lies mid) brought → after ≡ mid ++ slots_for brought → Answers old new asked before (lies after)
+pub answers : {E S W : Type 0} (old new : Seen) (asked : Asked) (before : List (Option Thing)) (mid after : List (Option (End E S W)))
+    (brought : Brought E S W) →
+    Asks old new asked.call asked.slot before (lies mid) brought → after ≡ mid ++ slots_for brought →
+    Answers old new asked before (lies after)
 answers old new asked before mid after brought asks stored = record {
   reply = asks.reply;
   made = asks.made;
@@ -114,12 +131,15 @@ answers old new asked before mid after brought asks stored = record {
 
 -- ---- how many things a call gives
 
-handles_few : (collection : ℕ) (strength : Strength) (held index count : ℕ) → length (handles_from collection strength held index count) ≤ count
+handles_few : (collection : ℕ) (strength : Strength) (held index count : ℕ) →
+    length (handles_from collection strength held index count) ≤ count
 unfolding handles_from
 handles_few collection strength held index zero = omega arith
-handles_few collection strength held index (suc count) = either (handles_few collection strength held (index + 1) count) (bit_at held index == 1) refl
+handles_few collection strength held index (suc count) =
+    either (handles_few collection strength held (index + 1) count) (bit_at held index == 1) refl
   where
-    either : length (handles_from collection strength held (index + 1) count) ≤ count → (b : Bool) → (bit_at held index == 1) ≡ b → length (handles_from collection strength held index (suc count)) ≤ suc count
+    either : length (handles_from collection strength held (index + 1) count) ≤ count → (b : Bool) → (bit_at held index == 1) ≡ b →
+        length (handles_from collection strength held index (suc count)) ≤ suc count
     either more true is = rw is (omega (arith, more))
     either more false is = rw is (omega (arith, more))
 
@@ -148,8 +168,10 @@ few on (Call.DupHandle buffer strength) _ = omega arith
 few on _ reply = omega arith
 
 -- so there is room for it
-pub room_for : {E S W : Type 0} (old new : Seen) (call : Call) (slot : Option ℕ) (before after : List (Option Thing)) (brought : Brought E S W) → Asks old new call slot before after brought → length (slots_for brought) ≤ 64
-room_for old new call slot before after brought asks = subst (λ n. n ≤ 64) (sym (as_many brought ∙ ap length asks.things)) (few (on_of before slot) call asks.reply)
+pub room_for : {E S W : Type 0} (old new : Seen) (call : Call) (slot : Option ℕ) (before after : List (Option Thing))
+    (brought : Brought E S W) → Asks old new call slot before after brought → length (slots_for brought) ≤ 64
+room_for old new call slot before after brought asks =
+    subst (λ n. n ≤ 64) (sym (as_many brought ∙ ap length asks.things)) (few (on_of before slot) call asks.reply)
 
 -- ---- lists of events
 
@@ -163,10 +185,13 @@ last_is old new call reply made =
     let o : Own = record { event = made.told.event; call = call; reply = reply } in
     let place : length (old.own ++ o ∷ []) - 1 ≡ length old.own = omega (arith, length-append old.own (o ∷ [])) in
     ap last_reply made.told.next
-    ∙ (ap (λ n. option_map (λ (e : Own). e.reply) (slice_get (old.own ++ o ∷ []) n)) place ∙ ap (option_map (λ (e : Own). e.reply)) (at_end old.own o))
+    ∙ (ap (λ n. option_map (λ (e : Own). e.reply) (slice_get (old.own ++ o ∷ []) n)) place
+    ∙ ap (option_map (λ (e : Own). e.reply)) (at_end old.own o))
 
-pub pairs_more : (old new : Seen) (call : Call) (reply : Reply) → Made old new call reply → pairs_of new.own ≡ pairs_of old.own ++ (call, reply) ∷ []
-pairs_more old new call reply made = ap pairs_of made.told.next ∙ map-append (λ (o : Own). (o.call, o.reply)) old.own (record { event = made.told.event; call = call; reply = reply } ∷ [])
+pub pairs_more : (old new : Seen) (call : Call) (reply : Reply) → Made old new call reply →
+    pairs_of new.own ≡ pairs_of old.own ++ (call, reply) ∷ []
+pairs_more old new call reply made = ap pairs_of made.told.next
+    ∙ map-append (λ (o : Own). (o.call, o.reply)) old.own (record { event = made.told.event; call = call; reply = reply } ∷ [])
 
 -- ---- what an actor leaves
 
@@ -183,7 +208,8 @@ module _ (client : ℕ) where
   one_part (Some (End.Handle h)) of = ap (λ c. Handle (record { client = c; buffer = h.buffer; strength = h.strength }) ∷ []) (sym of)
 
   -- all of them
-  pub parts_left : {E S W : Type 0} (slots : List (Option (End E S W))) → All (IsOf client) slots → flat_map (part_of client) (lies slots) ≡ left_of slots
+  pub parts_left : {E S W : Type 0} (slots : List (Option (End E S W))) → All (IsOf client) slots →
+      flat_map (part_of client) (lies slots) ≡ left_of slots
   parts_left [] of = refl
   parts_left (x ∷ xs) of =
       ap (λ l. l ++ flat_map (part_of client) (lies xs)) (one_part x (All-head (IsOf client) x xs of))
@@ -196,16 +222,19 @@ module _ (client : ℕ) where
   one_owner (Some (End.Collection t)) of = All-cons (λ p. owner_of p ≡ client) (Collection t) [] of (All-nil (λ p. owner_of p ≡ client))
   one_owner (Some (End.Handle h)) of = All-cons (λ p. owner_of p ≡ client) (Handle h) [] of (All-nil (λ p. owner_of p ≡ client))
 
-  all_owner : {E S W : Type 0} (slots : List (Option (End E S W))) → All (IsOf client) slots → All (λ p. owner_of p ≡ client) (left_of slots)
+  all_owner : {E S W : Type 0} (slots : List (Option (End E S W))) → All (IsOf client) slots →
+      All (λ p. owner_of p ≡ client) (left_of slots)
   all_owner [] of = All-nil (λ p. owner_of p ≡ client)
   all_owner (x ∷ xs) of = All-append (λ p. owner_of p ≡ client) (kept_things x) (left_of xs)
       (one_owner x (All-head (IsOf client) x xs of)) (all_owner xs (All-tail (IsOf client) x xs of))
 
   -- kind by kind
-  by_kind : {A : Type 0} (Q : A → Type 0) (f : Part → List A) → ((p : Part) → owner_of p ≡ client → All Q (f p)) → (parts : List Part) → All (λ p. owner_of p ≡ client) parts → All Q (flat_map f parts)
+  by_kind : {A : Type 0} (Q : A → Type 0) (f : Part → List A) → ((p : Part) → owner_of p ≡ client → All Q (f p)) → (parts : List Part) →
+      All (λ p. owner_of p ≡ client) parts → All Q (flat_map f parts)
   by_kind Q f one [] all = All-nil Q
   by_kind Q f one (p ∷ ps) all =
-      All-append Q (f p) (flat_map f ps) (one p (All-head (λ x. owner_of x ≡ client) p ps all)) (by_kind Q f one ps (All-tail (λ x. owner_of x ≡ client) p ps all))
+      All-append Q (f p) (flat_map f ps) (one p (All-head (λ x. owner_of x ≡ client) p ps all)) (by_kind Q f one ps (All-tail (λ x.
+      owner_of x ≡ client) p ps all))
 
   of_token : (p : Part) → owner_of p ≡ client → All (λ (t : Tag). t.client ≡ client) (token_in p)
   of_token (Token t) is = All-cons (λ (t : Tag). t.client ≡ client) t [] is (All-nil (λ (t : Tag). t.client ≡ client))
@@ -219,7 +248,8 @@ module _ (client : ℕ) where
   of_handle (Handle h) is = All-cons (λ (h : Grip). h.client ≡ client) h [] is (All-nil (λ (h : Grip). h.client ≡ client))
   of_handle _ is = All-nil (λ (h : Grip). h.client ≡ client)
 
-  pub left_owned : {E S W : Type 0} (slots : List (Option (End E S W))) → All (IsOf client) slots → AreTheirs client (sorted (left_of slots))
+  pub left_owned : {E S W : Type 0} (slots : List (Option (End E S W))) → All (IsOf client) slots →
+      AreTheirs client (sorted (left_of slots))
   left_owned slots of = record {
     tokens = by_kind (λ (t : Tag). t.client ≡ client) token_in of_token (left_of slots) (all_owner slots of);
     collections = by_kind (λ (t : Tag). t.client ≡ client) collection_in of_collection (left_of slots) (all_owner slots of);

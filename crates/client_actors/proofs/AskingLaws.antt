@@ -31,20 +31,23 @@ module _ (old new : Seen) (key : NodeKey) (handles : List Grip) (took : Took old
   seen_more index count false is so = rw is so
 
   -- they are those that its reply gives
-  pub seen_from : (index count : ℕ) → seen_at index count ≡ handles_from took.taken.collection took.taken.strength took.taken.set index count
+  pub seen_from : (index count : ℕ) → seen_at index count ≡ handles_from took.taken.collection took.taken.strength took.taken.set index
+      count
   unfolding handles_from
   seen_from index zero = refl
   seen_from index (suc count) = seen_more index count (bit_at took.taken.set index == 1) refl (seen_from (index + 1) count)
 
   -- all of them
-  pub seen_all : map handle_seen (grips_at old.id took.taken (indices_in took.taken.set)) ≡ handles_in took.taken.collection took.taken.strength took.taken.set
+  pub seen_all : map handle_seen (grips_at old.id took.taken (indices_in took.taken.set)) ≡ handles_in took.taken.collection
+      took.taken.strength took.taken.set
   unfolding indices_in
   seen_all = seen_from 0 64
 
   -- and they are the client's
   pub grips_owned : (indices : List ℕ) → All (λ (h : Grip). h.client ≡ old.id) (grips_at old.id took.taken indices)
   grips_owned [] = All-nil (λ (h : Grip). h.client ≡ old.id)
-  grips_owned (i ∷ is) = All-cons (λ (h : Grip). h.client ≡ old.id) (grip_at old.id took.taken i) (grips_at old.id took.taken is) refl (grips_owned is)
+  grips_owned (i ∷ is) = All-cons (λ (h : Grip). h.client ≡ old.id) (grip_at old.id took.taken i) (grips_at old.id took.taken is) refl
+      (grips_owned is)
 
 -- a call that did not spend what it might have spent gives nothing
 unspent : (on : Option Thing) (call : Call) (reply : Reply) → may_spend call ≡ true → spends call reply ≡ false → given on call reply ≡ []
@@ -59,7 +62,8 @@ unspent on _ reply may not = cc
 
 -- what was not spent is where it was
 pub kept_back : {E S W : Type 0} (old new : Seen) (call : Call) (on on' : Option (End E S W)) (reply : Reply) → may_spend call ≡ true →
-    MadeOr (spends call) old new call (Why.Reply reply) → on' ≡ on → Did {E = E} {S = S} {W = W} old new call (there on) (there on') Brought.Nothing
+    MadeOr (spends call) old new call (Why.Reply reply) → on' ≡ on →
+    Did {E = E} {S = S} {W = W} old new call (there on) (there on') Brought.Nothing
 kept_back old new call on on' reply may so same = record {
   reply = reply;
   made = so.0;

@@ -33,7 +33,8 @@ broken_id old new held back (inl same) = ap (λ (c : Seen). c.id) same.0
 broken_id old new held back (inr goes) = goes.made.id
 
 -- the call of a step, and what the actor then knows
-pub has_made : {E S W : Type 0} (step : Step) (asked : Asked) (reply : Reply) (old new : Actor E S W) (mid : List (Option (End E S W))) → Answers old.client new.client asked (lies mid) (lies new.slots.items) →
+pub has_made : {E S W : Type 0} (step : Step) (asked : Asked) (reply : Reply) (old new : Actor E S W) (mid : List (Option (End E S W))) →
+    Answers old.client new.client asked (lies mid) (lies new.slots.items) →
     mid ≡ old.slots.items → Some reply ≡ last_reply new.client.own → known new.desk ≡ desk_after (known old.desk) step asked reply →
     (known new.desk).things ≡ things_after (known old.desk).things asked reply → HasMade step asked reply old new
 has_made step asked reply old new mid a same last knows things =
@@ -47,28 +48,34 @@ has_made step asked reply old new mid a same last knows things =
     }
 
 -- no step yet
-pub plays_none : {E S W : Type 0} (clients : List ℕ) (actor : Actor E S W) → actor.client.own ≡ [] → known actor.desk ≡ nothing_known → Plays clients [] (pairs_of actor.client.own) (known actor.desk)
-plays_none clients actor own desk = subst (λ o. Plays clients [] (pairs_of o) (known actor.desk)) (sym own) (subst (Plays clients [] []) (sym desk) Plays.Starts)
+pub plays_none : {E S W : Type 0} (clients : List ℕ) (actor : Actor E S W) → actor.client.own ≡ [] → known actor.desk ≡ nothing_known →
+    Plays clients [] (pairs_of actor.client.own) (known actor.desk)
+plays_none clients actor own desk =
+    subst (λ o. Plays clients [] (pairs_of o) (known actor.desk)) (sym own) (subst (Plays clients [] []) (sym desk) Plays.Starts)
 
 module _ {E S W : Type 0} (clients : List ℕ) where
   -- a step that makes a call
-  pub stepped : (step : Step) (asked : Asked) (reply : Reply) (old new : Actor E S W) → asked_of clients (known old.desk) step ≡ Some asked → HasMade step asked reply old new → IsAware old → HasStepped clients step old new
+  pub stepped : (step : Step) (asked : Asked) (reply : Reply) (old new : Actor E S W) →
+      asked_of clients (known old.desk) step ≡ Some asked → HasMade step asked reply old new → IsAware old → HasStepped clients step old new
   stepped step asked reply old new is made aware = record {
     plays = λ steps so. subst (Plays clients (steps ++ step ∷ []) (pairs_of new.client.own)) (sym made.knows)
-        (subst (λ l. Plays clients (steps ++ step ∷ []) l (desk_after (known old.desk) step asked reply)) (sym (pairs_more old.client new.client asked.call reply made.made))
+        (subst (λ l. Plays clients (steps ++ step ∷ []) l (desk_after (known old.desk) step asked reply))
+        (sym (pairs_more old.client new.client asked.call reply made.made))
         (Plays.Makes steps (pairs_of old.client.own) (known old.desk) step asked reply so is));
     aware = made.slots ∙ (ap (λ l. things_after l asked reply) aware ∙ sym made.things);
   }
 
   -- a step that is skipped
-  pub skipped : (step : Step) (actor : Actor E S W) → asked_of clients (known actor.desk) step ≡ None → IsAware actor → HasStepped clients step actor actor
+  pub skipped : (step : Step) (actor : Actor E S W) → asked_of clients (known actor.desk) step ≡ None → IsAware actor →
+      HasStepped clients step actor actor
   skipped step actor none aware = record {
     plays = λ steps so. Plays.Skips steps (pairs_of actor.client.own) (known actor.desk) step so none;
     aware = aware;
   }
 
   -- a step whose call came to a fault
-  pub faltered : (step : Step) (asked : Asked) (old new : Actor E S W) → asked_of clients (known old.desk) step ≡ Some asked → Falters old.client new.client asked (lies old.slots.items) (lies new.slots.items) → IsAware old →
+  pub faltered : (step : Step) (asked : Asked) (old new : Actor E S W) → asked_of clients (known old.desk) step ≡ Some asked →
+      Falters old.client new.client asked (lies old.slots.items) (lies new.slots.items) → IsAware old →
       HasFaltered clients step old new
   faltered step asked old new is (inl same) aware = record {
     plays = λ steps done left split so. record {
@@ -86,19 +93,22 @@ module _ {E S W : Type 0} (clients : List ℕ) where
       done = done ++ step ∷ [];
       left = left;
       split = split ∙ sym (append_assoc done (step ∷ []) left);
-      plays = subst (λ l. Plays clients (done ++ step ∷ []) l (desk_after (known old.desk) step asked a.reply)) (sym (pairs_more old.client new.client asked.call a.reply a.made))
+      plays = subst (λ l. Plays clients (done ++ step ∷ []) l (desk_after (known old.desk) step asked a.reply))
+          (sym (pairs_more old.client new.client asked.call a.reply a.made))
           (Plays.Makes done (pairs_of old.client.own) (known old.desk) step asked a.reply so is);
       has = a.things ∙ (ap (λ l. things_after l asked a.reply) aware ∙ sym (things_noted (known old.desk) step asked a.reply));
     };
   }
 
   -- so it has played some
-  pub played_some : (steps rest left : List Step) (step : Step) (old new : Actor E S W) → HasPlayedTo clients steps rest old → rest ≡ step ∷ left → HasFaltered clients step old new →
+  pub played_some : (steps rest left : List Step) (step : Step) (old new : Actor E S W) → HasPlayedTo clients steps rest old →
+      rest ≡ step ∷ left → HasFaltered clients step old new →
       HasPlayedSome clients steps new.client (lies new.slots.items)
   played_some steps rest left step old new so is one = one.plays steps so.done left (so.split ∙ ap (λ l. so.done ++ l) is) so.plays
 
   -- one more
-  pub played_more : (steps rest more : List Step) (step : Step) (old new : Actor E S W) → HasPlayedTo clients steps rest old → rest ≡ step ∷ more → HasStepped clients step old new → HasPlayedTo clients steps more new
+  pub played_more : (steps rest more : List Step) (step : Step) (old new : Actor E S W) → HasPlayedTo clients steps rest old →
+      rest ≡ step ∷ more → HasStepped clients step old new → HasPlayedTo clients steps more new
   played_more steps rest more step old new so is one = record {
     done = so.done ++ step ∷ [];
     split = so.split ∙ (ap (λ l. so.done ++ l) is ∙ sym (append_assoc so.done (step ∷ []) more));
@@ -106,11 +116,14 @@ module _ {E S W : Type 0} (clients : List ℕ) where
   }
 
   -- what an actor holds that knows what it has
-  holds : (client : ℕ) (desk : Known) (slots : List (Option (End E S W))) (held : Holds) → lies slots ≡ desk.things → All (IsOf client) slots → held ≡ sorted (left_of slots) → held ≡ held_by client desk
-  holds client desk slots held has owned is = is ∙ ap sorted (sym (parts_left client slots owned) ∙ ap (λ t. flat_map (part_of client) t) has)
+  holds : (client : ℕ) (desk : Known) (slots : List (Option (End E S W))) (held : Holds) → lies slots ≡ desk.things →
+      All (IsOf client) slots → held ≡ sorted (left_of slots) → held ≡ held_by client desk
+  holds client desk slots held has owned is =
+      is ∙ ap sorted (sym (parts_left client slots owned) ∙ ap (λ t. flat_map (part_of client) t) has)
 
   -- an actor that a fault stopped before it made all steps
-  pub has_stopped : (steps : List Step) (actor : Actor E S W) (client : Seen) (held : Holds) → client ≡ actor.client → HasPlayedSome clients steps actor.client (lies actor.slots.items) → IsSound actor →
+  pub has_stopped : (steps : List Step) (actor : Actor E S W) (client : Seen) (held : Holds) → client ≡ actor.client →
+      HasPlayedSome clients steps actor.client (lies actor.slots.items) → IsSound actor →
       held ≡ sorted (left_of actor.slots.items) → AreOf client.id held → HasStopped clients steps client held
   has_stopped steps actor client held same some sound is owned = record {
     before = actor.client;
@@ -125,7 +138,8 @@ module _ {E S W : Type 0} (clients : List ℕ) where
   }
 
   -- one that it stopped as it vanished
-  pub has_broken : (steps : List Step) (actor : Actor E S W) (client left : Seen) (held back : Holds) → client ≡ actor.client → Plays clients steps (pairs_of actor.client.own) (known actor.desk) → IsAware actor → IsSound actor →
+  pub has_broken : (steps : List Step) (actor : Actor E S W) (client left : Seen) (held back : Holds) → client ≡ actor.client →
+      Plays clients steps (pairs_of actor.client.own) (known actor.desk) → IsAware actor → IsSound actor →
       held ≡ sorted (left_of actor.slots.items) → IsBroken client left held back → AreOf left.id back → HasStopped clients steps left back
   has_broken steps actor client left held back same plays aware sound is broken owned = record {
     before = actor.client;
@@ -134,18 +148,21 @@ module _ {E S W : Type 0} (clients : List ℕ) where
     left = [];
     split = sym (append-nil steps);
     plays = plays;
-    broken = subst (λ h. IsBroken actor.client left h back) (holds actor.client.id (known actor.desk) actor.slots.items held aware sound.owned is) (subst (λ c. IsBroken c left held back) same broken);
+    broken = subst (λ h. IsBroken actor.client left h back) (holds actor.client.id (known actor.desk) actor.slots.items held aware
+        sound.owned is) (subst (λ c. IsBroken c left held back) same broken);
     turn = inr refl;
     owned = owned;
   }
 
   -- an actor that played all and is gone
-  pub has_played : (steps : List Step) (actor : Actor E S W) (client : Seen) (left : Remains) (held : Holds) → client ≡ actor.client → Plays clients steps (pairs_of actor.client.own) (known actor.desk) → IsAware actor → IsSound actor →
+  pub has_played : (steps : List Step) (actor : Actor E S W) (client : Seen) (left : Remains) (held : Holds) → client ≡ actor.client →
+      Plays clients steps (pairs_of actor.client.own) (known actor.desk) → IsAware actor → IsSound actor →
       held ≡ sorted (left_of actor.slots.items) → IsGone client left.client held left.refused → HasPlayed clients steps left
   has_played steps actor client left held same plays aware sound is gone = record {
     before = actor.client;
     desk = known actor.desk;
     plays = plays;
-    gone = subst (λ h. IsGone actor.client left.client h left.refused) (holds actor.client.id (known actor.desk) actor.slots.items held aware sound.owned is)
+    gone = subst (λ h. IsGone actor.client left.client h left.refused) (holds actor.client.id (known actor.desk) actor.slots.items held
+        aware sound.owned is)
         (subst (λ c. IsGone c left.client held left.refused) same gone);
   }

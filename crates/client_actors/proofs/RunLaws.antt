@@ -9,14 +9,17 @@ use Rattle.client_actors.specs.declared.gate.ActorEnd.{ActorEnd}
 use Rattle.client_actors.specs.Running.{HaveRun, IsEndOf, IsEndThere, end_id, id_there}
 
 -- a relation that holds at each place
-pub zip_each : {A B : Type 0} (R : A → B → Type 0) (xs : List A) (ys : List B) → length xs ≡ length ys → ((i : ℕ) (a : A) (b : B) → i < length xs → R (slice_index_or xs i a) (slice_index_or ys i b)) → AllZip R xs ys
+pub zip_each : {A B : Type 0} (R : A → B → Type 0) (xs : List A) (ys : List B) → length xs ≡ length ys →
+    ((i : ℕ) (a : A) (b : B) → i < length xs → R (slice_index_or xs i a) (slice_index_or ys i b)) → AllZip R xs ys
 zip_each R [] [] len each = tt
 zip_each R [] (y ∷ ys) len each = absurd (omega (arith, len))
 zip_each R (x ∷ xs) [] len each = absurd (omega (arith, len))
-zip_each R (x ∷ xs) (y ∷ ys) len each = (each 0 x y (omega arith), zip_each R xs ys (omega (arith, len)) (λ i a b l. each (suc i) a b (omega (arith, l))))
+zip_each R (x ∷ xs) (y ∷ ys) len each =
+    (each 0 x y (omega arith), zip_each R xs ys (omega (arith, len)) (λ i a b l. each (suc i) a b (omega (arith, l))))
 
 -- a function that gives the same at each place
-pub map_each : {A B : Type 0} (f : A → B) (xs ys : List A) → length xs ≡ length ys → ((i : ℕ) (d : A) → i < length xs → f (slice_index_or ys i d) ≡ f (slice_index_or xs i d)) → map f ys ≡ map f xs
+pub map_each : {A B : Type 0} (f : A → B) (xs ys : List A) → length xs ≡ length ys → ((i : ℕ) (d : A) → i < length xs →
+    f (slice_index_or ys i d) ≡ f (slice_index_or xs i d)) → map f ys ≡ map f xs
 map_each f [] [] len each = refl
 map_each f [] (y ∷ ys) len each = absurd (omega (arith, len))
 map_each f (x ∷ xs) [] len each = absurd (omega (arith, len))
@@ -26,14 +29,17 @@ map_each f (x ∷ xs) (y ∷ ys) len each =
     cc
 
 -- one more on both sides
-pub map_push : {A B : Type 0} (f : A → B) (xs : List A) (ys : List B) (x : A) (y : B) → ys ≡ map f xs → y ≡ f x → ys ++ y ∷ [] ≡ map f (xs ++ x ∷ [])
+pub map_push : {A B : Type 0} (f : A → B) (xs : List A) (ys : List B) (x : A) (y : B) → ys ≡ map f xs → y ≡ f x →
+    ys ++ y ∷ [] ≡ map f (xs ++ x ∷ [])
 map_push f xs ys x y so is = ap (λ l. l ++ y ∷ []) so ∙ (ap (λ b. map f xs ++ b ∷ []) is ∙ sym (map-append f xs (x ∷ [])))
 
 -- the last one is taken out
-pub moved : {A : Type 0} (taken : List A) (left rest all : List (Option A)) (x : A) → map Some taken ++ reverse left ≡ all → left ≡ rest ++ Some x ∷ [] → map Some (taken ++ x ∷ []) ++ reverse rest ≡ all
+pub moved : {A : Type 0} (taken : List A) (left rest all : List (Option A)) (x : A) → map Some taken ++ reverse left ≡ all →
+    left ≡ rest ++ Some x ∷ [] → map Some (taken ++ x ∷ []) ++ reverse rest ≡ all
 moved taken left rest all x so is =
     let turned : reverse left ≡ Some x ∷ reverse rest = ap reverse is ∙ reverse-append rest (Some x ∷ []) in
-    ap (λ l. l ++ reverse rest) (map-append Some taken (x ∷ [])) ∙ (append_assoc (map Some taken) (Some x ∷ []) (reverse rest) ∙ (ap (λ l. map Some taken ++ l) (sym turned) ∙ so))
+    ap (λ l. l ++ reverse rest) (map-append Some taken (x ∷ [])) ∙ (append_assoc (map Some taken) (Some x ∷ []) (reverse rest)
+    ∙ (ap (λ l. map Some taken ++ l) (sym turned) ∙ so))
 
 -- the beginning of a list with more behind it
 start : {A : Type 0} (xs ys : List A) → take (length xs) (xs ++ ys) ≡ xs
@@ -46,12 +52,14 @@ whole n new old is = ap (λ k. take k (new ++ drop (length new) old)) is ∙ sta
 
 module _ {E S W : Type 0} where
   -- an end lies in each place
-  pub all_some : (clients : List ℕ) (scripts : List ActorScript) (actors : List (Option (ActorEnd E S W))) → AllZip (IsEndThere clients) scripts actors → All (λ a. IsSome a) actors
+  pub all_some : (clients : List ℕ) (scripts : List ActorScript) (actors : List (Option (ActorEnd E S W))) →
+      AllZip (IsEndThere clients) scripts actors → All (λ a. IsSome a) actors
   all_some clients [] [] so = All-nil (λ (a : Option (ActorEnd E S W)). IsSome a)
   all_some clients [] (a ∷ actors) so = absurd so
   all_some clients (s ∷ scripts) [] so = absurd so
   all_some clients (s ∷ scripts) (None ∷ actors) so = absurd so.0
-  all_some clients (s ∷ scripts) (Some end ∷ actors) so = All-cons (λ (a : Option (ActorEnd E S W)). IsSome a) (Some end) actors refl (all_some clients scripts actors so.1)
+  all_some clients (s ∷ scripts) (Some end ∷ actors) so =
+      All-cons (λ (a : Option (ActorEnd E S W)). IsSome a) (Some end) actors refl (all_some clients scripts actors so.1)
 
   -- the ids of the ends
   ids_there : (ends : List (ActorEnd E S W)) → map id_there (map Some ends) ≡ map end_id ends
@@ -59,15 +67,18 @@ module _ {E S W : Type 0} where
   ids_there (end ∷ ends) = ap (λ l. end_id end ∷ l) (ids_there ends)
 
   -- the ends out of their places
-  taken_out : (clients : List ℕ) (scripts : List ActorScript) (ends : List (ActorEnd E S W)) → AllZip (IsEndThere clients) scripts (map Some ends) → AllZip (IsEndOf clients) scripts ends
+  taken_out : (clients : List ℕ) (scripts : List ActorScript) (ends : List (ActorEnd E S W)) →
+      AllZip (IsEndThere clients) scripts (map Some ends) → AllZip (IsEndOf clients) scripts ends
   taken_out clients [] [] so = so
   taken_out clients [] (end ∷ ends) so = so
   taken_out clients (s ∷ scripts) [] so = so
   taken_out clients (s ∷ scripts) (end ∷ ends) so = (so.0, taken_out clients scripts ends so.1)
 
   -- all have run
-  pub have_run : (clients : List ℕ) (scripts : List ActorScript) (old new : List (Option (ActorEnd E S W))) (ends : List (ActorEnd E S W)) → AllZip (IsEndThere clients) scripts new → clients ≡ map id_there old → map id_there new ≡ map id_there old →
+  pub have_run : (clients : List ℕ) (scripts : List ActorScript) (old new : List (Option (ActorEnd E S W))) (ends : List (ActorEnd E S W)) →
+      AllZip (IsEndThere clients) scripts new → clients ≡ map id_there old → map id_there new ≡ map id_there old →
       map Some ends ≡ new → HaveRun scripts ends
   have_run clients scripts old new ends so joined same is =
       let ids : clients ≡ map end_id ends = joined ∙ (sym same ∙ (sym (ap (map id_there) is) ∙ ids_there ends)) in
-      subst (λ l. AllZip (IsEndOf l) scripts ends) ids (taken_out clients scripts ends (subst (AllZip (IsEndThere clients) scripts) (sym is) so))
+      subst (λ l. AllZip (IsEndOf l) scripts ends) ids (taken_out clients scripts ends (subst (AllZip (IsEndThere clients) scripts) (sym is)
+      so))

@@ -69,7 +69,8 @@ pub record HasStopped (clients : List ℕ) (steps : List Step) (client : Seen) (
   pub owned : AreTheirs client.id held
 
 -- one event was made of this call on what lies in the slot, if one is told: `after` is what is left, and this was brought
-pub record Asks {E S W : Type 0} (old new : Seen) (call : Call) (slot : Option ℕ) (before after : List (Option Thing)) (brought : Brought E S W) : Type 0 where
+pub record Asks {E S W : Type 0} (old new : Seen) (call : Call) (slot : Option ℕ) (before after : List (Option Thing))
+    (brought : Brought E S W) : Type 0 where
   pub reply : Reply
   pub made : Made old new call reply
   pub left : after ≡ (if spends call reply then emptied before slot else before)

@@ -56,5 +56,6 @@ IsEndThere clients script None = ⊥
 IsEndThere clients script (Some end) = IsEndOf clients script end
 
 -- the end of the script of this number lies there
-pub record IsEndAt {E S W : Type 0} (clients : List ℕ) (scripts : List ActorScript) (number : ℕ) (there : Option (ActorEnd E S W)) : Type 0 where
+pub record IsEndAt {E S W : Type 0} (clients : List ℕ) (scripts : List ActorScript) (number : ℕ) (there : Option (ActorEnd E S W)) : Type
+    0 where
   pub end : (d : ActorScript) → IsEndThere clients (slice_index_or scripts number d) there

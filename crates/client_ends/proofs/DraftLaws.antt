@@ -12,7 +12,8 @@ use Rattle.client_ends.specs.Drafts.{IsStopped, Sketch, Went, WentFar, WentFirst
 use Rattle.client_ends.proofs.MadeLaws.{made_more, made_none}
 
 -- one more drafted call is one more call
-pub calls_push : (key : NodeKey) (ds : List Drafted) (d : Drafted) → drafted_calls key (ds ++ d ∷ []) ≡ drafted_calls key ds ++ drafted_call key d ∷ []
+pub calls_push : (key : NodeKey) (ds : List Drafted) (d : Drafted) →
+    drafted_calls key (ds ++ d ∷ []) ≡ drafted_calls key ds ++ drafted_call key d ∷ []
 calls_push key ds d = map-append (drafted_call key) ds (d ∷ [])
 
 -- some, and then one more
@@ -21,7 +22,8 @@ pub went_on : (old mid new : Seen) (calls : List Call) (call : Call) (before aft
 went_on old mid new calls call before after ends further went on =
     let f : ℕ → Reply → List Tag = token_in in
     let id : mid.id ≡ old.id = went.made.id in
-    let one : f mid.id on.reply ≡ flat_map (f old.id) (on.reply ∷ []) = ap (λ (i : ℕ). f i on.reply) id ∙ sym (append-nil (f old.id on.reply)) in
+    let one : f mid.id on.reply ≡ flat_map (f old.id) (on.reply ∷ []) =
+    ap (λ (i : ℕ). f i on.reply) id ∙ sym (append-nil (f old.id on.reply)) in
     let ends_are : ends ++ f mid.id on.reply ≡ flat_map (f old.id) (before ++ on.reply ∷ []) =
     ap (λ (l : List Tag). l ++ f mid.id on.reply) went.tokens
     ∙ (ap (λ (l : List Tag). flat_map (f old.id) before ++ l) one ∙ sym (flat_map-append (f old.id) before (on.reply ∷ []))) in
@@ -32,7 +34,8 @@ went_on old mid new calls call before after ends further went on =
     }
 
 -- as far, and then the first of what was left
-pub far_on : (old mid new : Seen) (key : NodeKey) (all : List Call) (drafted left : List Drafted) (before after : List Reply) (ends further : List Tag) →
+pub far_on : (old mid new : Seen) (key : NodeKey) (all : List Call) (drafted left : List Drafted) (before after : List Reply)
+    (ends further : List Tag) →
     WentFar old mid all (drafted_calls key drafted) before ends → WentFirst mid new key drafted left before after ends further →
     WentFar old new all (drafted_calls key left) after further
 far_on old mid new key all drafted left before after ends further far on = record {
@@ -43,11 +46,13 @@ far_on old mid new key all drafted left before after ends further far on = recor
 }
 
 -- so far that none is left, and then one more
-pub went_all : (old mid new : Seen) (key : NodeKey) (all : List Call) (call : Call) (left : List Drafted) (before after : List Reply) (ends further : List Tag) →
+pub went_all : (old mid new : Seen) (key : NodeKey) (all : List Call) (call : Call) (left : List Drafted) (before after : List Reply)
+    (ends further : List Tag) →
     WentFar old mid all (drafted_calls key left) before ends → left ≡ [] → WentOn mid new call before after ends further →
     Went old new (all ++ call ∷ []) after further
 went_all old mid new key all call left before after ends further far none on =
-    let whole : far.calls ≡ all = sym (append-nil far.calls) ∙ (ap (λ (l : List Drafted). far.calls ++ drafted_calls key l) (sym none) ∙ far.first) in
+    let whole : far.calls ≡ all =
+    sym (append-nil far.calls) ∙ (ap (λ (l : List Drafted). far.calls ++ drafted_calls key l) (sym none) ∙ far.first) in
     subst (λ (l : List Call). Went old new (l ++ call ∷ []) after further) whole
     (went_on old mid new far.calls call before after ends further far.went on)
 

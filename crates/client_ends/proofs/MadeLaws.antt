@@ -36,8 +36,10 @@ made_then old mid new calls others replies further a b = record {
   share = omega (arith, a.share, b.share, length-append calls others);
   added = a.added ++ b.added;
   own = b.own ∙ (ap (λ (l : List Own). l ++ b.added) a.own ∙ append_assoc old.own a.added b.added);
-  calls = map-append (λ (o : Own). o.call) a.added b.added ∙ (ap (λ (l : List Call). l ++ calls_of b.added) a.calls ∙ ap (λ (l : List Call). calls ++ l) b.calls);
-  replies = map-append (λ (o : Own). o.reply) a.added b.added ∙ (ap (λ (l : List Reply). l ++ replies_of b.added) a.replies ∙ ap (λ (l : List Reply). replies ++ l) b.replies);
+  calls = map-append (λ (o : Own). o.call) a.added b.added ∙ (ap (λ (l : List Call). l ++ calls_of b.added) a.calls
+      ∙ ap (λ (l : List Call). calls ++ l) b.calls);
+  replies = map-append (λ (o : Own). o.reply) a.added b.added ∙ (ap (λ (l : List Reply). l ++ replies_of b.added) a.replies
+      ∙ ap (λ (l : List Reply). replies ++ l) b.replies);
 }
 
 -- some, and then one more

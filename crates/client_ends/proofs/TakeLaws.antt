@@ -19,15 +19,20 @@ units_by None = nothing
 units_by (Some taken) = handful taken.strength (length (indices_in taken.set))
 
 -- who had no handle has those that were taken
-pub after_taking : (key : NodeKey) (reply : Reply) (units new : Amounts) → SameHandles units nothing → Counts units new (Call.Take key) reply →
+pub after_taking : (key : NodeKey) (reply : Reply) (units new : Amounts) → SameHandles units nothing →
+    Counts units new (Call.Take key) reply →
     SameHandles new (units_by (told_taken reply))
-after_taking key (Reply.Taken collection Strong set) units new none counts = (omega (arith, none.0, counts.strong), omega (arith, none.1, counts.weak))
-after_taking key (Reply.Taken collection Weak set) units new none counts = (omega (arith, none.0, counts.strong), omega (arith, none.1, counts.weak))
+after_taking key (Reply.Taken collection Strong set) units new none counts =
+    (omega (arith, none.0, counts.strong), omega (arith, none.1, counts.weak))
+after_taking key (Reply.Taken collection Weak set) units new none counts =
+    (omega (arith, none.0, counts.strong), omega (arith, none.1, counts.weak))
 after_taking key _ units new none counts = (omega (arith, none.0, counts.strong), omega (arith, none.1, counts.weak))
 
 -- the Take that was answered so brought these handles
-pub took : (old mid new : Seen) (key : NodeKey) (reply : Reply) (collection : ℕ) (strength : Strength) (set : ℕ) (handles : List Grip) → old ≡ mid →
-    Made mid new (Call.Take key) reply → reply ≡ Reply.Taken collection strength set → handles ≡ grips_by mid.id (told_taken reply) → Took old new key handles
+pub took : (old mid new : Seen) (key : NodeKey) (reply : Reply) (collection : ℕ) (strength : Strength) (set : ℕ) (handles : List Grip) →
+    old ≡ mid →
+    Made mid new (Call.Take key) reply → reply ≡ Reply.Taken collection strength set → handles ≡ grips_by mid.id (told_taken reply) →
+    Took old new key handles
 took old mid new key reply collection strength set handles is made tells brought =
     let taken : Taken = record { collection = collection; strength = strength; set = set } in record {
       taken = taken;
@@ -58,12 +63,14 @@ unfolding indices_from
 from_none start set = refl
 
 -- one that the set has
-pub from_with : (start count set : ℕ) → (bit_at set start == 1) ≡ true → indices_from start (suc count) set ≡ start ∷ indices_from (start + 1) count set
+pub from_with : (start count set : ℕ) → (bit_at set start == 1) ≡ true →
+    indices_from start (suc count) set ≡ start ∷ indices_from (start + 1) count set
 unfolding indices_from
 from_with start count set is = rw is refl
 
 -- one that it has not
-pub from_without : (start count set : ℕ) → (bit_at set start == 1) ≡ false → indices_from start (suc count) set ≡ indices_from (start + 1) count set
+pub from_without : (start count set : ℕ) → (bit_at set start == 1) ≡ false →
+    indices_from start (suc count) set ≡ indices_from (start + 1) count set
 unfolding indices_from
 from_without start count set is = rw is refl
 
@@ -102,7 +109,8 @@ module _ (index set : ℕ) where
 
   -- and without it there are those of the handles behind
   pub units_behind : (strength : Strength) (old new : Amounts) → index < 64 → (bit_at set index == 1) ≡ true →
-      SameHandles old (handful strength (length rest_from)) → old ≡ with_one strength new → SameHandles new (handful strength (length behind))
+      SameHandles old (handful strength (length rest_from)) → old ≡ with_one strength new →
+      SameHandles new (handful strength (length behind))
   units_behind Strong old new low is same passed =
       let more = ap length (step_with low is) in
       let strong = ap (λ (u : Amounts). u.strong) passed in
@@ -121,7 +129,8 @@ module _ (index set : ℕ) where
       subst (λ (l : List ℕ). SameHandles units (handful strength (length l))) (step_without low is) same
 
   -- at the end none is left
-  pub none_left : (strength : Strength) (units : Amounts) → index ≡ 64 → SameHandles units (handful strength (length rest_from)) → SameHandles units nothing
+  pub none_left : (strength : Strength) (units : Amounts) → index ≡ 64 → SameHandles units (handful strength (length rest_from)) →
+      SameHandles units nothing
   none_left Strong units is same = let none = ap length (at_end is) in (omega (arith, none, same.0), same.1)
   none_left Weak units is same = let none = ap length (at_end is) in (same.0, omega (arith, none, same.1))
 

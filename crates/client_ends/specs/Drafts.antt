@@ -45,7 +45,8 @@ pub record WentOn (old new : Seen) (call : Call) (before after : List Reply) (en
   pub tokens : further ≡ ends ++ token_in old.id reply
 
 -- it made the first of the drafted calls so, and that one is no longer among them
-pub record WentFirst (old new : Seen) (key : NodeKey) (drafted left : List Drafted) (before after : List Reply) (ends further : List Tag) : Type 0 where
+pub record WentFirst (old new : Seen) (key : NodeKey) (drafted left : List Drafted) (before after : List Reply)
+    (ends further : List Tag) : Type 0 where
   pub first : Drafted
   pub more : drafted ≡ first ∷ left
   pub went : WentOn old new (drafted_call key first) before after ends further

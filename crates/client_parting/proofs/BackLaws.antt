@@ -42,10 +42,12 @@ module _ (client : ℕ) where
   handle_own (Handle grip) is = All-cons (λ (x : Grip). x.client ≡ client) grip [] is (All-nil (λ (x : Grip). x.client ≡ client))
   handle_own _ is = All-nil (λ (x : Grip). x.client ≡ client)
 
-  flat_own : {A : Type 0} (Q : A → Type 0) (f : Thing → List A) → ((t : Thing) → owner_of t ≡ client → All Q (f t)) → (things : List Thing) → All (λ t. owner_of t ≡ client) things → All Q (flat_map f things)
+  flat_own : {A : Type 0} (Q : A → Type 0) (f : Thing → List A) → ((t : Thing) → owner_of t ≡ client → All Q (f t)) →
+      (things : List Thing) → All (λ t. owner_of t ≡ client) things → All Q (flat_map f things)
   flat_own Q f one [] all = All-nil Q
   flat_own Q f one (t ∷ ts) all =
-      All-append Q (f t) (flat_map f ts) (one t (All-head (λ x. owner_of x ≡ client) t ts all)) (flat_own Q f one ts (All-tail (λ x. owner_of x ≡ client) t ts all))
+      All-append Q (f t) (flat_map f ts) (one t (All-head (λ x. owner_of x ≡ client) t ts all)) (flat_own Q f one ts (All-tail (λ x.
+      owner_of x ≡ client) t ts all))
 
   sorted_own : (things : List Thing) → All (λ t. owner_of t ≡ client) things → AreOf client (sorted things)
   sorted_own things all = record {
@@ -58,12 +60,17 @@ module _ (client : ℕ) where
 goes_own : (old new : Seen) (held back : Holds) → AreOf old.id held → Goes old new held back → AreOf new.id back
 goes_own old new held back of g =
     let P : Thing → Type 0 = λ t. owner_of t ≡ old.id in
-    let all : All P (g.parted ++ g.left) = subst (All P) g.all (owners old.id g.told (flat_map (end_told old.id) g.told) (flat_map (handle_told old.id) g.told) held of refl refl) in
+    let all : All P (g.parted ++ g.left) =
+    subst (All P) g.all (owners old.id g.told (flat_map (end_told old.id) g.told) (flat_map (handle_told old.id) g.told) held of refl
+    refl) in
     let own : All P (kept_of g.parted g.answers ++ g.left) =
-    All-append P (kept_of g.parted g.answers) g.left (kept_all P g.parted g.answers (first_all P g.parted g.left all)) (later_all P g.parted g.left all) in
-    subst (λ n. AreOf n back) (sym g.made.id) (subst (AreOf old.id) (sym g.back_is) (sorted_own old.id (kept_of g.parted g.answers ++ g.left) own))
+    All-append P (kept_of g.parted g.answers) g.left (kept_all P g.parted g.answers (first_all P g.parted g.left all))
+    (later_all P g.parted g.left all) in
+    subst (λ n. AreOf n back) (sym g.made.id) (subst (AreOf old.id) (sym g.back_is)
+    (sorted_own old.id (kept_of g.parted g.answers ++ g.left) own))
 
 -- nor does one that was stopped
 pub broken_own : (old new : Seen) (held back : Holds) → AreOf old.id held → IsBroken old new held back → AreOf new.id back
-broken_own old new held back of (inl same) = subst (λ n. AreOf n back) (sym (ap (λ (s : Seen). s.id) same.0)) (subst (AreOf old.id) (sym same.1) of)
+broken_own old new held back of (inl same) =
+    subst (λ n. AreOf n back) (sym (ap (λ (s : Seen). s.id) same.0)) (subst (AreOf old.id) (sym same.1) of)
 broken_own old new held back of (inr g) = goes_own old new held back of g

@@ -27,7 +27,8 @@ pub record FoundSoFar {E S W : Type 0} (history : List Entry) (parts rest : List
   pub is : Found history seen found
 
 -- a part whose list is its client's part changes nothing
-pub found_same : {E S W : Type 0} (history : List Entry) (parts rest others : List (Holding E S W)) (p : Holding E S W) (found : Option (ℕ × ℕ)) → FoundSoFar history parts rest found → rest ≡ p ∷ others →
+pub found_same : {E S W : Type 0} (history : List Entry) (parts rest others : List (Holding E S W)) (p : Holding E S W) (found : Option (ℕ ×
+    ℕ)) → FoundSoFar history parts rest found → rest ≡ p ∷ others →
     Matches history p → FoundSoFar history parts others found
 found_same history parts rest others p found so on same = record {
   seen = so.seen ++ p ∷ [];
@@ -44,8 +45,10 @@ found_same history parts rest others p found so on same = record {
     }
 
 -- one whose list is not leaves the one of the lesser client
-pub found_other : {E S W : Type 0} (history : List Entry) (parts rest others : List (Holding E S W)) (p : Holding E S W) (event : ℕ) (found : Option (ℕ × ℕ)) (now : ℕ × ℕ) →
-    FoundSoFar history parts rest found → rest ≡ p ∷ others → DifferAt event (own_of p) (part (id_of p) history) → IsFound found (id_of p) event now → FoundSoFar history parts others (Some now)
+pub found_other : {E S W : Type 0} (history : List Entry) (parts rest others : List (Holding E S W)) (p : Holding E S W) (event : ℕ)
+    (found : Option (ℕ × ℕ)) (now : ℕ × ℕ) →
+    FoundSoFar history parts rest found → rest ≡ p ∷ others → DifferAt event (own_of p) (part (id_of p) history) →
+    IsFound found (id_of p) event now → FoundSoFar history parts others (Some now)
 found_other history parts rest others p event found now so on differs is = record {
   seen = so.seen ++ p ∷ [];
   all = so.all ∙ (ap (λ l. so.seen ++ l) on ∙ sym (append_assoc so.seen (p ∷ []) others));
@@ -72,9 +75,11 @@ found_other history parts rest others p event found now so on differs is = recor
         subst (λ (n : ℕ × ℕ). Mismatch history (so.seen ++ p ∷ []) n.0 n.1) (sym kept.1) still
     other (Some at) m (inr less) =
         subst (λ (n : ℕ × ℕ). Mismatch history (so.seen ++ p ∷ []) n.0 n.1) (sym less.1)
-        (mine (All-weaker (λ q. id_of q < at.0 → Matches history q) (λ q. id_of q < id_of p → Matches history q) (λ q was below. was (omega (arith, below, less.0))) so.seen m.before))
+        (mine (All-weaker (λ q. id_of q < at.0 → Matches history q) (λ q. id_of q < id_of p → Matches history q) (λ q was below.
+        was (omega (arith, below, less.0))) so.seen m.before))
 
-pub found_first : {E S W : Type 0} (history : List Entry) (parts rest : List (Holding E S W)) (at : ℕ × ℕ) → length rest ≡ 0 → FoundSoFar history parts rest (Some at) → IsFirstMismatch history parts at.1
+pub found_first : {E S W : Type 0} (history : List Entry) (parts rest : List (Holding E S W)) (at : ℕ × ℕ) → length rest ≡ 0 →
+    FoundSoFar history parts rest (Some at) → IsFirstMismatch history parts at.1
 found_first history parts [] at none so = record {
   client = at.0;
   own = so.is.own;

@@ -26,22 +26,26 @@ replicate_push : (n : ℕ) (c : Call) → replicate (n + 1) c ≡ replicate n c 
 replicate_push n c = sym (replicate-append-replicate n 1 c)
 
 -- one more
-pub collects_more : (old mid new : Seen) (told : List Reply) (ends handles ends' handles' : List Thing) → Collects old mid told ends handles → (one : CollectsOne mid new ends ends' handles handles') →
+pub collects_more : (old mid new : Seen) (told : List Reply) (ends handles ends' handles' : List Thing) →
+    Collects old mid told ends handles → (one : CollectsOne mid new ends ends' handles handles') →
     Collects old new (told ++ one.reply ∷ []) ends' handles'
 collects_more old mid new told ends handles ends' handles' so one = record {
   made =
       let calls : replicate (length (told ++ one.reply ∷ [])) Call.Collect ≡ replicate (length told) Call.Collect ++ Call.Collect ∷ [] =
       ap (λ n. replicate n Call.Collect) (length-append told (one.reply ∷ [])) ∙ replicate_push (length told) Call.Collect in
-      subst (λ cs. MadeAll old new cs (told ++ one.reply ∷ [])) (sym calls) (made_more old mid new (replicate (length told) Call.Collect) Call.Collect told one.reply so.made one.made);
+      subst (λ cs. MadeAll old new cs (told ++ one.reply ∷ [])) (sym calls) (made_more old mid new (replicate (length told) Call.Collect)
+      Call.Collect told one.reply so.made one.made);
   ends_are = one.end ∙ grown (λ n. end_told n) ends so.ends_are;
   handles_are = one.handle ∙ grown (λ n. handle_told n) handles so.handles_are;
 }
   where
-    grown : (f : ℕ → Reply → List Thing) (things : List Thing) → things ≡ flat_map (f old.id) told → things ++ f mid.id one.reply ≡ flat_map (f old.id) (told ++ one.reply ∷ [])
+    grown : (f : ℕ → Reply → List Thing) (things : List Thing) → things ≡ flat_map (f old.id) told →
+        things ++ f mid.id one.reply ≡ flat_map (f old.id) (told ++ one.reply ∷ [])
     grown f things are =
         ap (λ n. things ++ f n one.reply) so.made.id
         ∙ (ap (λ l. l ++ f old.id one.reply) are
-        ∙ (ap (λ l. flat_map (f old.id) told ++ l) (sym (append-nil (f old.id one.reply))) ∙ sym (flat-append (f old.id) told (one.reply ∷ []))))
+        ∙ (ap (λ l. flat_map (f old.id) told ++ l) (sym (append-nil (f old.id one.reply)))
+        ∙ sym (flat-append (f old.id) told (one.reply ∷ []))))
 
 -- ---- parting
 
@@ -62,24 +66,31 @@ kept_push : (things : List Thing) (answers : List Reply) (thing : Thing) (answer
 kept_push [] [] thing answer many = refl
 kept_push [] (a ∷ answers) thing answer many = absurd (omega (arith, many))
 kept_push (t ∷ things) [] thing answer many = absurd (omega (arith, many))
-kept_push (t ∷ things) (a ∷ answers) thing answer many = either (kept_push things answers thing answer (omega (arith, many))) (is_done a) refl
+kept_push (t ∷ things) (a ∷ answers) thing answer many =
+    either (kept_push things answers thing answer (omega (arith, many))) (is_done a) refl
   where
-    either : kept_of (things ++ thing ∷ []) (answers ++ answer ∷ []) ≡ kept_of things answers ++ kept_of (thing ∷ []) (answer ∷ []) → (b : Bool) → is_done a ≡ b →
-        kept_of (t ∷ (things ++ thing ∷ [])) (a ∷ (answers ++ answer ∷ [])) ≡ kept_of (t ∷ things) (a ∷ answers) ++ kept_of (thing ∷ []) (answer ∷ [])
+    either : kept_of (things ++ thing ∷ []) (answers ++ answer ∷ []) ≡ kept_of things answers ++ kept_of (thing ∷ []) (answer ∷ []) →
+        (b : Bool) → is_done a ≡ b →
+        kept_of (t ∷ (things ++ thing ∷ [])) (a ∷ (answers ++ answer ∷ [])) ≡ kept_of (t ∷ things) (a ∷ answers) ++ kept_of (thing ∷ [])
+        (answer ∷ [])
     either more true done = rw done more
     either more false not_done = rw not_done (ap (λ l. t ∷ l) more)
 
 -- with one more
-pub parts_more : (old mid new : Seen) (all left later : List Thing) (thing : Thing) (ks : List Thing) (kept kept' : Holds) → Parts old mid all left kept → left ≡ thing ∷ later → PartsWith mid new thing ks →
+pub parts_more : (old mid new : Seen) (all left later : List Thing) (thing : Thing) (ks : List Thing) (kept kept' : Holds) →
+    Parts old mid all left kept → left ≡ thing ∷ later → PartsWith mid new thing ks →
     kept' ≡ both kept (sorted ks) → Parts old new all later kept'
 parts_more old mid new all left later thing ks kept kept' so on one grown =
-    let many : length so.parted ≡ length so.answers = sym (length-map so.parted parting_call) ∙ as_many old mid (map parting_call so.parted) so.answers so.made in
+    let many : length so.parted ≡ length so.answers =
+    sym (length-map so.parted parting_call) ∙ as_many old mid (map parting_call so.parted) so.answers so.made in
     record {
       answers = so.answers ++ one.answer ∷ [];
       parted = so.parted ++ thing ∷ [];
       made =
-          let calls : map parting_call (so.parted ++ thing ∷ []) ≡ map parting_call so.parted ++ parting_call thing ∷ [] = map-append parting_call so.parted (thing ∷ []) in
-          subst (λ cs. MadeAll old new cs (so.answers ++ one.answer ∷ [])) (sym calls) (made_more old mid new (map parting_call so.parted) (parting_call thing) so.answers one.answer so.made one.made);
+          let calls : map parting_call (so.parted ++ thing ∷ []) ≡ map parting_call so.parted ++ parting_call thing ∷ [] =
+          map-append parting_call so.parted (thing ∷ []) in
+          subst (λ cs. MadeAll old new cs (so.answers ++ one.answer ∷ [])) (sym calls) (made_more old mid new (map parting_call so.parted)
+          (parting_call thing) so.answers one.answer so.made one.made);
       all_is = so.all_is ∙ (ap (λ l. so.parted ++ l) on ∙ sym (append_assoc so.parted (thing ∷ []) later));
       kept_is = grown
           ∙ (ap (λ h. both h (sorted ks)) so.kept_is
@@ -89,7 +100,8 @@ parts_more old mid new all left later thing ks kept kept' so on one grown =
     }
 
 -- with one that was answered Done
-pub parted_done : (old new : Seen) (thing : Thing) (call : Call) → parting_call thing ≡ call → Made old new call Reply.Done → PartsWith old new thing []
+pub parted_done : (old new : Seen) (thing : Thing) (call : Call) → parting_call thing ≡ call → Made old new call Reply.Done →
+    PartsWith old new thing []
 parted_done old new thing call is made = record {
   answer = Reply.Done;
   made = subst (λ (c : Call). Made old new c Reply.Done) (sym is) made;
@@ -116,7 +128,8 @@ sorted_held held = λ i. record {
   handles = handles i;
 }
   where
-    three : {A : Type 0} (f : Thing → List A) (a b c : List A) → flat_map f (map Token held.tokens) ≡ a → flat_map f (map Collection held.collections) ≡ b → flat_map f (map Handle held.handles) ≡ c →
+    three : {A : Type 0} (f : Thing → List A) (a b c : List A) → flat_map f (map Token held.tokens) ≡ a →
+        flat_map f (map Collection held.collections) ≡ b → flat_map f (map Handle held.handles) ≡ c →
         flat_map f (map Token held.tokens ++ (map Collection held.collections ++ map Handle held.handles)) ≡ a ++ (b ++ c)
     three f a b c x y z =
         flat-append f (map Token held.tokens) (map Collection held.collections ++ map Handle held.handles)
@@ -125,10 +138,13 @@ sorted_held held = λ i. record {
         ∙ (ap (λ l. l ++ flat_map f (map Handle held.handles)) y ∙ ap (λ l. b ++ l) z)))
 
     tokens : flat_map token_in (map Token held.tokens ++ (map Collection held.collections ++ map Handle held.handles)) ≡ held.tokens
-    tokens = three token_in held.tokens [] [] (flat_tokens held.tokens) (no_token_c held.collections) (no_token_h held.handles) ∙ append-nil held.tokens
+    tokens = three token_in held.tokens [] [] (flat_tokens held.tokens) (no_token_c held.collections) (no_token_h held.handles)
+        ∙ append-nil held.tokens
 
-    collections : flat_map collection_in (map Token held.tokens ++ (map Collection held.collections ++ map Handle held.handles)) ≡ held.collections
-    collections = three collection_in [] held.collections [] (no_collection_t held.tokens) (flat_collections held.collections) (no_collection_h held.handles) ∙ append-nil held.collections
+    collections : flat_map collection_in (map Token held.tokens ++ (map Collection held.collections ++ map Handle
+        held.handles)) ≡ held.collections
+    collections = three collection_in [] held.collections [] (no_collection_t held.tokens) (flat_collections held.collections)
+        (no_collection_h held.handles) ∙ append-nil held.collections
 
     handles : flat_map handle_in (map Token held.tokens ++ (map Collection held.collections ++ map Handle held.handles)) ≡ held.handles
     handles = three handle_in [] [] held.handles (no_handle_t held.tokens) (no_handle_c held.collections) (flat_handles held.handles)
@@ -137,7 +153,8 @@ sorted_held held = λ i. record {
 abbrev pub stacked : List Thing → List Thing → Holds → List Thing
 stacked ends handles held = ends ++ (map Token held.tokens ++ (map Collection held.collections ++ (handles ++ map Handle held.handles)))
 
-pub told_all : (old mid : Seen) → mid.id ≡ old.id → (told : List Reply) (ends handles : List Thing) (held : Holds) → ends ≡ flat_map (end_told mid.id) told → handles ≡ flat_map (handle_told mid.id) told →
+pub told_all : (old mid : Seen) → mid.id ≡ old.id → (told : List Reply) (ends handles : List Thing) (held : Holds) →
+    ends ≡ flat_map (end_told mid.id) told → handles ≡ flat_map (handle_told mid.id) told →
     all_things old.id told held ≡ stacked ends handles held
 told_all old mid same told ends handles held ends_are handles_are =
     sym (ap (λ e. stacked e handles held) (ends_are ∙ ap (λ n. flat_map (end_told n) told) same)
@@ -148,27 +165,36 @@ in_turn may P Q (inl p) whole = inl p
 in_turn may P Q (inr so) whole = inr (whole so)
 
 -- a client that made its Shut, so many Collects, and parted with some
-abbrev pub goes : (old mid far new : Seen) (shut : Reply) (may : Bool) (ends handles all left : List Thing) (held kept back : Holds) → Made old mid Call.Shut shut →
-    CollectsFor may (waiting_in shut) mid far ends handles → PartsIf may far new all left kept → all ≡ stacked ends handles held → back ≡ both kept (sorted left) → Goes old new held back
+abbrev pub goes : (old mid far new : Seen) (shut : Reply) (may : Bool) (ends handles all left : List Thing) (held kept back : Holds) →
+    Made old mid Call.Shut shut →
+    CollectsFor may (waiting_in shut) mid far ends handles → PartsIf may far new all left kept → all ≡ stacked ends handles held →
+    back ≡ both kept (sorted left) → Goes old new held back
 goes old mid far new shut may ends handles all left held kept back made collects part is back_is = record {
   shut = shut;
   told = collects.told;
   answers = part.parts.answers;
   parted = part.parts.parted;
   left = left;
-  made = made_then old mid new (Call.Shut ∷ []) (replicate (length collects.told) Call.Collect ++ map parting_call part.parts.parted) (shut ∷ []) (collects.told ++ part.parts.answers) (made_one old mid Call.Shut shut made)
-      (made_then mid far new (replicate (length collects.told) Call.Collect) (map parting_call part.parts.parted) collects.told part.parts.answers collects.collects.made part.parts.made);
+  made = made_then old mid new (Call.Shut ∷ []) (replicate (length collects.told) Call.Collect ++ map parting_call part.parts.parted)
+      (shut ∷ []) (collects.told ++ part.parts.answers) (made_one old mid Call.Shut shut made)
+      (made_then mid far new (replicate (length collects.told) Call.Collect) (map parting_call part.parts.parted) collects.told
+      part.parts.answers collects.collects.made part.parts.made);
   counted = collects.within;
-  all = told_all old mid made.id collects.told ends handles held collects.collects.ends_are collects.collects.handles_are ∙ (sym is ∙ part.parts.all_is);
+  all = told_all old mid made.id collects.told ends handles held collects.collects.ends_are collects.collects.handles_are
+      ∙ (sym is ∙ part.parts.all_is);
   turn = in_turn may (part.parts.parted ≡ []) (length collects.told ≡ waiting_in shut) part.turn collects.whole;
-  back_is = back_is ∙ (ap (λ k. both k (sorted left)) part.parts.kept_is ∙ sym (sorted-append (kept_of part.parts.parted part.parts.answers) left));
+  back_is = back_is ∙ (ap (λ k. both k (sorted left)) part.parts.kept_is
+      ∙ sym (sorted-append (kept_of part.parts.parted part.parts.answers) left));
 }
 
 -- one that is gone
-pub gone : (old mid far new : Seen) (shut : Reply) (may : Bool) (ends handles all left : List Thing) (held kept : Holds) → Made old mid Call.Shut shut →
-    CollectsFor may (waiting_in shut) mid far ends handles → PartsIf may far new all left kept → all ≡ stacked ends handles held → left ≡ [] → may ≡ true → IsGone old new held kept
+pub gone : (old mid far new : Seen) (shut : Reply) (may : Bool) (ends handles all left : List Thing) (held kept : Holds) →
+    Made old mid Call.Shut shut →
+    CollectsFor may (waiting_in shut) mid far ends handles → PartsIf may far new all left kept → all ≡ stacked ends handles held →
+    left ≡ [] → may ≡ true → IsGone old new held kept
 gone old mid far new shut may ends handles all left held kept made collects part is none may_so = record {
-  goes = goes old mid far new shut may ends handles all left held kept kept made collects part is (sym (both_none kept) ∙ ap (λ l. both kept (sorted l)) (sym none));
+  goes = goes old mid far new shut may ends handles all left held kept kept made collects part is (sym (both_none kept)
+      ∙ ap (λ l. both kept (sorted l)) (sym none));
   collected = collects.whole may_so;
   done = none;
 }
@@ -192,29 +218,39 @@ shut_only old new shut held back made same = record {
 
 -- an end that a reply tells of is the client's
 end_owner : (client : ℕ) (reply : Reply) → All (λ t. owner_of t ≡ client) (end_told client reply)
-end_owner client (Reply.Collected key Kind.Token collection) = All-cons (λ t. owner_of t ≡ client) (end_of Kind.Token (record { client = client; key = key; collection = collection })) [] refl (All-nil (λ t. owner_of t ≡ client))
-end_owner client (Reply.Collected key Kind.Collection collection) = All-cons (λ t. owner_of t ≡ client) (end_of Kind.Collection (record { client = client; key = key; collection = collection })) [] refl (All-nil (λ t. owner_of t ≡ client))
+end_owner client (Reply.Collected key Kind.Token collection) =
+    All-cons (λ t. owner_of t ≡ client) (end_of Kind.Token (record { client = client; key = key; collection = collection })) [] refl
+    (All-nil (λ t. owner_of t ≡ client))
+end_owner client (Reply.Collected key Kind.Collection collection) =
+    All-cons (λ t. owner_of t ≡ client) (end_of Kind.Collection (record { client = client; key = key; collection = collection })) [] refl
+    (All-nil (λ t. owner_of t ≡ client))
 end_owner client _ = All-nil (λ t. owner_of t ≡ client)
 
 -- so is a handle
 handle_owner : (client : ℕ) (reply : Reply) → All (λ t. owner_of t ≡ client) (handle_told client reply)
-handle_owner client (Reply.CollectedHandle buffer strength) = All-cons (λ t. owner_of t ≡ client) (Handle (record { client = client; buffer = buffer; strength = strength })) [] refl (All-nil (λ t. owner_of t ≡ client))
+handle_owner client (Reply.CollectedHandle buffer strength) =
+    All-cons (λ t. owner_of t ≡ client) (Handle (record { client = client; buffer = buffer; strength = strength })) [] refl (All-nil (λ t.
+    owner_of t ≡ client))
 handle_owner client _ = All-nil (λ t. owner_of t ≡ client)
 
-flat_owner : (client : ℕ) (f : Reply → List Thing) → ((r : Reply) → All (λ t. owner_of t ≡ client) (f r)) → (told : List Reply) → All (λ t. owner_of t ≡ client) (flat_map f told)
+flat_owner : (client : ℕ) (f : Reply → List Thing) → ((r : Reply) → All (λ t. owner_of t ≡ client) (f r)) → (told : List Reply) →
+    All (λ t. owner_of t ≡ client) (flat_map f told)
 flat_owner client f each [] = All-nil (λ t. owner_of t ≡ client)
 flat_owner client f each (r ∷ rs) = All-append (λ t. owner_of t ≡ client) (f r) (flat_map f rs) (each r) (flat_owner client f each rs)
 
 -- so all that there is is
-pub owners : (client : ℕ) (told : List Reply) (ends handles : List Thing) (held : Holds) → AreOf client held → ends ≡ flat_map (end_told client) told → handles ≡ flat_map (handle_told client) told →
+pub owners : (client : ℕ) (told : List Reply) (ends handles : List Thing) (held : Holds) → AreOf client held →
+    ends ≡ flat_map (end_told client) told → handles ≡ flat_map (handle_told client) told →
     All (λ t. owner_of t ≡ client) (stacked ends handles held)
 owners client told ends handles held of ends_are handles_are =
     let P : Thing → Type 0 = λ t. owner_of t ≡ client in
     let first : All P ends = subst (All P) (sym ends_are) (flat_owner client (end_told client) (end_owner client) told) in
     let later : All P handles = subst (All P) (sym handles_are) (flat_owner client (handle_told client) (handle_owner client) told) in
     All-append P ends (map Token held.tokens ++ (map Collection held.collections ++ (handles ++ map Handle held.handles))) first
-    (All-append P (map Token held.tokens) (map Collection held.collections ++ (handles ++ map Handle held.handles)) (All-map P Token held.tokens of.tokens)
-    (All-append P (map Collection held.collections) (handles ++ map Handle held.handles) (All-map P Collection held.collections of.collections)
+    (All-append P (map Token held.tokens) (map Collection held.collections ++ (handles ++ map Handle held.handles))
+    (All-map P Token held.tokens of.tokens)
+    (All-append P (map Collection held.collections) (handles ++ map Handle held.handles) (All-map P Collection held.collections
+    of.collections)
     (All-append P handles (map Handle held.handles) later (All-map P Handle held.handles of.handles))))
 
 -- a reply tells of one thing at most, of its kind
@@ -246,19 +282,22 @@ handle_one_handle n (Reply.CollectedHandle buffer strength) = omega arith
 handle_one_handle n _ = omega arith
 
 -- so do replies
-no_more : {A : Type 0} (f : Thing → List A) (g : Reply → List Thing) → ((r : Reply) → length (flat_map f (g r)) ≤ 1) → (told : List Reply) → length (flat_map f (flat_map g told)) ≤ length told
+no_more : {A : Type 0} (f : Thing → List A) (g : Reply → List Thing) → ((r : Reply) → length (flat_map f (g r)) ≤ 1) → (told : List Reply) →
+    length (flat_map f (flat_map g told)) ≤ length told
 no_more f g each [] = omega arith
 no_more f g each (r ∷ rs) =
     omega (arith, ap length (flat-append f (g r) (flat_map g rs)), length-append (flat_map f (g r)) (flat_map f (flat_map g rs)), each r, no_more f g each rs)
 
-none_of : {A : Type 0} (f : Thing → List A) (g : Reply → List Thing) → ((r : Reply) → flat_map f (g r) ≡ []) → (told : List Reply) → flat_map f (flat_map g told) ≡ []
+none_of : {A : Type 0} (f : Thing → List A) (g : Reply → List Thing) → ((r : Reply) → flat_map f (g r) ≡ []) → (told : List Reply) →
+    flat_map f (flat_map g told) ≡ []
 none_of f g each [] = refl
 none_of f g each (r ∷ rs) = flat-append f (g r) (flat_map g rs) ∙ (ap (λ l. l ++ flat_map f (flat_map g rs)) (each r) ∙ none_of f g each rs)
 
 -- how many of one kind there are in all
 many_of : {A : Type 0} (f : Thing → List A) (ends handles : List Thing) (held : Holds) →
     length (flat_map f (stacked ends handles held))
-    ≡ length (flat_map f ends) + (length (flat_map f (map Token held.tokens)) + (length (flat_map f (map Collection held.collections)) + (length (flat_map f handles) + length (flat_map f (map Handle held.handles)))))
+    ≡ length (flat_map f ends) + (length (flat_map f (map Token held.tokens)) + (length
+    (flat_map f (map Collection held.collections)) + (length (flat_map f handles) + length (flat_map f (map Handle held.handles)))))
 many_of f ends handles held =
     let two = λ (a b : List Thing). ap length (flat-append f a b) ∙ length-append (flat_map f a) (flat_map f b) in
     omega (
@@ -270,9 +309,12 @@ many_of f ends handles held =
     )
 
 -- and there is room for them
-pub room_all : {E S W : Type 0} (before after : Held E S W) (n waiting : ℕ) (told : List Reply) (ends handles all : List Thing) → length told ≤ waiting → ends ≡ flat_map (end_told n) told → handles ≡ flat_map (handle_told n) told →
-    all ≡ stacked ends handles (held_in before) → held_in after ≡ sorted [] → vec_len before.tokens + waiting ≤ vec_capacity before.tokens → vec_len before.collections + waiting ≤ vec_capacity before.collections →
-    vec_len before.handles + waiting ≤ vec_capacity before.handles → vec_capacity after.tokens ≡ vec_capacity before.tokens → vec_capacity after.collections ≡ vec_capacity before.collections →
+pub room_all : {E S W : Type 0} (before after : Held E S W) (n waiting : ℕ) (told : List Reply) (ends handles all : List Thing) →
+    length told ≤ waiting → ends ≡ flat_map (end_told n) told → handles ≡ flat_map (handle_told n) told →
+    all ≡ stacked ends handles (held_in before) → held_in after ≡ sorted [] → vec_len before.tokens + waiting ≤ vec_capacity before.tokens →
+    vec_len before.collections + waiting ≤ vec_capacity before.collections →
+    vec_len before.handles + waiting ≤ vec_capacity before.handles → vec_capacity after.tokens ≡ vec_capacity before.tokens →
+    vec_capacity after.collections ≡ vec_capacity before.collections →
     vec_capacity after.handles ≡ vec_capacity before.handles → HasRoomFor after all
 room_all before after n waiting told ends handles all few ends_are handles_are is none t c h same_t same_c same_h =
     let held : Holds = held_in before in

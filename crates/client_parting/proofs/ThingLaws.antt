@@ -84,11 +84,13 @@ sorted_single x = both_none (sorted_one x)
 -- ---- room
 
 -- the top comes off a stack
-pub top_pop : {E S W : Type 0} (items rest : List (End E S W)) (e : End E S W) → items ≡ rest ++ e ∷ [] → top_first items ≡ thing_of e ∷ top_first rest
+pub top_pop : {E S W : Type 0} (items rest : List (End E S W)) (e : End E S W) → items ≡ rest ++ e ∷ [] →
+    top_first items ≡ thing_of e ∷ top_first rest
 top_pop items rest e is = ap top_first is ∙ top_push rest e
 
 -- who has room for all has room for those after the first
-pub room_less : {E S W : Type 0} (held : Held E S W) (x : Thing) (all later : List Thing) → all ≡ x ∷ later → HasRoomFor held all → HasRoomFor held later
+pub room_less : {E S W : Type 0} (held : Held E S W) (x : Thing) (all later : List Thing) → all ≡ x ∷ later → HasRoomFor held all →
+    HasRoomFor held later
 room_less held x all later is room = record {
   tokens = omega (arith, room.tokens, many token_in);
   collections = omega (arith, room.collections, many collection_in);
@@ -99,11 +101,14 @@ room_less held x all later is room = record {
     many f = ap (λ l. length (flat_map f l)) is ∙ length-append (f x) (flat_map f later)
 
 -- also after the first was put into its list
-pub room_put : {E S W : Type 0} (old new : Held E S W) (x y : Thing) (all later : List Thing) → all ≡ x ∷ later → HasRoomFor old all → y ≡ x → held_in new ≡ both (held_in old) (sorted_one y) →
-    vec_capacity new.tokens ≡ vec_capacity old.tokens → vec_capacity new.collections ≡ vec_capacity old.collections → vec_capacity new.handles ≡ vec_capacity old.handles → HasRoomFor new later
+pub room_put : {E S W : Type 0} (old new : Held E S W) (x y : Thing) (all later : List Thing) → all ≡ x ∷ later → HasRoomFor old all →
+    y ≡ x → held_in new ≡ both (held_in old) (sorted_one y) →
+    vec_capacity new.tokens ≡ vec_capacity old.tokens → vec_capacity new.collections ≡ vec_capacity old.collections →
+    vec_capacity new.handles ≡ vec_capacity old.handles → HasRoomFor new later
 room_put old new x y all later is room same put tokens collections handles = record {
   tokens = omega (arith, room.tokens, many token_in, grown (λ h. h.tokens), length-append (held_in old).tokens (token_in y), ap (λ t. length (token_in t)) same, new.tokens.ok.0, old.tokens.ok.0, tokens);
-  collections = omega (arith, room.collections, many collection_in, grown (λ h. h.collections), length-append (held_in old).collections (collection_in y), ap (λ t. length (collection_in t)) same, new.collections.ok.0, old.collections.ok.0, collections);
+  collections =
+      omega (arith, room.collections, many collection_in, grown (λ h. h.collections), length-append (held_in old).collections (collection_in y), ap (λ t. length (collection_in t)) same, new.collections.ok.0, old.collections.ok.0, collections);
   handles = omega (arith, room.handles, many handle_in, grown (λ h. h.handles), length-append (held_in old).handles (handle_in y), ap (λ t. length (handle_in t)) same, new.handles.ok.0, old.handles.ok.0, handles);
 }
   where

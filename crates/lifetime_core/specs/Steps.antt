@@ -152,7 +152,8 @@ abbrev pub tracker_by : Forest → Call → Reply → Option Waiting
 tracker_by f (Call.TrackNode key) (Reply.Tracker id) =
     option_map (λ (n : Node). record { id = id; place = n.collection; condition = Condition.Node key }) (node_at f key)
 tracker_by f (Call.TrackLifetime key most) (Reply.Tracker id) =
-    option_map (λ (n : Node). record { id = id; place = n.collection; condition = Condition.Lifetime key n.collection most }) (node_at f key)
+    option_map (λ (n : Node). record { id = id; place = n.collection; condition = Condition.Lifetime key n.collection most })
+    (node_at f key)
 tracker_by f (Call.TrackWeak buffer) (Reply.Tracker id) =
     Some (record { id = id; place = buffer.collection; condition = Condition.Weak buffer })
 tracker_by f _ _ = None

@@ -128,7 +128,8 @@ pub record Parts : Type 0 where
   pub trackers : Table
 
 -- the call that was answered so took effect, but for the trackers that fire and for what is forgotten; a new node has this key
-pub record TakesEffect (pool : ℕ) (old new : Parts) (client : ℕ) (call : Call) (asked : Reply) (task : Option Task) (tracking : Option Tracking) (reply : Reply) : Type 0 where
+pub record TakesEffect (pool : ℕ) (old new : Parts) (client : ℕ) (call : Call) (asked : Reply) (task : Option Task)
+    (tracking : Option Tracking) (reply : Reply) : Type 0 where
   pub key : Option NodeKey
   pub told : reply ≡ keyed asked key
   pub clients : new.clients ≡ clients_by (Called client asked call) old.clients

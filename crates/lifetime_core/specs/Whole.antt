@@ -70,7 +70,8 @@ pub record IsAmid (f : Forest) (id : ℕ) (leaving : Option NodeKey) : Type 0 wh
       (n m : Node) → In n c.nodes → In m d.nodes → n.key ≡ m.key → c.id ≡ d.id
   pub once : (c : Collection) → In c f.collections → AreOnce c.nodes
   pub tidy : (c : Collection) → In c f.collections → (c.id == id) ≡ false → IsTidy c
-  pub there : (key : NodeKey) → leaving ≡ Some key → (c : Collection) × (n : Node) × In c f.collections × In n c.nodes × (n.key ≡ key) × (c.id ≡ id)
+  pub there : (key : NodeKey) → leaving ≡ Some key → (c : Collection) × (n : Node) × In c f.collections × In n c.nodes × (n.key ≡ key) ×
+      (c.id ≡ id)
 
 -- the event can be finished: the forest is sound, but for what is over in the task's collection and the end that the task spends
 abbrev pub CanFinish : Forest → Option Task → Type 0
@@ -112,7 +113,8 @@ abbrev pub AreUpTo : ℕ → Forest → Type 0
 AreUpTo most f = (c : Collection) → In c f.collections → c.id ≤ most
 
 -- what holds of the fields of each core
-pub record IsWhole (pool : Holdings) (limits : Bound) (events : ℕ) (clients : List Client) (forest : Forest) (holds : Counts) (trackers : Table) : Type 0 where
+pub record IsWhole (pool : Holdings) (limits : Bound) (events : ℕ) (clients : List Client) (forest : Forest) (holds : Counts)
+    (trackers : Table) : Type 0 where
   pub sized : (1 ≤ pool.size) × (pool.size ≤ 1048576)
   pub pages : IsPoolOf pool forest
   pub in_time : events ≤ limits.events

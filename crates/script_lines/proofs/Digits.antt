@@ -72,7 +72,8 @@ label-bytes (first ∷ others) good (suc j) within =
     let all : list_all test others ≡ true = (and_parts (is_letter first && nat_le (length others) 15) (list_all test others) good).1 in
     let inside : j < length others = omega (arith, within) in
     let passes : test (get_or others j 0) ≡ true =
-    true_from_ne_false (test (get_or others j 0)) (λ fails. both_ways (list_all test others) (list_all_at test others j 0 inside fails) all) in
+    true_from_ne_false (test (get_or others j 0)) (λ fails. both_ways (list_all test others) (list_all_at test others j 0 inside fails)
+    all) in
     byte-from (get_or others j 0) (or_cases (is_letter (get_or others j 0)) (is_digit (get_or others j 0)) passes)
 
 -- a label has sixteen bytes at most

@@ -34,7 +34,8 @@ pub record Ends (front xs : List ℕ) (at : ℕ) : Type 0 where
   pub rest : rest_from front xs ≡ rest_from [] (drop (at + 1) xs)
 
 -- one byte more in front
-ends-behind : (front : List ℕ) (x : ℕ) (xs : List ℕ) (at : ℕ) → (x == 10) ≡ false → Ends (front ++ x ∷ []) xs at → Ends front (x ∷ xs) (1 + at)
+ends-behind : (front : List ℕ) (x : ℕ) (xs : List ℕ) (at : ℕ) → (x == 10) ≡ false → Ends (front ++ x ∷ []) xs at →
+    Ends front (x ∷ xs) (1 + at)
 ends-behind front x xs at other ends =
     let one : 1 + at ≡ suc at = omega arith in
     let two : (1 + at) + 1 ≡ suc (at + 1) = omega arith in

@@ -21,7 +21,8 @@ at_mark strength client reply call = record {
 }
 
 -- is what the event does: the mark is asked for its reply first, the event for its call
-moves_are : (strength : Strength) (client : ℕ) (reply : Reply) (call : Call) → moves_by strength call reply ≡ at_mark strength client reply call
+moves_are : (strength : Strength) (client : ℕ) (reply : Reply) (call : Call) →
+    moves_by strength call reply ≡ at_mark strength client reply call
 moves_are strength client (Reply.Taken collection taken set) (Call.Take key) = refl
 moves_are strength client (Reply.CollectedHandle buffer got) Call.Collect = refl
 moves_are strength client Reply.Done (Call.DupHandle buffer dup) = refl

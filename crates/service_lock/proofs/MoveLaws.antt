@@ -14,7 +14,8 @@ use Rattle.service_lock.specs.Units.{needed}
 
 -- so a mark opens no more
 opened_most : (strength : Strength) (mark : Mark) → opened_at anyone strength mark ≤ 64
-opened_most strength (Called client (Reply.Taken collection taken set) (Call.Take key)) = cond-le (same_strength taken strength) (length (indices_in set)) 64 (indices_most set)
+opened_most strength (Called client (Reply.Taken collection taken set) (Call.Take key)) =
+    cond-le (same_strength taken strength) (length (indices_in set)) 64 (indices_most set)
 opened_most strength (Called client Reply.Done (Call.DupHandle name dup)) = cond-le (same_strength dup strength) 1 64 (omega arith)
 opened_most strength _ = omega arith
 
@@ -25,7 +26,8 @@ opened_le strength (e ∷ es) =
     omega (arith, sum_by-cons (λ (x : Entry). opened_at anyone strength (mark_of x)) e es, opened_most strength (mark_of e), opened_le strength es)
 
 -- what the event takes from its client, the client had
-pub lost_le_needed : (strength : Strength) (call : Call) (reply : Reply) → (moves_by strength call reply).dropped + (moves_by strength call reply).sent ≤ needed strength call
+pub lost_le_needed : (strength : Strength) (call : Call) (reply : Reply) →
+    (moves_by strength call reply).dropped + (moves_by strength call reply).sent ≤ needed strength call
 lost_le_needed strength (Call.DropHandle buffer dropped) Reply.Done = omega arith
 lost_le_needed strength (Call.GiveHandle buffer given to) Reply.Done = omega arith
 lost_le_needed strength (Call.Take key) (Reply.Taken collection taken set) = omega arith
@@ -34,7 +36,8 @@ lost_le_needed strength Call.Collect (Reply.CollectedHandle buffer got) = omega 
 lost_le_needed strength _ _ = omega arith
 
 -- no event both puts a handle into a parcel and takes one out
-pub got_or_sent : (strength : Strength) (call : Call) (reply : Reply) → ((moves_by strength call reply).got ≡ 0) ⊎ ((moves_by strength call reply).sent ≡ 0)
+pub got_or_sent : (strength : Strength) (call : Call) (reply : Reply) → ((moves_by strength call reply).got ≡ 0) ⊎
+    ((moves_by strength call reply).sent ≡ 0)
 got_or_sent strength (Call.GiveHandle buffer given to) Reply.Done = inl refl
 got_or_sent strength (Call.Take key) (Reply.Taken collection taken set) = inl refl
 got_or_sent strength (Call.DupHandle buffer dup) Reply.Done = inl refl

@@ -29,8 +29,10 @@ unfolding all_open all_moving
 none_counted strength sums none left = record { standing = none; carried = left }
 
 -- an empty record, a core that shows it and empty books fit together
-pub begins : (core : State) (limits : Bound) (history : List Entry) (events strong weak : Sums) → history ≡ [] → Shows core [] → core.limits ≡ limits →
-    events.total ≡ 0 → strong.total ≡ 0 → strong.carried ≡ 0 → weak.total ≡ 0 → weak.carried ≡ 0 → IsSound core limits history events strong weak
+pub begins : (core : State) (limits : Bound) (history : List Entry) (events strong weak : Sums) → history ≡ [] → Shows core [] →
+    core.limits ≡ limits →
+    events.total ≡ 0 → strong.total ≡ 0 → strong.carried ≡ 0 → weak.total ≡ 0 → weak.carried ≡ 0 →
+    IsSound core limits history events strong weak
 begins core limits history events strong weak none shows limited no_event no_strong no_strong_parcel no_weak no_weak_parcel =
     let start : IsSound core limits [] events strong weak = record {
       shown = shows;
@@ -42,7 +44,8 @@ begins core limits history events strong weak none shows limited no_event no_str
     subst (λ (h : List Entry). IsSound core limits h events strong weak) (sym none) start
 
 -- the book holds what the event opens
-pub fits : (pool : ℕ) (limits : Bound) (strength : Strength) (client : ℕ) (call : Call) (reply : Reply) (history : List Entry) (moves : Moves) (sums : Sums) (most : ℕ) →
+pub fits : (pool : ℕ) (limits : Bound) (strength : Strength) (client : ℕ) (call : Call) (reply : Reply) (history : List Entry)
+    (moves : Moves) (sums : Sums) (most : ℕ) →
     IsLegal pool limits history → moves ≡ moves_by strength call reply → CountsHandles (timeline pool history) strength sums →
     length history < most → most < 2 ^ 32 → sums.total + moves.opened < 2 ^ 64
 fits pool limits strength client call reply history moves sums most legal is counts few small =
@@ -58,8 +61,10 @@ fits pool limits strength client call reply history moves sums most legal is cou
       length-append history ((client, call, reply) ∷ []),
     )
 
-module _ (was pool : ℕ) (before now : Bound) (strength : Strength) (client : ℕ) (call : Call) (reply : Reply) (history : List Entry) (moves : Moves)
-    (same : pool ≡ was) (legal : IsLegal was before history) (next : IsLegal pool now (history ++ (client, call, reply) ∷ [])) (is : moves ≡ moves_by strength call reply) where
+module _ (was pool : ℕ) (before now : Bound) (strength : Strength) (client : ℕ) (call : Call) (reply : Reply) (history : List Entry)
+    (moves : Moves)
+    (same : pool ≡ was) (legal : IsLegal was before history) (next : IsLegal pool now (history ++ (client, call, reply) ∷ []))
+    (is : moves ≡ moves_by strength call reply) where
   -- the record with the event
   abbrev more : List Entry
   more = history ++ (client, call, reply) ∷ []

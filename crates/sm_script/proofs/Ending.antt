@@ -9,7 +9,8 @@ use Rattle.script_runs.proofs.Telling.{tells_nothing}
 use Rattle.script_runs.specs.Written.{WritesPart}
 use Rattle.sm_script.specs.Scenes.{Setting}
 
-module _ (setting : Setting) (left_before left old new : Option (List ℕ)) (outcome : Result (Unit {0}) ScriptFault) (runs : Runs setting left_before left old new outcome) where
+module _ (setting : Setting) (left_before left old new : Option (List ℕ)) (outcome : Result (Unit {0}) ScriptFault)
+    (runs : Runs setting left_before left old new outcome) where
   -- a run that came to the end
   pub ends_well : (faults : Option (List ℕ)) (done : Unit {0}) → outcome ≡ Ok done → Ends setting left_before left old new faults faults 0
   ends_well faults done is = record {

@@ -10,9 +10,11 @@ use Rattle.sm_script.specs.Texts.{member_text}
 
 -- one more buffer
 pub members-more : (names : Names) (collection set index : ℕ) → flat_map (member_text names set) (names_of collection (index + 1)) ≡
-    flat_map (member_text names set) (names_of collection index) ++ member_text names set (record { collection = collection; index = index })
+    flat_map (member_text names set) (names_of collection index) ++ member_text names set
+    (record { collection = collection; index = index })
 members-more names collection set index =
     let last : BufferName = record { collection = collection; index = index } in
-    ap (flat_map (member_text names set)) (map-range_with_len_more (λ i. record { collection = collection; index = i }) 0 index index (omega arith))
+    ap (flat_map (member_text names set)) (map-range_with_len_more (λ i. record { collection = collection; index = i }) 0 index index
+    (omega arith))
     ∙ flat_map-append (member_text names set) (names_of collection index) (last ∷ [])
     ∙ ap (λ text. flat_map (member_text names set) (names_of collection index) ++ text) (append-nil (member_text names set last))

@@ -22,7 +22,8 @@ plays-more pool from to next lines texts line text (Rests scene) more =
     subst (λ all. Plays pool scene (line ∷ []) all next) (append-nil text) (Goes scene next next line text [] [] more (Rests next))
 plays-more pool from to next lines texts line text (Goes scene mid last one its others their first rest) more =
     subst (λ all. Plays pool scene (one ∷ (others ++ line ∷ [])) all next) (sym (append_assoc its their text))
-    (Goes scene mid next one its (others ++ line ∷ []) (their ++ text) first (plays-more pool mid last next others their line text rest more))
+    (Goes scene mid next one its (others ++ line ∷ []) (their ++ text) first (plays-more pool mid last next others their line text rest
+    more))
 
 module _ (setting : Setting) (old new : Option (List ℕ)) (lines more : List (List ℕ)) where
   cut-more : IsCutOff setting old new lines → IsCutOff setting old new (lines ++ more)
@@ -66,7 +67,8 @@ stopped-breaks setting old new lines rest (ScriptFault.BadLine n) stop = stop
 stopped-breaks setting old new lines rest ScriptFault.HistoryFull stop = stop
 stopped-breaks setting old new lines rest ScriptFault.NoMemory stop = inl stop
 
-module _ (setting : Setting) (player : Player) (old mid : Option (List ℕ)) (lines : List (List ℕ)) (far : SoFar setting player old mid lines) where
+module _ (setting : Setting) (player : Player) (old mid : Option (List ℕ)) (lines : List (List ℕ)) (far : SoFar setting player old mid
+    lines) where
   -- the lines so far lead to a scene
   pub so_far-leads : LeadsTo setting lines far.texts far.scene
   so_far-leads = record {

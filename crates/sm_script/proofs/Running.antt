@@ -90,7 +90,8 @@ module _ (left_before old : Option (List ℕ)) (first : Player) where
       }
 
       -- the run breaks off at the next piece, behind which there may be more
-      pub runs-broken : (later new : Option (List ℕ)) (piece beyond : List ℕ) (fault : ScriptFault) → Consumes left later (piece ++ beyond) →
+      pub runs-broken : (later new : Option (List ℕ)) (piece beyond : List ℕ) (fault : ScriptFault) →
+          Consumes left later (piece ++ beyond) →
           length piece ≤ room → (beyond ≢ [] → length piece ≡ room) →
           ((begun : Option (List ℕ)) (lines : List (List ℕ)) → SoFar setting player begun now lines →
           Breaks setting begun new (lines ++ lines_from front piece) (rest_from front piece) fault) →
@@ -104,7 +105,8 @@ module _ (left_before old : Option (List ℕ)) (first : Player) where
         full = λ some. rw length-append (omega (arith, come.counted, full some));
         outcome = breaks-run setting later old new (come.script ++ piece) fault
             (subst (λ (ls : List (List ℕ)). Breaks setting old new ls (last_part (come.script ++ piece)) fault) (lines-on piece)
-            (subst (λ (rest : List ℕ). Breaks setting old new (whole_lines come.script ++ lines_from front piece) rest fault) (rest-on piece)
+            (subst (λ (rest : List ℕ). Breaks setting old new (whole_lines come.script ++ lines_from front piece) rest fault)
+            (rest-on piece)
             (breaks old (whole_lines come.script) (come.answered setting old [] start))));
       }
 
@@ -161,7 +163,8 @@ module _ (left_before old : Option (List ℕ)) (first : Player) where
           where
             by : (result : Result (Unit {0}) ScriptFault) → OnOk result (front ≡ []) → IfErr result (EndsBy front player.lines) →
                 MatchResult result
-                (λ _. IsAtEnd later × (◌≡◌ {A = List ℕ} [] []) × (last_part come.script ≡ []) × IsTold setting old new (whole_lines come.script))
+                (λ _. IsAtEnd later × (◌≡◌ {A = List ℕ} [] []) × (last_part come.script ≡ []) ×
+                IsTold setting old new (whole_lines come.script))
                 (RunStops setting later old new come.script)
             by (Ok u) ok err = (end, refl, sym come.rest ∙ ok, told-end)
             by (Err fault) ok err = ended-by fault err

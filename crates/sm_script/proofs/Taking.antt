@@ -97,8 +97,10 @@ module _ (first_front piece : List ℕ) (first : Player) (first_mid : Option (Li
 
       -- a fault came behind them
       pub all-failed : (new : Option (List ℕ)) (fault : ScriptFault) →
-          Broken player mid new [] (front ++ rest) fault → Broken first first_mid new (lines_from first_front piece) (rest_from first_front piece) fault
+          Broken player mid new [] (front ++ rest) fault →
+          Broken first first_mid new (lines_from first_front piece) (rest_from first_front piece) fault
       all-failed new fault fails = λ setting old lines far.
           subst (λ (behind : List ℕ). Breaks setting old new (lines ++ lines_from first_front piece) behind fault) (sym all-rest)
-          (subst (λ (ls : List (List ℕ)). Breaks setting old new ls (front ++ rest) fault) (append-nil (lines ++ lines_from first_front piece))
+          (subst (λ (ls : List (List ℕ)). Breaks setting old new ls (front ++ rest) fault)
+          (append-nil (lines ++ lines_from first_front piece))
           (fails setting old (lines ++ lines_from first_front piece) (all-answered setting old lines far)))

@@ -43,5 +43,6 @@ abbrev pub IsStopped : Session → List ℕ → Scene → Stop → Type 0
 IsStopped session line scene Stop.BadLine = act_in scene.names line ≡ None
 IsStopped session line scene Stop.HistoryFull =
     (client : ℕ) × (call : Call) × (binds : Binds)
-    × (act_in scene.names line ≡ Some (Act.Ask client call binds)) × (session.core.limits.events ≤ events (timeline session.core.pool scene.history))
+    × (act_in scene.names line ≡ Some (Act.Ask client call binds)) ×
+    (session.core.limits.events ≤ events (timeline session.core.pool scene.history))
 IsStopped session line scene Stop.NoMemory = ⊤

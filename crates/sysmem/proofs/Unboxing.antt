@@ -36,7 +36,9 @@ module _ (E : Bx) where
   abbrev pub shell : Val → Val
   shell w = vstruct (vcons w vnil)
 
-  pub shell_typed : (h : Val) (b o : ℕ) → Fits E.al h → T (has_ty (ty_struct [] (tcons (ty_struct [] (tcons ty_ptr (tcons (α E.al) tnil))) tnil)) (shell (word E h b o))) × WT (shell (word E h b o))
+  pub shell_typed : (h : Val) (b o : ℕ) → Fits E.al h →
+      T (has_ty (ty_struct [] (tcons (ty_struct [] (tcons ty_ptr (tcons (α E.al) tnil))) tnil)) (shell (word E h b o))) ×
+      WT (shell (word E h b o))
   shell_typed h b o fits = let typed = box_typed E h b o fits in (and_tt _ typed.0, (typed.1, tt))
 
   module _ {M : Type 1} {𝓤 : Ura M} {𝓛 : Logic 𝓤} {K : Type 0} {Γ : List (Item 𝓤)} {G : Goal 𝓤 𝓛.H} where
@@ -47,10 +49,13 @@ module _ (E : Bx) where
         fpick t (λ vss. fsplit t $ feq_l t (λ eu. fsplit t $ feq_l t (λ ep. fsplit t $ handle_tells E.al t a vss.1.0 (λ h eh fits.
         move t (1 ∷ []) $ drop t $ k h (eu ∙ (λ j. vstruct (of_list (ep j ++ (eh j ++ []))) ∷ [])) fits))))
 
-    pub parts_in : K → (b o : ℕ) (h : Val) (a : E.al.row.Denot) → Step K 𝓛 (‵ (Parts.own_val (block_ptr b o, a) (word E h b o ∷ [])) ∷ Γ) G (‵ (handle E a h) ∷ Γ) G
+    pub parts_in : K → (b o : ℕ) (h : Val) (a : E.al.row.Denot) →
+        Step K 𝓛 (‵ (Parts.own_val (block_ptr b o, a) (word E h b o ∷ [])) ∷ Γ) G (‵ (handle E a h) ∷ Γ) G
     parts_in t b o h a = step (λ s. let w = word E h b o in
-        nothing t $ move t (1 ∷ 0 ∷ []) $ fjoin t $ feq_i t (List Val) (vptr b o ∷ []) (vptr b o ∷ []) refl $ fjoin t $ feq_i t (List Val) (w ∷ []) (w ∷ []) refl $ fjoin t $
-        fpack t (Valss (RawPtr ∷ P E ∷ [])) (within (declared.shape (tuple_type (RawPtr ∷ P E ∷ []))) (block_ptr b o, (a, tt)) (w ∷ [])) (vptr b o ∷ [], (h ∷ [], tt)) $ s)
+        nothing t $ move t (1 ∷ 0 ∷ []) $ fjoin t $ feq_i t (List Val) (vptr b o ∷ []) (vptr b o ∷ []) refl $ fjoin t $ feq_i t (List Val)
+        (w ∷ []) (w ∷ []) refl $ fjoin t $
+        fpack t (Valss (RawPtr ∷ P E ∷ [])) (within (declared.shape (tuple_type (RawPtr ∷ P E ∷ []))) (block_ptr b o, (a, tt)) (w ∷ []))
+        (vptr b o ∷ [], (h ∷ [], tt)) $ s)
 
   module _ {M : Type 1} {𝓤 : Ura M} {𝓛 : Logic 𝓤} {K : Type 0} {Γ : List (Item 𝓤)} {G : Goal 𝓤 𝓛.H} where
     pub loose_out : K → (d : Loose.Denot) (vs : List Val)
@@ -58,12 +63,17 @@ module _ (E : Bx) where
         → Seq K 𝓛 (‵ (box_owns (token E.al d.parts.1) (R E) (block_ptr b o) d.value) ∷ ‵ (handle E d.parts.1 h) ∷ Γ) G)
         → Seq K 𝓛 (‵ (Loose.own_val d vs) ∷ Γ) G
     loose_out t d vs k =
-        fsplit t $ fpick t (λ vss. fsplit t $ feq_l t (λ ev. fsplit t $ parts_out t d.parts.0 d.parts.1 vss.0 (λ h ep fits. move t (1 ∷ []) $ drop t $ move t (1 ∷ []) $
-        in_a_block t d.parts.0 (λ p. box_owns (token E.al d.parts.1) (R E) p d.value) (fst∗ 𝓤 (never 𝓤) (sem 𝓛 (token E.al d.parts.1 (bare (τ E)) null_ptr))) (λ b o e. k b o h e
-        (subst (λ (p : Ptr). vs ≡ shell (vstruct (of_list (ptr_val p ∷ h ∷ []))) ∷ []) e (ev ∙ (λ j. vstruct (of_list (ep j ++ [])) ∷ []))) fits))))
+        fsplit t $ fpick t (λ vss. fsplit t $ feq_l t (λ ev. fsplit t $ parts_out t d.parts.0 d.parts.1 vss.0 (λ h ep fits.
+        move t (1 ∷ []) $ drop t $ move t (1 ∷ []) $
+        in_a_block t d.parts.0 (λ p. box_owns (token E.al d.parts.1) (R E) p d.value)
+        (fst∗ 𝓤 (never 𝓤) (sem 𝓛 (token E.al d.parts.1 (bare (τ E)) null_ptr))) (λ b o e. k b o h e
+        (subst (λ (p : Ptr). vs ≡ shell (vstruct (of_list (ptr_val p ∷ h ∷ []))) ∷ []) e (ev ∙ (λ j. vstruct (of_list (ep j ++ [])) ∷ [])))
+        fits))))
 
     pub loose_in : K → (b o : ℕ) (h : Val) (a : E.al.row.Denot) (x : E.row.Denot)
-        → Step K 𝓛 (‵ (Loose.own_val (record { parts = (block_ptr b o, a); value = x }) (shell (word E h b o) ∷ [])) ∷ Γ) G (‵ (handle E a h) ∷ ‵ (box_owns (token E.al a) (R E) (block_ptr b o) x) ∷ Γ) G
+        → Step K 𝓛 (‵ (Loose.own_val (record { parts = (block_ptr b o, a); value = x }) (shell (word E h b o) ∷ [])) ∷ Γ) G
+        (‵ (handle E a h) ∷ ‵ (box_owns (token E.al a) (R E) (block_ptr b o) x) ∷ Γ) G
     loose_in t b o h a x = step (λ s. let u = shell (word E h b o) in
         parts_in t b o h a $ nothing t $ move t (1 ∷ 0 ∷ []) $ fjoin t $ feq_i t (List Val) (u ∷ []) (u ∷ []) refl $ fjoin t $
-        fpack t (Valss (Parts ∷ [])) (within (shape (unboxed.the_type (R E) (P E) E.al.g)) ((block_ptr b o, (a, tt)), tt) (u ∷ [])) (word E h b o ∷ [], tt) $ fjoin t $ s)
+        fpack t (Valss (Parts ∷ [])) (within (shape (unboxed.the_type (R E) (P E) E.al.g)) ((block_ptr b o, (a, tt)), tt) (u ∷ []))
+        (word E h b o ∷ [], tt) $ fjoin t $ s)

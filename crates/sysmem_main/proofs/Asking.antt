@@ -9,7 +9,8 @@ use Rattle.clap.proofs.WalkLemmas.{one_text-rows}
 use Rattle.sysmem_main.specs.Asked.{AreAsked, IsCount, number_of, pages_text}
 
 -- the text is that of the subcommand's own matches
-pub its_text : (matches inner : ArgMatches) (o : Option (Text × List Row)) → Some (rows_of (found_of inner)) ≡ option_map (λ p. p.1) o → subcommand_rows_of matches ≡ o →
+pub its_text : (matches inner : ArgMatches) (o : Option (Text × List Row)) → Some (rows_of (found_of inner)) ≡ option_map (λ p. p.1) o →
+    subcommand_rows_of matches ≡ o →
     pages_text matches ≡ one_text (found_of inner) (codes "pages")
 its_text matches inner None rows is = cc
 its_text matches inner (Some p) rows is =
@@ -17,8 +18,10 @@ its_text matches inner (Some p) rows is =
     rw is (ap (one_of (codes "pages")) (sym same)) ∙ sym (one_text-rows (found_of inner) (codes "pages"))
 
 -- a text that u32 can't read is no count, nor one that reads as a number out of range
-module _ {E : Type 0} (gives : List ℕ → Result ℕ E → Type 0) (only : (t : List ℕ) (r : Result ℕ E) → gives t r → ParsesUnsigned 32 10 t r) where
-  pub unread : (text : Option (List ℕ)) (read : Option ℕ) → (text ≡ None → read ≡ None) → ((t : List ℕ) → text ≡ Some t → ReadsOne gives t read) →
+module _ {E : Type 0} (gives : List ℕ → Result ℕ E → Type 0) (only : (t : List ℕ) (r : Result ℕ E) → gives t r →
+    ParsesUnsigned 32 10 t r) where
+  pub unread : (text : Option (List ℕ)) (read : Option ℕ) → (text ≡ None → read ≡ None) → ((t : List ℕ) → text ≡ Some t →
+      ReadsOne gives t read) →
       read ≡ None → AreAsked text None
   unread None read none value is = refl
   unread (Some t) (Some n) none value is = cc
@@ -29,7 +32,8 @@ module _ {E : Type 0} (gives : List ℕ → Result ℕ E → Type 0) (only : (t 
       below : (number_of t ≤ 1048576) → number_of t < 2 ^ 32
       below le = omega (arith, ints, le)
 
-  in_range : (t : List ℕ) (n : ℕ) (count : Option ℕ) → gives t (Ok n) → SomeIff count ((1 ≤ n) × (n ≤ 1048576)) n → SomeIff count (IsCount t) (number_of t)
+  in_range : (t : List ℕ) (n : ℕ) (count : Option ℕ) → gives t (Ok n) → SomeIff count ((1 ≤ n) × (n ≤ 1048576)) n →
+      SomeIff count (IsCount t) (number_of t)
   in_range t n (Some k) read some =
       let p = only t (Ok n) read in
       (record { numeral = p.0.0; in_range = subst (λ (v : ℕ). (1 ≤ v) × (v ≤ 1048576)) p.1 some.0 }, some.1 ∙ p.1)
@@ -38,7 +42,8 @@ module _ {E : Type 0} (gives : List ℕ → Result ℕ E → Type 0) (only : (t 
       λ count. none (subst (λ (v : ℕ). (1 ≤ v) × (v ≤ 1048576)) (sym p.1) count.in_range)
 
   -- and one that reads as a number in range is that count
-  pub was_read : (text : Option (List ℕ)) (read : Option ℕ) (n : ℕ) (count : Option ℕ) → (text ≡ None → read ≡ None) → ((t : List ℕ) → text ≡ Some t → ReadsOne gives t read) →
+  pub was_read : (text : Option (List ℕ)) (read : Option ℕ) (n : ℕ) (count : Option ℕ) → (text ≡ None → read ≡ None) →
+      ((t : List ℕ) → text ≡ Some t → ReadsOne gives t read) →
       read ≡ Some n → SomeIff count ((1 ≤ n) × (n ≤ 1048576)) n → AreAsked text count
   was_read None read n count none value is made = let no : Some n ≡ None = sym is ∙ none refl in cc
   was_read (Some t) read n count none value is made =

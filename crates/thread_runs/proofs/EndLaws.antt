@@ -48,7 +48,8 @@ module _ {E S W : Type 0} where
       ap (option_or (end_fault e)) (first_fault-more done end) ∙ or-assoc (end_fault e) (first_fault done) (end_fault end)
 
   -- none is parted
-  pub parted-none : (all rest : List (ActorEnd E S W)) (parts : List (Holding E S W)) → rest ≡ reverse all → parts ≡ [] → PartedTo all rest parts None
+  pub parted-none : (all rest : List (ActorEnd E S W)) (parts : List (Holding E S W)) → rest ≡ reverse all → parts ≡ [] →
+      PartedTo all rest parts None
   parted-none all rest parts is none = record {
     done = [];
     split = sym (ap reverse is ∙ reverse-reverse all);
@@ -73,16 +74,19 @@ module _ {E S W : Type 0} where
   }
 
   -- all are
-  parted-done : (all : List (ActorEnd E S W)) (parts : List (Holding E S W)) (found : Option ThreadsFault) (so : PartedTo all [] parts found) → all ≡ so.done
+  parted-done : (all : List (ActorEnd E S W)) (parts : List (Holding E S W)) (found : Option ThreadsFault)
+      (so : PartedTo all [] parts found) → all ≡ so.done
   parted-done all parts found so = so.split ∙ append-nil so.done
 
-  pub parted-left : (all rest : List (ActorEnd E S W)) (parts : List (Holding E S W)) (found : Option ThreadsFault) → PartedTo all rest parts found → rest ≡ [] →
+  pub parted-left : (all rest : List (ActorEnd E S W)) (parts : List (Holding E S W)) (found : Option ThreadsFault) →
+      PartedTo all rest parts found → rest ≡ [] →
       AllZip IsLeft all parts
   parted-left all rest parts found so none =
       let is : PartedTo all [] parts found = subst (λ (r : List (ActorEnd E S W)). PartedTo all r parts found) none so in
       subst (λ (ends : List (ActorEnd E S W)). AllZip IsLeft ends parts) (sym (parted-done all parts found is)) is.left
 
-  pub parted-first : (all rest : List (ActorEnd E S W)) (parts : List (Holding E S W)) (found : Option ThreadsFault) → PartedTo all rest parts found → rest ≡ [] →
+  pub parted-first : (all rest : List (ActorEnd E S W)) (parts : List (Holding E S W)) (found : Option ThreadsFault) →
+      PartedTo all rest parts found → rest ≡ [] →
       found ≡ first_fault all
   parted-first all rest parts found so none =
       let is : PartedTo all [] parts found = subst (λ (r : List (ActorEnd E S W)). PartedTo all r parts found) none so in

@@ -8,8 +8,10 @@ use Rattle.thread_runs.specs.Faults.{fault_status}
 use Rattle.thread_runs.specs.Runs.{Runs}
 
 -- a run that stopped
-pub ends_by : (left_before left old new before after : Option (List ℕ)) (outcome : Result (Unit {0}) ThreadsFault) → Runs left_before left old new outcome →
-    (fault : ThreadsFault) (status : ℕ) → outcome ≡ Err fault → status ≡ fault_status fault → WritesPart before after (ending_line (Err fault)) →
+pub ends_by : (left_before left old new before after : Option (List ℕ)) (outcome : Result (Unit {0}) ThreadsFault) →
+    Runs left_before left old new outcome →
+    (fault : ThreadsFault) (status : ℕ) → outcome ≡ Err fault → status ≡ fault_status fault →
+    WritesPart before after (ending_line (Err fault)) →
     Ends left_before left old new before after status
 ends_by left_before left old new before after outcome runs fault status is status_is told = record {
   outcome = outcome;

@@ -30,7 +30,8 @@ clients-of history [] = refl
 clients-of history (client ∷ clients) = ap (λ (l : List ℕ). client ∷ l) (clients-of history clients)
 
 -- an actor that vanished, whose own list is its part of the record
-was-played : (history : List Entry) (clients : List ℕ) (script : ActorScript) (wreck remains : Remains) → HasPlayed clients script.steps.items wreck →
+was-played : (history : List Entry) (clients : List ℕ) (script : ActorScript) (wreck remains : Remains) →
+    HasPlayed clients script.steps.items wreck →
     remains ≡ wreck → remains.client.own ≡ part remains.client.id history → IsPlayed history clients (steps_of script) remains.client.id
 was-played history clients script wreck remains played is own = record {
   left = remains;
@@ -41,8 +42,10 @@ was-played history clients script wreck remains played is own = record {
 
 module _ {E S W : Type 0} where
   -- what was gathered is told
-  pub tells : (s : View) (labels : List Label) (parts : List (Holding E S W)) (report : Report) (text : List ℕ) → IsGathered s parts report →
-      map client_of report.lines.items ≡ ids_of parts → text ≡ report_text labels report.events report.lines.items → Tells s labels parts text
+  pub tells : (s : View) (labels : List Label) (parts : List (Holding E S W)) (report : Report) (text : List ℕ) →
+      IsGathered s parts report →
+      map client_of report.lines.items ≡ ids_of parts → text ≡ report_text labels report.events report.lines.items →
+      Tells s labels parts text
   tells s labels parts report text so ordered told = record {
     legal = so.legal;
     ordered = sym (clients-of s.history (joined s.history)) ∙ ap (map client_of) (sym so.lines) ∙ ordered;
@@ -52,7 +55,8 @@ module _ {E S W : Type 0} where
         ∙ ap (report_text labels (length s.history)) so.lines;
   }
 
-  pub told-ok : {T F : Type 0} (items : T → List ℕ) (result : Result T F) (labels : List Label) (parts : List (Holding E S W)) (report : Report) →
+  pub told-ok : {T F : Type 0} (items : T → List ℕ) (result : Result T F) (labels : List Label) (parts : List (Holding E S W))
+      (report : Report) →
       OnOk result (map client_of report.lines.items ≡ ids_of parts) →
       IfOk result (λ text. items text ≡ report_text labels report.events report.lines.items) → ((s : View) × IsGathered s parts report) →
       IfOk result (λ text. (s : View) × Tells s labels parts (items text))
@@ -61,7 +65,8 @@ module _ {E S W : Type 0} where
 
   module _ (history : List Entry) (clients : List ℕ) where
     -- each of the actors is such a one
-    were-played : (scripts : List ActorScript) (ends : List (ActorEnd E S W)) (parts : List (Holding E S W)) → AllZip (IsEndOf clients) scripts ends →
+    were-played : (scripts : List ActorScript) (ends : List (ActorEnd E S W)) (parts : List (Holding E S W)) →
+        AllZip (IsEndOf clients) scripts ends →
         AllZip IsLeft ends parts → first_fault ends ≡ None → AllByRecursion (Matches history) parts →
         AllZip (IsPlayed history clients) (map steps_of scripts) (ids_of parts)
     were-played [] [] [] ran left well own = tt

@@ -41,7 +41,8 @@ IsLeft (ActorEnd.NotStarted client) (Holding.Present one its) = (one ≡ client)
 IsLeft _ _ = ⊥
 
 -- some of the actors are parted, and these are the others, the last first
-pub record PartedTo {E S W : Type 0} (all rest : List (ActorEnd E S W)) (parts : List (Holding E S W)) (found : Option ThreadsFault) : Type 0 where
+pub record PartedTo {E S W : Type 0} (all rest : List (ActorEnd E S W)) (parts : List (Holding E S W)) (found : Option ThreadsFault) : Type
+    0 where
   pub done : List (ActorEnd E S W)
   pub split : all ≡ done ++ reverse rest
   pub left : AllZip IsLeft done parts

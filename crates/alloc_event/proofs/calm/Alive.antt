@@ -49,7 +49,9 @@ live_besides nodes top =
 
 -- a live node of these is found by its key
 pub lives_among : (nodes : List Node) (n : Node) → In n nodes → is_live_node n ≡ true → is_live_at nodes n.key ≡ true
-lives_among nodes n on live = In-any (λ (m : Node). same_key n.key m.key && is_live_node m) nodes n on (and_both (same_key n.key n.key) (is_live_node n) (same_key-refl n.key) live)
+lives_among nodes n on live =
+    In-any (λ (m : Node). same_key n.key m.key && is_live_node m) nodes n on (and_both (same_key n.key n.key) (is_live_node n)
+    (same_key-refl n.key) live)
 
 -- and lives at or below itself
 pub lives_below_itself : (nodes : List Node) (top : NodeKey) → is_live_at nodes top ≡ true → list_any (lives_below nodes top) nodes ≡ true
@@ -63,7 +65,8 @@ at_place (x ∷ xs) (suc n) d within = inr (at_place xs n d (omega arith))
 
 -- so it is not deserted
 pub live_stays : (nodes : List Node) (n : Node) → is_live_at nodes n.key ≡ true → is_deserted_node nodes n ≡ false
-live_stays nodes n live = from (is_none n.parent || n.attached) n.gone (list_any (lives_below nodes n.key) nodes) (lives_below_itself nodes n.key live)
+live_stays nodes n live =
+    from (is_none n.parent || n.attached) n.gone (list_any (lives_below nodes n.key) nodes) (lives_below_itself nodes n.key live)
   where
     from : (h g l : Bool) → l ≡ true → (h && (not g && not l)) ≡ false
     from false g l is = refl

@@ -35,7 +35,8 @@ or_one : (b c : Bool) → b ≡ true → (b || c) ≡ true
 or_one b c e = rw e refl
 
 -- a root that is found is the first node
-no_child : (n : Node) (ns : List Node) → list_all (λ (m : Node). is_some m.parent) (drop 1 (n ∷ ns)) ≡ true → (r : Node) → In r (n ∷ ns) → is_none r.parent ≡ true → r ≡ n
+no_child : (n : Node) (ns : List Node) → list_all (λ (m : Node). is_some m.parent) (drop 1 (n ∷ ns)) ≡ true → (r : Node) → In r (n ∷ ns) →
+    is_none r.parent ≡ true → r ≡ n
 no_child n ns one r (inl is) root = is
 no_child n ns one r (inr on) root = none r.parent root (all-In (λ (m : Node). is_some m.parent) ns r on one)
   where
@@ -43,7 +44,8 @@ no_child n ns one r (inr on) root = none r.parent root (all-In (λ (m : Node). i
     none None a b = cc
     none (Some p) a b = cc
 
-first_root : (nodes : List Node) → list_all (λ (m : Node). is_some m.parent) (drop 1 nodes) ≡ true → (a b : Node) → In a nodes → In b nodes →
+first_root : (nodes : List Node) → list_all (λ (m : Node). is_some m.parent) (drop 1 nodes) ≡ true → (a b : Node) → In a nodes →
+    In b nodes →
     is_none a.parent ≡ true → is_none b.parent ≡ true → a ≡ b
 first_root [] one a b on too ra rb = absurd on
 first_root (n ∷ ns) one a b on too ra rb = no_child n ns one a on ra ∙ sym (no_child n ns one b too rb)
@@ -53,12 +55,14 @@ module _ (c : Collection) (whole : IsWhole c) where
   nodes = c.nodes
 
   -- each node that is not gone lies at or below a root that is not gone
-  climb : (fuel : ℕ) (n : Node) → In n nodes → n.gone ≡ false → length (line nodes whole.sound.distinct whole.sound.heads whole.rooted whole.united n.key) < fuel →
+  climb : (fuel : ℕ) (n : Node) → In n nodes → n.gone ≡ false →
+      length (line nodes whole.sound.distinct whole.sound.heads whole.rooted whole.united n.key) < fuel →
       (r : Node) × In r nodes × (is_root_left r ≡ true) × (is_below nodes r.key n.key ≡ true)
   climb zero n on here few = absurd (omega arith)
   climb (suc fuel) n on here few = from (λ q on' here' few'. climb fuel q on' here' few') n.parent refl
     where
-      from : ((q : Node) → In q nodes → q.gone ≡ false → length (line nodes whole.sound.distinct whole.sound.heads whole.rooted whole.united q.key) < fuel →
+      from : ((q : Node) → In q nodes → q.gone ≡ false →
+          length (line nodes whole.sound.distinct whole.sound.heads whole.rooted whole.united q.key) < fuel →
           (r : Node) × In r nodes × (is_root_left r ≡ true) × (is_below nodes r.key q.key ≡ true)) →
           (o : Option NodeKey) → n.parent ≡ o → (r : Node) × In r nodes × (is_root_left r ≡ true) × (is_below nodes r.key n.key ≡ true)
       from lower None is = (
@@ -69,9 +73,11 @@ module _ (c : Collection) (whole : IsWhole c) where
       )
       from lower (Some p) is =
           let x = left_node nodes p (left_parent nodes whole.rooted n p on here is) in
-          let long : length (line nodes whole.sound.distinct whole.sound.heads whole.rooted whole.united n.key) ≡ length (p ∷ line nodes whole.sound.distinct whole.sound.heads whole.rooted whole.united p) =
+          let long : length (line nodes whole.sound.distinct whole.sound.heads whole.rooted whole.united n.key) ≡ length
+          (p ∷ line nodes whole.sound.distinct whole.sound.heads whole.rooted whole.united p) =
           ap length (step nodes whole.sound.distinct whole.sound.heads whole.rooted whole.united n on here p is) in
-          let same : length (line nodes whole.sound.distinct whole.sound.heads whole.rooted whole.united x.node.key) ≡ length (line nodes whole.sound.distinct whole.sound.heads whole.rooted whole.united p) =
+          let same : length (line nodes whole.sound.distinct whole.sound.heads whole.rooted whole.united x.node.key) ≡ length
+          (line nodes whole.sound.distinct whole.sound.heads whole.rooted whole.united p) =
           ap (λ (k : NodeKey). length (line nodes whole.sound.distinct whole.sound.heads whole.rooted whole.united k)) x.is in
           let r = lower x.node x.on x.here (omega arith) in (
             r.0,
@@ -81,8 +87,10 @@ module _ (c : Collection) (whole : IsWhole c) where
                 (subst (λ (k : NodeKey). is_below nodes r.0.key k ≡ true) x.is r.3),
           )
 
-  root_of : (n : Node) → In n nodes → n.gone ≡ false → (r : Node) × In r nodes × (is_root_left r ≡ true) × (is_below nodes r.key n.key ≡ true)
-  root_of n on here = climb (suc (length (line nodes whole.sound.distinct whole.sound.heads whole.rooted whole.united n.key))) n on here (omega arith)
+  root_of : (n : Node) → In n nodes → n.gone ≡ false → (r : Node) × In r nodes × (is_root_left r ≡ true) ×
+      (is_below nodes r.key n.key ≡ true)
+  root_of n on here = climb (suc (length (line nodes whole.sound.distinct whole.sound.heads whole.rooted whole.united n.key))) n on here
+      (omega arith)
 
   -- where no root is left, all are gone
   none_left : find is_root_left nodes ≡ None → map left_of nodes ≡ nodes
@@ -111,12 +119,14 @@ module _ (c : Collection) (whole : IsWhole c) where
     all_below : (n : Node) → In n nodes → n.gone ≡ false → is_below nodes root.key n.key ≡ true
     all_below n on here =
         let r = root_of n on here in
-        let one : r.0 ≡ root = first_root nodes whole.sound.one_root r.0 root r.1 on_root (and_left (is_none r.0.parent) _ r.2) (and_left (is_none root.parent) _ is_root) in
+        let one : r.0 ≡ root = first_root nodes whole.sound.one_root r.0 root r.1 on_root (and_left (is_none r.0.parent) _ r.2)
+        (and_left (is_none root.parent) _ is_root) in
         subst (λ (m : Node). is_below nodes m.key n.key ≡ true) one r.3
 
     passes : is_deserted_node nodes root ≡ true
     passes =
-        and_both (is_none root.parent || root.attached) _ (or_left (is_none root.parent) root.attached (and_left (is_none root.parent) _ is_root))
+        and_both (is_none root.parent || root.attached) _ (or_left (is_none root.parent) root.attached (and_left (is_none root.parent) _
+        is_root))
         (and_both (not root.gone) _ (ap not here_root)
         (ap not (false_if (list_any (lives_below nodes root.key) nodes) (λ e.
         let x = In-list_any (lives_below nodes root.key) nodes e in
@@ -137,9 +147,11 @@ module _ (c : Collection) (whole : IsWhole c) where
 
     takes_all : after_end root.key nodes ≡ map left_of nodes
     takes_all = map-In (ended nodes root.key) left_of nodes (λ n on. elim (either_way n.gone) [
-      | inl e ↦ let went : (is_below nodes root.key n.key || n.gone) ≡ true = ap (λ (b : Bool). is_below nodes root.key n.key || b) e ∙ or_true (is_below nodes root.key n.key) in
+      | inl e ↦ let went : (is_below nodes root.key n.key || n.gone) ≡ true =
+          ap (λ (b : Bool). is_below nodes root.key n.key || b) e ∙ or_true (is_below nodes root.key n.key) in
           λ i. record n { gone = went i }
-      | inr here ↦ let went : (is_below nodes root.key n.key || n.gone) ≡ true = or_one (is_below nodes root.key n.key) n.gone (all_below n on here) in
+      | inr here ↦ let went : (is_below nodes root.key n.key || n.gone) ≡ true =
+          or_one (is_below nodes root.key n.key) n.gone (all_below n on here) in
           λ i. record n { gone = went i }
     ])
 
@@ -152,7 +164,8 @@ module _ (c : Collection) (whole : IsWhole c) where
         subst (λ (ns : List Node). Settles pool handles others (record c { nodes = ns }) after) same on
     | inr e ↦
         let same : ended_bare nodes ≡ map left_of nodes = rw e refl in
-        by (find is_root_left nodes) refl e (subst (λ (ns : List Node). Settles pool handles others (record c { nodes = ns }) after) same on)
+        by (find is_root_left nodes) refl e (subst (λ (ns : List Node). Settles pool handles others (record c { nodes = ns }) after) same
+        on)
   ]
     where
       by : (o : Option Node) → find is_root_left nodes ≡ o → list_any is_live_node nodes ≡ false →

@@ -58,7 +58,8 @@ none_four : (a b c d : Option Decision) → a ≡ None → b ≡ None → c ≡ 
 none_four a b c d ha hb hc hd = rw (ha, hb, hc, hd) refl
 
 -- where nothing is decided, no step is left
-pub decided_parts : (nodes : List Node) (buffers : Option Buffers) (strong_open : Bool) → decided nodes buffers strong_open ≡ None → AreNone nodes buffers
+pub decided_parts : (nodes : List Node) (buffers : Option Buffers) (strong_open : Bool) → decided nodes buffers strong_open ≡ None →
+    AreNone nodes buffers
 decided_parts nodes buffers strong_open h =
     let n = four_none _ _ _ _ h in
     record {
@@ -80,7 +81,8 @@ kept_root strong strong_open some (Some root) = from root.allocated strong stron
     from true false false some = cc
 
 -- and so nothing is decided there
-pub none_decided : (nodes : List Node) (buffers : Option Buffers) (strong_open : Bool) → (has_strong nodes || strong_open) ≡ true → AreNone nodes buffers → decided nodes buffers strong_open ≡ None
+pub none_decided : (nodes : List Node) (buffers : Option Buffers) (strong_open : Bool) → (has_strong nodes || strong_open) ≡ true →
+    AreNone nodes buffers → decided nodes buffers strong_open ≡ None
 none_decided nodes buffers strong_open some none =
     none_four _ _ _ _
     (ap (option_map (λ (n : Node). Ends n.key)) none.no_end)
@@ -103,18 +105,21 @@ pub none_calm : (c : Collection) → IsCalm c → AreNone c.nodes c.buffers
 none_calm c calm = decided_parts c.nodes c.buffers true calm
 
 -- a collection in which nothing is forced is calm
-pub calm_rested : (pool : ℕ) (handles : Handles) (others : List Interval) (c : Collection) → forced pool (standing handles others c) ≡ None → IsCalm c
+pub calm_rested : (pool : ℕ) (handles : Handles) (others : List Interval) (c : Collection) →
+    forced pool (standing handles others c) ≡ None → IsCalm c
 calm_rested pool handles others c h =
     calm_none c (decided_parts c.nodes c.buffers (standing handles others c).strong_open
     (map_none (mark_of pool (pages_in c ++ others)) (decided c.nodes c.buffers (standing handles others c).strong_open)
     (sym (forced_made handles pool others c) ∙ h)))
 
 -- in a calm collection nothing is forced while a strong node lives
-pub rests_strong : (c : Collection) → IsCalm c → has_strong c.nodes ≡ true → (pool : ℕ) (handles : Handles) (others : List Interval) → forced pool (standing handles others c) ≡ None
+pub rests_strong : (c : Collection) → IsCalm c → has_strong c.nodes ≡ true → (pool : ℕ) (handles : Handles) (others : List Interval) →
+    forced pool (standing handles others c) ≡ None
 rests_strong c calm strong pool handles others =
     forced_made handles pool others c
     ∙ ap (option_map (mark_of pool (pages_in c ++ others)))
-    (none_decided c.nodes c.buffers (standing handles others c).strong_open (or_this (has_strong c.nodes) (standing handles others c).strong_open strong) (none_calm c calm))
+    (none_decided c.nodes c.buffers (standing handles others c).strong_open (or_this (has_strong c.nodes)
+    (standing handles others c).strong_open strong) (none_calm c calm))
 
 -- ---- counts
 
@@ -138,16 +143,19 @@ count_none test (n ∷ ns) none = elim (either_way (test n)) [
 
 -- the tie of the root that waits
 wait_tie : (nodes : List Node) →
-    option_map_or (λ (root : Member). not root.allocated && is_ready root.key (members_of nodes)) (root_left (members_of nodes)) false ≡ is_some (waiting nodes)
+    option_map_or (λ (root : Member). not root.allocated && is_ready root.key (members_of nodes)) (root_left (members_of nodes))
+    false ≡ is_some (waiting nodes)
 wait_tie nodes =
-    ap (λ (o : Option Member). option_map_or (λ (root : Member). not root.allocated && is_ready root.key (members_of nodes)) o false) (root_tie nodes)
+    ap (λ (o : Option Member). option_map_or (λ (root : Member). not root.allocated && is_ready root.key (members_of nodes)) o false)
+    (root_tie nodes)
     ∙ from (find is_root_left nodes)
   where
     told : (b : Bool) (root : Node) → b ≡ is_some (when b root)
     told true root = refl
     told false root = refl
 
-    from : (o : Option Node) → option_map_or (λ (root : Member). not root.allocated && is_ready root.key (members_of nodes)) (option_map (member_of nodes) o) false
+    from : (o : Option Node) → option_map_or (λ (root : Member). not root.allocated && is_ready root.key (members_of nodes))
+        (option_map (member_of nodes) o) false
         ≡ is_some (option_and_then (λ (root : Node). when (not root.allocated && list_all (is_ready_node root.key) nodes) root) o)
     from None = refl
     from (Some root) =
@@ -160,10 +168,12 @@ none_is None h = refl
 none_is (Some x) h = cc
 
 -- nodes with the same members are as calm
-pub none_same : (old new : List Node) (buffers : Option Buffers) → members_of new ≡ members_of old → AreNone old buffers → AreNone new buffers
+pub none_same : (old new : List Node) (buffers : Option Buffers) → members_of new ≡ members_of old → AreNone old buffers →
+    AreNone new buffers
 none_same old new buffers same none = record {
   no_end = map_none (member_of new) (find (is_deserted_node new) new)
-      (sym (deserted_tie new) ∙ ap (λ (ms : List Member). find (is_deserted ms) ms) same ∙ deserted_tie old ∙ ap (option_map (member_of old)) none.no_end);
+      (sym (deserted_tie new) ∙ ap (λ (ms : List Member). find (is_deserted ms) ms) same ∙ deserted_tie old
+      ∙ ap (option_map (member_of old)) none.no_end);
   no_root = none_is (waiting new)
       (sym (wait_tie new)
       ∙ ap (λ (ms : List Member). option_map_or (λ (root : Member). not root.allocated && is_ready root.key ms) (root_left ms) false) same
@@ -229,7 +239,8 @@ module _ (c : Collection) (whole : IsWhole c) (p : Node → Bool) (over : (n : N
   calm_filter calm = calm_none (with_nodes (filter p) c) (none_same nodes (filter p nodes) c.buffers members_filter (none_calm c calm))
 
 -- and its count stays
-pub strong_filter : (p : Node → Bool) (ns : List Node) → ((n : Node) → In n ns → p n ≡ false → n.gone ≡ true) → strong_count (filter p ns) ≡ strong_count ns
+pub strong_filter : (p : Node → Bool) (ns : List Node) → ((n : Node) → In n ns → p n ≡ false → n.gone ≡ true) →
+    strong_count (filter p ns) ≡ strong_count ns
 strong_filter p [] over = refl
 strong_filter p (n ∷ ns) over =
     let rest = strong_filter p ns (λ m on. over m (inr on)) in
@@ -260,7 +271,8 @@ all_map : {A : Type 0} (p q : A → Bool) (f : A → A) (xs : List A) → ((x : 
 all_map p q f [] same = refl
 all_map p q f (x ∷ xs) same = λ i. same x i && all_map p q f xs same i
 
-pub find_map : {A : Type 0} (p q : A → Bool) (f : A → A) (xs : List A) → ((x : A) → p (f x) ≡ q x) → find p (map f xs) ≡ option_map f (find q xs)
+pub find_map : {A : Type 0} (p q : A → Bool) (f : A → A) (xs : List A) → ((x : A) → p (f x) ≡ q x) →
+    find p (map f xs) ≡ option_map f (find q xs)
 find_map p q f [] same = refl
 find_map {A = A} p q f (x ∷ xs) same = elim (either_way (q x)) [
   | inl e ↦ let h : p (f x) ≡ true = same x ∙ e in rw (h, e) refl
@@ -287,7 +299,8 @@ module _ (nodes : List Node) (f : Node → Node) (plain : (n : Node) → IsPlain
       ])
     where
       from : ((p : NodeKey) → above_among (map f older) p ≡ above_among older p) → (o : Option NodeKey) →
-          option_map_or (λ parent. parent ∷ above_among (map f older) parent) o [] ≡ option_map_or (λ parent. parent ∷ above_among older parent) o []
+          option_map_or (λ parent. parent ∷ above_among (map f older) parent) o [] ≡ option_map_or (λ parent.
+          parent ∷ above_among older parent) o []
       from on None = refl
       from on (Some p) = ap (λ ks. p ∷ ks) (on p)
 
@@ -303,7 +316,8 @@ module _ (nodes : List Node) (f : Node → Node) (plain : (n : Node) → IsPlain
 
   deserted_map : (n : Node) → is_deserted_node now (f n) ≡ is_deserted_node nodes n
   deserted_map n =
-      (λ i. (is_none ((plain n).parent i) || (plain n).attached i) && (not ((plain n).gone i) && not (list_any (lives_below now ((plain n).key i)) now)))
+      (λ i. (is_none ((plain n).parent i) || (plain n).attached i) && (not ((plain n).gone i) && not
+      (list_any (lives_below now ((plain n).key i)) now)))
       ∙ ap (λ (b : Bool). (is_none n.parent || n.attached) && (not n.gone && not b))
       (any_map (lives_below now n.key) (lives_below nodes n.key) f nodes (lives_map n.key))
 
@@ -319,7 +333,8 @@ module _ (nodes : List Node) (f : Node → Node) (plain : (n : Node) → IsPlain
   next_map n =
       (λ i. (plain n).attached i && (not ((plain n).gone i) && (not ((plain n).allocated i)
       && (option_map_or (λ parent. allocated_map parent i) ((plain n).parent i) false && list_all (is_ready_node ((plain n).key i)) now))))
-      ∙ ap (λ (b : Bool). n.attached && (not n.gone && (not n.allocated && (option_map_or (λ parent. list_any (is_allocated_node parent) nodes) n.parent false && b))))
+      ∙ ap (λ (b : Bool). n.attached && (not n.gone && (not n.allocated && (option_map_or (λ parent.
+      list_any (is_allocated_node parent) nodes) n.parent false && b))))
       (ready_map n.key)
 
   root_map : find is_root_left now ≡ option_map f (find is_root_left nodes)

@@ -41,9 +41,11 @@ module _ (c : Collection) (whole : IsWhole c) (falls : NodeKey → Bool) (top ab
     (on_top : In top c.nodes) (top_here : top.gone ≡ false) (attached : top.attached ≡ true) (top_up : top.parent ≡ Some above.key)
     (above_on : In above c.nodes) (above_here : above.gone ≡ false)
     (takes : (n : Node) → In n c.nodes → n.gone ≡ false → falls n.key ≡ is_below c.nodes top.key n.key)
-    (w : Node) (w_on : In w c.nodes) (w_lives : is_live_node w ≡ true) (w_below : is_below c.nodes above.head w.key ≡ true) (w_stays : falls w.key ≡ false)
+    (w : Node) (w_on : In w c.nodes) (w_lives : is_live_node w ≡ true) (w_below : is_below c.nodes above.head w.key ≡ true)
+    (w_stays : falls w.key ≡ false)
     (none_before : list_any (is_deserted_node c.nodes) c.nodes ≡ false)
-    (g : Node → Node) (same : (n : Node) → IsSameNode (g n) n) (stays : (n : Node) → n.gone ≡ true → (g n).gone ≡ true) (top_stays : (g top).gone ≡ false) (alone : (n : Node) → falls n.key ≡ false → g n ≡ n)
+    (g : Node → Node) (same : (n : Node) → IsSameNode (g n) n) (stays : (n : Node) → n.gone ≡ true →
+    (g n).gone ≡ true) (top_stays : (g top).gone ≡ false) (alone : (n : Node) → falls n.key ≡ false → g n ≡ n)
     (dead : (n : Node) → In n c.nodes → falls n.key ≡ true → is_live_node (g n) ≡ false)
     (whole' : IsWhole (with_nodes (map g) c)) where
   abbrev nodes : List Node
@@ -71,7 +73,8 @@ module _ (c : Collection) (whole : IsWhole c) (falls : NodeKey → Bool) (top ab
       list_any (lives_below now y) now ≡ true
   keeps y z x on out live below =
       In-any (lives_below now y) now (g x) (In-map-back g nodes x on)
-      (subst (λ (n : Node). lives_below now y n ≡ true) (sym (alone x out)) (and_both (is_live_node x) (is_below now y x.key) live (below_same y x.key ∙ below)))
+      (subst (λ (n : Node). lives_below now y n ≡ true) (sym (alone x out)) (and_both (is_live_node x) (is_below now y x.key) live
+      (below_same y x.key ∙ below)))
 
   left_above : (h : Node) × In h nodes × (h.key ≡ above.head) × (h.gone ≡ false) × (is_head h ≡ true)
   left_above = head_there nodes whole.sound.distinct whole.sound.heads whole.rooted whole.united above above_on above_here
@@ -80,24 +83,30 @@ module _ (c : Collection) (whole : IsWhole c) (falls : NodeKey → Bool) (top ab
   falls_top = takes top on_top top_here ∙ below_self nodes whole.sound.distinct whole.sound.heads whole.rooted whole.united top.key
 
   chain_of : (n : Node) → In n nodes → n.gone ≡ false →
-      IsChain (up nodes whole.sound.distinct whole.sound.heads whole.rooted whole.united) n.key (line nodes whole.sound.distinct whole.sound.heads whole.rooted whole.united n.key)
+      IsChain (up nodes whole.sound.distinct whole.sound.heads whole.rooted whole.united) n.key (line nodes whole.sound.distinct
+      whole.sound.heads whole.rooted whole.united n.key)
   chain_of n on here = chain nodes whole.sound.distinct whole.sound.heads whole.rooted whole.united n.key (left_in nodes n on here)
 
   -- a head that does not leave, and lies above what leaves, lies above the unit that keeps a live node
-  over : (y : Node) → In y nodes → y.gone ≡ false → is_head y ≡ true → falls y.key ≡ false → is_below nodes y.key top.key ≡ true → is_below nodes y.key w.key ≡ true
-  over y on here head out h = elim (or_cases (same_key y.key top.key) (list_any (same_key y.key) (line nodes whole.sound.distinct whole.sound.heads whole.rooted whole.united top.key)) h) [
-    | inl e ↦ both_ways (falls y.key) (ap falls (same_key-true y.key top.key e) ∙ falls_top) out
-    | inr e ↦
-        let at : is_below nodes y.key above.key ≡ true =
-        sym (ap (list_any (same_key y.key)) (step nodes whole.sound.distinct whole.sound.heads whole.rooted whole.united top on_top top_here above.key top_up)) ∙ e in
-        let high : is_below nodes y.key above.head ≡ true =
-        head_above nodes whole.sound.distinct whole.sound.heads whole.rooted whole.united
-        (suc (length (line nodes whole.sound.distinct whole.sound.heads whole.rooted whole.united above.key))) above above_on above_here y on head at (omega arith) in
-        below_through nodes whole.sound.distinct whole.sound.heads whole.rooted whole.united y.key above.head w.key
-        (left_in nodes w w_on (lives_here w w_lives))
-        (subst (λ (k : NodeKey). is_left_of nodes k ≡ true) left_above.2 (left_in nodes left_above.0 left_above.1 left_above.3))
-        w_below high
-  ]
+  over : (y : Node) → In y nodes → y.gone ≡ false → is_head y ≡ true → falls y.key ≡ false → is_below nodes y.key top.key ≡ true →
+      is_below nodes y.key w.key ≡ true
+  over y on here head out h =
+      elim (or_cases (same_key y.key top.key) (list_any (same_key y.key) (line nodes whole.sound.distinct whole.sound.heads whole.rooted
+      whole.united top.key)) h) [
+        | inl e ↦ both_ways (falls y.key) (ap falls (same_key-true y.key top.key e) ∙ falls_top) out
+        | inr e ↦
+            let at : is_below nodes y.key above.key ≡ true =
+            sym (ap (list_any (same_key y.key)) (step nodes whole.sound.distinct whole.sound.heads whole.rooted whole.united top on_top top_here
+            above.key top_up)) ∙ e in
+            let high : is_below nodes y.key above.head ≡ true =
+            head_above nodes whole.sound.distinct whole.sound.heads whole.rooted whole.united
+            (suc (length (line nodes whole.sound.distinct whole.sound.heads whole.rooted whole.united above.key))) above above_on above_here y
+            on head at (omega arith) in
+            below_through nodes whole.sound.distinct whole.sound.heads whole.rooted whole.united y.key above.head w.key
+            (left_in nodes w w_on (lives_here w w_lives))
+            (subst (λ (k : NodeKey). is_left_of nodes k ≡ true) left_above.2 (left_in nodes left_above.0 left_above.1 left_above.3))
+            w_below high
+      ]
 
   -- a live node lies at or below each head that does not leave
   lives_on : (y : Node) → In y nodes → y.gone ≡ false → is_head y ≡ true → falls y.key ≡ false → list_any (lives_below now y.key) now ≡ true
@@ -109,7 +118,8 @@ module _ (c : Collection) (whole : IsWhole c) (falls : NodeKey → Bool) (top ab
         | inr e ↦ keeps y.key y.key z.0 z.1 e live below
         | inl e ↦
             let under : is_below nodes top.key z.0.key ≡ true = sym (takes z.0 z.1 (lives_here z.0 live)) ∙ e in
-            elim (on_line (up nodes whole.sound.distinct whole.sound.heads whole.rooted whole.united) top.key y.key z.0.key _ _ _ (chain_of z.0 z.1 (lives_here z.0 live)) (chain_of top on_top top_here) (chain_of y on here) under below) [
+            elim (on_line (up nodes whole.sound.distinct whole.sound.heads whole.rooted whole.united) top.key y.key z.0.key _ _ _
+            (chain_of z.0 z.1 (lives_here z.0 live)) (chain_of top on_top top_here) (chain_of y on here) under below) [
               | inl a ↦ both_ways (falls y.key) (takes y on here ∙ a) out
               | inr a ↦ keeps y.key y.key w w_on w_stays w_lives (over y on here head out a)
             ]
@@ -135,7 +145,8 @@ module _ (c : Collection) (whole : IsWhole c) (falls : NodeKey → Bool) (top ab
       let both : lives_below now (g top).key (g y.0) ≡ true = ap (lives_below now (g top).key) (sym y.2) ∙ x.2 in
       let live : is_live_node (g y.0) ≡ true = and_left (is_live_node (g y.0)) (is_below now (g top).key (g y.0).key) both in
       let below : is_below nodes top.key y.0.key ≡ true =
-      sym (below_same top.key y.0.key) ∙ (λ i. is_below now (sym (same top).key i) (sym (same y.0).key i)) ∙ and_right (is_live_node (g y.0)) (is_below now (g top).key (g y.0).key) both in
+      sym (below_same top.key y.0.key) ∙ (λ i. is_below now (sym (same top).key i) (sym (same y.0).key i))
+      ∙ and_right (is_live_node (g y.0)) (is_below now (g top).key (g y.0).key) both in
       let here : y.0.gone ≡ false = was_here y.0 (lives_here (g y.0) live) in
       both_ways (is_live_node (g y.0)) live (dead y.0 y.1 (takes y.0 y.1 here ∙ below))))))
 
@@ -144,7 +155,8 @@ module _ (c : Collection) (whole : IsWhole c) (falls : NodeKey → Bool) (top ab
   low y there h =
       let x = In-map g nodes y there in
       let d : is_deserted_node now (g x.0) ≡ true = ap (is_deserted_node now) (sym x.2) ∙ h in
-      let head : is_head x.0 ≡ true = (λ i. is_none (sym (same x.0).parent i) || sym (same x.0).attached i) ∙ and_left (is_head (g x.0)) _ d in
+      let head : is_head x.0 ≡ true =
+      (λ i. is_none (sym (same x.0).parent i) || sym (same x.0).attached i) ∙ and_left (is_head (g x.0)) _ d in
       let rest = and_right (is_head (g x.0)) _ d in
       let gone : (g x.0).gone ≡ false = not-true (g x.0).gone (and_left (not (g x.0).gone) _ rest) in
       let none : list_any (lives_below now (g x.0).key) now ≡ false = not-true _ (and_right (not (g x.0).gone) _ rest) in
@@ -152,7 +164,8 @@ module _ (c : Collection) (whole : IsWhole c) (falls : NodeKey → Bool) (top ab
       elim (either_way (falls x.0.key)) [
         | inl e ↦ (
           ap (λ (n : Node). n.gone) x.2 ∙ gone,
-          (λ i. is_below now ((same top).key i) ((ap (λ (n : Node). n.key) x.2 ∙ (same x.0).key) i)) ∙ below_same top.key x.0.key ∙ sym (takes x.0 x.1 here) ∙ e,
+          (λ i. is_below now ((same top).key i) ((ap (λ (n : Node). n.key) x.2 ∙ (same x.0).key) i)) ∙ below_same top.key x.0.key
+              ∙ sym (takes x.0 x.1 here) ∙ e,
         )
         | inr e ↦ both_ways (list_any (lives_below now (g x.0).key) now)
             (ap (λ (k : NodeKey). list_any (lives_below now k) now) (same x.0).key ∙ lives_on x.0 x.1 here head e) none
@@ -168,7 +181,8 @@ module _ (c : Collection) (whole : IsWhole c) (falls : NodeKey → Bool) (top ab
   decided_is strong_open = rw found refl
 
   -- so that one ends
-  pub forced_end : (pool : ℕ) (handles : Handles) (others : List Interval) → forced pool (standing handles others between) ≡ Some (Ended top.key)
+  pub forced_end : (pool : ℕ) (handles : Handles) (others : List Interval) →
+      forced pool (standing handles others between) ≡ Some (Ended top.key)
   forced_end pool handles others =
       forced_made handles pool others between
       ∙ ap (option_map (mark_of pool (pages_in between ++ others))) (decided_is (standing handles others between).strong_open)
@@ -179,24 +193,30 @@ module _ (c : Collection) (whole : IsWhole c) (falls : NodeKey → Bool) (top ab
   leaves n = if falls n.key then record (g n) { gone = true } else n
 
   pub after_is : after_end top.key now ≡ map leaves nodes
-  after_is = maps (ended now top.key) g nodes ∙ map-In (λ (n : Node). ended now top.key (g n)) leaves nodes (λ n on. one n on (either_way (falls n.key)) (either_way n.gone))
+  after_is = maps (ended now top.key) g nodes ∙ map-In (λ (n : Node). ended now top.key (g n)) leaves nodes (λ n on.
+      one n on (either_way (falls n.key)) (either_way n.gone))
     where
       under : (n : Node) → is_below now top.key (g n).key ≡ is_below nodes top.key n.key
       under n = ap (is_below now top.key) (same n).key ∙ below_same top.key n.key
 
-      one : (n : Node) → In n nodes → (falls n.key ≡ true) ⊎ (falls n.key ≡ false) → (n.gone ≡ true) ⊎ (n.gone ≡ false) → ended now top.key (g n) ≡ leaves n
+      one : (n : Node) → In n nodes → (falls n.key ≡ true) ⊎ (falls n.key ≡ false) → (n.gone ≡ true) ⊎ (n.gone ≡ false) →
+          ended now top.key (g n) ≡ leaves n
       one n on (inl e) (inl gone) =
-          let went : (is_below now top.key (g n).key || (g n).gone) ≡ true = ap (λ (b : Bool). is_below now top.key (g n).key || b) (stays n gone) ∙ or_true (is_below now top.key (g n).key) in
+          let went : (is_below now top.key (g n).key || (g n).gone) ≡ true =
+          ap (λ (b : Bool). is_below now top.key (g n).key || b) (stays n gone) ∙ or_true (is_below now top.key (g n).key) in
           (λ i. record (g n) { gone = went i }) ∙ (λ i. if sym e i then record (g n) { gone = true } else n)
       one n on (inl e) (inr here) =
-          let went : (is_below now top.key (g n).key || (g n).gone) ≡ true = ap (λ (b : Bool). b || (g n).gone) (under n ∙ sym (takes n on here) ∙ e) in
+          let went : (is_below now top.key (g n).key || (g n).gone) ≡ true =
+          ap (λ (b : Bool). b || (g n).gone) (under n ∙ sym (takes n on here) ∙ e) in
           (λ i. record (g n) { gone = went i }) ∙ (λ i. if sym e i then record (g n) { gone = true } else n)
       one n on (inr e) (inl gone) =
           let went : (is_below now top.key (g n).key || (g n).gone) ≡ (g n).gone =
-          ap (λ (b : Bool). is_below now top.key (g n).key || b) (stays n gone) ∙ or_true (is_below now top.key (g n).key) ∙ sym (stays n gone) in
+          ap (λ (b : Bool). is_below now top.key (g n).key || b) (stays n gone) ∙ or_true (is_below now top.key (g n).key)
+          ∙ sym (stays n gone) in
           (λ i. record (g n) { gone = went i }) ∙ alone n e ∙ (λ i. if sym e i then record (g n) { gone = true } else n)
       one n on (inr e) (inr here) =
-          let went : (is_below now top.key (g n).key || (g n).gone) ≡ (g n).gone = ap (λ (b : Bool). b || (g n).gone) (under n ∙ sym (takes n on here) ∙ e) in
+          let went : (is_below now top.key (g n).key || (g n).gone) ≡ (g n).gone =
+          ap (λ (b : Bool). b || (g n).gone) (under n ∙ sym (takes n on here) ∙ e) in
           (λ i. record (g n) { gone = went i }) ∙ alone n e ∙ (λ i. if sym e i then record (g n) { gone = true } else n)
 
   -- and nothing else happens, where nothing is forced then

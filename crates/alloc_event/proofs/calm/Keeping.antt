@@ -28,7 +28,8 @@ use Rattle.alloc_event.proofs.calm.United.{each_all}
 use Rattle.alloc_event.proofs.tables.Writing.{IsSameNode, IsWhole-map}
 
 -- some pass where one does
-pub any-In : {A : Type 0} (p q : A → Bool) (f : A → A) (xs : List A) → ((x : A) → In x xs → p (f x) ≡ q x) → list_any p (map f xs) ≡ list_any q xs
+pub any-In : {A : Type 0} (p q : A → Bool) (f : A → A) (xs : List A) → ((x : A) → In x xs → p (f x) ≡ q x) →
+    list_any p (map f xs) ≡ list_any q xs
 any-In p q f [] same = refl
 any-In p q f (x ∷ xs) same =
     let rest = any-In p q f xs (λ y on. same y (inr on)) in
@@ -54,8 +55,10 @@ module _ (nodes : List Node) (f : Node → Node) (same : (n : Node) → IsSameNo
   now = map f nodes
 
   -- a node is in a unit as it was
-  unit_same : (p head : NodeKey) → list_any (λ (q : Node). is_of p q && same_key q.head head) now ≡ list_any (λ (q : Node). is_of p q && same_key q.head head) nodes
-  unit_same p head = any-In (λ (q : Node). is_of p q && same_key q.head head) (λ (q : Node). is_of p q && same_key q.head head) f nodes (λ q there. λ i. same_key ((same q).key i) p && same_key ((same q).head i) head)
+  unit_same : (p head : NodeKey) → list_any (λ (q : Node). is_of p q && same_key q.head head) now ≡ list_any (λ (q : Node).
+      is_of p q && same_key q.head head) nodes
+  unit_same p head = any-In (λ (q : Node). is_of p q && same_key q.head head) (λ (q : Node). is_of p q && same_key q.head head) f nodes
+      (λ q there. λ i. same_key ((same q).key i) p && same_key ((same q).head i) head)
 
   hangs_same : (head : NodeKey) (n : Node) → hangs_in now head (f n) ≡ hangs_in nodes head n
   hangs_same head n = (λ i. option_map_or (λ p. unit_same p head i) ((same n).parent i) false)
@@ -63,35 +66,41 @@ module _ (nodes : List Node) (f : Node → Node) (same : (n : Node) → IsSameNo
   -- ---- no unit becomes ready
 
   -- where no unit that is to get its buffers next becomes ready
-  module _ (ready : (h : Node) → In h nodes → h.allocated ≡ false → has_turn nodes h ≡ true → list_all (is_ready_node h.key) now ≡ true → list_all (is_ready_node h.key) nodes ≡ true) where
+  module _ (ready : (h : Node) → In h nodes → h.allocated ≡ false → has_turn nodes h ≡ true → list_all (is_ready_node h.key) now ≡ true →
+      list_all (is_ready_node h.key) nodes ≡ true) where
     root_same : find is_root_left now ≡ option_map f (find is_root_left nodes)
     root_same = find_map is_root_left is_root_left f nodes (λ n. λ i. is_none ((same n).parent i) && not (gone n i))
 
     -- so the root unit still waits
     waiting_none : waiting nodes ≡ None → waiting now ≡ None
-    waiting_none none = ap (option_and_then (λ (root : Node). when (not root.allocated && list_all (is_ready_node root.key) now) root)) root_same
+    waiting_none none = ap (option_and_then (λ (root : Node). when (not root.allocated && list_all (is_ready_node root.key) now) root))
+        root_same
         ∙ from (find is_root_left nodes) refl none
       where
         from : (o : Option Node) → find is_root_left nodes ≡ o →
             option_and_then (λ (root : Node). when (not root.allocated && list_all (is_ready_node root.key) nodes) root) o ≡ None →
-            option_and_then (λ (root : Node). when (not root.allocated && list_all (is_ready_node root.key) now) root) (option_map f o) ≡ None
+            option_and_then (λ (root : Node). when (not root.allocated && list_all (is_ready_node root.key) now) root)
+            (option_map f o) ≡ None
         from None is h = refl
         from (Some root) is h =
             ap (λ (b : Bool). when b (f root)) (false_if (not (f root).allocated && list_all (is_ready_node (f root).key) now) (λ e.
             let waits : not root.allocated ≡ true = ap not (sym (alloc root)) ∙ and_left (not (f root).allocated) _ e in
             let all : list_all (is_ready_node root.key) nodes ≡ true =
-            ready root (In-find is_root_left nodes root is).0 (not-true root.allocated waits) (first root.parent (and_left (is_none root.parent) _ (In-find is_root_left nodes root is).1))
+            ready root (In-find is_root_left nodes root is).0 (not-true root.allocated waits)
+            (first root.parent (and_left (is_none root.parent) _ (In-find is_root_left nodes root is).1))
             (ap (λ (k : NodeKey). list_all (is_ready_node k) now) (sym (same root).key) ∙ and_right (not (f root).allocated) _ e) in
             let both : (not root.allocated && list_all (is_ready_node root.key) nodes) ≡ true = and_both (not root.allocated) _ waits all in
             let some : Some root ≡ None = sym (ap (λ (b : Bool). when b root) both) ∙ h in
             cc))
           where
-            first : (o : Option NodeKey) → is_none o ≡ true → option_map_or (λ parent. list_any (is_allocated_node parent) nodes) o true ≡ true
+            first : (o : Option NodeKey) → is_none o ≡ true →
+                option_map_or (λ parent. list_any (is_allocated_node parent) nodes) o true ≡ true
             first None h = refl
             first (Some p) h = cc
 
     allocated_same : (p : NodeKey) → list_any (is_allocated_node p) now ≡ list_any (is_allocated_node p) nodes
-    allocated_same p = any-In (is_allocated_node p) (is_allocated_node p) f nodes (λ n there. λ i. not (gone n i) && (alloc n i && same_key ((same n).key i) p))
+    allocated_same p = any-In (is_allocated_node p) (is_allocated_node p) f nodes (λ n there. λ i.
+        not (gone n i) && (alloc n i && same_key ((same n).key i) p))
 
     turn_before : (o : Option NodeKey) → option_map_or (λ parent. list_any (is_allocated_node parent) nodes) o false ≡ true →
         option_map_or (λ parent. list_any (is_allocated_node parent) nodes) o true ≡ true
@@ -115,7 +124,8 @@ module _ (nodes : List Node) (f : Node → Node) (same : (n : Node) → IsSameNo
         (and_both (not n.gone) _ (ap not (sym (gone n)) ∙ here)
         (and_both (not n.allocated) _ (ap not (sym (alloc n)) ∙ waits)
         (and_both (option_map_or (λ parent. list_any (is_allocated_node parent) nodes) n.parent false) _ was
-        (ready n on (not-true n.allocated (ap not (sym (alloc n)) ∙ waits)) (turn_before n.parent was) (ap (λ (k : NodeKey). list_all (is_ready_node k) now) (sym (same n).key) ∙ all)))))
+        (ready n on (not-true n.allocated (ap not (sym (alloc n)) ∙ waits)) (turn_before n.parent was) (ap (λ (k : NodeKey).
+        list_all (is_ready_node k) now) (sym (same n).key) ∙ all)))))
 
     -- so none is, where none was
     later_none : (buffers : Option Buffers) → later nodes buffers ≡ None → later now buffers ≡ None
@@ -139,15 +149,19 @@ module _ (nodes : List Node) (f : Node → Node) (same : (n : Node) → IsSameNo
       (one : (m : Node) → In m nodes → same_key n.key m.key ≡ true → m ≡ n) where
     -- no such unit becomes ready, where its own did not wait for the node, waits for another still, has its buffers, or lies
     -- below one that has none
-    ready_before : (waits_in n.head n ≡ false) ⊎ ((0 < times (waits_in n.head) now) ⊎ (((h : Node) → In h nodes → h.key ≡ n.head → h.allocated ≡ true)
+    ready_before : (waits_in n.head n ≡ false) ⊎ ((0 < times (waits_in n.head) now) ⊎ (((h : Node) → In h nodes → h.key ≡ n.head →
+        h.allocated ≡ true)
         ⊎ ((h : Node) → In h nodes → h.key ≡ n.head → has_turn nodes h ≡ false))) →
-        (h : Node) → In h nodes → h.allocated ≡ false → has_turn nodes h ≡ true → list_all (is_ready_node h.key) now ≡ true → list_all (is_ready_node h.key) nodes ≡ true
-    ready_before guard h in_nodes waiting turn all = each_all (is_ready_node h.key) nodes (λ m there. elim (either_way (same_key n.key m.key)) [
-      | inl e ↦ ap (is_ready_node h.key) (one m there e) ∙ own guard (either_way (same_key n.head h.key))
-      | inr e ↦ ap (is_ready_node h.key) (sym (alone m there e)) ∙ all-In (is_ready_node h.key) now (f m) (In-map-back f nodes m there) all
-    ])
+        (h : Node) → In h nodes → h.allocated ≡ false → has_turn nodes h ≡ true → list_all (is_ready_node h.key) now ≡ true →
+        list_all (is_ready_node h.key) nodes ≡ true
+    ready_before guard h in_nodes waiting turn all =
+        each_all (is_ready_node h.key) nodes (λ m there. elim (either_way (same_key n.key m.key)) [
+          | inl e ↦ ap (is_ready_node h.key) (one m there e) ∙ own guard (either_way (same_key n.head h.key))
+          | inr e ↦ ap (is_ready_node h.key) (sym (alone m there e)) ∙ all-In (is_ready_node h.key) now (f m) (In-map-back f nodes m there) all
+        ])
       where
-        own : (waits_in n.head n ≡ false) ⊎ ((0 < times (waits_in n.head) now) ⊎ (((h : Node) → In h nodes → h.key ≡ n.head → h.allocated ≡ true)
+        own : (waits_in n.head n ≡ false) ⊎ ((0 < times (waits_in n.head) now) ⊎ (((h : Node) → In h nodes → h.key ≡ n.head →
+            h.allocated ≡ true)
             ⊎ ((h : Node) → In h nodes → h.key ≡ n.head → has_turn nodes h ≡ false))) →
             (same_key n.head h.key ≡ true) ⊎ (same_key n.head h.key ≡ false) → is_ready_node h.key n ≡ true
         own guard (inr e) = rw e (either n.gone)
@@ -155,7 +169,8 @@ module _ (nodes : List Node) (f : Node → Node) (same : (n : Node) → IsSameNo
             either : (b : Bool) → (b || true) ≡ true
             either true = refl
             either false = refl
-        own (inl settled) (inl e) = subst (λ (k : NodeKey). is_ready_node k n ≡ true) (same_key-true n.head h.key e) (not_not (is_ready_node n.head n) settled)
+        own (inl settled) (inl e) =
+            subst (λ (k : NodeKey). is_ready_node k n ≡ true) (same_key-true n.head h.key e) (not_not (is_ready_node n.head n) settled)
           where
             not_not : (b : Bool) → not b ≡ false → b ≡ true
             not_not true h = refl
@@ -164,7 +179,8 @@ module _ (nodes : List Node) (f : Node → Node) (same : (n : Node) → IsSameNo
             let x = In-list_any (waits_in n.head) now (some_pass (waits_in n.head) now some) in
             let here : is_ready_node h.key x.0 ≡ true = all-In (is_ready_node h.key) now x.0 x.1 all in
             let not_here : is_ready_node n.head x.0 ≡ false = not_is (is_ready_node n.head x.0) x.2 in
-            both_ways (is_ready_node n.head x.0) (subst (λ (k : NodeKey). is_ready_node k x.0 ≡ true) (sym (same_key-true n.head h.key e)) here) not_here
+            both_ways (is_ready_node n.head x.0) (subst (λ (k : NodeKey). is_ready_node k x.0 ≡ true) (sym (same_key-true n.head h.key e))
+            here) not_here
           where
             not_is : (b : Bool) → not b ≡ true → b ≡ false
             not_is true h = cc
@@ -178,11 +194,13 @@ module _ (nodes : List Node) (f : Node → Node) (same : (n : Node) → IsSameNo
         let x = In-map f nodes m there in
         ap (is_held now) x.2 ∙ still x.0 x.1)
       where
-        same_for : (head : NodeKey) → same_key n.head head ≡ false → (m : Node) → In m nodes → holds_unit now head (f m) ≡ holds_unit nodes head m
+        same_for : (head : NodeKey) → same_key n.head head ≡ false → (m : Node) → In m nodes →
+            holds_unit now head (f m) ≡ holds_unit nodes head m
         same_for head other m there = elim (either_way (same_key n.key m.key)) [
           | inl e ↦
               let is = one m there e in
-              let hd : same_key (f m).head head ≡ false = ap (λ (k : NodeKey). same_key k head) ((same m).head ∙ ap (λ (x : Node). x.head) is) ∙ other in
+              let hd : same_key (f m).head head ≡ false =
+              ap (λ (k : NodeKey). same_key k head) ((same m).head ∙ ap (λ (x : Node). x.head) is) ∙ other in
               let hd' : same_key m.head head ≡ false = ap (λ (x : Node). same_key x.head head) is ∙ other in
               rw (hd, hd') (λ i. not (gone m i) && ((same m).attached i && hangs_same head m i))
           | inr e ↦
@@ -198,7 +216,8 @@ module _ (nodes : List Node) (f : Node → Node) (same : (n : Node) → IsSameNo
         holds m there (inr e) was = any-In (holds_unit now m.key) (holds_unit nodes m.key) f nodes (same_for m.key e) ∙ was
 
         still : (m : Node) → In m nodes → is_held now (f m) ≡ true
-        still m there = (λ i. gone m i || (not (is_none ((same m).parent i) || (same m).attached i) || list_any (holds_unit now ((same m).key i)) now))
+        still m there =
+            (λ i. gone m i || (not (is_none ((same m).parent i) || (same m).attached i) || list_any (holds_unit now ((same m).key i)) now))
             ∙ from m.gone (is_head m) (list_any (holds_unit nodes m.key) nodes) (list_any (holds_unit now m.key) now)
             (all-In (is_held nodes) nodes m there held) (holds m there (either_way (same_key n.head m.key)))
           where
@@ -211,7 +230,8 @@ module _ (nodes : List Node) (f : Node → Node) (same : (n : Node) → IsSameNo
 pub lives_held : (nodes : List Node) (head : NodeKey) → 0 < times (lives_in head) nodes → list_any (holds_unit nodes head) nodes ≡ true
 lives_held nodes head some =
     let x = In-list_any (lives_in head) nodes (some_pass (lives_in head) nodes some) in
-    In-any (holds_unit nodes head) nodes x.0 x.1 (lives_hold x.0.gone x.0.released (same_key x.0.head head) (x.0.attached && hangs_in nodes head x.0) x.2)
+    In-any (holds_unit nodes head) nodes x.0 x.1 (lives_hold x.0.gone x.0.released (same_key x.0.head head) (x.0.attached && hangs_in nodes
+    head x.0) x.2)
   where
     lives_hold : (g r s b : Bool) → ((not g && not r) && s) ≡ true → (not g && ((s && not r) || b)) ≡ true
     lives_hold true r s b h = cc
@@ -220,10 +240,12 @@ lives_held nodes head some =
     lives_hold false false false b h = cc
 
 -- where one node changes, something holds its unit still, and no unit that is to get its buffers next becomes ready
-pub calm_changed : (c : Collection) → IsWhole c → (f : Node → Node) → ((n : Node) → IsSameNode (f n) n) → ((n : Node) → (f n).gone ≡ n.gone) →
+pub calm_changed : (c : Collection) → IsWhole c → (f : Node → Node) → ((n : Node) → IsSameNode (f n) n) →
+    ((n : Node) → (f n).gone ≡ n.gone) →
     ((n : Node) → (f n).allocated ≡ n.allocated) → (n : Node) → In n c.nodes → ((m : Node) → same_key n.key m.key ≡ false → f m ≡ m) →
     list_any (holds_unit (map f c.nodes) n.head) (map f c.nodes) ≡ true →
-    (waits_in n.head n ≡ false) ⊎ ((0 < times (waits_in n.head) (map f c.nodes)) ⊎ (((h : Node) → In h c.nodes → h.key ≡ n.head → h.allocated ≡ true)
+    (waits_in n.head n ≡ false) ⊎ ((0 < times (waits_in n.head) (map f c.nodes)) ⊎ (((h : Node) → In h c.nodes → h.key ≡ n.head →
+    h.allocated ≡ true)
     ⊎ ((h : Node) → In h c.nodes → h.key ≡ n.head → has_turn c.nodes h ≡ false))) →
     IsCalm c → IsCalm (with_nodes (map f) c)
 calm_changed c whole f same gone alloc n on alone lives guard calm =

@@ -70,12 +70,14 @@ module _ (nodes : List Node) (distinct : are_distinct nodes ≡ true) (rooted : 
           let x = In-list_any (is_of top.key) older e in
           let is : x.0 ≡ top = one x.0 top (within x.0 (inr x.1)) on_top (same_key-true x.0.key top.key x.2) in
           let rest : last_match p older ≡ Some top =
-          last_is older (λ m on. within m (inr on)) (and_right (hangs_on older n) (are_rooted older) rooted') (subst (λ (m : Node). In m older) is x.1) in
+          last_is older (λ m on. within m (inr on)) (and_right (hangs_on older n) (are_rooted older) rooted') (subst (λ (m : Node).
+          In m older) is x.1) in
           rw rest refl
       | inr e ↦ from there e
     ]
       where
-        from : In top (n ∷ older) → list_any (is_of top.key) older ≡ false → option_map_or Some (last_match p older) (if p n then Some n else None) ≡ Some top
+        from : In top (n ∷ older) → list_any (is_of top.key) older ≡ false →
+            option_map_or Some (last_match p older) (if p n then Some n else None) ≡ Some top
         from (inr on) e = both_ways (list_any (is_of top.key) older) (In-any (is_of top.key) older top on (same_key-refl top.key)) e
         from (inl is) e =
             let none : last_match p older ≡ None = no_match p older (false_if (list_any p older) (λ d.
@@ -83,16 +85,21 @@ module _ (nodes : List Node) (distinct : are_distinct nodes ≡ true) (rooted : 
             let here = low y.0 (within y.0 (inr y.1)) y.2 in
             let own : is_left_of older y.0.key ≡ true = left_in older y.0 y.1 here.0 in
             let short = line_among older up (λ m k om ok same. one m k (within m (inr om)) (within k (inr ok)) same)
-            (λ m om hm. linked m (within m (inr om)) hm) older (λ m om. om) (and_right (hangs_on older n) (are_rooted older) rooted') y.0.key own in
+            (λ m om hm. linked m (within m (inr om)) hm) older (λ m om. om) (and_right (hangs_on older n) (are_rooted older) rooted')
+            y.0.key own in
             let lines : line y.0.key ≡ above_among older y.0.key =
-            one_line up y.0.key (line y.0.key) (above_among older y.0.key) (chain y.0.key (left_in nodes y.0 (within y.0 (inr y.1)) here.0)) short.chain in
+            one_line up y.0.key (line y.0.key) (above_among older y.0.key) (chain y.0.key (left_in nodes y.0 (within y.0 (inr y.1)) here.0))
+            short.chain in
             elim (or_cases (same_key top.key y.0.key) (list_any (same_key top.key) (line y.0.key)) here.1) [
-              | inl same ↦ both_ways (list_any (is_of top.key) older) (In-any (is_of top.key) older y.0 y.1 (same_key-comm top.key y.0.key same)) e
+              | inl same ↦
+                  both_ways (list_any (is_of top.key) older) (In-any (is_of top.key) older y.0 y.1 (same_key-comm top.key y.0.key same)) e
               | inr on_line ↦
-                  let k = In-list_any (same_key top.key) (above_among older y.0.key) (sym (ap (list_any (same_key top.key)) lines) ∙ on_line) in
+                  let k = In-list_any (same_key top.key) (above_among older y.0.key) (sym (ap (list_any (same_key top.key)) lines)
+                  ∙ on_line) in
                   let x = left_node older k.0 (short.left k.0 k.1) in
                   both_ways (list_any (is_of top.key) older)
-                  (In-any (is_of top.key) older x.node x.on (ap (λ (j : NodeKey). same_key j top.key) x.is ∙ same_key-comm top.key k.0 k.2)) e
+                  (In-any (is_of top.key) older x.node x.on (ap (λ (j : NodeKey). same_key j top.key) x.is ∙ same_key-comm top.key k.0 k.2))
+                  e
             ])) in
             let here : p n ≡ true = ap p (sym is) ∙ passes in
             rw (none, here) (ap Some (sym is))

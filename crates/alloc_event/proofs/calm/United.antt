@@ -41,10 +41,12 @@ module _ (f : Node → Node) (keeps : KeepsUnit f) where
   united_mapped ns = ap are_united (sym (map-reverse_aux f ns [])) ∙ united_map (reverse ns)
 
 -- nodes with the same frames are as united
-pub united_frames : (new old : List Node) → map frame_of new ≡ map frame_of old → are_united (reverse old) ≡ true → are_united (reverse new) ≡ true
+pub united_frames : (new old : List Node) → map frame_of new ≡ map frame_of old → are_united (reverse old) ≡ true →
+    are_united (reverse new) ≡ true
 united_frames new old same united =
     let keeps : KeepsUnit frame_of = record { key = λ n. refl; parent = λ n. refl; attached = λ n. refl; head = λ n. refl } in
-    sym (united_mapped frame_of keeps new) ∙ ap (λ (ns : List Node). are_united (reverse ns)) same ∙ united_mapped frame_of keeps old ∙ united
+    sym (united_mapped frame_of keeps new) ∙ ap (λ (ns : List Node). are_united (reverse ns)) same ∙ united_mapped frame_of keeps old
+    ∙ united
 
 -- ---- some of the nodes
 
@@ -63,7 +65,8 @@ united_some p (n ∷ ns) united =
     let here : list_all (shares_unit n) ns ≡ true = and_left (list_all (shares_unit n) ns) (are_united ns) united in
     let rest : are_united (filter p ns) ≡ true = united_some p ns (and_right (list_all (shares_unit n) ns) (are_united ns) united) in
     elim (either_way (p n)) [
-      | inl e ↦ rw e (and_both (list_all (shares_unit n) (filter p ns)) (are_united (filter p ns)) (all_filter (shares_unit n) p ns here) rest)
+      | inl e ↦ rw e (and_both (list_all (shares_unit n) (filter p ns)) (are_united (filter p ns)) (all_filter (shares_unit n) p ns here)
+          rest)
       | inr e ↦ rw e rest
     ]
 
@@ -73,7 +76,9 @@ united_filter p ns united = ap are_united (sym (filter-reverse_aux p ns [])) ∙
 
 -- ---- one more node
 
-pub united_born : (ns : List Node) (b : Node) → ((q : Node) → In q ns → shares_unit b q ≡ true) → are_united (reverse ns) ≡ true → are_united (reverse (ns ++ b ∷ [])) ≡ true
+pub united_born : (ns : List Node) (b : Node) → ((q : Node) → In q ns → shares_unit b q ≡ true) → are_united (reverse ns) ≡ true →
+    are_united (reverse (ns ++ b ∷ [])) ≡ true
 united_born ns b shares united =
     ap are_united (reverse-append ns (b ∷ []))
-    ∙ and_both (list_all (shares_unit b) (reverse ns)) (are_united (reverse ns)) (each_all (shares_unit b) (reverse ns) (λ q on. shares q (In-reverse ns q on))) united
+    ∙ and_both (list_all (shares_unit b) (reverse ns)) (are_united (reverse ns)) (each_all (shares_unit b) (reverse ns) (λ q on.
+    shares q (In-reverse ns q on))) united

@@ -23,13 +23,15 @@ use Rattle.alloc_event.proofs.shelves.Showing.{collection_is, shelf_found}
 
 -- the entry that is found is counted
 found_counted-by : (t : Table Node) (id : ℕ) (x : Entry) (xs : List Entry) (e : Entry) (here : Bool) → AreCounted t (x ∷ xs) →
-    cond here (Some x) (find (λ (y : Entry). y.id == id) xs) ≡ Some e → (find (λ (y : Entry). y.id == id) xs ≡ Some e → IsCounted t e) → IsCounted t e
+    cond here (Some x) (find (λ (y : Entry). y.id == id) xs) ≡ Some e → (find (λ (y : Entry). y.id == id) xs ≡ Some e → IsCounted t e) →
+    IsCounted t e
 found_counted-by t id x xs e true all found on =
     let same : x ≡ e = cc in
     subst (IsCounted t) same all.0
 found_counted-by t id x xs e false all found on = on found
 
-pub found_counted : (t : Table Node) (id : ℕ) (es : List Entry) (e : Entry) → AreCounted t es → find (λ (x : Entry). x.id == id) es ≡ Some e → IsCounted t e
+pub found_counted : (t : Table Node) (id : ℕ) (es : List Entry) (e : Entry) → AreCounted t es →
+    find (λ (x : Entry). x.id == id) es ≡ Some e → IsCounted t e
 found_counted t id [] e all found = absurd (cc)
 found_counted t id (x ∷ xs) e all found = found_counted-by t id x xs e (x.id == id) all found (found_counted t id xs e all.1)
 
@@ -63,7 +65,8 @@ all_stay p (x ∷ xs) each = rw (each x) (ap (λ ys. x ∷ ys) (all_stay p xs ea
 
 module _ (handles : Handles) (c : Collection) (strong : has_strong c.nodes ≡ true) where
   away : (h : HeldPages) → not (is_home_in handles c h.buffer) ≡ true
-  away h = none_home (handles h.buffer Strength.Strong) (handles h.buffer Strength.Weak) (some_strong_live (members_of c.nodes)) (strong_tie c.nodes ∙ strong)
+  away h = none_home (handles h.buffer Strength.Strong) (handles h.buffer Strength.Weak) (some_strong_live (members_of c.nodes))
+      (strong_tie c.nodes ∙ strong)
 
   -- so no pages go back
   pub nothing_back : given_back handles c ≡ c
@@ -82,7 +85,8 @@ watched_still t es id all watched handles =
     (from (find (λ (e : Entry). e.id == id) es) refl watched)
   where
     from : (o : Option Entry) → find (λ (e : Entry). e.id == id) es ≡ o → option_map_or (λ (e : Entry). nat_lt 0 e.strong) o true ≡ true →
-        IsStill handles (unwrap_or (option_map (collection_in t) (option_map shelf_of o)) (record { id = id; nodes = []; buffers = None; held = [] }))
+        IsStill handles (unwrap_or (option_map (collection_in t) (option_map shelf_of o))
+        (record { id = id; nodes = []; buffers = None; held = [] }))
     from None found some = record { rest = λ pool others. refl; out = refl }
     from (Some e) found some =
         let counted = found_counted t id es e all found in

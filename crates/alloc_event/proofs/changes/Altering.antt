@@ -76,7 +76,9 @@ made-of f same id (n ∷ ns) = λ i. ((same n).collection i == id) && made-of f 
 -- ---- the shelf of a collection
 
 -- by whether it is the first
-found_id-by : (id : ℕ) (x : Shelf) (xs : List Shelf) (s : Shelf) (here : Bool) → (x.id == id) ≡ here → cond here (Some x) (find (λ (y : Shelf). y.id == id) xs) ≡ Some s → (find (λ (y : Shelf). y.id == id) xs ≡ Some s → s.id ≡ id) → s.id ≡ id
+found_id-by : (id : ℕ) (x : Shelf) (xs : List Shelf) (s : Shelf) (here : Bool) → (x.id == id) ≡ here →
+    cond here (Some x) (find (λ (y : Shelf). y.id == id) xs) ≡ Some s → (find (λ (y : Shelf). y.id == id) xs ≡ Some s → s.id ≡ id) →
+    s.id ≡ id
 found_id-by id x xs s true here found on =
     let same : x ≡ s = cc in
     ap (λ (y : Shelf). y.id) (sym same) ∙ eqb-true x.id id here
@@ -87,7 +89,8 @@ pub Some-shelf : (x s : Shelf) → Some x ≡ Some s → x ≡ s
 Some-shelf x s e = cc
 
 -- no shelf of a greater id is found
-pub none_above : (id : ℕ) (ss : List Shelf) → AllByRecursion (λ (later : Shelf). id < later.id) ss → find (λ (s : Shelf). s.id == id) ss ≡ None
+pub none_above : (id : ℕ) (ss : List Shelf) → AllByRecursion (λ (later : Shelf). id < later.id) ss →
+    find (λ (s : Shelf). s.id == id) ss ≡ None
 none_above id [] all = refl
 none_above id (s ∷ ss) all =
     let other : (s.id == id) ≡ false = ne_eqb _ _ (λ same. omega (arith, all.0)) in
@@ -110,14 +113,17 @@ found_put s (x ∷ xs) rising found = cases_place x.id s.id (put_shelf s (x ∷ 
     (λ other below. rw (other, below) (ap (λ l. x ∷ l) (found_put s xs rising.1 (rw other at found))))
 
 -- by what the first key finds
-looked-of-by : (id : ℕ) (o : Option Node) (ns : List Node) → option_map_or (λ (n : Node). n.collection == id) o false ≡ true → all_of id ns ≡ true → all_of id (cons_option o ns) ≡ true
+looked-of-by : (id : ℕ) (o : Option Node) (ns : List Node) → option_map_or (λ (n : Node). n.collection == id) o false ≡ true →
+    all_of id ns ≡ true → all_of id (cons_option o ns) ≡ true
 looked-of-by id None ns filed on = on
 looked-of-by id (Some n) ns filed on = rw (filed, on) refl
 
 -- the nodes of filed keys are of the collection
-pub looked-of : (t : Table Node) (id : ℕ) (keys : List NodeKey) → list_all (is_filed t id) keys ≡ true → all_of id (nodes_with t keys) ≡ true
+pub looked-of : (t : Table Node) (id : ℕ) (keys : List NodeKey) → list_all (is_filed t id) keys ≡ true →
+    all_of id (nodes_with t keys) ≡ true
 looked-of t id [] filed = refl
-looked-of t id (k ∷ ks) filed = looked-of-by id (node_at t k) (nodes_with t ks) (and_left _ _ filed) (looked-of t id ks (and_right _ _ filed))
+looked-of t id (k ∷ ks) filed =
+    looked-of-by id (node_at t k) (nodes_with t ks) (and_left _ _ filed) (looked-of t id ks (and_right _ _ filed))
 
 -- the tests in a row
 or_assoc : (a b c : Bool) → ((a || b) || c) ≡ (a || (b || c))
@@ -130,7 +136,8 @@ any-append test [] ys = refl
 any-append test (x ∷ xs) ys = ap (λ b. test x || b) (any-append test xs ys) ∙ sym (or_assoc (test x) (list_any test xs) (list_any test ys))
 
 -- a key that is filed has a node of the collection
-pub filed_at : (t : Table Node) (id : ℕ) (keys : List NodeKey) (key : NodeKey) (n : Node) → list_all (is_filed t id) keys ≡ true → node_at t key ≡ Some n → list_any (same_key key) keys ≡ true → (n.collection == id) ≡ true
+pub filed_at : (t : Table Node) (id : ℕ) (keys : List NodeKey) (key : NodeKey) (n : Node) → list_all (is_filed t id) keys ≡ true →
+    node_at t key ≡ Some n → list_any (same_key key) keys ≡ true → (n.collection == id) ≡ true
 filed_at t id [] key n filed is there = absurd (false≢true there)
 filed_at t id (k ∷ ks) key n filed is there = elim (or_cases (same_key key k) (list_any (same_key key) ks) there) [
   | inl here ↦
@@ -141,11 +148,14 @@ filed_at t id (k ∷ ks) key n filed is there = elim (or_cases (same_key key k) 
 ]
 
 -- a shelf that is found behind another is found
-found_behind : (s : Shelf) (ss : List Shelf) (id : ℕ) → is_some (find (λ (x : Shelf). x.id == id) ss) ≡ true → is_some (find (λ (x : Shelf). x.id == id) (s ∷ ss)) ≡ true
-found_behind s ss id found = elim (s.id == id) as (λ b. is_some (cond b (Some s) (find (λ (x : Shelf). x.id == id) ss)) ≡ true) [ true ↦ refl | false ↦ found ]
+found_behind : (s : Shelf) (ss : List Shelf) (id : ℕ) → is_some (find (λ (x : Shelf). x.id == id) ss) ≡ true →
+    is_some (find (λ (x : Shelf). x.id == id) (s ∷ ss)) ≡ true
+found_behind s ss id found =
+    elim (s.id == id) as (λ b. is_some (cond b (Some s) (find (λ (x : Shelf). x.id == id) ss)) ≡ true) [ true ↦ refl | false ↦ found ]
 
 -- a node that is there is of a collection that is there
-pub kept_of : (t : Table Node) (ss : List Shelf) (key : NodeKey) (n : Node) → are_filed t ss ≡ true → node_at t key ≡ Some n → list_any (same_key key) (all_keys ss) ≡ true → is_some (find (λ (s : Shelf). s.id == n.collection) ss) ≡ true
+pub kept_of : (t : Table Node) (ss : List Shelf) (key : NodeKey) (n : Node) → are_filed t ss ≡ true → node_at t key ≡ Some n →
+    list_any (same_key key) (all_keys ss) ≡ true → is_some (find (λ (s : Shelf). s.id == n.collection) ss) ≡ true
 kept_of t [] key n filed is there = absurd (false≢true there)
 kept_of t (s ∷ ss) key n filed is there = elim (or_cases _ _ (sym (any-append (same_key key) s.keys (all_keys ss)) ∙ there)) [
   | inl here ↦
@@ -155,16 +165,19 @@ kept_of t (s ∷ ss) key n filed is there = elim (or_cases _ _ (sym (any-append 
 ]
 
 -- by the node
-there_kept-by : (t : Table Node) (ss : List Shelf) → IsKept t ss → (id : ℕ) (key : NodeKey) (o : Option Node) → node_at t key ≡ o → option_map_or (λ (n : Node). n.collection == id && not n.gone) o false ≡ true → is_some (find (λ (s : Shelf). s.id == id) ss) ≡ true
+there_kept-by : (t : Table Node) (ss : List Shelf) → IsKept t ss → (id : ℕ) (key : NodeKey) (o : Option Node) → node_at t key ≡ o →
+    option_map_or (λ (n : Node). n.collection == id && not n.gone) o false ≡ true → is_some (find (λ (s : Shelf). s.id == id) ss) ≡ true
 there_kept-by t ss ok id key None is there = absurd (false≢true there)
 there_kept-by t ss ok id key (Some n) is there =
     let own : n.collection ≡ id = eqb-true _ _ (and_left _ _ there) in
     subst (λ (i : ℕ). is_some (find (λ (s : Shelf). s.id == i) ss) ≡ true) own (kept_of t ss key n ok.filed is (ok.there key n is))
 
 -- a key that is in the collection, and its collection
-there_kept : (t : Table Node) (ss : List Shelf) → IsKept t ss → (id : ℕ) (key : NodeKey) → is_there (forest_of t ss) id key ≡ true → is_some (find (λ (s : Shelf). s.id == id) ss) ≡ true
+there_kept : (t : Table Node) (ss : List Shelf) → IsKept t ss → (id : ℕ) (key : NodeKey) → is_there (forest_of t ss) id key ≡ true →
+    is_some (find (λ (s : Shelf). s.id == id) ss) ≡ true
 there_kept t ss ok id key there =
-    there_kept-by t ss ok id key (node_at t key) refl (ap (λ o. option_map_or (λ (n : Node). n.collection == id && not n.gone) o false) (sym (node_is t ss ok key)) ∙ there)
+    there_kept-by t ss ok id key (node_at t key) refl (ap (λ o. option_map_or (λ (n : Node). n.collection == id && not n.gone) o false)
+    (sym (node_is t ss ok key)) ∙ there)
 
 -- what is kept of a shelf is kept of a collection
 mapped_some : (t : Table Node) (o : Option Shelf) → is_some (option_map (collection_in t) o) ≡ is_some o
@@ -172,33 +185,40 @@ mapped_some t None = refl
 mapped_some t (Some s) = refl
 
 -- a collection that is kept has a shelf
-collection_kept : (t : Table Node) (ss : List Shelf) (id : ℕ) → is_kept (forest_of t ss) id ≡ true → is_some (find (λ (s : Shelf). s.id == id) ss) ≡ true
+collection_kept : (t : Table Node) (ss : List Shelf) (id : ℕ) → is_kept (forest_of t ss) id ≡ true →
+    is_some (find (λ (s : Shelf). s.id == id) ss) ≡ true
 collection_kept t ss id fit = sym (mapped_some t (find (λ (s : Shelf). s.id == id) ss)) ∙ ap is_some (sym (collection_is t id ss)) ∙ fit
 
 -- a collection that is changed is there
-pub change_kept : (t : Table Node) (ss : List Shelf) → IsKept t ss → (id : ℕ) (change : Change) → is_birth change ≡ false → fits (forest_of t ss) id change ≡ true → is_some (find (λ (s : Shelf). s.id == id) ss) ≡ true
+pub change_kept : (t : Table Node) (ss : List Shelf) → IsKept t ss → (id : ℕ) (change : Change) → is_birth change ≡ false →
+    fits (forest_of t ss) id change ≡ true → is_some (find (λ (s : Shelf). s.id == id) ss) ≡ true
 change_kept t ss ok id (Change.Birth parent attached client event) h fit = absurd (false≢true (sym h))
 change_kept t ss ok id (Change.Effect key effect) h fit = there_kept t ss ok id key fit
 change_kept t ss ok id (Change.Loss origin cause) h fit = there_kept t ss ok id origin fit
 change_kept t ss ok id Change.Nothing h fit = collection_kept t ss id fit
 
 -- by what the first key finds
-looked-all-by : (test : Node → Bool) (o : Option Node) (ns : List Node) → ((n : Node) → o ≡ Some n → test n ≡ true) → list_all test ns ≡ true → list_all test (cons_option o ns) ≡ true
+looked-all-by : (test : Node → Bool) (o : Option Node) (ns : List Node) → ((n : Node) → o ≡ Some n → test n ≡ true) →
+    list_all test ns ≡ true → list_all test (cons_option o ns) ≡ true
 looked-all-by test None ns each on = on
 looked-all-by test (Some n) ns each on = rw (each n refl, on) refl
 
 -- each node that is found passes a test
-looked-all : (t : Table Node) (test : Node → Bool) → ((key : NodeKey) (n : Node) → node_at t key ≡ Some n → test n ≡ true) → (keys : List NodeKey) → list_all test (nodes_with t keys) ≡ true
+looked-all : (t : Table Node) (test : Node → Bool) → ((key : NodeKey) (n : Node) → node_at t key ≡ Some n → test n ≡ true) →
+    (keys : List NodeKey) → list_all test (nodes_with t keys) ≡ true
 looked-all t test each [] = refl
 looked-all t test each (k ∷ ks) = looked-all-by test (node_at t k) (nodes_with t ks) (each k) (looked-all t test each ks)
 
 -- by whether it is that node
-tracker_room-by : (key : NodeKey) (n : Node) (same : Bool) → same_key key n.key ≡ same → (key ≡ n.key → n.trackers < 64) → (not same || nat_lt n.trackers 64) ≡ true
+tracker_room-by : (key : NodeKey) (n : Node) (same : Bool) → same_key key n.key ≡ same → (key ≡ n.key → n.trackers < 64) →
+    (not same || nat_lt n.trackers 64) ≡ true
 tracker_room-by key n true same few = lt-ltb n.trackers 64 (few (true-same_key key n.key same))
 tracker_room-by key n false same few = refl
 
 -- the node of a tracker has room for it
-pub tracker_room : (t : Table Node) (ss : List Shelf) → IsKept t ss → (asked : NodeKey) (effect : Effect) → ((n : Node) → effect ≡ Effect.Tracked → forest_node (forest_of t ss) asked ≡ Some n → n.trackers < 64) → (key : NodeKey) (n : Node) → node_at t key ≡ Some n → has_tracker_room asked effect n ≡ true
+pub tracker_room : (t : Table Node) (ss : List Shelf) → IsKept t ss → (asked : NodeKey) (effect : Effect) →
+    ((n : Node) → effect ≡ Effect.Tracked → forest_node (forest_of t ss) asked ≡ Some n → n.trackers < 64) → (key : NodeKey) (n : Node) →
+    node_at t key ≡ Some n → has_tracker_room asked effect n ≡ true
 tracker_room t ss ok asked Effect.Tracked few key n is = tracker_room-by asked n (same_key asked n.key) refl (λ same.
     few n refl (node_is t ss ok asked ∙ ap (node_at t) (same ∙ ok.named key n is) ∙ is))
 tracker_room t ss ok asked Effect.Bound few key n is = refl
@@ -210,8 +230,10 @@ tracker_room t ss ok asked Effect.Taken few key n is = refl
 tracker_room t ss ok asked Effect.Released few key n is = refl
 
 -- so for the whole change
-pub change_room : (t : Table Node) (ss : List Shelf) → IsKept t ss → (id : ℕ) (change : Change) → MayChange (forest_of t ss) id change → (keys : List NodeKey) → has_room change (nodes_with t keys) ≡ true
-change_room t ss ok id (Change.Effect on effect) may keys = looked-all t (has_tracker_room on effect) (tracker_room t ss ok on effect (λ n is. may.trackers on n (ap (Change.Effect on) is))) keys
+pub change_room : (t : Table Node) (ss : List Shelf) → IsKept t ss → (id : ℕ) (change : Change) → MayChange (forest_of t ss) id change →
+    (keys : List NodeKey) → has_room change (nodes_with t keys) ≡ true
+change_room t ss ok id (Change.Effect on effect) may keys =
+    looked-all t (has_tracker_room on effect) (tracker_room t ss ok on effect (λ n is. may.trackers on n (ap (Change.Effect on) is))) keys
 change_room t ss ok id _ may keys = refl
 
 -- ---- a scene that is changed
@@ -221,16 +243,21 @@ abbrev pub shelf_by : Collection → Shelf
 shelf_by c = record { id = c.id; keys = keys_in c.nodes; buffers = c.buffers; held = c.held }
 
 -- the shelf of the id
-pub found_filed : (t : Table Node) (id : ℕ) (ss : List Shelf) (s : Shelf) → are_filed t ss ≡ true → find (λ (x : Shelf). x.id == id) ss ≡ Some s → list_all (is_filed t s.id) s.keys ≡ true
+pub found_filed : (t : Table Node) (id : ℕ) (ss : List Shelf) (s : Shelf) → are_filed t ss ≡ true →
+    find (λ (x : Shelf). x.id == id) ss ≡ Some s → list_all (is_filed t s.id) s.keys ≡ true
 found_filed t id ss s filed found = filed_found t id ss filed s found
 
 -- by whether the first is found
-found_whole-by : (t : Table Node) (id : ℕ) (x : Shelf) (xs : List Shelf) (s : Shelf) (here : Bool) → AllByRecursion (λ (y : Shelf). IsWhole (collection_in t y)) (x ∷ xs) → cond here (Some x) (find (λ (y : Shelf). y.id == id) xs) ≡ Some s → (find (λ (y : Shelf). y.id == id) xs ≡ Some s → IsWhole (collection_in t s)) → IsWhole (collection_in t s)
+found_whole-by : (t : Table Node) (id : ℕ) (x : Shelf) (xs : List Shelf) (s : Shelf) (here : Bool) →
+    AllByRecursion (λ (y : Shelf). IsWhole (collection_in t y)) (x ∷ xs) →
+    cond here (Some x) (find (λ (y : Shelf). y.id == id) xs) ≡ Some s → (find (λ (y : Shelf). y.id == id) xs ≡ Some s →
+    IsWhole (collection_in t s)) → IsWhole (collection_in t s)
 found_whole-by t id x xs s true all found on = subst (λ (y : Shelf). IsWhole (collection_in t y)) (Some-shelf x s found) all.0
 found_whole-by t id x xs s false all found on = on found
 
 -- its collection is whole
-pub found_whole : (t : Table Node) (id : ℕ) (ss : List Shelf) (s : Shelf) → AllByRecursion (λ (x : Shelf). IsWhole (collection_in t x)) ss → find (λ (x : Shelf). x.id == id) ss ≡ Some s → IsWhole (collection_in t s)
+pub found_whole : (t : Table Node) (id : ℕ) (ss : List Shelf) (s : Shelf) → AllByRecursion (λ (x : Shelf). IsWhole (collection_in t x)) ss →
+    find (λ (x : Shelf). x.id == id) ss ≡ Some s → IsWhole (collection_in t s)
 found_whole t id [] s all found = absurd (cc)
 found_whole t id (x ∷ xs) s all found = found_whole-by t id x xs s (x.id == id) all found (found_whole t id xs s all.1)
 
@@ -299,9 +326,11 @@ module _ (t : Table Node) (ss : List Shelf) (ok : IsKept t ss) (id : ℕ) (s : S
 
   -- each node is of it
   pub altered-of : all_of now.id now.nodes ≡ true
-  altered-of = subst (λ (d : Collection). all_of d.id d.nodes ≡ true) (sym is_made) (made-of made.of made.same s.id (nodes_with t s.keys) ∙ looked-of t s.id s.keys own)
+  altered-of = subst (λ (d : Collection). all_of d.id d.nodes ≡ true) (sym is_made) (made-of made.of made.same s.id (nodes_with t s.keys)
+      ∙ looked-of t s.id s.keys own)
 
   -- it is the one with the id
   pub altered-is : changed change no_key (collection_or_new (forest_of t ss) id) ≡ now
-  altered-is = ap (λ (o : Option Collection). changed change no_key (unwrap_or o (record { id = id; nodes = []; buffers = None; held = [] })))
+  altered-is =
+      ap (λ (o : Option Collection). changed change no_key (unwrap_or o (record { id = id; nodes = []; buffers = None; held = [] })))
       (collection_is t id ss ∙ ap (option_map (collection_in t)) found) ∙ ap (changed change no_key) (sym loaded) ∙ sym became

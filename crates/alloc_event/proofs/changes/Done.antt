@@ -36,10 +36,12 @@ module _ (t now : Table Node) (ss : List Shelf) (s : Shelf) (kept : IsKept t ss)
       (ap (are_filed t) placed ∙ kept.filed)
 
   -- the change leads to these nodes, and from them to those that are there now
-  pub done_led : IsKept now ss → (between : List Node) → changed change no_key (collection_or_new (forest_of t ss) s.id) ≡ record (collection_in t s) { nodes = between } →
+  pub done_led : IsKept now ss → (between : List Node) →
+      changed change no_key (collection_or_new (forest_of t ss) s.id) ≡ record (collection_in t s) { nodes = between } →
       ((pool : ℕ) (handles : Handles) (others : List Interval) → forced pool (standing handles others (collection_in now s)) ≡ None →
       Settles pool handles others (record (collection_in t s) { nodes = between }) (collection_in now s)) →
-      (after : List Unit) (lives : ℕ) → nat_lt 0 lives ≡ true → lives ≡ strong_count (nodes_with now s.keys) → IsCalm (collection_in now s) →
+      (after : List Unit) (lives : ℕ) → nat_lt 0 lives ≡ true → lives ≡ strong_count (nodes_with now s.keys) →
+      IsCalm (collection_in now s) →
       AreUnits after (map (collection_in now) ss) → IsDone t now after ss s change lives
   done_led kept_now between change_is leads after lives some count_now calm_now units_now =
       let strong_now : has_strong (collection_in now s).nodes ≡ true = strong_lives (nodes_with now s.keys) lives some count_now in
@@ -47,13 +49,15 @@ module _ (t now : Table Node) (ss : List Shelf) (s : Shelf) (kept : IsKept t ss)
         kept = kept_now;
         finishes = λ pool handles.
             let rests = rests_strong (collection_in now s) calm_now strong_now pool handles in
-            let back : given_back handles (collection_in now s) ≡ collection_in now s = nothing_back handles (collection_in now s) strong_now in
+            let back : given_back handles (collection_in now s) ≡ collection_in now s =
+            nothing_back handles (collection_in now s) strong_now in
             subst (λ (c : Collection). Finishes pool handles t ss now ss c) (sym change_is)
             (record {
               after = collection_in now s;
               settles = leads pool handles (beside (forest_of t ss) s.id) (rests (beside (forest_of t ss) s.id));
               collections = put_is ∙ ap (λ (c : Collection). put c (map (collection_in t) ss)) (sym back);
-              rests = ap (λ (c : Collection). forced pool (standing handles (beside (forest_of now ss) s.id) c)) back ∙ rests (beside (forest_of now ss) s.id);
+              rests = ap (λ (c : Collection). forced pool (standing handles (beside (forest_of now ss) s.id) c)) back
+                  ∙ rests (beside (forest_of now ss) s.id);
             });
         calm = calm_now;
         strong = count_now;
@@ -63,14 +67,17 @@ module _ (t now : Table Node) (ss : List Shelf) (s : Shelf) (kept : IsKept t ss)
       }
 
   pub done_by : IsKept now ss → changed change no_key (collection_or_new (forest_of t ss) s.id) ≡ collection_in now s →
-      (after : List Unit) (lives : ℕ) → nat_lt 0 lives ≡ true → lives ≡ strong_count (nodes_with now s.keys) → IsCalm (collection_in now s) →
+      (after : List Unit) (lives : ℕ) → nat_lt 0 lives ≡ true → lives ≡ strong_count (nodes_with now s.keys) →
+      IsCalm (collection_in now s) →
       AreUnits after (map (collection_in now) ss) → IsDone t now after ss s change lives
-  done_by kept_now change_is = done_led kept_now (nodes_with now s.keys) change_is (λ pool handles others rest. Rests (collection_in now s) rest)
+  done_by kept_now change_is =
+      done_led kept_now (nodes_with now s.keys) change_is (λ pool handles others rest. Rests (collection_in now s) rest)
 
 -- ---- the entry at its place
 
 module _ (t : Table Node) (es : List Entry) (id at : ℕ) (old : Entry) (place : IsPlace id es at) (is : old ≡ get_or es at old)
-    (kept : IsKept t (shelves_of es)) (all : AreCounted t es) (us : List Unit) (units : HaveUnits us t es) (change : Change) (may : MayChange (forest_of t (shelves_of es)) id change) where
+    (kept : IsKept t (shelves_of es)) (all : AreCounted t es) (us : List Unit) (units : HaveUnits us t es) (change : Change)
+    (may : MayChange (forest_of t (shelves_of es)) id change) where
   pub own_id : old.id ≡ id
   own_id = ap (λ (e : Entry). e.id) is ∙ place.id_is old
 
@@ -82,7 +89,8 @@ module _ (t : Table Node) (es : List Entry) (id at : ℕ) (old : Entry) (place :
       let counted : IsCounted t old = found_counted t id es old all found in
       record {
         kept = kept;
-        found = subst (λ (i : ℕ). find (λ (x : Shelf). x.id == i) (shelves_of es) ≡ Some (shelf_of old)) (sym own_id) (shelf_found id es ∙ ap (option_map shelf_of) found);
+        found = subst (λ (i : ℕ). find (λ (x : Shelf). x.id == i) (shelves_of es) ≡ Some (shelf_of old)) (sym own_id) (shelf_found id es
+            ∙ ap (option_map shelf_of) found);
         may = subst (λ (i : ℕ). MayChange (forest_of t (shelves_of es)) i change) (sym own_id) may;
         calm = counted.calm;
         strong = counted.strong;
@@ -102,7 +110,8 @@ module _ (t : Table Node) (es : List Entry) (id at : ℕ) (old : Entry) (place :
     pub finishes_at : (pool : ℕ) (handles : Handles) → Finishes pool handles t (shelves_of es) now (shelves_of es)
         (changed change no_key (collection_or_new (forest_of t (shelves_of es)) id))
     finishes_at pool handles =
-        subst (λ (i : ℕ). Finishes pool handles t (shelves_of es) now (shelves_of es) (changed change no_key (collection_or_new (forest_of t (shelves_of es)) i)))
+        subst (λ (i : ℕ). Finishes pool handles t (shelves_of es) now (shelves_of es)
+        (changed change no_key (collection_or_new (forest_of t (shelves_of es)) i)))
         own_id (made.finishes pool handles)
 
     new_id : new.id ≡ id

@@ -126,7 +126,8 @@ weak_stays key Effect.Taken n h = h
 weak_stays key Effect.Released n h = h
 weak_stays key Effect.Tracked n h = h
 
-asks_stays : (key : NodeKey) (effect : Effect) (n : Node) → is_some (affected key effect n).constraints ≡ false → is_some n.constraints ≡ false
+asks_stays : (key : NodeKey) (effect : Effect) (n : Node) → is_some (affected key effect n).constraints ≡ false →
+    is_some n.constraints ≡ false
 asks_stays key Effect.Bound n h = h
 asks_stays key Effect.Dispensable n h = h
 asks_stays key Effect.Weak n h = h
@@ -161,10 +162,12 @@ unready_before key effect n h =
     (ap not (asks_stays key effect n (not-true _ (and_right (not (affected key effect n).released) _ one)))))
 
 -- what a count became, by the tests
-pub less_is : (count result : ℕ) (was is w i : Bool) → ((real : ℕ) → (is ≡ true → was ≡ true) → real + bit was ≡ count + bit is → result ≡ real) →
+pub less_is : (count result : ℕ) (was is w i : Bool) → ((real : ℕ) → (is ≡ true → was ≡ true) → real + bit was ≡ count + bit is →
+    result ≡ real) →
     was ≡ w → is ≡ i → (i ≡ true → w ≡ true) → (real : ℕ) → real + bit w ≡ count + bit i → result ≡ real
 less_is count result was is w i told is_was is_is before real e =
-    told real (λ h. is_was ∙ before (sym is_is ∙ h)) (ap (λ (b : Bool). real + bit b) is_was ∙ (e ∙ sym (ap (λ (b : Bool). count + bit b) is_is)))
+    told real (λ h. is_was ∙ before (sym is_is ∙ h)) (ap (λ (b : Bool). real + bit b) is_was
+    ∙ (e ∙ sym (ap (λ (b : Bool). count + bit b) is_is)))
 
 -- ---- the effect
 
@@ -241,7 +244,8 @@ module _ (t now : Table Node) (us : List Unit) (key : NodeKey) (effect : Effect)
   filed =
       ap (is_filed t s.id) own ∙ ap (λ (o : Option Node). option_map_or (λ (m : Node). m.collection == s.id) o false) was
       ∙ and_left (n.collection == s.id) (not n.gone)
-      (ap (λ (o : Option Node). option_map_or (λ (m : Node). m.collection == s.id && not m.gone) o false) (sym (node_is t ss opens.kept key ∙ was)) ∙ fit)
+      (ap (λ (o : Option Node). option_map_or (λ (m : Node). m.collection == s.id && not m.gone) o false) (sym (node_is t ss opens.kept key
+      ∙ was)) ∙ fit)
 
   stores : Stores t now (f n ∷ [])
   stores = Stores-more t t now [] (f n) opens.kept.named (Stores-none t) becomes writes
@@ -258,7 +262,8 @@ module _ (t now : Table Node) (us : List Unit) (key : NodeKey) (effect : Effect)
 
     -- the change makes what the table has then
     change_is : changed (Change.Effect key effect) no_key (collection_or_new (forest_of t ss) s.id) ≡ collection_in now s
-    change_is = ap (λ (o : Option Collection). changed (Change.Effect key effect) no_key (unwrap_or o (record { id = s.id; nodes = []; buffers = None; held = [] })))
+    change_is = ap (λ (o : Option Collection).
+        changed (Change.Effect key effect) no_key (unwrap_or o (record { id = s.id; nodes = []; buffers = None; held = [] })))
         (collection_is t s.id ss ∙ ap (option_map (collection_in t)) opens.found)
         ∙ sym now_is
 
@@ -268,7 +273,8 @@ module _ (t now : Table Node) (us : List Unit) (key : NodeKey) (effect : Effect)
 
     pub made_now : IsMade t now after ss s (Change.Effect key effect) lives
     made_now = record {
-      done = done_by t now ss s opens.kept opens.found (Change.Effect key effect) (f n ∷ []) stores (and_both (is_filed t s.id (f n).key) true filed refl)
+      done = done_by t now ss s opens.kept opens.found (Change.Effect key effect) (f n ∷ []) stores (and_both (is_filed t s.id (f n).key)
+          true filed refl)
           kept_now change_is after lives some count_now calm_now units_now;
       over = λ one. ap (list_any (over_but one)) nodes_now ∙ any_map (over_but one) (over_but one) f nodes (λ m. over_same one m);
     }
@@ -279,20 +285,24 @@ module _ (t now : Table Node) (us : List Unit) (key : NodeKey) (effect : Effect)
   in_shelves = (In-find (λ (x : Shelf). x.id == s.id) ss s opens.found).0
 
   unit_has : HasUnits us nodes
-  unit_has = all_at (λ (c : Collection). HasUnits us c.nodes) (map (collection_in t) ss) opens.units (collection_in t s) (In-map-back (collection_in t) ss s in_shelves)
+  unit_has = all_at (λ (c : Collection). HasUnits us c.nodes) (map (collection_in t) ss) opens.units (collection_in t s)
+      (In-map-back (collection_in t) ss s in_shelves)
 
   units_join : (after : List Unit) → Stays t s.id us after → HasUnits after (map f nodes) → AreUnits after (map (collection_in now) ss)
   units_join after stays has =
       but_join after s.id (map (collection_in now) ss)
-      (but_moved t now after s.id ss (λ x there differ. beside_same x differ (all-In (λ (y : Shelf). list_all (is_filed t y.id) y.keys) ss x there opens.kept.filed))
+      (but_moved t now after s.id ss (λ x there differ.
+      beside_same x differ (all-In (λ (y : Shelf). list_all (is_filed t y.id) y.keys) ss x there opens.kept.filed))
       (but_stays t opens.kept.named us after s.id stays ss opens.kept.filed (but_all us s.id (map (collection_in t) ss) opens.units)))
       (λ c there is.
       let x = In-map (collection_in now) ss c there in
       let one : x.0 ≡ s = one_shelf ss opens.kept.rising x.0 s x.1 in_shelves (sym (ap (λ (d : Collection). d.id) x.2) ∙ is) in
-      subst (λ (d : Collection). HasUnits after d.nodes) (sym (x.2 ∙ ap (collection_in now) one)) (subst (HasUnits after) (sym nodes_now) has))
+      subst (λ (d : Collection). HasUnits after d.nodes) (sym (x.2 ∙ ap (collection_in now) one)) (subst (HasUnits after) (sym nodes_now)
+      has))
 
   -- an effect that neither releases nor sets constraints changes no count of units
-  pub plain_made : is_plain effect ≡ true → (lives : ℕ) → nat_lt 0 lives ≡ true → lives ≡ strong_count (map f nodes) → IsMade t now us ss s (Change.Effect key effect) lives
+  pub plain_made : is_plain effect ≡ true → (lives : ℕ) → nat_lt 0 lives ≡ true → lives ≡ strong_count (map f nodes) →
+      IsMade t now us ss s (Change.Effect key effect) lives
   plain_made is lives some lives_is =
       made_now us lives some lives_is (subst IsCalm (sym now_is) (calm_map (collection_in t s) f (plain_affected key effect is) opens.calm))
       (units_join us (λ k m at differ within. (within, refl)) (units_mapped us f nodes (λ m. (same m).key) counts unit_has))
@@ -300,8 +310,10 @@ module _ (t now : Table Node) (us : List Unit) (key : NodeKey) (effect : Effect)
       counts : (k : NodeKey) → unit_of (map f nodes) k ≡ unit_of nodes k
       counts k =
           let p = plain_affected key effect is in
-          let l = times_map (lives_in k) (lives_in k) f nodes (λ m. λ i. (not ((p m).gone i) && not ((p m).released i)) && same_key ((p m).head i) k) in
-          let w = times_map (waits_in k) (waits_in k) f nodes (λ m. λ i. not ((p m).gone i || (not (same_key ((p m).head i) k) || ((p m).released i || (p m).asks i)))) in
+          let l = times_map (lives_in k) (lives_in k) f nodes (λ m. λ i.
+          (not ((p m).gone i) && not ((p m).released i)) && same_key ((p m).head i) k) in
+          let w = times_map (waits_in k) (waits_in k) f nodes (λ m. λ i.
+          not ((p m).gone i || (not (same_key ((p m).head i) k) || ((p m).released i || (p m).asks i)))) in
           λ i. record { live = l i; unready = w i }
 
   -- ---- where the counts of the unit change
@@ -325,29 +337,34 @@ module _ (t now : Table Node) (us : List Unit) (key : NodeKey) (effect : Effect)
   own_unit_now : same_key (f n).head n.head ≡ true
   own_unit_now = ap (λ (k : NodeKey). same_key k n.head) (same n).head ∙ own_unit
 
-  pub live_is : n.head.slot < length us → times (lives_in n.head) (map f nodes) + bit (is_live_node n) ≡ (unit_at us n.head.slot).live + bit (is_live_node (f n))
+  pub live_is : n.head.slot < length us → times (lives_in n.head) (map f nodes) + bit (is_live_node n) ≡ (unit_at us n.head.slot).live + bit
+      (is_live_node (f n))
   live_is within =
       ap (λ (b : Bool). times (lives_in n.head) (map f nodes) + bit b) (sym (lives_own n.head n own_unit))
       ∙ (count_is (lives_in n.head)
       ∙ (λ i. (sym (unit_is within) i).live + bit (lives_own n.head (f n) own_unit_now i)))
 
-  pub unready_is : n.head.slot < length us → times (waits_in n.head) (map f nodes) + bit (is_unready n) ≡ (unit_at us n.head.slot).unready + bit (is_unready (f n))
+  pub unready_is : n.head.slot < length us →
+      times (waits_in n.head) (map f nodes) + bit (is_unready n) ≡ (unit_at us n.head.slot).unready + bit (is_unready (f n))
   unready_is within =
       ap (λ (b : Bool). times (waits_in n.head) (map f nodes) + bit b) (sym (waits_own n.head n own_unit))
       ∙ (count_is (waits_in n.head)
       ∙ (λ i. (sym (unit_is within) i).unready + bit (waits_own n.head (f n) own_unit_now i)))
 
   own_of : n.collection ≡ s.id
-  own_of = eqb-true n.collection s.id (all-In (λ (x : Node). x.collection == s.id) nodes n on (looked-of t s.id s.keys (found_filed t s.id ss s opens.kept.filed opens.found)))
+  own_of = eqb-true n.collection s.id (all-In (λ (x : Node). x.collection == s.id) nodes n on
+      (looked-of t s.id s.keys (found_filed t s.id ss s opens.kept.filed opens.found)))
 
   -- an attached child holds the unit
   below_holds : HasBelow t key n.collection → list_any (holds_unit (map f nodes) n.head) (map f nodes) ≡ true
   below_holds below =
       let m : Node = below.node in
       let there : is_there (forest_of t ss) s.id below.child ≡ true =
-      ap (λ (o : Option Node). option_map_or (λ (x : Node). x.collection == s.id && not x.gone) o false) (node_is t ss opens.kept below.child ∙ below.at)
+      ap (λ (o : Option Node). option_map_or (λ (x : Node). x.collection == s.id && not x.gone) o false)
+      (node_is t ss opens.kept below.child ∙ below.at)
       ∙ and_both (m.collection == s.id) (not m.gone) (eq-eqb m.collection s.id (below.of ∙ own_of)) (ap not below.here) in
-      let found : IsLeft nodes below.child = left_node nodes below.child (loss_left t ss opens.kept s.id (Change.Loss below.child Cause.Lost)
+      let found : IsLeft nodes below.child =
+      left_node nodes below.child (loss_left t ss opens.kept s.id (Change.Loss below.child Cause.Lost)
       (record { named = there; room = λ e. cc; heads = refl; trackers = λ k x e. cc }) s opens.found) in
       let both : Some m ≡ Some found.node = sym below.at ∙ (ap (node_at t) (sym found.is) ∙ at_key found.node found.on) in
       let one : m ≡ found.node = cc in
@@ -355,9 +372,11 @@ module _ (t now : Table Node) (us : List Unit) (key : NodeKey) (effect : Effect)
       let up : (f m).parent ≡ Some key = (same m).parent ∙ sym (opens.kept.linked below.child m below.at below.here) ∙ below.under in
       let in_unit : list_any (λ (q : Node). is_of key q && same_key q.head n.head) (map f nodes) ≡ true =
       In-any (λ (q : Node). is_of key q && same_key q.head n.head) (map f nodes) (f n) (In-map-back f nodes n on)
-      (and_both (is_of key (f n)) (same_key (f n).head n.head) (ap (λ (k : NodeKey). same_key k key) own ∙ same_key-refl key) own_unit_now) in
+      (and_both (is_of key (f n)) (same_key (f n).head n.head) (ap (λ (k : NodeKey). same_key k key) own
+      ∙ same_key-refl key) own_unit_now) in
       let hangs : hangs_in (map f nodes) n.head (f m) ≡ true =
-      ap (λ (o : Option NodeKey). option_map_or (λ p. list_any (λ (q : Node). is_of p q && same_key q.head n.head) (map f nodes)) o false) up ∙ in_unit in
+      ap (λ (o : Option NodeKey). option_map_or (λ p. list_any (λ (q : Node). is_of p q && same_key q.head n.head) (map f nodes)) o false)
+      up ∙ in_unit in
       In-any (holds_unit (map f nodes) n.head) (map f nodes) (f m) (In-map-back f nodes m child_on)
       (and_both (not (f m).gone) _ (ap not ((remains_affected key effect m).gone ∙ below.here))
       (or_right (same_key (f m).head n.head && not (f m).released) ((f m).attached && hangs_in (map f nodes) n.head (f m))
@@ -401,7 +420,8 @@ module _ (t now : Table Node) (us : List Unit) (key : NodeKey) (effect : Effect)
           let both : Some m ≡ Some head.0 = sym at ∙ (ap (node_at t) one ∙ head_at) in
           let node : m ≡ head.0 = cc in
           let of : head.0.collection ≡ s.id = eqb-true head.0.collection s.id
-          (all-In (λ (x : Node). x.collection == s.id) nodes head.0 head.1 (looked-of t s.id s.keys (found_filed t s.id ss s opens.kept.filed opens.found))) in
+          (all-In (λ (x : Node). x.collection == s.id) nodes head.0 head.1
+          (looked-of t s.id s.keys (found_filed t s.id ss s opens.kept.filed opens.found))) in
           differ (ap (λ (x : Node). x.collection) node ∙ of)),
     )
 
@@ -419,7 +439,8 @@ module _ (t now : Table Node) (us : List Unit) (key : NodeKey) (effect : Effect)
         λ i. record { live = l i; unready = w i }
 
     has_one : HasUnits after_one (map f nodes)
-    has_one = all_in (λ (m : Node). m.key.slot < length after_one → unit_at after_one m.key.slot ≡ unit_of (map f nodes) m.key) (map f nodes) (λ m there.
+    has_one = all_in (λ (m : Node). m.key.slot < length after_one → unit_at after_one m.key.slot ≡ unit_of (map f nodes) m.key)
+        (map f nodes) (λ m there.
         let x = In-map f nodes m there in
         let key : x.0.key ≡ m.key = sym (ap (λ (y : Node). y.key) x.2 ∙ (same x.0).key) in
         subst (λ (k : NodeKey). k.slot < length after_one → unit_at after_one k.slot ≡ unit_of (map f nodes) k) key
@@ -439,12 +460,14 @@ module _ (t now : Table Node) (us : List Unit) (key : NodeKey) (effect : Effect)
             ∙ sym (other_unit x.key e))
 
     -- something holds the unit, and where it is due it does not become ready
-    pub counted_made : (lives : ℕ) → nat_lt 0 lives ≡ true → lives ≡ strong_count (map f nodes) → (0 < next.live) ⊎ HasBelow t key n.collection →
+    pub counted_made : (lives : ℕ) → nat_lt 0 lives ≡ true → lives ≡ strong_count (map f nodes) →
+        (0 < next.live) ⊎ HasBelow t key n.collection →
         (is_unready n ≡ false) ⊎ ((0 < next.unready) ⊎ (is_due_at t n.head ≡ false)) →
         IsMade t now after_one ss s (Change.Effect key effect) lives
     counted_made lives some lives_is live guard =
         made_now after_one lives some lives_is
-        (subst IsCalm (sym now_is) (calm_changed (collection_in t s) whole f same (λ m. (remains_affected key effect m).gone) (λ m. (remains_affected key effect m).allocated) n on alone
+        (subst IsCalm (sym now_is) (calm_changed (collection_in t s) whole f same (λ m. (remains_affected key effect m).gone) (λ m.
+        (remains_affected key effect m).allocated) n on alone
         (holds live) (guarded guard) opens.calm))
         (units_join after_one stays_one has_one)
       where
@@ -453,7 +476,8 @@ module _ (t now : Table Node) (us : List Unit) (key : NodeKey) (effect : Effect)
         holds (inr below) = below_holds below
 
         guarded : (is_unready n ≡ false) ⊎ ((0 < next.unready) ⊎ (is_due_at t n.head ≡ false)) →
-            (waits_in n.head n ≡ false) ⊎ ((0 < times (waits_in n.head) (map f nodes)) ⊎ (((h : Node) → In h nodes → h.key ≡ n.head → h.allocated ≡ true)
+            (waits_in n.head n ≡ false) ⊎ ((0 < times (waits_in n.head) (map f nodes)) ⊎ (((h : Node) → In h nodes → h.key ≡ n.head →
+            h.allocated ≡ true)
             ⊎ ((h : Node) → In h nodes → h.key ≡ n.head → has_turn nodes h ≡ false)))
         guarded (inl settled) = inl (waits_own n.head n own_unit ∙ settled)
         guarded (inr (inl waits)) = inr (inl (omega (arith, unready_next, waits)))
@@ -461,7 +485,8 @@ module _ (t now : Table Node) (us : List Unit) (key : NodeKey) (effect : Effect)
 
 -- ---- nothing of the nodes
 
-pub made_nothing : (t : Table Node) (us : List Unit) (ss : List Shelf) (s : Shelf) (strong : ℕ) → nat_lt 0 strong ≡ true → IsOpen t us ss s Change.Nothing strong → IsMade t t us ss s Change.Nothing strong
+pub made_nothing : (t : Table Node) (us : List Unit) (ss : List Shelf) (s : Shelf) (strong : ℕ) → nat_lt 0 strong ≡ true →
+    IsOpen t us ss s Change.Nothing strong → IsMade t t us ss s Change.Nothing strong
 made_nothing t us ss s strong some opens =
     let lives : has_strong (collection_in t s).nodes ≡ true = strong_lives (nodes_with t s.keys) strong some opens.strong in
     let is : changed Change.Nothing no_key (collection_or_new (forest_of t ss) s.id) ≡ collection_in t s =
@@ -479,7 +504,8 @@ made_nothing t us ss s strong some opens =
               settles = Rests (collection_in t s) (rests (beside (forest_of t ss) s.id));
               collections = ap (map (collection_in t)) (sym (found_put s ss opens.kept.rising opens.found)) ∙ put-map t s ss
                   ∙ ap (λ (c : Collection). put c (map (collection_in t) ss)) (sym back);
-              rests = ap (λ (c : Collection). forced pool (standing handles (beside (forest_of t ss) s.id) c)) back ∙ rests (beside (forest_of t ss) s.id);
+              rests = ap (λ (c : Collection). forced pool (standing handles (beside (forest_of t ss) s.id) c)) back
+                  ∙ rests (beside (forest_of t ss) s.id);
             });
         calm = opens.calm;
         strong = opens.strong;

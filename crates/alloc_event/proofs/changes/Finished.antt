@@ -60,7 +60,8 @@ module _ (handles : Handles) (t : Table Node) (ss : List Shelf) (start worked ba
   pub back_places : have_places t back.nodes.items ≡ true
   back_places = places-filed t start.id back.nodes.items back_filed
 
-  module _ (now : Table Node) (stores : Stores t now back.nodes.items) (keys : List NodeKey) (keys_are : keys ≡ keys_in start.nodes.items) where
+  module _ (now : Table Node) (stores : Stores t now back.nodes.items) (keys : List NodeKey)
+      (keys_are : keys ≡ keys_in start.nodes.items) where
     -- what is put back
     abbrev pub shelf_back : Shelf
     shelf_back = record { id = back.id; keys = keys; buffers = back.buffers; held = map held_pages back.held.items }
@@ -77,15 +78,19 @@ module _ (handles : Handles) (t : Table Node) (ss : List Shelf) (start worked ba
     }) ∙ given
 
     -- the collections are those with this one put among them
-    pub finished-collections : map (collection_in now) (put_shelf shelf_back ss) ≡ put (given_back handles (collection_of worked)) (map (collection_in t) ss)
+    pub finished-collections : map (collection_in now) (put_shelf shelf_back ss) ≡ put (given_back handles (collection_of worked))
+        (map (collection_in t) ss)
     finished-collections =
-        collections-put t now start.id back.nodes.items stores kept.named back_filed shelf_back (shelf_in start) ss back_id (sym back_id) rising kept.filed
+        collections-put t now start.id back.nodes.items stores kept.named back_filed shelf_back (shelf_in start) ss back_id (sym back_id)
+        rising kept.filed
         ∙ ap (λ c. put c (map (collection_in t) ss)) nodes_back
 
     -- all of them are whole
-    finished-whole : IsHung t worked.nodes.items → are_united (reverse start.nodes.items) ≡ true → AllByRecursion (λ (s : Shelf). IsWhole (collection_in now s)) (put_shelf shelf_back ss)
+    finished-whole : IsHung t worked.nodes.items → are_united (reverse start.nodes.items) ≡ true →
+        AllByRecursion (λ (s : Shelf). IsWhole (collection_in now s)) (put_shelf shelf_back ss)
     finished-whole hung united =
-        let before = subst (AllByRecursion IsWhole) (put-map t (shelf_in start) ss) (whole-map t (put_shelf (shelf_in start) ss) kept.whole) in
+        let before =
+        subst (AllByRecursion IsWhole) (put-map t (shelf_in start) ss) (whole-map t (put_shelf (shelf_in start) ss) kept.whole) in
         whole-unmap now (put_shelf shelf_back ss) (subst (AllByRecursion IsWhole) (sym finished-collections)
         (whole-put (given_back handles (collection_of worked)) (collection_in t (shelf_in start)) (map (collection_in t) ss) (sym same_id)
         (record { sound = sound-given_back handles (collection_of worked) sound; rooted = hung.rooted; united = united_frames worked.nodes.items start.nodes.items frames united }) before))
@@ -94,10 +99,13 @@ module _ (handles : Handles) (t : Table Node) (ss : List Shelf) (start worked ba
     pub finished-kept : IsHung t worked.nodes.items → are_united (reverse start.nodes.items) ≡ true → IsKept now (put_shelf shelf_back ss)
     finished-kept hung united =
         let linked = (subst (IsHung t) (sym back_nodes) hung).linked in
-        kept-put t now start.id back.nodes.items stores kept.named back_filed back_of shelf_back (shelf_in start) ss (sym back_id) (sym keys_are) rising kept linked (finished-whole hung united)
+        kept-put t now start.id back.nodes.items stores kept.named back_filed back_of shelf_back (shelf_in start) ss (sym back_id)
+        (sym keys_are) rising kept linked (finished-whole hung united)
 
     -- the pool is the forest's
-    pub finished-pool : (held : List Interval) → are_parted held ≡ true → held ≡ sorted_by start_of (pages_in (collection_of back) ++ beside (forest_of t ss) start.id) → held ≡ sorted_by start_of (map (λ (h : HeldPages). h.pages) (all_held (forest_of now (put_shelf shelf_back ss))))
+    pub finished-pool : (held : List Interval) → are_parted held ≡ true →
+        held ≡ sorted_by start_of (pages_in (collection_of back) ++ beside (forest_of t ss) start.id) →
+        held ≡ sorted_by start_of (map (λ (h : HeldPages). h.pages) (all_held (forest_of now (put_shelf shelf_back ss))))
     finished-pool held parted is =
         pool_back held t now (given_back handles (collection_of worked)) shelf_back ss rising finished-collections parted
         (is ∙ λ i. sorted_by start_of (pages_in (given i) ++ beside (forest_of t ss) (sym same_id i)))
@@ -112,12 +120,15 @@ pub finished-counted : (handles : Handles) (t : Table Node) (es : List Entry) (s
     new.strong ≡ strong_count back.nodes.items → new.tidy ≡ not (list_any is_over back.nodes.items) → new.one ≡ None → (pool : ℕ) →
     ((others : List Interval) → forced pool (standing handles others (given_back handles (collection_of worked))) ≡ None) →
     AreCountedBut t start.id es → AreCounted now (put_in new es)
-finished-counted handles t es start worked back kept rising own sound same_id frames given now stores new keys_are id_is buffers_are held_are strong tidy one pool rests but =
+finished-counted handles t es start worked back kept rising own sound same_id frames given now stores new keys_are id_is buffers_are
+    held_are strong tidy one pool rests but =
     let ss : List Shelf = shelves_of es in
-    let shelf_is : shelf_of new ≡ shelf_back handles t ss start worked back kept rising own sound same_id frames given now stores new.keys.items keys_are =
+    let shelf_is : shelf_of new ≡ shelf_back handles t ss start worked back kept rising own sound same_id frames given now stores
+    new.keys.items keys_are =
     λ i. record { id = id_is i; keys = new.keys.items; buffers = buffers_are i; held = map held_pages (held_are i).items } in
     let shown : collection_in now (shelf_of new) ≡ given_back handles (collection_of worked) =
-    ap (collection_in now) shelf_is ∙ nodes_back handles t ss start worked back kept rising own sound same_id frames given now stores new.keys.items keys_are in
+    ap (collection_in now) shelf_is ∙ nodes_back handles t ss start worked back kept rising own sound same_id frames given now stores
+    new.keys.items keys_are in
     let at : new.id ≡ start.id = id_is ∙ back_id handles t ss start worked back kept rising own sound same_id frames given in
     counted_put now new es rising
     (subst (λ (id : ℕ). AreCountedBut now id es) (sym at)
@@ -128,5 +139,6 @@ finished-counted handles t es start worked back kept rising own sound same_id fr
       calm = subst IsCalm (sym shown) (calm_rested pool handles [] (given_back handles (collection_of worked)) (rests []));
       strong = strong ∙ ap (λ (c : Collection). strong_count c.nodes) (given ∙ sym shown);
       tidy = λ h. ap (λ (o : Option NodeKey). list_any (over_but o) (nodes_with now new.keys.items)) one
-          ∙ (ap (λ (c : Collection). list_any is_over c.nodes) (shown ∙ sym given) ∙ not-true (list_any is_over back.nodes.items) (sym tidy ∙ h));
+          ∙ (ap (λ (c : Collection). list_any is_over c.nodes) (shown ∙ sym given) ∙ not-true (list_any is_over back.nodes.items) (sym tidy
+          ∙ h));
     })

@@ -76,7 +76,8 @@ stored-all (n ∷ ns) (o ∷ os) same distinct =
     rw (same_key-true n.key o.key first, stored-lacks ns n none, stored-others n ns os (any-keys n.key os ns on ∙ none), rest) refl
 
 -- the first of them
-looked-key : (id : ℕ) (key : NodeKey) (o : Option Node) (ns : List Node) (keys : List NodeKey) → ((n : Node) → o ≡ Some n → n.key ≡ key) → option_map_or (λ (n : Node). n.collection == id) o false ≡ true → keys_in ns ≡ keys → keys_in (cons_option o ns) ≡ key ∷ keys
+looked-key : (id : ℕ) (key : NodeKey) (o : Option Node) (ns : List Node) (keys : List NodeKey) → ((n : Node) → o ≡ Some n → n.key ≡ key) →
+    option_map_or (λ (n : Node). n.collection == id) o false ≡ true → keys_in ns ≡ keys → keys_in (cons_option o ns) ≡ key ∷ keys
 looked-key id key None ns keys named filed on = absurd (false≢true filed)
 looked-key id key (Some n) ns keys named filed on = λ i. named n refl i ∷ on i
 
@@ -90,12 +91,16 @@ place-filed id None filed = absurd (false≢true filed)
 place-filed id (Some n) filed = refl
 
 -- the nodes that filed keys find have those keys
-pub looked-keys : (t : Table Node) (id : ℕ) → ((key : NodeKey) (n : Node) → node_at t key ≡ Some n → n.key ≡ key) → (keys : List NodeKey) → list_all (is_filed t id) keys ≡ true → keys_in (nodes_with t keys) ≡ keys
+pub looked-keys : (t : Table Node) (id : ℕ) → ((key : NodeKey) (n : Node) → node_at t key ≡ Some n → n.key ≡ key) → (keys : List NodeKey) →
+    list_all (is_filed t id) keys ≡ true → keys_in (nodes_with t keys) ≡ keys
 looked-keys t id named [] filed = refl
-looked-keys t id named (k ∷ ks) filed = looked-key id k (node_at t k) (nodes_with t ks) ks (named k) (and_left _ _ filed) (looked-keys t id named ks (and_right _ _ filed))
+looked-keys t id named (k ∷ ks) filed =
+    looked-key id k (node_at t k) (nodes_with t ks) ks (named k) (and_left _ _ filed) (looked-keys t id named ks (and_right _ _ filed))
 
 -- the nodes that were stored are found
-pub nodes-stored : (t now : Table Node) (id : ℕ) (ns : List Node) (keys : List NodeKey) → ((key : NodeKey) → node_at now key ≡ option_map (stored ns) (node_at t key)) → ((key : NodeKey) (n : Node) → node_at t key ≡ Some n → n.key ≡ key) → list_all (is_filed t id) keys ≡ true → keys_in ns ≡ keys → are_distinct ns ≡ true → nodes_with now keys ≡ ns
+pub nodes-stored : (t now : Table Node) (id : ℕ) (ns : List Node) (keys : List NodeKey) →
+    ((key : NodeKey) → node_at now key ≡ option_map (stored ns) (node_at t key)) → ((key : NodeKey) (n : Node) → node_at t key ≡ Some n →
+    n.key ≡ key) → list_all (is_filed t id) keys ≡ true → keys_in ns ≡ keys → are_distinct ns ≡ true → nodes_with now keys ≡ ns
 nodes-stored t now id ns keys look named filed own distinct =
     looked-map (stored ns) (node_at t) (node_at now) look keys
     ∙ stored-all ns (nodes_with t keys) (looked-keys t id named keys filed ∙ sym own) distinct
@@ -115,10 +120,12 @@ written-of id m n false mine own = own
 -- a node of the collection stays of it
 stored-of : (id : ℕ) (ns : List Node) (n : Node) → all_of id ns ≡ true → n.collection ≡ id → (stored ns n).collection ≡ id
 stored-of id [] n all own = own
-stored-of id (m ∷ ms) n all own = stored-of id ms (written m n) (and_right _ _ all) (written-of id m n (same_key m.key n.key) (eqb-true _ _ (and_left _ _ all)) own)
+stored-of id (m ∷ ms) n all own =
+    stored-of id ms (written m n) (and_right _ _ all) (written-of id m n (same_key m.key n.key) (eqb-true _ _ (and_left _ _ all)) own)
 
 -- a node of another collection has none of these keys
-unwritten : (t : Table Node) (id : ℕ) (m n : Node) (same : Bool) → same_key m.key n.key ≡ same → is_filed t id m.key ≡ true → node_at t n.key ≡ Some n → n.collection ≢ id → cond same m n ≡ n
+unwritten : (t : Table Node) (id : ℕ) (m n : Node) (same : Bool) → same_key m.key n.key ≡ same → is_filed t id m.key ≡ true →
+    node_at t n.key ≡ Some n → n.collection ≢ id → cond same m n ≡ n
 unwritten t id m n true same filed found other =
     let there : node_at t m.key ≡ Some n = ap (node_at t) (true-same_key m.key n.key same) ∙ found in
     let own : (n.collection == id) ≡ true = rw there at filed in
@@ -126,20 +133,27 @@ unwritten t id m n true same filed found other =
 unwritten t id m n false same filed found other = refl
 
 -- a node of another collection is not written over
-stored-beside : (t : Table Node) (id : ℕ) (ns : List Node) (n : Node) → list_all (is_filed t id) (keys_in ns) ≡ true → node_at t n.key ≡ Some n → n.collection ≢ id → stored ns n ≡ n
+stored-beside : (t : Table Node) (id : ℕ) (ns : List Node) (n : Node) → list_all (is_filed t id) (keys_in ns) ≡ true →
+    node_at t n.key ≡ Some n → n.collection ≢ id → stored ns n ≡ n
 stored-beside t id [] n filed found other = refl
 stored-beside t id (m ∷ ms) n filed found other =
-    rw (unwritten t id m n (same_key m.key n.key) refl (and_left _ _ filed) found other) (stored-beside t id ms n (and_right _ _ filed) found other)
+    rw (unwritten t id m n (same_key m.key n.key) refl (and_left _ _ filed) found other) (stored-beside t id ms n (and_right _ _ filed)
+    found other)
 
 -- a node of another collection stays
-node-beside : (t : Table Node) (id : ℕ) (ns : List Node) → list_all (is_filed t id) (keys_in ns) ≡ true → (other : ℕ) → other ≢ id → (key : NodeKey) (o : Option Node) → node_at t key ≡ o → ((n : Node) → node_at t key ≡ Some n → n.key ≡ key) → option_map_or (λ (n : Node). n.collection == other) o false ≡ true → option_map (stored ns) o ≡ o
+node-beside : (t : Table Node) (id : ℕ) (ns : List Node) → list_all (is_filed t id) (keys_in ns) ≡ true → (other : ℕ) → other ≢ id →
+    (key : NodeKey) (o : Option Node) → node_at t key ≡ o → ((n : Node) → node_at t key ≡ Some n → n.key ≡ key) →
+    option_map_or (λ (n : Node). n.collection == other) o false ≡ true → option_map (stored ns) o ≡ o
 node-beside t id ns own other differ key None is named filed = refl
 node-beside t id ns own other differ key (Some n) is named filed =
     let found : node_at t n.key ≡ Some n = ap (node_at t) (named n is) ∙ is in
     ap Some (stored-beside t id ns n own found (λ same. differ (sym (eqb-true _ _ filed) ∙ same)))
 
 -- the nodes of another collection stay
-nodes-beside : (t now : Table Node) (id : ℕ) (ns : List Node) → ((key : NodeKey) → node_at now key ≡ option_map (stored ns) (node_at t key)) → ((key : NodeKey) (n : Node) → node_at t key ≡ Some n → n.key ≡ key) → list_all (is_filed t id) (keys_in ns) ≡ true → (other : ℕ) → other ≢ id → (keys : List NodeKey) → list_all (is_filed t other) keys ≡ true → nodes_with now keys ≡ nodes_with t keys
+nodes-beside : (t now : Table Node) (id : ℕ) (ns : List Node) →
+    ((key : NodeKey) → node_at now key ≡ option_map (stored ns) (node_at t key)) → ((key : NodeKey) (n : Node) → node_at t key ≡ Some n →
+    n.key ≡ key) → list_all (is_filed t id) (keys_in ns) ≡ true → (other : ℕ) → other ≢ id → (keys : List NodeKey) →
+    list_all (is_filed t other) keys ≡ true → nodes_with now keys ≡ nodes_with t keys
 nodes-beside t now id ns look named own other differ [] filed = refl
 nodes-beside t now id ns look named own other differ (k ∷ ks) filed =
     let rest : nodes_with now ks ≡ nodes_with t ks = nodes-beside t now id ns look named own other differ ks (and_right _ _ filed) in
@@ -147,9 +161,12 @@ nodes-beside t now id ns look named own other differ (k ∷ ks) filed =
     (ap (λ o. cons_option o (nodes_with t ks)) (node-beside t id ns own other differ k (node_at t k) refl (named k) (and_left _ _ filed)))
 
 -- what holds while a collection is put back: its nodes are in the table, in the places of those with their keys
-module _ (t now : Table Node) (id : ℕ) (ns : List Node) (stores : Stores t now ns) (named : (key : NodeKey) (n : Node) → node_at t key ≡ Some n → n.key ≡ key) (own : list_all (is_filed t id) (keys_in ns) ≡ true) where
+module _ (t now : Table Node) (id : ℕ) (ns : List Node) (stores : Stores t now ns) (named : (key : NodeKey) (n : Node) →
+    node_at t key ≡ Some n → n.key ≡ key) (own : list_all (is_filed t id) (keys_in ns) ≡ true) where
   -- by the node that was there
-  filed-still-by : all_of id ns ≡ true → (other : ℕ) (key : NodeKey) (o : Option Node) → node_at t key ≡ o → option_map_or (λ (n : Node). n.collection == other) (option_map (stored ns) o) false ≡ option_map_or (λ (n : Node). n.collection == other) o false
+  filed-still-by : all_of id ns ≡ true → (other : ℕ) (key : NodeKey) (o : Option Node) → node_at t key ≡ o →
+      option_map_or (λ (n : Node). n.collection == other) (option_map (stored ns) o) false ≡ option_map_or (λ (n : Node).
+      n.collection == other) o false
   filed-still-by all other key None is = refl
   filed-still-by all other key (Some n) is = elim (cases_eq n.collection id) [
     | inl equal ↦ ap (λ (c : ℕ). c == other) (stored-of id ns n all equal ∙ sym equal)
@@ -158,7 +175,8 @@ module _ (t now : Table Node) (id : ℕ) (ns : List Node) (stores : Stores t now
 
   -- each key is filed where it was
   filed-still : all_of id ns ≡ true → (other : ℕ) (key : NodeKey) → is_filed now other key ≡ is_filed t other key
-  filed-still all other key = ap (λ o. option_map_or (λ (n : Node). n.collection == other) o false) (stores.look key) ∙ filed-still-by all other key (node_at t key) refl
+  filed-still all other key = ap (λ o. option_map_or (λ (n : Node). n.collection == other) o false) (stores.look key)
+      ∙ filed-still-by all other key (node_at t key) refl
 
   -- another collection stays
   pub collection-beside : (s : Shelf) → s.id ≢ id → list_all (is_filed t s.id) s.keys ≡ true → collection_in now s ≡ collection_in t s
@@ -170,7 +188,8 @@ module _ (t now : Table Node) (id : ℕ) (ns : List Node) (stores : Stores t now
   }
 
   -- so all of greater ids
-  collections-above : (ss : List Shelf) → AllByRecursion (λ (later : Shelf). id < later.id) ss → are_filed t ss ≡ true → map (collection_in now) ss ≡ map (collection_in t) ss
+  collections-above : (ss : List Shelf) → AllByRecursion (λ (later : Shelf). id < later.id) ss → are_filed t ss ≡ true →
+      map (collection_in now) ss ≡ map (collection_in t) ss
   collections-above [] all filed = refl
   collections-above (s ∷ ss) all filed =
       let first : collection_in now s ≡ collection_in t s = collection-beside s (λ same. omega (arith, all.0)) (and_left _ _ filed) in
@@ -178,11 +197,16 @@ module _ (t now : Table Node) (id : ℕ) (ns : List Node) (stores : Stores t now
       λ i. first i ∷ rest i
 
   -- all collections, with that one put back
-  pub collections-put : (new old : Shelf) (ss : List Shelf) → new.id ≡ id → old.id ≡ new.id → AreRising ss → are_filed t (put_shelf old ss) ≡ true → map (collection_in now) (put_shelf new ss) ≡ put (collection_in now new) (map (collection_in t) ss)
+  pub collections-put : (new old : Shelf) (ss : List Shelf) → new.id ≡ id → old.id ≡ new.id → AreRising ss →
+      are_filed t (put_shelf old ss) ≡ true →
+      map (collection_in now) (put_shelf new ss) ≡ put (collection_in now new) (map (collection_in t) ss)
   collections-put new old [] is was rising filed = refl
-  collections-put new old (s ∷ ss) is was rising filed = cases_place s.id new.id (map (collection_in now) (put_shelf new (s ∷ ss)) ≡ put (collection_in now new) (map (collection_in t) (s ∷ ss)))
+  collections-put new old (s ∷ ss) is was rising filed =
+      cases_place s.id new.id (map (collection_in now) (put_shelf new (s ∷ ss)) ≡ put (collection_in now new)
+      (map (collection_in t) (s ∷ ss)))
       (λ same. rw same (ap (λ cs. collection_in now new ∷ cs)
-      (collections-above ss (subst (λ (low : ℕ). AllByRecursion (λ (later : Shelf). low < later.id) ss) (eqb-true s.id new.id same ∙ is) rising.0) (and_right _ _ (rw (was, same) at filed)))))
+      (collections-above ss (subst (λ (low : ℕ). AllByRecursion (λ (later : Shelf). low < later.id) ss) (eqb-true s.id new.id same
+      ∙ is) rising.0) (and_right _ _ (rw (was, same) at filed)))))
       (λ other above.
       let less : id < s.id = omega (arith, is, ltb-true _ _ above) in
       rw (other, above) (ap (λ cs. collection_in now new ∷ cs)
@@ -195,14 +219,16 @@ module _ (t now : Table Node) (id : ℕ) (ns : List Node) (stores : Stores t now
       rw (other, below) (λ i. first i ∷ rest i))
 
   -- a node that is found was found under the same key
-  found-before : (key : NodeKey) (o : Option Node) (n : Node) → option_map (stored ns) o ≡ Some n → (m : Node) × (o ≡ Some m) × (n.key ≡ m.key) × (stored ns m ≡ n)
+  found-before : (key : NodeKey) (o : Option Node) (n : Node) → option_map (stored ns) o ≡ Some n → (m : Node) × (o ≡ Some m) ×
+      (n.key ≡ m.key) × (stored ns m ≡ n)
   found-before key None n is = absurd (cc)
   found-before key (Some m) n is =
       let same : stored ns m ≡ n = cc in
       (m, refl, ap (λ (x : Node). x.key) (sym same) ∙ stored-key ns m, same)
 
   -- a node that is not gone has its parent in the table, as all that were stored have
-  linked-put : AllByRecursion (λ (n : Node). n.gone ≡ false → parent_at t n.key ≡ n.parent) ns → ((key : NodeKey) (n : Node) → node_at t key ≡ Some n → n.gone ≡ false → parent_at t key ≡ n.parent) →
+  linked-put : AllByRecursion (λ (n : Node). n.gone ≡ false → parent_at t n.key ≡ n.parent) ns → ((key : NodeKey) (n : Node) →
+      node_at t key ≡ Some n → n.gone ≡ false → parent_at t key ≡ n.parent) →
       (key : NodeKey) (n : Node) → node_at now key ≡ Some n → n.gone ≡ false → parent_at now key ≡ n.parent
   linked-put all linked key n is here =
       let was = found-before key (node_at t key) n (sym (stores.look key) ∙ is) in
@@ -216,7 +242,9 @@ module _ (t now : Table Node) (id : ℕ) (ns : List Node) (stores : Stores t now
       ])
 
   -- all stays so
-  pub kept-put : all_of id ns ≡ true → (new old : Shelf) (ss : List Shelf) → old.id ≡ new.id → old.keys ≡ new.keys → AreRising ss → IsKept t (put_shelf old ss) → AllByRecursion (λ (n : Node). n.gone ≡ false → parent_at t n.key ≡ n.parent) ns → AllByRecursion (λ (s : Shelf). IsWhole (collection_in now s)) (put_shelf new ss) → IsKept now (put_shelf new ss)
+  pub kept-put : all_of id ns ≡ true → (new old : Shelf) (ss : List Shelf) → old.id ≡ new.id → old.keys ≡ new.keys → AreRising ss →
+      IsKept t (put_shelf old ss) → AllByRecursion (λ (n : Node). n.gone ≡ false → parent_at t n.key ≡ n.parent) ns →
+      AllByRecursion (λ (s : Shelf). IsWhole (collection_in now s)) (put_shelf new ss) → IsKept now (put_shelf new ss)
   kept-put all new old ss ids keys rising ok linked whole =
       let same_keys : all_keys (put_shelf new ss) ≡ all_keys (put_shelf old ss) = sym (keys-put old new ss ids keys) in
       record {
@@ -238,17 +266,20 @@ module _ (t now : Table Node) (id : ℕ) (ns : List Node) (stores : Stores t now
 -- ---- wholeness
 
 -- of shelves and of their collections
-pub whole-map : (t : Table Node) (ss : List Shelf) → AllByRecursion (λ (s : Shelf). IsWhole (collection_in t s)) ss → AllByRecursion IsWhole (map (collection_in t) ss)
+pub whole-map : (t : Table Node) (ss : List Shelf) → AllByRecursion (λ (s : Shelf). IsWhole (collection_in t s)) ss →
+    AllByRecursion IsWhole (map (collection_in t) ss)
 whole-map t [] all = tt
 whole-map t (s ∷ ss) all = (all.0, whole-map t ss all.1)
 
 -- and back
-pub whole-unmap : (t : Table Node) (ss : List Shelf) → AllByRecursion IsWhole (map (collection_in t) ss) → AllByRecursion (λ (s : Shelf). IsWhole (collection_in t s)) ss
+pub whole-unmap : (t : Table Node) (ss : List Shelf) → AllByRecursion IsWhole (map (collection_in t) ss) →
+    AllByRecursion (λ (s : Shelf). IsWhole (collection_in t s)) ss
 whole-unmap t [] all = tt
 whole-unmap t (s ∷ ss) all = (all.0, whole-unmap t ss all.1)
 
 -- with a whole collection in the place of another
-pub whole-put : (new old : Collection) (cs : List Collection) → old.id ≡ new.id → IsWhole new → AllByRecursion IsWhole (put old cs) → AllByRecursion IsWhole (put new cs)
+pub whole-put : (new old : Collection) (cs : List Collection) → old.id ≡ new.id → IsWhole new → AllByRecursion IsWhole (put old cs) →
+    AllByRecursion IsWhole (put new cs)
 whole-put new old [] ids ok all = (ok, tt)
 whole-put new old (c ∷ cs) ids ok all = cases_place c.id new.id (AllByRecursion IsWhole (put new (c ∷ cs)))
     (λ same. let parts = rw (ids, same) at all in rw same (ok, parts.1))

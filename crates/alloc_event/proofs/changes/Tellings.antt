@@ -21,7 +21,8 @@ given_is t ss key first =
     rw (low, first) refl
 
 -- by the node above
-birth_id : (attached : Bool) (client event : ℕ) (key : NodeKey) (c : Collection) (o : Option Node) → (option_map_or (λ n. record c { nodes = c.nodes ++ new_child attached key event client n ∷ [] }) o c).id ≡ c.id
+birth_id : (attached : Bool) (client event : ℕ) (key : NodeKey) (c : Collection) (o : Option Node) →
+    (option_map_or (λ n. record c { nodes = c.nodes ++ new_child attached key event client n ∷ [] }) o c).id ≡ c.id
 birth_id attached client event key c None = refl
 birth_id attached client event key c (Some n) = refl
 
@@ -39,37 +40,48 @@ module _ (pool : ℕ) (handles : Handles) (t now : Table Node) (ss behind : List
   id_is change key = changed_id change key (collection_or_new (forest_of t ss) id) ∙ (before_is t ss ok id).id_is
 
   -- a birth
-  pub settled_birth : (parent : Option NodeKey) (attached : Bool) (client event : ℕ) (key : NodeKey) → Finishes pool handles t ss now behind (with_birth parent attached client event key (collection_or_new (forest_of t ss) id)) → Gives t now key → Settled pool handles (forest_of t ss) (forest_of now behind) id (Change.Birth parent attached client event) (Some key)
+  pub settled_birth : (parent : Option NodeKey) (attached : Bool) (client event : ℕ) (key : NodeKey) →
+      Finishes pool handles t ss now behind (with_birth parent attached client event key (collection_or_new (forest_of t ss) id)) →
+      Gives t now key → Settled pool handles (forest_of t ss) (forest_of now behind) id (Change.Birth parent attached client event)
+      (Some key)
   settled_birth parent attached client event key f gives =
       let own = id_is (Change.Birth parent attached client event) key in
       record {
         after = f.after;
         told = refl;
         fresh = given_is t ss key ok.first ∙ gives.fresh;
-        settles = subst (λ (i : ℕ). Settles pool handles (beside (forest_of t ss) i) (changed (Change.Birth parent attached client event) key (collection_or_new (forest_of t ss) id)) f.after) own f.settles;
+        settles = subst (λ (i : ℕ). Settles pool handles (beside (forest_of t ss) i) (changed (Change.Birth parent attached client event)
+            key (collection_or_new (forest_of t ss) id)) f.after) own f.settles;
         collections = f.collections;
-        rests = subst (λ (i : ℕ). forced pool (standing handles (beside (forest_of now behind) i) (given_back handles f.after)) ≡ None) own f.rests;
+        rests = subst (λ (i : ℕ). forced pool (standing handles (beside (forest_of now behind) i) (given_back handles f.after)) ≡ None) own
+            f.rests;
         limit = gives.limit;
-        keys = λ k. given_is now behind k (gives.first ∙ ok.first) ∙ gives.given k ∙ ap (λ b. same_key key k || b) (sym (given_is t ss k ok.first));
+        keys = λ k. given_is now behind k (gives.first ∙ ok.first) ∙ gives.given k
+            ∙ ap (λ b. same_key key k || b) (sym (given_is t ss k ok.first));
       }
 
   -- another change
-  pub settled_change : (change : Change) → is_birth change ≡ false → Finishes pool handles t ss now behind (changed change no_key (collection_or_new (forest_of t ss) id)) → SameTable t now → Settled pool handles (forest_of t ss) (forest_of now behind) id change None
+  pub settled_change : (change : Change) → is_birth change ≡ false →
+      Finishes pool handles t ss now behind (changed change no_key (collection_or_new (forest_of t ss) id)) → SameTable t now →
+      Settled pool handles (forest_of t ss) (forest_of now behind) id change None
   settled_change change birth f same =
       let own = id_is change no_key in
       record {
         after = f.after;
         told = sym birth;
         fresh = tt;
-        settles = subst (λ (i : ℕ). Settles pool handles (beside (forest_of t ss) i) (changed change no_key (collection_or_new (forest_of t ss) id)) f.after) own f.settles;
+        settles = subst (λ (i : ℕ). Settles pool handles (beside (forest_of t ss) i)
+            (changed change no_key (collection_or_new (forest_of t ss) id)) f.after) own f.settles;
         collections = f.collections;
-        rests = subst (λ (i : ℕ). forced pool (standing handles (beside (forest_of now behind) i) (given_back handles f.after)) ≡ None) own f.rests;
+        rests = subst (λ (i : ℕ). forced pool (standing handles (beside (forest_of now behind) i) (given_back handles f.after)) ≡ None) own
+            f.rests;
         limit = same.limit;
         keys = λ k. ap (λ (nexts : List ℕ). nat_lt k.generation (slice_index_or nexts k.slot 0)) same.nexts;
       }
 
 -- a change that is no birth
-pub no_birth : (change : Change) → ((parent : Option NodeKey) (attached : Bool) (client event : ℕ) → change ≡ Change.Birth parent attached client event → ⊥) → is_birth change ≡ false
+pub no_birth : (change : Change) → ((parent : Option NodeKey) (attached : Bool) (client event : ℕ) →
+    change ≡ Change.Birth parent attached client event → ⊥) → is_birth change ≡ false
 no_birth (Change.Birth parent attached client event) none = absurd (none parent attached client event refl)
 no_birth (Change.Effect key effect) none = refl
 no_birth (Change.Loss origin cause) none = refl

@@ -30,7 +30,8 @@ use Rattle.alloc_event.proofs.calm.United.{each_all}
 use Rattle.alloc_event.proofs.tables.Writing.{IsSameNode}
 
 -- what is found, where tests agree
-find-In : {A : Type 0} (p q : A → Bool) (f : A → A) (xs : List A) → ((x : A) → In x xs → p (f x) ≡ q x) → find p (map f xs) ≡ option_map f (find q xs)
+find-In : {A : Type 0} (p q : A → Bool) (f : A → A) (xs : List A) → ((x : A) → In x xs → p (f x) ≡ q x) →
+    find p (map f xs) ≡ option_map f (find q xs)
 find-In p q f [] same = refl
 find-In {A = A} p q f (x ∷ xs) same = elim (either_way (q x)) [
   | inl e ↦ let h : p (f x) ≡ true = same x (inl refl) ∙ e in rw (h, e) refl
@@ -62,7 +63,8 @@ or_last false = refl
 
 -- nodes fall, of which all but the highest have their parents among them
 module _ (c : Collection) (whole : IsWhole c) (falls : NodeKey → Bool) (top above : Node)
-    (up : (x : Node) → In x c.nodes → x.gone ≡ false → falls x.key ≡ true → (x ≡ top) ⊎ ((p : NodeKey) × (x.parent ≡ Some p) × (falls p ≡ true)))
+    (up : (x : Node) → In x c.nodes → x.gone ≡ false → falls x.key ≡ true → (x ≡ top) ⊎ ((p : NodeKey) × (x.parent ≡ Some p) ×
+    (falls p ≡ true)))
     (top_up : In top c.nodes → top.gone ≡ false → top.parent ≡ Some above.key)
     (above_one : (q : Node) → In q c.nodes → q.key ≡ above.key → q ≡ above) where
   abbrev nodes : List Node
@@ -92,37 +94,46 @@ module _ (c : Collection) (whole : IsWhole c) (falls : NodeKey → Bool) (top ab
           (sym q.3 ∙ ap (λ (n : Node). n.head) (above_one q.0 q.1 q.2), ap (λ (n : Node). n.attached) (sym is) ∙ second_false (is_none x.parent) x.attached e)
       | inr more ↦
           let q = shared nodes distinct heads whole.rooted whole.united x on here e more.0 more.1 in
-          let left : is_left_of nodes q.0.key ≡ true = subst (λ (k : NodeKey). is_left_of nodes k ≡ true) (sym q.2) (left_parent nodes whole.rooted x more.0 on here more.1) in
-          let long : length (line nodes distinct heads whole.rooted whole.united x.key) ≡ length (more.0 ∷ line nodes distinct heads whole.rooted whole.united more.0) =
+          let left : is_left_of nodes q.0.key ≡ true =
+          subst (λ (k : NodeKey). is_left_of nodes k ≡ true) (sym q.2) (left_parent nodes whole.rooted x more.0 on here more.1) in
+          let long : length (line nodes distinct heads whole.rooted whole.united x.key) ≡ length (more.0 ∷ line nodes distinct heads
+          whole.rooted whole.united more.0) =
           ap length (step nodes distinct heads whole.rooted whole.united x on here more.0 more.1) in
-          let same : length (line nodes distinct heads whole.rooted whole.united q.0.key) ≡ length (line nodes distinct heads whole.rooted whole.united more.0) =
+          let same : length (line nodes distinct heads whole.rooted whole.united q.0.key) ≡ length (line nodes distinct heads whole.rooted
+          whole.united more.0) =
           ap (λ (k : NodeKey). length (line nodes distinct heads whole.rooted whole.united k)) q.2 in
-          let r = crossing fuel q.0 q.1 (still_here nodes distinct heads whole.rooted whole.united q.0 q.1 left) (ap falls q.2 ∙ more.2) (ap falls q.3 ∙ out) (omega arith) in
+          let r = crossing fuel q.0 q.1 (still_here nodes distinct heads whole.rooted whole.united q.0 q.1 left) (ap falls q.2
+          ∙ more.2) (ap falls q.3 ∙ out) (omega arith) in
           (sym q.3 ∙ r.0, r.1)
     ]
   ]
 
-  crossed : (x : Node) → In x nodes → x.gone ≡ false → falls x.key ≡ true → (h : NodeKey) → x.head ≡ h → falls h ≡ false → (h ≡ above.head) × (top.attached ≡ false)
+  crossed : (x : Node) → In x nodes → x.gone ≡ false → falls x.key ≡ true → (h : NodeKey) → x.head ≡ h → falls h ≡ false →
+      (h ≡ above.head) × (top.attached ≡ false)
   crossed x on here f h is out =
-      let r = crossing (suc (length (line nodes distinct heads whole.rooted whole.united x.key))) x on here f (ap falls is ∙ out) (omega arith) in
+      let r = crossing (suc (length (line nodes distinct heads whole.rooted whole.united x.key))) x on here f (ap falls is
+      ∙ out) (omega arith) in
       (sym is ∙ r.0, r.1)
 
   -- so is the unit below whose node it hangs
-  hung_above : (x : Node) → In x nodes → x.gone ≡ false → falls x.key ≡ true → (h : NodeKey) → falls h ≡ false → (o : Option NodeKey) → x.parent ≡ o →
+  hung_above : (x : Node) → In x nodes → x.gone ≡ false → falls x.key ≡ true → (h : NodeKey) → falls h ≡ false → (o : Option NodeKey) →
+      x.parent ≡ o →
       option_map_or (λ p. list_any (λ (q : Node). is_of p q && same_key q.head h) nodes) o false ≡ true → h ≡ above.head
   hung_above x on here f h out None is hangs = cc
   hung_above x on here f h out (Some p) is hangs =
       let y = In-list_any (λ (q : Node). is_of p q && same_key q.head h) nodes hangs in
       let key : y.0.key ≡ p = same_key-true y.0.key p (and_left (is_of p y.0) _ y.2) in
       let unit : y.0.head ≡ h = same_key-true y.0.head h (and_right (is_of p y.0) _ y.2) in
-      let left : is_left_of nodes y.0.key ≡ true = subst (λ (k : NodeKey). is_left_of nodes k ≡ true) (sym key) (left_parent nodes whole.rooted x p on here is) in
+      let left : is_left_of nodes y.0.key ≡ true =
+      subst (λ (k : NodeKey). is_left_of nodes k ≡ true) (sym key) (left_parent nodes whole.rooted x p on here is) in
       elim (up x on here f) [
         | inl top_is ↦
             let same : p ≡ above.key = one_parent p above.key (sym is ∙ up_of x on here top_is) in
             sym unit ∙ ap (λ (n : Node). n.head) (above_one y.0 y.1 (key ∙ same))
         | inr more ↦
             let same : more.0 ≡ p = one_parent more.0 p (sym more.1 ∙ is) in
-            (crossed y.0 y.1 (still_here nodes distinct heads whole.rooted whole.united y.0 y.1 left) (ap falls (key ∙ sym same) ∙ more.2) h unit out).0
+            (crossed y.0 y.1 (still_here nodes distinct heads whole.rooted whole.united y.0 y.1 left) (ap falls (key ∙ sym same)
+            ∙ more.2) h unit out).0
       ]
 
   module _ (f : Node → Node) (same : (n : Node) → IsSameNode (f n) n) (alloc : (n : Node) → (f n).allocated ≡ n.allocated)
@@ -133,8 +144,10 @@ module _ (c : Collection) (whole : IsWhole c) (falls : NodeKey → Bool) (top ab
     stays : (n : Node) → (f n).gone ≡ false → (falls n.key ≡ false) × (n.gone ≡ false)
     stays n h = (first_false (falls n.key) n.gone (sym (goes n) ∙ h), second_false (falls n.key) n.gone (sym (goes n) ∙ h))
 
-    unit_same : (p head : NodeKey) → list_any (λ (q : Node). is_of p q && same_key q.head head) now ≡ list_any (λ (q : Node). is_of p q && same_key q.head head) nodes
-    unit_same p head = any-In (λ (q : Node). is_of p q && same_key q.head head) (λ (q : Node). is_of p q && same_key q.head head) f nodes (λ q there. λ i. same_key ((same q).key i) p && same_key ((same q).head i) head)
+    unit_same : (p head : NodeKey) → list_any (λ (q : Node). is_of p q && same_key q.head head) now ≡ list_any (λ (q : Node).
+        is_of p q && same_key q.head head) nodes
+    unit_same p head = any-In (λ (q : Node). is_of p q && same_key q.head head) (λ (q : Node). is_of p q && same_key q.head head) f nodes
+        (λ q there. λ i. same_key ((same q).key i) p && same_key ((same q).head i) head)
 
     hangs_same : (head : NodeKey) (n : Node) → hangs_in now head n ≡ hangs_in nodes head n
     hangs_same head n = λ i. option_map_or (λ p. unit_same p head i) n.parent false
@@ -150,13 +163,16 @@ module _ (c : Collection) (whole : IsWhole c) (falls : NodeKey → Bool) (top ab
           ((λ i. not x.gone && ((same_key x.head m.key && not x.released) || (x.attached && hangs_same m.key x i))) ∙ holds))
       by_holder m x on out holds (inl e) =
           let here : x.gone ≡ false = not-true x.gone (and_left (not x.gone) _ holds) in
-          let is : m.key ≡ above.head = elim (or_cases (same_key x.head m.key && not x.released) (x.attached && hangs_in nodes m.key x) (and_right (not x.gone) _ holds)) [
+          let is : m.key ≡ above.head =
+          elim (or_cases (same_key x.head m.key && not x.released) (x.attached && hangs_in nodes m.key x)
+          (and_right (not x.gone) _ holds)) [
             | inl own ↦ (crossed x on here e m.key (same_key-true x.head m.key (and_left (same_key x.head m.key) _ own)) out).0
             | inr under ↦ hung_above x on here e m.key out x.parent refl (and_right x.attached _ under)
           ] in
           subst (λ (k : NodeKey). list_any (holds_unit now k) now ≡ true) (sym is) lives
 
-      held_one : (m : Node) → In m nodes → (falls m.key ≡ false) → (m.gone ≡ false) → (is_head m ≡ true) ⊎ (is_head m ≡ false) → is_held now m ≡ true
+      held_one : (m : Node) → In m nodes → (falls m.key ≡ false) → (m.gone ≡ false) → (is_head m ≡ true) ⊎ (is_head m ≡ false) →
+          is_held now m ≡ true
       held_one m on out here (inr h) = rw (here, h) refl
       held_one m on out here (inl h) =
           let all : is_held nodes m ≡ true = all-In (is_held nodes) nodes m on held in
@@ -182,7 +198,9 @@ module _ (c : Collection) (whole : IsWhole c) (falls : NodeKey → Bool) (top ab
         ⊎ ((h : Node) → In h nodes → h.key ≡ above.head → h.allocated ≡ true)))) where
       ready_before : (h : Node) → In h nodes → (f h).gone ≡ false → h.allocated ≡ false →
           list_all (is_ready_node h.key) now ≡ true → list_all (is_ready_node h.key) nodes ≡ true
-      ready_before h on here waiting all = each_all (is_ready_node h.key) nodes (λ m there. one m there (either_way (falls m.key)) (either_way m.gone) (either_way (same_key m.head h.key)))
+      ready_before h on here waiting all =
+          each_all (is_ready_node h.key) nodes (λ m there.
+          one m there (either_way (falls m.key)) (either_way m.gone) (either_way (same_key m.head h.key)))
         where
           own : (m : Node) → In m nodes → h.key ≡ above.head → top.attached ≡ false →
               (top.attached ≡ true) ⊎ ((times (waits_in above.head) nodes ≡ 0) ⊎ ((0 < times (waits_in above.head) now)
@@ -196,12 +214,14 @@ module _ (c : Collection) (whole : IsWhole c) (falls : NodeKey → Bool) (top ab
           own m there is link (inr (inr (inl some))) =
               let x = In-list_any (waits_in above.head) now (some_pass (waits_in above.head) now some) in
               let ready : is_ready_node h.key x.0 ≡ true = all-In (is_ready_node h.key) now x.0 x.1 all in
-              both_ways (is_ready_node above.head x.0) (subst (λ (k : NodeKey). is_ready_node k x.0 ≡ true) is ready) (not_is (is_ready_node above.head x.0) x.2)
+              both_ways (is_ready_node above.head x.0) (subst (λ (k : NodeKey). is_ready_node k x.0 ≡ true) is ready)
+              (not_is (is_ready_node above.head x.0) x.2)
           own m there is link (inr (inr (inr given))) = both_ways h.allocated (given h on is) waiting
 
           one : (m : Node) → In m nodes → (falls m.key ≡ true) ⊎ (falls m.key ≡ false) → (m.gone ≡ true) ⊎ (m.gone ≡ false) →
               (same_key m.head h.key ≡ true) ⊎ (same_key m.head h.key ≡ false) → is_ready_node h.key m ≡ true
-          one m there (inr e) g s = ap (is_ready_node h.key) (sym (alone m e)) ∙ all-In (is_ready_node h.key) now (f m) (In-map-back f nodes m there) all
+          one m there (inr e) g s =
+              ap (is_ready_node h.key) (sym (alone m e)) ∙ all-In (is_ready_node h.key) now (f m) (In-map-back f nodes m there) all
           one m there (inl e) (inl g) s = rw g refl
           one m there (inl e) (inr g) (inr s) = rw s (or_last m.gone)
           one m there (inl e) (inr g) (inl s) =
@@ -236,12 +256,14 @@ module _ (c : Collection) (whole : IsWhole c) (falls : NodeKey → Bool) (top ab
               ∙ sym (no_root (is_none x.parent) (not x.gone) (has_parent g e))
 
       waiting_none : waiting nodes ≡ None → waiting now ≡ None
-      waiting_none none = ap (option_and_then (λ (root : Node). when (not root.allocated && list_all (is_ready_node root.key) now) root)) (find-In is_root_left is_root_left f nodes root_one)
+      waiting_none none = ap (option_and_then (λ (root : Node). when (not root.allocated && list_all (is_ready_node root.key) now) root))
+          (find-In is_root_left is_root_left f nodes root_one)
           ∙ from (find is_root_left nodes) refl none
         where
           from : (o : Option Node) → find is_root_left nodes ≡ o →
               option_and_then (λ (root : Node). when (not root.allocated && list_all (is_ready_node root.key) nodes) root) o ≡ None →
-              option_and_then (λ (root : Node). when (not root.allocated && list_all (is_ready_node root.key) now) root) (option_map f o) ≡ None
+              option_and_then (λ (root : Node). when (not root.allocated && list_all (is_ready_node root.key) now) root)
+              (option_map f o) ≡ None
           from None is h = refl
           from (Some root) is h =
               let there = In-find is_root_left nodes root is in
@@ -252,7 +274,8 @@ module _ (c : Collection) (whole : IsWhole c) (falls : NodeKey → Bool) (top ab
               let all : list_all (is_ready_node root.key) nodes ≡ true =
               ready_before root there.0 here (not-true root.allocated waits)
               (ap (λ (k : NodeKey). list_all (is_ready_node k) now) (sym (same root).key) ∙ and_right (not (f root).allocated) _ e) in
-              let both : (not root.allocated && list_all (is_ready_node root.key) nodes) ≡ true = and_both (not root.allocated) _ waits all in
+              let both : (not root.allocated && list_all (is_ready_node root.key) nodes) ≡ true =
+              and_both (not root.allocated) _ waits all in
               let some : Some root ≡ None = sym (ap (λ (b : Bool). when b root) both) ∙ h in
               cc))
 
@@ -288,8 +311,10 @@ module _ (c : Collection) (whole : IsWhole c) (falls : NodeKey → Bool) (top ab
           (and_both (not n.gone) _ (ap not (stays n here).1)
           (and_both (not n.allocated) _ (ap not (sym (alloc n)) ∙ waits)
           (and_both (option_map_or (λ parent. list_any (is_allocated_node parent) nodes) n.parent false) _
-          (above_before n.parent (ap (λ (o : Option NodeKey). option_map_or (λ parent. list_any (is_allocated_node parent) now) o false) (sym (same n).parent) ∙ up_now))
-          (ready_before n on here (not-true n.allocated (ap not (sym (alloc n)) ∙ waits)) (ap (λ (k : NodeKey). list_all (is_ready_node k) now) (sym (same n).key) ∙ all)))))
+          (above_before n.parent (ap (λ (o : Option NodeKey). option_map_or (λ parent. list_any (is_allocated_node parent) now) o false)
+          (sym (same n).parent) ∙ up_now))
+          (ready_before n on here (not-true n.allocated (ap not (sym (alloc n)) ∙ waits)) (ap (λ (k : NodeKey).
+          list_all (is_ready_node k) now) (sym (same n).key) ∙ all)))))
 
       later_none : (buffers : Option Buffers) → later nodes buffers ≡ None → later now buffers ≡ None
       later_none None none = refl

@@ -66,7 +66,8 @@ gone_given (Going.Ends fault keys) n = refl
 abbrev pub goes_of : Going → List NodeKey → Node → Node
 goes_of going keys n = if list_any (same_key n.key) keys then gone_by going n else n
 
-pub goes_in : (going : Going) (keys : List NodeKey) (n : Node) → list_any (same_key n.key) keys ≡ true → goes_of going keys n ≡ gone_by going n
+pub goes_in : (going : Going) (keys : List NodeKey) (n : Node) → list_any (same_key n.key) keys ≡ true →
+    goes_of going keys n ≡ gone_by going n
 goes_in going keys n e = λ i. if e i then gone_by going n else n
 
 pub goes_not : (going : Going) (keys : List NodeKey) (n : Node) → list_any (same_key n.key) keys ≡ false → goes_of going keys n ≡ n
@@ -75,7 +76,8 @@ goes_not going keys n e = λ i. if e i then gone_by going n else n
 pub same_of : (going : Going) (keys : List NodeKey) (n : Node) → IsSameNode (goes_of going keys n) n
 same_of going keys n = elim (either_way (list_any (same_key n.key) keys)) [
   | inl e ↦ subst (λ (m : Node). IsSameNode m n) (sym (goes_in going keys n e)) (gone_same going n)
-  | inr e ↦ subst (λ (m : Node). IsSameNode m n) (sym (goes_not going keys n e)) (record { key = refl; parent = refl; attached = refl; collection = refl; head = refl })
+  | inr e ↦ subst (λ (m : Node). IsSameNode m n) (sym (goes_not going keys n e))
+      (record { key = refl; parent = refl; attached = refl; collection = refl; head = refl })
 ]
 
 pub given_of : (going : Going) (keys : List NodeKey) (n : Node) → (goes_of going keys n).allocated ≡ n.allocated
@@ -104,7 +106,8 @@ and_all false = refl
 but_is : (test : Node → Bool) → ((m : Node) → m.gone ≡ true → test m ≡ false) → (going : Going) (keys : List NodeKey) (n : Node) →
     test (goes_of going keys n) ≡ but test keys n
 but_is test none going keys n = elim (either_way (list_any (same_key n.key) keys)) [
-  | inl e ↦ ap test (goes_in going keys n e) ∙ none (gone_by going n) (gone_is going n) ∙ sym (ap (λ (b : Bool). test n && not b) e ∙ and_none (test n))
+  | inl e ↦ ap test (goes_in going keys n e) ∙ none (gone_by going n) (gone_is going n) ∙ sym (ap (λ (b : Bool). test n && not b) e
+      ∙ and_none (test n))
   | inr e ↦ ap test (goes_not going keys n e) ∙ sym (ap (λ (b : Bool). test n && not b) e ∙ and_all (test n))
 ]
 
@@ -126,7 +129,8 @@ module _ (t : Table Node) (named : (key : NodeKey) (n : Node) → node_at t key 
   -- a node whose key is among these is found by them
   pub in_looked : (ks : List NodeKey) (n : Node) → node_at t n.key ≡ Some n → list_any (same_key n.key) ks ≡ true → In n (nodes_with t ks)
   in_looked [] n is h = cc
-  in_looked (k ∷ ks) n is h = by (λ rest. in_looked ks n is rest) (node_at t k) refl (or_cases (same_key n.key k) (list_any (same_key n.key) ks) h)
+  in_looked (k ∷ ks) n is h =
+      by (λ rest. in_looked ks n is rest) (node_at t k) refl (or_cases (same_key n.key k) (list_any (same_key n.key) ks) h)
     where
       by : (list_any (same_key n.key) ks ≡ true → In n (nodes_with t ks)) → (o : Option Node) → node_at t k ≡ o →
           (same_key n.key k ≡ true) ⊎ (list_any (same_key n.key) ks ≡ true) → In n (cons_option o (nodes_with t ks))
@@ -136,7 +140,8 @@ module _ (t : Table Node) (named : (key : NodeKey) (n : Node) → node_at t key 
       by on (Some m) at (inr e) = inr (on e)
 
   -- what is found by keys is filed
-  pub filed_fallen : (id : ℕ) (ks : List NodeKey) → all_of id (nodes_with t ks) ≡ true → list_all (is_filed t id) (keys_in (map (gone_by going) (nodes_with t ks))) ≡ true
+  pub filed_fallen : (id : ℕ) (ks : List NodeKey) → all_of id (nodes_with t ks) ≡ true →
+      list_all (is_filed t id) (keys_in (map (gone_by going) (nodes_with t ks))) ≡ true
   filed_fallen id [] own = refl
   filed_fallen id (k ∷ ks) own = by (λ rest. filed_fallen id ks rest) (node_at t k) refl own
     where
@@ -146,7 +151,8 @@ module _ (t : Table Node) (named : (key : NodeKey) (n : Node) → node_at t key 
       by on None at own = on own
       by on (Some m) at own =
           and_both (is_filed t id (gone_by going m).key) _
-          (ap (λ (o : Option Node). option_map_or (λ (n : Node). n.collection == id) o false) (ap (node_at t) ((gone_same going m).key ∙ named k m at) ∙ at) ∙ and_left (m.collection == id) _ own)
+          (ap (λ (o : Option Node). option_map_or (λ (n : Node). n.collection == id) o false) (ap (node_at t) ((gone_same going m).key
+          ∙ named k m at) ∙ at) ∙ and_left (m.collection == id) _ own)
           (on (and_right (m.collection == id) _ own))
 
   -- a node is written as it goes where its key is among these
@@ -166,22 +172,27 @@ module _ (t : Table Node) (named : (key : NodeKey) (n : Node) → node_at t key 
       both_go true = refl
       both_go false = refl
 
-      by : ((y : Node) → (y ≡ n) ⊎ (y ≡ gone_by going n) → stored (map (gone_by going) (nodes_with t ks)) y ≡ (if list_any (same_key n.key) ks then gone_by going n else y)) →
+      by : ((y : Node) → (y ≡ n) ⊎ (y ≡ gone_by going n) →
+          stored (map (gone_by going) (nodes_with t ks)) y ≡ (if list_any (same_key n.key) ks then gone_by going n else y)) →
           (o : Option Node) → node_at t k ≡ o → (same_key n.key k ≡ true) ⊎ (same_key n.key k ≡ false) →
-          stored (map (gone_by going) (cons_option o (nodes_with t ks))) x ≡ (if same_key n.key k || list_any (same_key n.key) ks then gone_by going n else x)
+          stored (map (gone_by going) (cons_option o (nodes_with t ks))) x ≡ (if same_key n.key k || list_any (same_key n.key)
+          ks then gone_by going n else x)
       by on None at (inl e) = let both : Some n ≡ None = sym is ∙ (ap (node_at t) (same_key-true n.key k e) ∙ at) in cc
       by on None at (inr e) = on x one ∙ (λ i. if sym e i || list_any (same_key n.key) ks then gone_by going n else x)
       by on (Some m) at (inl e) =
           let both : Some n ≡ Some m = sym is ∙ (ap (node_at t) (same_key-true n.key k e) ∙ at) in
           let node : m ≡ n = cc in
-          let own : same_key (gone_by going m).key x.key ≡ true = ap (λ (k : NodeKey). same_key k x.key) (gone_same going m).key ∙ ap (λ (y : Node). same_key y.key x.key) node ∙ (ap (same_key n.key) x_key ∙ same_key-refl n.key) in
-          let here : written (gone_by going m) x ≡ gone_by going n = (λ i. if own i then gone_by going m else x) ∙ ap (gone_by going) node in
+          let own : same_key (gone_by going m).key x.key ≡ true = ap (λ (k : NodeKey). same_key k x.key) (gone_same going m).key
+          ∙ ap (λ (y : Node). same_key y.key x.key) node ∙ (ap (same_key n.key) x_key ∙ same_key-refl n.key) in
+          let here : written (gone_by going m) x ≡ gone_by going n =
+          (λ i. if own i then gone_by going m else x) ∙ ap (gone_by going) node in
           ap (stored (map (gone_by going) (nodes_with t ks))) here
           ∙ (on (gone_by going n) (inr refl)
           ∙ (both_go (list_any (same_key n.key) ks)
           ∙ (λ i. if sym e i || list_any (same_key n.key) ks then gone_by going n else x)))
       by on (Some m) at (inr e) =
-          let other : same_key (gone_by going m).key x.key ≡ false = ap (λ (j : NodeKey). same_key j x.key) ((gone_same going m).key ∙ named k m at) ∙ (ap (same_key k) x_key ∙ (same_key-swap k n.key ∙ e)) in
+          let other : same_key (gone_by going m).key x.key ≡ false = ap (λ (j : NodeKey). same_key j x.key) ((gone_same going m).key
+          ∙ named k m at) ∙ (ap (same_key k) x_key ∙ (same_key-swap k n.key ∙ e)) in
           let here : written (gone_by going m) x ≡ x = λ i. if other i then gone_by going m else x in
           ap (stored (map (gone_by going) (nodes_with t ks))) here
           ∙ (on x one
@@ -240,7 +251,8 @@ module _ (t : Table Node) (us : List Unit) (ss : List Shelf) (s : Shelf) (going 
       (in_all (λ (x : Node). node_at t x.key ≡ Some x) fallen (looked_there t opens.kept.named keys) n on)
       (eqb-true n.collection s.id (all-In (λ (x : Node). x.collection == s.id) fallen n on own))
 
-  count_is : (test : Node → Bool) → ((n : Node) → test (f n) ≡ but test keys n) → times test (map f nodes) + times test fallen ≡ times test nodes
+  count_is : (test : Node → Bool) → ((n : Node) → test (f n) ≡ but test keys n) →
+      times test (map f nodes) + times test fallen ≡ times test nodes
   count_is test is =
       ap (λ (m : ℕ). m + times test fallen) (times_map test (but test keys) f nodes is)
       ∙ taken_count t nodes whole.sound.distinct at_key opens.kept.named test keys taken.once within
@@ -258,7 +270,8 @@ module _ (t : Table Node) (us : List Unit) (ss : List Shelf) (s : Shelf) (going 
   head_of n on here = head_there nodes whole.sound.distinct whole.sound.heads whole.rooted whole.united n (within n on) here
 
   unit_before : (n : Node) → In n nodes → n.key.slot < length us → unit_at us n.key.slot ≡ unit_of nodes n.key
-  unit_before n on inside = in_all (λ (m : Node). m.key.slot < length us → unit_at us m.key.slot ≡ unit_of nodes m.key) nodes unit_has n on inside
+  unit_before n on inside =
+      in_all (λ (m : Node). m.key.slot < length us → unit_at us m.key.slot ≡ unit_of nodes m.key) nodes unit_has n on inside
 
   -- each unit has the counts of what is left
   unit_after : (n : Node) → In n nodes → n.key.slot < length us → unit_at new n.key.slot ≡ unit_of (map f nodes) n.key
@@ -317,7 +330,8 @@ module _ (t : Table Node) (us : List Unit) (ss : List Shelf) (s : Shelf) (going 
     in_keys = ap (list_any (same_key top.key)) top.first ∙ rw (same_key-refl top.key) refl
 
     pub top_on : In top.node nodes
-    top_on = within top.node (in_looked t opens.kept.named going keys top.node (ap (node_at t) key_top ∙ top.at) (ap falls key_top ∙ in_keys))
+    top_on = within top.node (in_looked t opens.kept.named going keys top.node (ap (node_at t) key_top ∙ top.at) (ap falls key_top
+        ∙ in_keys))
 
     pub top_up : top.node.parent ≡ Some top.above.key
     top_up = sym (linked top.node top_on top.here) ∙ (ap (parent_at t) key_top ∙ (top.up ∙ ap Some (sym key_above)))
@@ -325,19 +339,24 @@ module _ (t : Table Node) (us : List Unit) (ss : List Shelf) (s : Shelf) (going 
     pub above_one : (q : Node) → In q nodes → q.key ≡ top.above.key → q ≡ top.above
     above_one q on is = one_option q top.above (sym (at_key q on) ∙ (ap (node_at t) (is ∙ key_above) ∙ top.there))
 
-    up : (x : Node) → In x nodes → x.gone ≡ false → falls x.key ≡ true → (x ≡ top.node) ⊎ ((p : NodeKey) × (x.parent ≡ Some p) × (falls p ≡ true))
+    up : (x : Node) → In x nodes → x.gone ≡ false → falls x.key ≡ true → (x ≡ top.node) ⊎ ((p : NodeKey) × (x.parent ≡ Some p) ×
+        (falls p ≡ true))
     up x on here h =
-        let listed : Contains (top.key ∷ top.rest) x.key = subst (λ (ks : List NodeKey). Contains ks x.key) top.first (Contains-from_any same_key-true x.key keys h) in
+        let listed : Contains (top.key ∷ top.rest) x.key =
+        subst (λ (ks : List NodeKey). Contains ks x.key) top.first (Contains-from_any same_key-true x.key keys h) in
         elim (Contains-cases top.key x.key top.rest listed) [
           | inl e ↦ inl (one_option x top.node (sym (at_key x on) ∙ (ap (node_at t) (sym e) ∙ top.at)))
           | inr e ↦
-              let layers : top.rest ≡ flat_map (children_at t) (top.key ∷ top.rest) = subst (IsByLayers (children_at t)) top.first taken.layers in
-              let from = flat_map_source (children_at t) (top.key ∷ top.rest) x.key (subst (λ (ks : List NodeKey). Contains ks x.key) layers e) in
+              let layers : top.rest ≡ flat_map (children_at t) (top.key ∷ top.rest) =
+              subst (IsByLayers (children_at t)) top.first taken.layers in
+              let from = flat_map_source (children_at t) (top.key ∷ top.rest) x.key (subst (λ (ks : List NodeKey).
+              Contains ks x.key) layers e) in
               let link : parent_at t x.key ≡ Some from.0 = (top.forest.linked from.0 x.key).1 from.2 in
               inr (
                 from.0,
                 sym (linked x on here) ∙ link,
-                list_any-from_Contains key_equivalence from.0 keys (subst (λ (ks : List NodeKey). Contains ks from.0) (sym top.first) from.1),
+                list_any-from_Contains key_equivalence from.0 keys (subst (λ (ks : List NodeKey). Contains ks from.0) (sym top.first)
+                    from.1),
               )
         ]
 
@@ -356,34 +375,40 @@ module _ (t : Table Node) (us : List Unit) (ss : List Shelf) (s : Shelf) (going 
     key_head = above_head.2 ∙ sym top.head_is
 
     before_is : unit_at us head.slot ≡ unit_of nodes head
-    before_is = subst (λ (k : NodeKey). k.slot < length us → unit_at us k.slot ≡ unit_of nodes k) key_head (unit_before above_head.0 above_head.1) inside
+    before_is = subst (λ (k : NodeKey). k.slot < length us →
+        unit_at us k.slot ≡ unit_of nodes k) key_head (unit_before above_head.0 above_head.1) inside
 
     after_unit : unit_at new head.slot ≡ unit_of (map f nodes) head
-    after_unit = subst (λ (k : NodeKey). k.slot < length us → unit_at new k.slot ≡ unit_of (map f nodes) k) key_head (unit_after above_head.0 above_head.1) inside
+    after_unit = subst (λ (k : NodeKey). k.slot < length us → unit_at new k.slot ≡ unit_of (map f nodes) k) key_head
+        (unit_after above_head.0 above_head.1) inside
 
     pub lives : 0 < times (lives_in top.above.head) (map f nodes)
     lives =
         subst (λ (k : NodeKey). 0 < times (lives_in k) (map f nodes)) top.head_is
-        (subst (λ (u : Unit). 0 < u.live) after_unit (ltb-true 0 (unit_at new head.slot).live (and_left (nat_lt 0 (unit_at new head.slot).live) _ kept_up)))
+        (subst (λ (u : Unit). 0 < u.live) after_unit (ltb-true 0 (unit_at new head.slot).live
+        (and_left (nat_lt 0 (unit_at new head.slot).live) _ kept_up)))
 
     guard : (top.node.attached ≡ true) ⊎ ((times (waits_in top.above.head) nodes ≡ 0) ⊎ ((0 < times (waits_in top.above.head) (map f nodes))
         ⊎ ((h : Node) → In h nodes → h.key ≡ top.above.head → h.allocated ≡ true)))
     guard = elim (or_cases attached _ (and_right (nat_lt 0 (unit_at new head.slot).live) _ kept_up)) [
       | inl a ↦ inl (sym top.attached_is ∙ a)
       | inr a ↦ inr (elim (or_cases ((unit_at us head.slot).unready == 0) _ a) [
-        | inl b ↦ inl (ap (λ (k : NodeKey). times (waits_in k) nodes) (sym top.head_is) ∙ (ap (λ (u : Unit). u.unready) (sym before_is) ∙ eqb-true (unit_at us head.slot).unready 0 b))
+        | inl b ↦ inl (ap (λ (k : NodeKey). times (waits_in k) nodes) (sym top.head_is) ∙ (ap (λ (u : Unit). u.unready) (sym before_is)
+            ∙ eqb-true (unit_at us head.slot).unready 0 b))
         | inr b ↦ inr (elim (or_cases (nat_lt 0 (unit_at new head.slot).unready) _ b) [
           | inl d ↦ inl (subst (λ (k : NodeKey). 0 < times (waits_in k) (map f nodes)) top.head_is
               (subst (λ (u : Unit). 0 < u.unready) after_unit (ltb-true 0 (unit_at new head.slot).unready d)))
           | inr d ↦ inr (λ h there is.
-              ap (λ (o : Option Node). option_map_or (λ (m : Node). m.allocated) o false) (sym (at_key h there) ∙ ap (node_at t) (is ∙ sym top.head_is)) ∙ d)
+              ap (λ (o : Option Node). option_map_or (λ (m : Node). m.allocated) o false) (sym (at_key h there)
+              ∙ ap (node_at t) (is ∙ sym top.head_is)) ∙ d)
         ])
       ])
     ]
 
     -- ---- the table
 
-    module _ (now : Table Node) (stores : Stores t now (map (gone_by going) fallen)) (rooted_now : are_rooted (reverse (map f nodes)) ≡ true) where
+    module _ (now : Table Node) (stores : Stores t now (map (gone_by going) fallen))
+        (rooted_now : are_rooted (reverse (map f nodes)) ≡ true) where
       look : (k : NodeKey) → node_at now k ≡ option_map f (node_at t k)
       look k = stores.look k ∙ by (node_at t k) refl
         where
@@ -410,7 +435,8 @@ module _ (t : Table Node) (us : List Unit) (ss : List Shelf) (s : Shelf) (going 
       }
 
       beside_same : (x : Shelf) → x.id ≢ s.id → list_all (is_filed t x.id) x.keys ≡ true → collection_in now x ≡ collection_in t x
-      beside_same x differ x_filed = collection-beside t now s.id (map (gone_by going) fallen) stores opens.kept.named filed x differ x_filed
+      beside_same x differ x_filed =
+          collection-beside t now s.id (map (gone_by going) fallen) stores opens.kept.named filed x differ x_filed
 
       in_shelves : In s ss
       in_shelves = (In-find (λ (x : Shelf). x.id == s.id) ss s opens.found).0
@@ -418,15 +444,18 @@ module _ (t : Table Node) (us : List Unit) (ss : List Shelf) (s : Shelf) (going 
       whole_now : AllByRecursion (λ (x : Shelf). IsWhole (collection_in now x)) ss
       whole_now = each_shelf (λ (x : Shelf). IsWhole (collection_in now x)) ss (λ x on. elim (either_way (x.id == s.id)) [
         | inl e ↦
-            subst (λ (y : Shelf). IsWhole (collection_in now y)) (sym (one_shelf ss opens.kept.rising x s on in_shelves (eqb-true x.id s.id e)))
+            subst (λ (y : Shelf). IsWhole (collection_in now y))
+            (sym (one_shelf ss opens.kept.rising x s on in_shelves (eqb-true x.id s.id e)))
             (subst IsWhole (sym now_is) whole_after)
         | inr e ↦
-            subst IsWhole (sym (beside_same x (eqb-false x.id s.id e) (all-In (λ (y : Shelf). list_all (is_filed t y.id) y.keys) ss x on opens.kept.filed)))
+            subst IsWhole (sym (beside_same x (eqb-false x.id s.id e) (all-In (λ (y : Shelf). list_all (is_filed t y.id) y.keys) ss x on
+            opens.kept.filed)))
             (all_at (λ (y : Shelf). IsWhole (collection_in t y)) ss opens.kept.whole x on)
       ])
 
       kept_now : IsKept now ss
-      kept_now = kept-with f same (λ n h. or_second (falls n.key) n.gone (sym (gone_of going keys n) ∙ h)) t now stores.same.first stores.same.len look stores.parents ss whole_now opens.kept
+      kept_now = kept-with f same (λ n h. or_second (falls n.key) n.gone (sym (gone_of going keys n) ∙ h)) t now stores.same.first
+          stores.same.len look stores.parents ss whole_now opens.kept
         where
           or_second : (a b : Bool) → (a || b) ≡ false → b ≡ false
           or_second true b h = cc
@@ -435,14 +464,16 @@ module _ (t : Table Node) (us : List Unit) (ss : List Shelf) (s : Shelf) (going 
       units_now : AreUnits new (map (collection_in now) ss)
       units_now =
           but_join new s.id (map (collection_in now) ss)
-          (but_moved t now new s.id ss (λ x there differ. beside_same x differ (all-In (λ (y : Shelf). list_all (is_filed t y.id) y.keys) ss x there opens.kept.filed)) units_but)
+          (but_moved t now new s.id ss (λ x there differ.
+          beside_same x differ (all-In (λ (y : Shelf). list_all (is_filed t y.id) y.keys) ss x there opens.kept.filed)) units_but)
           (λ c on is.
           let x = In-map (collection_in now) ss c on in
           let one : x.0 ≡ s = one_shelf ss opens.kept.rising x.0 s x.1 in_shelves (sym (ap (λ (d : Collection). d.id) x.2) ∙ is) in
           subst (λ (d : Collection). HasUnits new d.nodes) (sym (x.2 ∙ (ap (collection_in now) one ∙ now_is))) has_now)
 
       -- a test that none of those that went passes, and none did before, none passes
-      over_now : (p : Node → Bool) → list_any p (map (gone_by going) fallen) ≡ false → list_any p nodes ≡ false → list_any p (nodes_with now s.keys) ≡ false
+      over_now : (p : Node → Bool) → list_any p (map (gone_by going) fallen) ≡ false → list_any p nodes ≡ false →
+          list_any p (nodes_with now s.keys) ≡ false
       over_now p some was = ap (list_any p) nodes_now ∙ false_if (list_any p (map f nodes)) (λ e.
           let x = In-list_any p (map f nodes) e in
           let y = In-map f nodes x.0 x.1 in
@@ -458,14 +489,17 @@ module _ (t : Table Node) (us : List Unit) (ss : List Shelf) (s : Shelf) (going 
 
       calm_now : IsCalm (collection_in now s)
       calm_now = subst IsCalm (sym now_is)
-          (calm_fallen (collection_in t s) whole falls top.node top.above up (λ on here. top_up) above_one f same (given_of going keys) (gone_of going keys)
+          (calm_fallen (collection_in t s) whole falls top.node top.above up (λ on here. top_up) above_one f same (given_of going keys)
+          (gone_of going keys)
           (λ n out. goes_not going keys n out) guard whole_after lives opens.calm)
 
       -- so the change is made, where it leads to these nodes
-      pub made_by : (between : List Node) → changed (change_of going) no_key (collection_or_new (forest_of t ss) s.id) ≡ record (collection_in t s) { nodes = between } →
+      pub made_by : (between : List Node) →
+          changed (change_of going) no_key (collection_or_new (forest_of t ss) s.id) ≡ record (collection_in t s) { nodes = between } →
           ((pool : ℕ) (handles : Handles) (others : List Interval) → forced pool (standing handles others (collection_in now s)) ≡ None →
           Settles pool handles others (record (collection_in t s) { nodes = between }) (collection_in now s)) →
-          (lives : ℕ) → nat_lt 0 lives ≡ true → lives + strong_count fallen ≡ strong → IsLost t now new ss s (change_of going) lives (map (gone_by going) fallen)
+          (lives : ℕ) → nat_lt 0 lives ≡ true → lives + strong_count fallen ≡ strong →
+          IsLost t now new ss s (change_of going) lives (map (gone_by going) fallen)
       made_by between change_is leads left some count =
           let total = strong_is in
           let is : left ≡ strong_count (map f nodes) = omega arith in

@@ -82,10 +82,13 @@ module _ (t : Table Node) (us : List Unit) (ss : List Shelf) (s : Shelf) (fault 
     fails_now = now_is t us ss s failing strong opens fault.origin keys taken own head attached top inside kept_up now stores rooted_fails
 
     pub fails_made : (lives : ℕ) → nat_lt 0 lives ≡ true → lives + strong_count (nodes_with t keys) ≡ strong →
-        IsLost t now (untallied (nodes_with t keys) us) ss s (Change.Loss fault.origin fault.cause) lives (map (gone_by failing) (nodes_with t keys))
+        IsLost t now (untallied (nodes_with t keys) us) ss s (Change.Loss fault.origin fault.cause) lives
+        (map (gone_by failing) (nodes_with t keys))
     fails_made =
-        made_by t us ss s failing strong opens fault.origin keys taken own head attached top inside kept_up now stores rooted_fails (nodes_with now s.keys)
-        (change_nodes t ss s opens.found (Change.Loss fault.origin fault.cause) ∙ ((λ i. record (collection_in t s) { nodes = sym fails_is i }) ∙ sym fails_now))
+        made_by t us ss s failing strong opens fault.origin keys taken own head attached top inside kept_up now stores rooted_fails
+        (nodes_with now s.keys)
+        (change_nodes t ss s opens.found (Change.Loss fault.origin fault.cause)
+        ∙ ((λ i. record (collection_in t s) { nodes = sym fails_is i }) ∙ sym fails_now))
         (λ pool handles others rest. Rests (collection_in now s) rest)
 
 -- ---- nodes leave
@@ -137,9 +140,11 @@ module _ (t : Table Node) (us : List Unit) (ss : List Shelf) (s : Shelf) (key : 
 
   dead : (n : Node) → In n members → among n.key ≡ true → is_live_node (g n) ≡ false
   dead n on h =
-      let there : In n (nodes_with t keys) = in_looked t opens.kept.named leaving keys n (at_key t us ss s leaving strong opens origin keys taken own n on) h in
+      let there : In n (nodes_with t keys) =
+      in_looked t opens.kept.named leaving keys n (at_key t us ss s leaving strong opens origin keys taken own n on) h in
       elim (either_way (stays_live key n)) [
-        | inl e ↦ both_ways (list_any (stays_live key) (nodes_with t keys)) (In-any (stays_live key) (nodes_with t keys) n there e) none_stays
+        | inl e ↦ both_ways (list_any (stays_live key) (nodes_with t keys)) (In-any (stays_live key) (nodes_with t keys) n there e)
+            none_stays
         | inr e ↦ from n.gone n.released (same_key key n.key) e
       ]
     where
@@ -151,11 +156,13 @@ module _ (t : Table Node) (us : List Unit) (ss : List Shelf) (s : Shelf) (key : 
       from false false false h = cc
 
   rooted_g : IsRooted (map g members)
-  rooted_g = rooted_effect members (record { one = distinct_one members whole_r.sound.distinct; rooted = whole_r.rooted }) key Effect.Released
+  rooted_g = rooted_effect members (record { one = distinct_one members whole_r.sound.distinct; rooted = whole_r.rooted }) key
+      Effect.Released
 
   pub leaves_made : (now : Table Node) → Stores t now (map (gone_by leaving) (nodes_with t keys)) →
       (lives : ℕ) → nat_lt 0 lives ≡ true → lives + strong_count (nodes_with t keys) ≡ strong →
-      IsLost t now (untallied (nodes_with t keys) us) ss s (Change.Effect key Effect.Released) lives (map (gone_by leaving) (nodes_with t keys))
+      IsLost t now (untallied (nodes_with t keys) us) ss s (Change.Effect key Effect.Released) lives
+      (map (gone_by leaving) (nodes_with t keys))
   leaves_made now stores =
       ended_made t us ss s leaving strong opens origin keys taken own head attached top inside kept_up is_attached stands_first
       g (λ n. same_affected key Effect.Released n) (λ n gone. gone) top.here alone dead rooted_g (λ n e. refl) now stores
@@ -163,7 +170,8 @@ module _ (t : Table Node) (us : List Unit) (ss : List Shelf) (s : Shelf) (key : 
 
 -- ---- each
 
-pub lost_made : (t : Table Node) (us : List Unit) (ss : List Shelf) (s : Shelf) (going : Going) (strong : ℕ) → IsOpen t us ss s (change_of going) strong →
+pub lost_made : (t : Table Node) (us : List Unit) (ss : List Shelf) (s : Shelf) (going : Going) (strong : ℕ) →
+    IsOpen t us ss s (change_of going) strong →
     (origin : NodeKey) (keys : List NodeKey) → IsTaken t origin keys → all_of s.id (nodes_with t keys) ≡ true →
     (head : NodeKey) (attached : Bool) → IsTop t keys head attached → head.slot < length us →
     is_kept_up t (unit_at us head.slot) (unit_at (untallied (nodes_with t keys) us) head.slot) head attached ≡ true →
@@ -172,7 +180,8 @@ pub lost_made : (t : Table Node) (us : List Unit) (ss : List Shelf) (s : Shelf) 
     (lives : ℕ) → nat_lt 0 lives ≡ true → lives + strong_count (nodes_with t keys) ≡ strong →
     IsLost t now (untallied (nodes_with t keys) us) ss s (change_of going) lives (map (gone_by going) (nodes_with t keys))
 lost_made t us ss s (Going.Fails fault) strong opens origin keys taken own head attached top inside kept_up may falls now stores =
-    fails_made t us ss s fault strong opens keys (subst (λ (k : NodeKey). IsTaken t k keys) (same_key-true origin fault.origin may) taken) own head attached top inside kept_up now stores
+    fails_made t us ss s fault strong opens keys (subst (λ (k : NodeKey). IsTaken t k keys) (same_key-true origin fault.origin may) taken)
+    own head attached top inside kept_up now stores
 lost_made t us ss s (Going.Leaves key) strong opens origin keys taken own head attached top inside kept_up may falls now stores =
     leaves_made t us ss s key strong opens origin keys taken own head attached top inside kept_up may now stores
 lost_made t us ss s (Going.Ends fault keys') strong opens origin keys taken own head attached top inside kept_up may falls now stores =

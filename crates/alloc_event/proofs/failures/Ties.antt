@@ -50,7 +50,8 @@ module _ (t : Table Node) (nodes : List Node) (tied : IsTied t nodes) where
   -- two nodes with one key are one
   one_node : AreOne nodes
   one_node a b on too same =
-      let both : Some a ≡ Some b = sym (in_all (λ (n : Node). node_at t n.key ≡ Some n) nodes tied.there a on) ∙ (ap (node_at t) same ∙ in_all (λ (n : Node). node_at t n.key ≡ Some n) nodes tied.there b too) in
+      let both : Some a ≡ Some b = sym (in_all (λ (n : Node). node_at t n.key ≡ Some n) nodes tied.there a on)
+      ∙ (ap (node_at t) same ∙ in_all (λ (n : Node). node_at t n.key ≡ Some n) nodes tied.there b too) in
       cc
 
   -- what lies above a key
@@ -59,7 +60,8 @@ module _ (t : Table Node) (nodes : List Node) (tied : IsTied t nodes) where
 
   -- the line of a key that is left
   line_at : (key : NodeKey) → is_left_of nodes key ≡ true → HasLine nodes (parent_at t) key (line key)
-  line_at = line_of nodes (parent_at t) one_node (in_all (λ (n : Node). n.gone ≡ false → parent_at t n.key ≡ n.parent) nodes tied.linked) tied.rooted
+  line_at = line_of nodes (parent_at t) one_node (in_all (λ (n : Node). n.gone ≡ false → parent_at t n.key ≡ n.parent) nodes tied.linked)
+      tied.rooted
 
   -- ---- tests
 
@@ -71,7 +73,8 @@ module _ (t : Table Node) (nodes : List Node) (tied : IsTied t nodes) where
   blocks_same : (key : NodeKey) → is_left_of nodes key ≡ true → blocked_at is_blocking t key ≡ blocks_among key
   blocks_same key left =
       let x = left_node nodes key left in
-      let at : node_at t key ≡ Some x.node = ap (node_at t) (sym x.is) ∙ in_all (λ (n : Node). node_at t n.key ≡ Some n) nodes tied.there x.node x.on in
+      let at : node_at t key ≡ Some x.node =
+      ap (node_at t) (sym x.is) ∙ in_all (λ (n : Node). node_at t n.key ≡ Some n) nodes tied.there x.node x.on in
       ap (λ (o : Option Node). option_map_or is_blocking o false) at
       ∙ both_tests (is_blocking x.node) (blocks_among key) (to x) (back x)
     where
@@ -87,7 +90,8 @@ module _ (t : Table Node) (nodes : List Node) (tied : IsTied t nodes) where
           let a = In-list_any (λ (m : Member). same_key m.key key && blocks m) (members_of nodes) h in
           let f = In-map (member_of nodes) (filter (λ (n : Node). not n.gone) nodes) a.0 a.1 in
           let g = In-filter (λ (n : Node). not n.gone) nodes f.0 f.1 in
-          let both : (same_key f.0.key key && is_blocking f.0) ≡ true = subst (λ (m : Member). (same_key m.key key && blocks m) ≡ true) f.2 a.2 in
+          let both : (same_key f.0.key key && is_blocking f.0) ≡ true =
+          subst (λ (m : Member). (same_key m.key key && blocks m) ≡ true) f.2 a.2 in
           let is : f.0.key ≡ key = same_key-true f.0.key key (and_left (same_key f.0.key key) (is_blocking f.0) both) in
           ap is_blocking (one_node x.node f.0 x.on g.0 (x.is ∙ sym is)) ∙ and_right (same_key f.0.key key) (is_blocking f.0) both
 
@@ -114,7 +118,8 @@ module _ (t : Table Node) (nodes : List Node) (tied : IsTied t nodes) where
       (λ h. reached.1 ((fall n.key).0 (Contains-from_any same_key-true n.key keys h)))
       (λ h. list_any-from_Contains key_equivalence n.key keys ((fall n.key).1 (reached.0 h)))
     where
-      reached : (list_any (same_key (highest_at origin)) (n.key ∷ line n.key) ≡ true) ↔ Reach (parent_at t) (blocked_at is_blocking t) origin n.key
+      reached : (list_any (same_key (highest_at origin)) (n.key ∷ line n.key) ≡ true) ↔ Reach (parent_at t) (blocked_at is_blocking t)
+          origin n.key
       reached =
           reached_by_line (parent_at t) (blocked_at is_blocking t) origin (line origin) (line_at origin left).chain
           n.key (line n.key) (line_at n.key (left_in nodes n on here)).chain
@@ -146,7 +151,8 @@ module _ (t : Table Node) (nodes : List Node) (tied : IsTied t nodes) where
           subst (λ (k : NodeKey). is_left_of nodes k ≡ true) (sym (same_key-true (highest_at origin) x.0 x.2)) (left_at x.0 x.1)
 
   -- which is the origin, if it blocks
-  pub fall_below : (origin : NodeKey) → is_left_of nodes origin ≡ true → blocked_at is_blocking t origin ≡ true → (keys : List NodeKey) → IsFall t origin keys →
+  pub fall_below : (origin : NodeKey) → is_left_of nodes origin ≡ true → blocked_at is_blocking t origin ≡ true → (keys : List NodeKey) →
+      IsFall t origin keys →
       (n : Node) → In n nodes → n.gone ≡ false → list_any (same_key n.key) keys ≡ is_below nodes origin n.key
   fall_below origin left blocks keys fall n on here =
       fall_line origin left keys fall n on here ∙ ap (λ (k : NodeKey). is_below nodes k n.key) (from (line origin))
@@ -164,11 +170,13 @@ module _ (t : Table Node) (nodes : List Node) (tied : IsTied t nodes) where
       by_table = fall_line origin left keys fall n on here
 
       from : (o : Option Node) → node_of nodes origin ≡ o →
-          list_any (same_key n.key) keys ≡ option_map_or (λ x. is_under (highest (members_of nodes) (member_of nodes x)) (member_of nodes n)) o false
+          list_any (same_key n.key) keys ≡ option_map_or (λ x.
+          is_under (highest (members_of nodes) (member_of nodes x)) (member_of nodes n)) o false
       from None is =
           let x = left_node nodes origin left in
           let is_it : is_of origin x.node ≡ true = ap (λ (k : NodeKey). same_key k origin) x.is ∙ same_key-refl origin in
-          let some : is_some (node_of nodes origin) ≡ true = is_some-find (is_of origin) nodes ∙ In-any (is_of origin) nodes x.node x.on is_it in
+          let some : is_some (node_of nodes origin) ≡ true =
+          is_some-find (is_of origin) nodes ∙ In-any (is_of origin) nodes x.node x.on is_it in
           let no : is_some {T = Node} None ≡ true = sym (ap is_some is) ∙ some in
           cc
       from (Some x) is =
@@ -180,7 +188,8 @@ module _ (t : Table Node) (nodes : List Node) (tied : IsTied t nodes) where
   -- so the nodes with these keys are those that the loss takes
   pub losses_by_fall : (fault : Fault) → is_left_of nodes fault.origin ≡ true → (keys : List NodeKey) → IsFall t fault.origin keys →
       map (lost (λ n. list_any (same_key n.key) keys) fault) nodes ≡ after_loss fault nodes
-  losses_by_fall fault left keys fall = map-In (lost (λ n. list_any (same_key n.key) keys) fault) (lost (is_taken nodes fault.origin) fault) nodes same
+  losses_by_fall fault left keys fall =
+      map-In (lost (λ n. list_any (same_key n.key) keys) fault) (lost (is_taken nodes fault.origin) fault) nodes same
     where
       same : (n : Node) → In n nodes → lost (λ n. list_any (same_key n.key) keys) fault n ≡ lost (is_taken nodes fault.origin) fault n
       same n on = elim (either_way n.gone) [

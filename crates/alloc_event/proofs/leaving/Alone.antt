@@ -35,18 +35,22 @@ swap a b e = elim (either_way (same_key b a)) [
   | inr h ↦ h
 ]
 
-module _ (t : Table Node) (named : (k : NodeKey) (n : Node) → node_at t k ≡ Some n → n.key ≡ k) (keys : List NodeKey) (key : NodeKey) (only : IsAlone t keys key) where
+module _ (t : Table Node) (named : (k : NodeKey) (n : Node) → node_at t k ≡ Some n →
+    n.key ≡ k) (keys : List NodeKey) (key : NodeKey) (only : IsAlone t keys key) where
   -- another node of these is not over
-  not_over : (k : NodeKey) (n : Node) → node_at t k ≡ Some n → list_any (same_key k) keys ≡ true → same_key key k ≡ false → is_over n ≡ false
+  not_over : (k : NodeKey) (n : Node) → node_at t k ≡ Some n → list_any (same_key k) keys ≡ true → same_key key k ≡ false →
+      is_over n ≡ false
   not_over k n is there other =
       let on : In n (nodes_with t keys) = in_nodes t keys k n is there in
       let none : over_but (Some key) n ≡ false = elim (either_way (over_but (Some key) n)) [
-        | inl h ↦ both_ways (list_any (over_but (Some key)) (nodes_with t keys)) (In-any (over_but (Some key)) (nodes_with t keys) n on h) only.alone
+        | inl h ↦ both_ways (list_any (over_but (Some key)) (nodes_with t keys)) (In-any (over_but (Some key)) (nodes_with t keys) n on h)
+            only.alone
         | inr h ↦ h
       ] in
       pass_alone (is_over n) (same_key key n.key) none (ap (same_key key) (named k n is) ∙ other)
 
-  unless_same : (k : NodeKey) (o : Option Node) → node_at t k ≡ o → list_any (same_key k) keys ≡ true → same_key key k ≡ false → unless_over o ≡ o
+  unless_same : (k : NodeKey) (o : Option Node) → node_at t k ≡ o → list_any (same_key k) keys ≡ true → same_key key k ≡ false →
+      unless_over o ≡ o
   unless_same k None is there other = refl
   unless_same k (Some n) is there other = let e : is_over n ≡ false = not_over k n is there other in rw e refl
 
@@ -54,19 +58,23 @@ module _ (t : Table Node) (named : (k : NodeKey) (n : Node) → node_at t k ≡ 
   pub alone_left : (k : NodeKey) → left_at t (key ∷ []) k ≡ left_at t keys k
   alone_left k = elim (either_way (same_key k key)) [
     | inl e ↦
-        let there : list_any (same_key k) keys ≡ true = subst (λ (x : NodeKey). list_any (same_key x) keys ≡ true) (sym (same_key-true k key e)) only.listed in
+        let there : list_any (same_key k) keys ≡ true =
+        subst (λ (x : NodeKey). list_any (same_key x) keys ≡ true) (sym (same_key-true k key e)) only.listed in
         rw (e, there) refl
     | inr e ↦ rw e (by (either_way (list_any (same_key k) keys)) e)
   ]
     where
-      by : (list_any (same_key k) keys ≡ true) ⊎ (list_any (same_key k) keys ≡ false) → same_key k key ≡ false → node_at t k ≡ left_at t keys k
+      by : (list_any (same_key k) keys ≡ true) ⊎ (list_any (same_key k) keys ≡ false) → same_key k key ≡ false →
+          node_at t k ≡ left_at t keys k
       by (inl there) e = rw there (sym (unless_same k (node_at t k) refl there (swap k key e)))
       by (inr none) e = rw none refl
 
   -- and the table has all the others then
-  pub alone_missing : (now : Table Node) → ((k : NodeKey) → node_at now k ≡ left_at t keys k) → (id : ℕ) → list_all (is_filed t id) keys ≡ true →
+  pub alone_missing : (now : Table Node) → ((k : NodeKey) → node_at now k ≡ left_at t keys k) → (id : ℕ) →
+      list_all (is_filed t id) keys ≡ true →
       option_map_or is_over (node_at t key) false ≡ true → filter (is_found now) keys ≡ filter (λ other. not (same_key key other)) keys
-  alone_missing now look id filed over = filter-same (is_found now) (λ other. not (same_key key other)) keys (λ k on. one k on (either_way (same_key key k)))
+  alone_missing now look id filed over =
+      filter-same (is_found now) (λ other. not (same_key key other)) keys (λ k on. one k on (either_way (same_key key k)))
     where
       is_there : (o : Option Node) → option_map_or (λ (n : Node). n.collection == id) o false ≡ true → is_some o ≡ true
       is_there None h = cc
@@ -81,6 +89,8 @@ module _ (t : Table Node) (named : (k : NodeKey) (n : Node) → node_at t k ≡ 
           let there : list_any (same_key k) keys ≡ true = In-any (same_key k) keys k on (same_key-refl k) in
           let is : node_at now k ≡ unless_over (node_at t k) = look k ∙ rw there refl in
           elim h [
-            | inl e ↦ ap is_some is ∙ none_left (node_at t k) (subst (λ (x : NodeKey). option_map_or is_over (node_at t x) false ≡ true) (same_key-true key k e) over) ∙ ap not (sym e)
-            | inr e ↦ ap is_some (is ∙ unless_same k (node_at t k) refl there e) ∙ is_there (node_at t k) (all-In (is_filed t id) keys k on filed) ∙ ap not (sym e)
+            | inl e ↦ ap is_some is ∙ none_left (node_at t k) (subst (λ (x : NodeKey). option_map_or is_over (node_at t x) false ≡ true)
+                (same_key-true key k e) over) ∙ ap not (sym e)
+            | inr e ↦ ap is_some (is ∙ unless_same k (node_at t k) refl there e)
+                ∙ is_there (node_at t k) (all-In (is_filed t id) keys k on filed) ∙ ap not (sym e)
           ]

@@ -25,7 +25,10 @@ others_kept id (s ∷ ss) all =
     rw other (ap (λ l. s ∷ l) (others_kept id ss all.1))
 
 -- by whether the first entry is removed
-remove_shelf-by : (id : ℕ) (x : Entry) (es : List Entry) (at : ℕ) → AreRising (shelves_of (x ∷ es)) → (here : Bool) → (x.id == id) ≡ here → (behind : Option ℕ) → ((n : ℕ) → behind ≡ Some n → shelves_of (remove es n) ≡ filter (is_beside id) (shelves_of es)) → cond here (Some 0) (option_map (λ n. n + 1) behind) ≡ Some at → shelves_of (remove (x ∷ es) at) ≡ filter (is_beside id) (shelves_of (x ∷ es))
+remove_shelf-by : (id : ℕ) (x : Entry) (es : List Entry) (at : ℕ) → AreRising (shelves_of (x ∷ es)) → (here : Bool) → (x.id == id) ≡ here →
+    (behind : Option ℕ) → ((n : ℕ) → behind ≡ Some n → shelves_of (remove es n) ≡ filter (is_beside id) (shelves_of es)) →
+    cond here (Some 0) (option_map (λ n. n + 1) behind) ≡ Some at →
+    shelves_of (remove (x ∷ es) at) ≡ filter (is_beside id) (shelves_of (x ∷ es))
 remove_shelf-by id x es at rising true here behind on told =
     let first : zero ≡ at = cc in
     let low = subst (λ (low : ℕ). AllByRecursion (λ (later : Shelf). low < later.id) (shelves_of es)) (eqb-true x.id id here) rising.0 in
@@ -36,56 +39,72 @@ remove_shelf-by id x es at rising false other (Some n) on told =
     rw (next, other) (ap (λ l. shelf_of x ∷ l) (on n refl))
 
 -- the shelves without the entry that is removed
-pub remove_shelf : (id : ℕ) (es : List Entry) (at : ℕ) → AreRising (shelves_of es) → place_in id es ≡ Some at → shelves_of (remove es at) ≡ filter (is_beside id) (shelves_of es)
+pub remove_shelf : (id : ℕ) (es : List Entry) (at : ℕ) → AreRising (shelves_of es) → place_in id es ≡ Some at →
+    shelves_of (remove es at) ≡ filter (is_beside id) (shelves_of es)
 remove_shelf id [] at rising told = absurd (cc)
-remove_shelf id (x ∷ es) at rising told = remove_shelf-by id x es at rising (x.id == id) refl (place_in id es) (λ n on. remove_shelf id es n rising.1 on) told
+remove_shelf id (x ∷ es) at rising told =
+    remove_shelf-by id x es at rising (x.id == id) refl (place_in id es) (λ n on. remove_shelf id es n rising.1 on) told
 
 -- the collections without it
-pub collections_beside : (t : Table Node) (id : ℕ) (ss : List Shelf) → map (collection_in t) (filter (is_beside id) ss) ≡ filter (λ (c : Collection). not (c.id == id)) (map (collection_in t) ss)
+pub collections_beside : (t : Table Node) (id : ℕ) (ss : List Shelf) →
+    map (collection_in t) (filter (is_beside id) ss) ≡ filter (λ (c : Collection). not (c.id == id)) (map (collection_in t) ss)
 collections_beside t id [] = refl
-collections_beside t id (s ∷ ss) = elim (s.id == id) as (λ b. map (collection_in t) (cond (not b) (s ∷ filter (is_beside id) ss) (filter (is_beside id) ss)) ≡ cond (not b) (collection_in t s ∷ filter (λ (c : Collection). not (c.id == id)) (map (collection_in t) ss)) (filter (λ (c : Collection). not (c.id == id)) (map (collection_in t) ss))) [
-  | true ↦ collections_beside t id ss
-  | false ↦ ap (λ l. collection_in t s ∷ l) (collections_beside t id ss)
-]
+collections_beside t id (s ∷ ss) =
+    elim (s.id == id) as (λ b. map (collection_in t) (cond (not b) (s ∷ filter (is_beside id) ss) (filter (is_beside id) ss)) ≡ cond (not b)
+    (collection_in t s ∷ filter (λ (c : Collection). not (c.id == id)) (map (collection_in t) ss)) (filter (λ (c : Collection).
+    not (c.id == id)) (map (collection_in t) ss))) [
+      | true ↦ collections_beside t id ss
+      | false ↦ ap (λ l. collection_in t s ∷ l) (collections_beside t id ss)
+    ]
 
 -- what holds of all holds of some
 all-beside : (P : Shelf → Type 0) (id : ℕ) (ss : List Shelf) → AllByRecursion P ss → AllByRecursion P (filter (is_beside id) ss)
 all-beside P id [] all = tt
-all-beside P id (s ∷ ss) all = elim (s.id == id) as (λ b. AllByRecursion P (cond (not b) (s ∷ filter (is_beside id) ss) (filter (is_beside id) ss))) [
-  | true ↦ all-beside P id ss all.1
-  | false ↦ (all.0, all-beside P id ss all.1)
-]
+all-beside P id (s ∷ ss) all =
+    elim (s.id == id) as (λ b. AllByRecursion P (cond (not b) (s ∷ filter (is_beside id) ss) (filter (is_beside id) ss))) [
+      | true ↦ all-beside P id ss all.1
+      | false ↦ (all.0, all-beside P id ss all.1)
+    ]
 
 -- the ids still rise
 rising-beside : (id : ℕ) (ss : List Shelf) → AreRising ss → AreRising (filter (is_beside id) ss)
 rising-beside id [] rising = tt
-rising-beside id (s ∷ ss) rising = elim (s.id == id) as (λ b. AreRising (cond (not b) (s ∷ filter (is_beside id) ss) (filter (is_beside id) ss))) [
-  | true ↦ rising-beside id ss rising.1
-  | false ↦ (all-beside (λ (later : Shelf). s.id < later.id) id ss rising.0, rising-beside id ss rising.1)
-]
+rising-beside id (s ∷ ss) rising =
+    elim (s.id == id) as (λ b. AreRising (cond (not b) (s ∷ filter (is_beside id) ss) (filter (is_beside id) ss))) [
+      | true ↦ rising-beside id ss rising.1
+      | false ↦ (all-beside (λ (later : Shelf). s.id < later.id) id ss rising.0, rising-beside id ss rising.1)
+    ]
 
 -- the others are filed
 filed-beside : (t : Table Node) (id : ℕ) (ss : List Shelf) → are_filed t ss ≡ true → are_filed t (filter (is_beside id) ss) ≡ true
 filed-beside t id [] filed = refl
-filed-beside t id (s ∷ ss) filed = elim (s.id == id) as (λ b. are_filed t (cond (not b) (s ∷ filter (is_beside id) ss) (filter (is_beside id) ss)) ≡ true) [
-  | true ↦ filed-beside t id ss (and_right _ _ filed)
-  | false ↦ let first : list_all (is_filed t s.id) s.keys ≡ true = and_left _ _ filed in rw first (filed-beside t id ss (and_right _ _ filed))
-]
+filed-beside t id (s ∷ ss) filed =
+    elim (s.id == id) as (λ b. are_filed t (cond (not b) (s ∷ filter (is_beside id) ss) (filter (is_beside id) ss)) ≡ true) [
+      | true ↦ filed-beside t id ss (and_right _ _ filed)
+      | false ↦ let first : list_all (is_filed t s.id) s.keys ≡ true =
+          and_left _ _ filed in rw first (filed-beside t id ss (and_right _ _ filed))
+    ]
 
 -- by whether the first shelf is left out
-keys-beside-by : (id : ℕ) (s : Shelf) (ss : List Shelf) (here : Bool) → (s.id == id) ≡ here → AreRising (s ∷ ss) → option_map_or (λ (x : Shelf). x.keys) (cond here (Some s) (find (λ (x : Shelf). x.id == id) ss)) [] ≡ [] → (option_map_or (λ (x : Shelf). x.keys) (find (λ (x : Shelf). x.id == id) ss) [] ≡ [] → all_keys (filter (is_beside id) ss) ≡ all_keys ss) → all_keys (cond (not here) (s ∷ filter (is_beside id) ss) (filter (is_beside id) ss)) ≡ all_keys (s ∷ ss)
+keys-beside-by : (id : ℕ) (s : Shelf) (ss : List Shelf) (here : Bool) → (s.id == id) ≡ here → AreRising (s ∷ ss) →
+    option_map_or (λ (x : Shelf). x.keys) (cond here (Some s) (find (λ (x : Shelf). x.id == id) ss)) [] ≡ [] →
+    (option_map_or (λ (x : Shelf). x.keys) (find (λ (x : Shelf). x.id == id) ss) [] ≡ [] →
+    all_keys (filter (is_beside id) ss) ≡ all_keys ss) →
+    all_keys (cond (not here) (s ∷ filter (is_beside id) ss) (filter (is_beside id) ss)) ≡ all_keys (s ∷ ss)
 keys-beside-by id s ss true here rising none on =
     let low = subst (λ (low : ℕ). AllByRecursion (λ (later : Shelf). low < later.id) ss) (eqb-true s.id id here) rising.0 in
     rw (none, others_kept id ss low) refl
 keys-beside-by id s ss false other rising none on = ap (λ ks. s.keys ++ ks) (on none)
 
 -- the keys stay, where the collection has none
-keys-beside : (id : ℕ) (ss : List Shelf) → AreRising ss → option_map_or (λ (x : Shelf). x.keys) (find (λ (x : Shelf). x.id == id) ss) [] ≡ [] → all_keys (filter (is_beside id) ss) ≡ all_keys ss
+keys-beside : (id : ℕ) (ss : List Shelf) → AreRising ss →
+    option_map_or (λ (x : Shelf). x.keys) (find (λ (x : Shelf). x.id == id) ss) [] ≡ [] → all_keys (filter (is_beside id) ss) ≡ all_keys ss
 keys-beside id [] rising none = refl
 keys-beside id (s ∷ ss) rising none = keys-beside-by id s ss (s.id == id) refl rising none (keys-beside id ss rising.1)
 
 -- all that holds of forests holds
-pub kept-beside : (t : Table Node) (id : ℕ) (ss : List Shelf) → IsKept t ss → option_map_or (λ (x : Shelf). x.keys) (find (λ (x : Shelf). x.id == id) ss) [] ≡ [] → IsKept t (filter (is_beside id) ss)
+pub kept-beside : (t : Table Node) (id : ℕ) (ss : List Shelf) → IsKept t ss →
+    option_map_or (λ (x : Shelf). x.keys) (find (λ (x : Shelf). x.id == id) ss) [] ≡ [] → IsKept t (filter (is_beside id) ss)
 kept-beside t id ss ok none =
     let keys = keys-beside id ss ok.rising none in
     record {
@@ -106,12 +125,17 @@ no_key_left [] none = refl
 no_key_left (k ∷ ks) none = absurd (omega arith)
 
 -- by the shelf
-left-by : (t : Table Node) (id : ℕ) (ss : List Shelf) → are_filed t ss ≡ true → (o : Option Shelf) → find (λ (x : Shelf). x.id == id) ss ≡ o → option_map_or is_left (option_map (collection_in t) o) false ≡ true → option_map_or (λ (x : Shelf). x.keys) o [] ≡ []
+left-by : (t : Table Node) (id : ℕ) (ss : List Shelf) → are_filed t ss ≡ true → (o : Option Shelf) →
+    find (λ (x : Shelf). x.id == id) ss ≡ o → option_map_or is_left (option_map (collection_in t) o) false ≡ true →
+    option_map_or (λ (x : Shelf). x.keys) o [] ≡ []
 left-by t id ss filed None found left = refl
 left-by t id ss filed (Some s) found left =
     let none : length (nodes_with t s.keys) ≡ 0 = eqb-true _ _ (and_left _ _ left) in
     no_key_left s.keys (sym (filed-length t s.id s.keys (filed_found t id ss filed s found)) ∙ none)
 
 -- a collection that is left has no key
-pub left_none : (t : Table Node) (id : ℕ) (ss : List Shelf) → are_filed t ss ≡ true → option_map_or is_left (collection_at (forest_of t ss) id) false ≡ true → option_map_or (λ (x : Shelf). x.keys) (find (λ (x : Shelf). x.id == id) ss) [] ≡ []
-left_none t id ss filed left = left-by t id ss filed (find (λ (x : Shelf). x.id == id) ss) refl (ap (λ (o : Option Collection). option_map_or is_left o false) (sym (collection_is t id ss)) ∙ left)
+pub left_none : (t : Table Node) (id : ℕ) (ss : List Shelf) → are_filed t ss ≡ true →
+    option_map_or is_left (collection_at (forest_of t ss) id) false ≡ true →
+    option_map_or (λ (x : Shelf). x.keys) (find (λ (x : Shelf). x.id == id) ss) [] ≡ []
+left_none t id ss filed left = left-by t id ss filed (find (λ (x : Shelf). x.id == id) ss) refl (ap (λ (o : Option Collection).
+    option_map_or is_left o false) (sym (collection_is t id ss)) ∙ left)

@@ -25,10 +25,13 @@ module _ (key : NodeKey) (end : End) where
   ends-others : (n : Node) → n.key ≢ key → with_end key end n ≡ n
   ends-others n other = rw (same_key-false key n.key (λ same. other (sym same))) refl
 
-  module _ (t now : Table Node) (n : Node) (was : node_at t key ≡ Some n) (named : n.key ≡ key) (w : Writes t now n.key (record n { end = end })) where
+  module _ (t now : Table Node) (n : Node) (was : node_at t key ≡ Some n) (named : n.key ≡ key)
+      (w : Writes t now n.key (record n { end = end })) where
     -- what the table has at each key
-    pub ends-look : ((k : NodeKey) (m : Node) → node_at t k ≡ Some m → m.key ≡ k) → (k : NodeKey) → node_at now k ≡ option_map (with_end key end) (node_at t k)
-    ends-look knows k = look-changed t now (with_end key end) key n (record n { end = end }) (subst (λ (x : NodeKey). Writes t now x (record n { end = end })) named w) was (ends-own n named) knows ends-others k
+    pub ends-look : ((k : NodeKey) (m : Node) → node_at t k ≡ Some m → m.key ≡ k) → (k : NodeKey) →
+        node_at now k ≡ option_map (with_end key end) (node_at t k)
+    ends-look knows k = look-changed t now (with_end key end) key n (record n { end = end }) (subst (λ (x : NodeKey).
+        Writes t now x (record n { end = end })) named w) was (ends-own n named) knows ends-others k
 
     -- the forest stays sound
     pub ends-kept : (es : List Shelf) → now ≡ table_with_node t n.key (record n { end = end }) → IsKept t es → IsKept now es
@@ -37,7 +40,8 @@ module _ (key : NodeKey) (end : End) where
         (parents-written t now n.key (record n { end = end }) w) es ok
 
     -- and shows the end
-    pub ends-shown : (es : List Shelf) → now ≡ table_with_node t n.key (record n { end = end }) → IsKept t es → forest_of now es ≡ on_collections (with_nodes (map (with_end key end))) (forest_of t es)
+    pub ends-shown : (es : List Shelf) → now ≡ table_with_node t n.key (record n { end = end }) → IsKept t es →
+        forest_of now es ≡ on_collections (with_nodes (map (with_end key end))) (forest_of t es)
     ends-shown es becomes ok = λ i. record {
       limit = (ap (λ (x : Table Node). x.limit) becomes) i;
       collections = (collections-map (with_end key end) same_node t now (ends-look ok.named) es) i;

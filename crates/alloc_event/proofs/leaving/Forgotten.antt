@@ -58,10 +58,12 @@ thin_filed t id (s ∷ ss) filed = λ i. by (s.id == id) i ∷ thin_filed t id s
 pub thinned_filed : (t : Table Node) (ss : List Shelf) → are_filed t ss ≡ true → map (thinned t) ss ≡ ss
 thinned_filed t [] filed = refl
 thinned_filed t (s ∷ ss) filed =
-    λ i. thinned-same t s (and_left (list_all (is_filed t s.id) s.keys) _ filed) i ∷ thinned_filed t ss (and_right (list_all (is_filed t s.id) s.keys) _ filed) i
+    λ i. thinned-same t s (and_left (list_all (is_filed t s.id) s.keys) _ filed) i ∷ thinned_filed t ss
+    (and_right (list_all (is_filed t s.id) s.keys) _ filed) i
 
 -- the node of a key is among those of the keys
-pub in_nodes : (t : Table Node) (keys : List NodeKey) (k : NodeKey) (n : Node) → node_at t k ≡ Some n → list_any (same_key k) keys ≡ true → In n (nodes_with t keys)
+pub in_nodes : (t : Table Node) (keys : List NodeKey) (k : NodeKey) (n : Node) → node_at t k ≡ Some n → list_any (same_key k) keys ≡ true →
+    In n (nodes_with t keys)
 in_nodes t [] k n is there = cc
 in_nodes t (x ∷ xs) k n is there = elim (or_cases (same_key k x) (list_any (same_key k) xs) there) [
   | inl here ↦ let found : node_at t x ≡ Some n = ap (node_at t) (sym (same_key-true k x here)) ∙ is in rw found (inl refl)
@@ -73,7 +75,8 @@ in_nodes t (x ∷ xs) k n is there = elim (or_cases (same_key k x) (list_any (sa
     from (Some m) h = inr h
 
 -- where no node of the keys is over, each key finds what is left
-pub tidy_left : (t : Table Node) (keys : List NodeKey) → list_any is_over (nodes_with t keys) ≡ false → (k : NodeKey) → node_at t k ≡ left_at t keys k
+pub tidy_left : (t : Table Node) (keys : List NodeKey) → list_any is_over (nodes_with t keys) ≡ false → (k : NodeKey) →
+    node_at t k ≡ left_at t keys k
 tidy_left t keys none k = elim (either_way (list_any (same_key k) keys)) [
   | inl there ↦ rw there (from there (node_at t k) refl)
   | inr other ↦ rw other refl
@@ -82,7 +85,8 @@ tidy_left t keys none k = elim (either_way (list_any (same_key k) keys)) [
     from : list_any (same_key k) keys ≡ true → (o : Option Node) → node_at t k ≡ o → o ≡ unless_over o
     from there None is = refl
     from there (Some n) is = elim (either_way (is_over n)) [
-      | inl over ↦ both_ways (list_any is_over (nodes_with t keys)) (In-any is_over (nodes_with t keys) n (in_nodes t keys k n is there) over) none
+      | inl over ↦ both_ways (list_any is_over (nodes_with t keys)) (In-any is_over (nodes_with t keys) n (in_nodes t keys k n is there)
+          over) none
       | inr e ↦ rw e refl
     ]
 
@@ -101,7 +105,8 @@ module _ (t now : Table Node) (id : ℕ) (ss : List Shelf) (ok : IsKept t ss)
   pub forgotten_collections : map (collection_in now) (without_bare id (thin_in now id ss)) ≡ without_over_in id (map (collection_in t) ss)
   forgotten_collections = by (find (λ (x : Shelf). x.id == id) ss) refl
     where
-      by : (o : Option Shelf) → find (λ (x : Shelf). x.id == id) ss ≡ o → map (collection_in now) (without_bare id (thin_in now id ss)) ≡ without_over_in id (map (collection_in t) ss)
+      by : (o : Option Shelf) → find (λ (x : Shelf). x.id == id) ss ≡ o →
+          map (collection_in now) (without_bare id (thin_in now id ss)) ≡ without_over_in id (map (collection_in t) ss)
       by None is =
           ap (λ (l : List Shelf). map (collection_in now) (without_bare id l)) (thin_others now id ss (none_others id ss is))
           ∙ ap (map (collection_in now)) (bare_others id ss (none_others id ss is))
@@ -115,5 +120,6 @@ module _ (t now : Table Node) (id : ℕ) (ss : List Shelf) (ok : IsKept t ss)
     where
       by : (o : Option Shelf) → find (λ (x : Shelf). x.id == id) ss ≡ o → IsKept now (without_bare id (thin_in now id ss))
       by None is = bare-kept now id (thin_in now id ss)
-          (subst (λ (l : List Shelf). IsKept now l) (sym (thin_others now id ss (none_others id ss is))) (subst (λ (x : Table Node). IsKept x ss) (sym (none is)) ok))
+          (subst (λ (l : List Shelf). IsKept now l) (sym (thin_others now id ss (none_others id ss is))) (subst (λ (x : Table Node).
+          IsKept x ss) (sym (none is)) ok))
       by (Some s) is = forgot_kept t now id ss s ok is (look s is) kept

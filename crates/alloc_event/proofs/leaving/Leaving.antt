@@ -35,10 +35,12 @@ shelf_without key s = record s { keys = filter (is_other key) s.keys }
 -- the keys without it
 all_keys-without : (key : NodeKey) (ss : List Shelf) → all_keys (map (shelf_without key) ss) ≡ filter (is_other key) (all_keys ss)
 all_keys-without key [] = refl
-all_keys-without key (s ∷ ss) = ap (λ ks. filter (is_other key) s.keys ++ ks) (all_keys-without key ss) ∙ sym (filter-append (is_other key) s.keys (all_keys ss))
+all_keys-without key (s ∷ ss) =
+    ap (λ ks. filter (is_other key) s.keys ++ ks) (all_keys-without key ss) ∙ sym (filter-append (is_other key) s.keys (all_keys ss))
 
 -- the ids still rise
-above-without : (key : NodeKey) (id : ℕ) (ss : List Shelf) → AllByRecursion (λ (later : Shelf). id < later.id) ss → AllByRecursion (λ (later : Shelf). id < later.id) (map (shelf_without key) ss)
+above-without : (key : NodeKey) (id : ℕ) (ss : List Shelf) → AllByRecursion (λ (later : Shelf). id < later.id) ss →
+    AllByRecursion (λ (later : Shelf). id < later.id) (map (shelf_without key) ss)
 above-without key id [] all = tt
 above-without key id (s ∷ ss) all = (all.0, above-without key id ss all.1)
 
@@ -52,7 +54,8 @@ module _ (t now : Table Node) (key : NodeKey) (node : Node) (out : TakesOut t no
   goes gone m is = let same : Some node ≡ Some m = sym out.was ∙ is in let one : node ≡ m = cc in ap (λ (x : Node). x.gone) (sym one) ∙ gone
 
   -- the collections without the node
-  pub collections-without : ((k : NodeKey) (n : Node) → node_at t k ≡ Some n → n.key ≡ k) → (ss : List Shelf) → map (collection_in now) (map (shelf_without key) ss) ≡ map (with_nodes (filter (λ n. not (is_of key n)))) (map (collection_in t) ss)
+  pub collections-without : ((k : NodeKey) (n : Node) → node_at t k ≡ Some n → n.key ≡ k) → (ss : List Shelf) →
+      map (collection_in now) (map (shelf_without key) ss) ≡ map (with_nodes (filter (λ n. not (is_of key n)))) (map (collection_in t) ss)
   collections-without named [] = refl
   collections-without named (s ∷ ss) =
       let none : node_at now key ≡ None = out.look key ∙ rw (same_key-true key key refl) refl in
@@ -60,7 +63,9 @@ module _ (t now : Table Node) (key : NodeKey) (node : Node) (out : TakesOut t no
       λ i. record { id = s.id; nodes = nodes i; buffers = s.buffers; held = s.held } ∷ collections-without named ss i
 
   -- by whether it is the key
-  filed-without-by : (id : ℕ) (k : NodeKey) (ks : List NodeKey) (same : Bool) → same_key key k ≡ same → is_filed t id k ≡ true → list_all (is_filed now id) (filter (is_other key) ks) ≡ true → list_all (is_filed now id) (cond (not same) (k ∷ filter (is_other key) ks) (filter (is_other key) ks)) ≡ true
+  filed-without-by : (id : ℕ) (k : NodeKey) (ks : List NodeKey) (same : Bool) → same_key key k ≡ same → is_filed t id k ≡ true →
+      list_all (is_filed now id) (filter (is_other key) ks) ≡ true →
+      list_all (is_filed now id) (cond (not same) (k ∷ filter (is_other key) ks) (filter (is_other key) ks)) ≡ true
   filed-without-by id k ks true same filed on = on
   filed-without-by id k ks false other filed on =
       let still : node_at now k ≡ node_at t k = out.look k ∙ rw other refl in
@@ -68,9 +73,11 @@ module _ (t now : Table Node) (key : NodeKey) (node : Node) (out : TakesOut t no
       rw first on
 
   -- other keys are filed still
-  filed-without : (id : ℕ) (keys : List NodeKey) → list_all (is_filed t id) keys ≡ true → list_all (is_filed now id) (filter (is_other key) keys) ≡ true
+  filed-without : (id : ℕ) (keys : List NodeKey) → list_all (is_filed t id) keys ≡ true →
+      list_all (is_filed now id) (filter (is_other key) keys) ≡ true
   filed-without id [] filed = refl
-  filed-without id (k ∷ ks) filed = filed-without-by id k ks (same_key key k) refl (and_left _ _ filed) (filed-without id ks (and_right _ _ filed))
+  filed-without id (k ∷ ks) filed =
+      filed-without-by id k ks (same_key key k) refl (and_left _ _ filed) (filed-without id ks (and_right _ _ filed))
 
   -- in all shelves
   all_filed-without : (ss : List Shelf) → are_filed t ss ≡ true → are_filed now (map (shelf_without key) ss) ≡ true
@@ -80,7 +87,9 @@ module _ (t now : Table Node) (key : NodeKey) (node : Node) (out : TakesOut t no
       rw first (all_filed-without ss (and_right _ _ filed))
 
   -- the collections stay whole, where the node is gone
-  whole-without : node.gone ≡ true → ((k : NodeKey) (n : Node) → node_at t k ≡ Some n → n.key ≡ k) → (ss : List Shelf) → AllByRecursion (λ (s : Shelf). IsWhole (collection_in t s)) ss → AllByRecursion (λ (s : Shelf). IsWhole (collection_in now s)) (map (shelf_without key) ss)
+  whole-without : node.gone ≡ true → ((k : NodeKey) (n : Node) → node_at t k ≡ Some n → n.key ≡ k) → (ss : List Shelf) →
+      AllByRecursion (λ (s : Shelf). IsWhole (collection_in t s)) ss →
+      AllByRecursion (λ (s : Shelf). IsWhole (collection_in now s)) (map (shelf_without key) ss)
   whole-without gone named [] all = tt
   whole-without gone named (s ∷ ss) all =
       let none : node_at now key ≡ None = out.look key ∙ rw (same_key-true key key refl) refl in
@@ -91,7 +100,8 @@ module _ (t now : Table Node) (key : NodeKey) (node : Node) (out : TakesOut t no
       )
 
   -- by whether it is the key
-  found-by : (k : NodeKey) (n : Node) (same : Bool) → same_key key k ≡ same → node_at now k ≡ Some n → (same ≡ false) × (node_at t k ≡ Some n)
+  found-by : (k : NodeKey) (n : Node) (same : Bool) → same_key key k ≡ same → node_at now k ≡ Some n →
+      (same ≡ false) × (node_at t k ≡ Some n)
   found-by k n true same is = let none : node_at now k ≡ None = out.look k ∙ rw same refl in absurd (cc)
   found-by k n false other is = (refl, sym (out.look k ∙ rw other refl) ∙ is)
 
@@ -100,7 +110,10 @@ module _ (t now : Table Node) (key : NodeKey) (node : Node) (out : TakesOut t no
   found-without k n is = (found-by k n (same_key key k) refl is).1
 
   -- by whether the first is either
-  any-other-by : (k : NodeKey) (n : Node) → node_at now k ≡ Some n → (x : NodeKey) (xs : List NodeKey) (gone : Bool) → same_key key x ≡ gone → (same : Bool) → same_key k x ≡ same → (same || list_any (same_key k) xs) ≡ true → (list_any (same_key k) xs ≡ true → list_any (same_key k) (filter (is_other key) xs) ≡ true) → list_any (same_key k) (cond (not gone) (x ∷ filter (is_other key) xs) (filter (is_other key) xs)) ≡ true
+  any-other-by : (k : NodeKey) (n : Node) → node_at now k ≡ Some n → (x : NodeKey) (xs : List NodeKey) (gone : Bool) →
+      same_key key x ≡ gone → (same : Bool) → same_key k x ≡ same → (same || list_any (same_key k) xs) ≡ true →
+      (list_any (same_key k) xs ≡ true → list_any (same_key k) (filter (is_other key) xs) ≡ true) →
+      list_any (same_key k) (cond (not gone) (x ∷ filter (is_other key) xs) (filter (is_other key) xs)) ≡ true
   any-other-by k n is x xs true gone true same there on =
       let one : key ≡ k = true-same_key key x gone ∙ sym (true-same_key k x same) in
       absurd (false≢true (sym (found-by k n (same_key key k) refl is).0 ∙ same_key-true key k one))
@@ -109,12 +122,14 @@ module _ (t now : Table Node) (key : NodeKey) (node : Node) (out : TakesOut t no
   any-other-by k n is x xs false gone false same there on = rw same (on there)
 
   -- another key is still among them
-  any-other : (k : NodeKey) (n : Node) → node_at now k ≡ Some n → (ks : List NodeKey) → list_any (same_key k) ks ≡ true → list_any (same_key k) (filter (is_other key) ks) ≡ true
+  any-other : (k : NodeKey) (n : Node) → node_at now k ≡ Some n → (ks : List NodeKey) → list_any (same_key k) ks ≡ true →
+      list_any (same_key k) (filter (is_other key) ks) ≡ true
   any-other k n is [] there = there
   any-other k n is (x ∷ xs) there = any-other-by k n is x xs (same_key key x) refl (same_key k x) refl there (any-other k n is xs)
 
   -- a node that is not gone keeps its parent, where the other is gone
-  linked-without : node.gone ≡ true → (ss : List Shelf) → IsKept t ss → (k : NodeKey) (n : Node) → node_at now k ≡ Some n → n.gone ≡ false → parent_at now k ≡ n.parent
+  linked-without : node.gone ≡ true → (ss : List Shelf) → IsKept t ss → (k : NodeKey) (n : Node) → node_at now k ≡ Some n → n.gone ≡ false →
+      parent_at now k ≡ n.parent
   linked-without gone ss ok k n is here =
       let was = found-by k n (same_key key k) refl is in
       out.parents k (λ same. false≢true (sym was.0 ∙ same_key-true key k (sym same))) (childless t ss ok key (goes gone) k n was.1 here)
@@ -139,7 +154,8 @@ module _ (t now : Table Node) (key : NodeKey) (node : Node) (out : TakesOut t no
 -- ---- the entries
 
 -- a shelf of another collection has not the key
-lacks_without : (t : Table Node) (key : NodeKey) (node : Node) (s : Shelf) → node_at t key ≡ Some node → list_all (is_filed t s.id) s.keys ≡ true → s.id ≢ node.collection → shelf_without key s ≡ s
+lacks_without : (t : Table Node) (key : NodeKey) (node : Node) (s : Shelf) → node_at t key ≡ Some node →
+    list_all (is_filed t s.id) s.keys ≡ true → s.id ≢ node.collection → shelf_without key s ≡ s
 lacks_without t key node s was filed differ =
     let none : list_any (same_key key) s.keys ≡ false = elim (either_way (list_any (same_key key) s.keys)) [
       | inl there ↦ absurd (differ (sym (eqb-true _ _ (filed_at t s.id s.keys key node filed was there))))
@@ -148,7 +164,8 @@ lacks_without t key node s was filed differ =
     λ i. record s { keys = lacks-filter key s.keys none i }
 
 -- so with all of greater ids
-above_lack : (t : Table Node) (key : NodeKey) (node : Node) (ss : List Shelf) → node_at t key ≡ Some node → are_filed t ss ≡ true → AllByRecursion (λ (later : Shelf). node.collection < later.id) ss → map (shelf_without key) ss ≡ ss
+above_lack : (t : Table Node) (key : NodeKey) (node : Node) (ss : List Shelf) → node_at t key ≡ Some node → are_filed t ss ≡ true →
+    AllByRecursion (λ (later : Shelf). node.collection < later.id) ss → map (shelf_without key) ss ≡ ss
 above_lack t key node [] was filed all = refl
 above_lack t key node (s ∷ ss) was filed all =
     let first = lacks_without t key node s was (and_left _ _ filed) (λ same. omega (arith, all.0)) in
@@ -156,11 +173,18 @@ above_lack t key node (s ∷ ss) was filed all =
     λ i. first i ∷ rest i
 
 -- by whether the first entry is the collection's
-set_without-by : (t : Table Node) (key : NodeKey) (node : Node) (new x : Entry) (es : List Entry) (at : ℕ) → node_at t key ≡ Some node → are_filed t (shelves_of (x ∷ es)) ≡ true → AreRising (shelves_of (x ∷ es)) → shelf_of new ≡ shelf_without key (shelf_of (get_or (x ∷ es) at new)) → (here : Bool) → (x.id == node.collection) ≡ here → (behind : Option ℕ) → ((n : ℕ) → behind ≡ Some n → shelf_of new ≡ shelf_without key (shelf_of (get_or es n new)) → shelves_of (set es n new) ≡ map (shelf_without key) (shelves_of es)) → cond here (Some 0) (option_map (λ n. n + 1) behind) ≡ Some at → shelves_of (set (x ∷ es) at new) ≡ map (shelf_without key) (shelves_of (x ∷ es))
+set_without-by : (t : Table Node) (key : NodeKey) (node : Node) (new x : Entry) (es : List Entry) (at : ℕ) → node_at t key ≡ Some node →
+    are_filed t (shelves_of (x ∷ es)) ≡ true → AreRising (shelves_of (x ∷ es)) →
+    shelf_of new ≡ shelf_without key (shelf_of (get_or (x ∷ es) at new)) → (here : Bool) → (x.id == node.collection) ≡ here →
+    (behind : Option ℕ) → ((n : ℕ) → behind ≡ Some n → shelf_of new ≡ shelf_without key (shelf_of (get_or es n new)) →
+    shelves_of (set es n new) ≡ map (shelf_without key) (shelves_of es)) →
+    cond here (Some 0) (option_map (λ n. n + 1) behind) ≡ Some at →
+    shelves_of (set (x ∷ es) at new) ≡ map (shelf_without key) (shelves_of (x ∷ es))
 set_without-by t key node new x es at was filed rising is true here behind on told =
     let first : zero ≡ at = cc in
     let own : shelf_of new ≡ shelf_without key (shelf_of x) = rw (← first) at is in
-    let low = subst (λ (low : ℕ). AllByRecursion (λ (later : Shelf). low < later.id) (shelves_of es)) (eqb-true x.id node.collection here) rising.0 in
+    let low = subst (λ (low : ℕ). AllByRecursion (λ (later : Shelf). low < later.id) (shelves_of es)) (eqb-true x.id node.collection here)
+    rising.0 in
     let rest = above_lack t key node (shelves_of es) was (and_right _ _ filed) low in
     rw (← first) (λ i. own i ∷ sym rest i)
 set_without-by t key node new x es at was filed rising is false other None on told = absurd (cc)
@@ -172,14 +196,18 @@ set_without-by t key node new x es at was filed rising is false other (Some n) o
     rw next (λ i. sym first i ∷ rest i)
 
 -- one entry without the key is all shelves without it
-pub set_without : (t : Table Node) (key : NodeKey) (node : Node) (new : Entry) (es : List Entry) (at : ℕ) → node_at t key ≡ Some node → are_filed t (shelves_of es) ≡ true → AreRising (shelves_of es) → place_in node.collection es ≡ Some at → shelf_of new ≡ shelf_without key (shelf_of (get_or es at new)) → shelves_of (set es at new) ≡ map (shelf_without key) (shelves_of es)
+pub set_without : (t : Table Node) (key : NodeKey) (node : Node) (new : Entry) (es : List Entry) (at : ℕ) → node_at t key ≡ Some node →
+    are_filed t (shelves_of es) ≡ true → AreRising (shelves_of es) → place_in node.collection es ≡ Some at →
+    shelf_of new ≡ shelf_without key (shelf_of (get_or es at new)) →
+    shelves_of (set es at new) ≡ map (shelf_without key) (shelves_of es)
 set_without t key node new [] at was filed rising told is = absurd (cc)
 set_without t key node new (x ∷ es) at was filed rising told is =
     set_without-by t key node new x es at was filed rising is (x.id == node.collection) refl (place_in node.collection es)
     (λ n on own. set_without t key node new es n was (and_right _ _ filed) rising.1 on own) told
 
 -- the collection of a node has its entry
-pub never_none : (t : Table Node) (es : List Entry) (key : NodeKey) (node : Node) → IsKept t (shelves_of es) → node_at t key ≡ Some node → place_in node.collection es ≡ None → ⊥
+pub never_none : (t : Table Node) (es : List Entry) (key : NodeKey) (node : Node) → IsKept t (shelves_of es) → node_at t key ≡ Some node →
+    place_in node.collection es ≡ None → ⊥
 never_none t es key node ok was none =
     let some = kept_of t (shelves_of es) key node ok.filed was (ok.there key node was) in
     let no = shelf_found node.collection es ∙ ap (option_map shelf_of) (none_in node.collection es none) in

@@ -88,7 +88,8 @@ apart-filter p (k ∷ ks) apart = elim (p k) as (λ b. are_apart (cond b (k ∷ 
     not_true false h = refl
 
 -- a key that passes is still there
-pub there-filter : (p : NodeKey → Bool) (key : NodeKey) (ks : List NodeKey) → p key ≡ true → list_any (same_key key) ks ≡ true → list_any (same_key key) (filter p ks) ≡ true
+pub there-filter : (p : NodeKey → Bool) (key : NodeKey) (ks : List NodeKey) → p key ≡ true → list_any (same_key key) ks ≡ true →
+    list_any (same_key key) (filter p ks) ≡ true
 there-filter p key [] passes there = there
 there-filter p key (k ∷ ks) passes there = elim (or_cases (same_key key k) (list_any (same_key key) ks) there) [
   | inl here ↦
@@ -103,18 +104,25 @@ there-filter p key (k ∷ ks) passes there = elim (or_cases (same_key key k) (li
 -- a key that none of them is can't be left out
 pub lacks-filter : (key : NodeKey) (ks : List NodeKey) → list_any (same_key key) ks ≡ false → filter (λ k. not (same_key key k)) ks ≡ ks
 lacks-filter key [] none = refl
-lacks-filter key (k ∷ ks) none = rw (or_none_left (same_key key k) (list_any (same_key key) ks) none) (ap (λ l. k ∷ l) (lacks-filter key ks (or_none_right _ _ none)))
+lacks-filter key (k ∷ ks) none =
+    rw (or_none_left (same_key key k) (list_any (same_key key) ks) none) (ap (λ l. k ∷ l) (lacks-filter key ks (or_none_right _ _ none)))
 
 -- by whether the first is the key
-one_less-by : (key k : NodeKey) (ks : List NodeKey) (same : Bool) → same_key key k ≡ same → list_any (same_key k) ks ≡ false → (same || list_any (same_key key) ks) ≡ true → (list_any (same_key key) ks ≡ true → length (filter (λ x. not (same_key key x)) ks) + 1 ≡ length ks) → length (cond (not same) (k ∷ filter (λ x. not (same_key key x)) ks) (filter (λ x. not (same_key key x)) ks)) + 1 ≡ suc (length ks)
+one_less-by : (key k : NodeKey) (ks : List NodeKey) (same : Bool) → same_key key k ≡ same → list_any (same_key k) ks ≡ false →
+    (same || list_any (same_key key) ks) ≡ true → (list_any (same_key key) ks ≡ true →
+    length (filter (λ x. not (same_key key x)) ks) + 1 ≡ length ks) →
+    length (cond (not same) (k ∷ filter (λ x. not (same_key key x)) ks) (filter (λ x. not (same_key key x)) ks)) + 1 ≡ suc
+    (length ks)
 one_less-by key k ks true is lone there on =
-    let none : list_any (same_key key) ks ≡ false = subst (λ (x : NodeKey). list_any (same_key x) ks ≡ false) (sym (true-same_key key k is)) lone in
+    let none : list_any (same_key key) ks ≡ false =
+    subst (λ (x : NodeKey). list_any (same_key x) ks ≡ false) (sym (true-same_key key k is)) lone in
     let left = ap length (lacks-filter key ks none) in
     omega (arith, left)
 one_less-by key k ks false is lone there on = let less = on there in omega (arith, less)
 
 -- keys that stand once are one fewer without one of them
-pub one_less : (key : NodeKey) (ks : List NodeKey) → are_apart ks ≡ true → list_any (same_key key) ks ≡ true → length (filter (λ k. not (same_key key k)) ks) + 1 ≡ length ks
+pub one_less : (key : NodeKey) (ks : List NodeKey) → are_apart ks ≡ true → list_any (same_key key) ks ≡ true →
+    length (filter (λ k. not (same_key key k)) ks) + 1 ≡ length ks
 one_less key [] apart there = absurd (false≢true there)
 one_less key (k ∷ ks) apart there =
     one_less-by key k ks (same_key key k) refl (not_true _ (and_left _ _ apart)) there (one_less key ks (and_right _ _ apart))
@@ -149,7 +157,8 @@ IsSound-filter p c ok = record {
 }
 
 -- and whole, where those that are left out are gone
-pub IsWhole-filter : (p : Node → Bool) (c : Collection) → ((n : Node) → In n c.nodes → p n ≡ false → n.gone ≡ true) → IsWhole c → IsWhole (with_nodes (filter p) c)
+pub IsWhole-filter : (p : Node → Bool) (c : Collection) → ((n : Node) → In n c.nodes → p n ≡ false → n.gone ≡ true) → IsWhole c →
+    IsWhole (with_nodes (filter p) c)
 IsWhole-filter p c over ok = record {
   sound = IsSound-filter p c ok.sound;
   rooted = (rooted_filter c.nodes (whole_rooted c ok) p over).rooted;
@@ -159,7 +168,8 @@ IsWhole-filter p c over ok = record {
 -- ---- shelves with the keys that a table has
 
 -- greater ids stay greater
-thinned-above : (t : Table Node) (low : ℕ) (ss : List Shelf) → AllByRecursion (λ (later : Shelf). low < later.id) ss → AllByRecursion (λ (later : Shelf). low < later.id) (map (thinned t) ss)
+thinned-above : (t : Table Node) (low : ℕ) (ss : List Shelf) → AllByRecursion (λ (later : Shelf). low < later.id) ss →
+    AllByRecursion (λ (later : Shelf). low < later.id) (map (thinned t) ss)
 thinned-above t low [] all = tt
 thinned-above t low (s ∷ ss) all = (all.0, thinned-above t low ss all.1)
 
@@ -171,7 +181,8 @@ thinned-rising t (s ∷ ss) rising = (thinned-above t s.id ss rising.0, thinned-
 -- the keys are those that the table has
 pub thinned-keys : (t : Table Node) (ss : List Shelf) → all_keys (map (thinned t) ss) ≡ filter (is_found t) (all_keys ss)
 thinned-keys t [] = refl
-thinned-keys t (s ∷ ss) = ap (λ ks. filter (is_found t) s.keys ++ ks) (thinned-keys t ss) ∙ sym (filter-append (is_found t) s.keys (all_keys ss))
+thinned-keys t (s ∷ ss) =
+    ap (λ ks. filter (is_found t) s.keys ++ ks) (thinned-keys t ss) ∙ sym (filter-append (is_found t) s.keys (all_keys ss))
 
 -- a filed key has a node
 filed_found-by : (id : ℕ) (o : Option Node) → option_map_or (λ (n : Node). n.collection == id) o false ≡ true → is_some o ≡ true
@@ -193,7 +204,8 @@ all_thinned-same t [] filed = refl
 all_thinned-same t (s ∷ ss) filed = λ i. thinned-same t s (and_left _ _ filed) i ∷ all_thinned-same t ss (and_right _ _ filed) i
 
 -- what is kept by a table, and by one that has fewer nodes
-pub thinned-twice : (t now : Table Node) → ((k : NodeKey) → is_found now k ≡ true → is_found t k ≡ true) → (ss : List Shelf) → map (thinned now) (map (thinned t) ss) ≡ map (thinned now) ss
+pub thinned-twice : (t now : Table Node) → ((k : NodeKey) → is_found now k ≡ true → is_found t k ≡ true) → (ss : List Shelf) →
+    map (thinned now) (map (thinned t) ss) ≡ map (thinned now) ss
 thinned-twice t now fewer [] = refl
 thinned-twice t now fewer (s ∷ ss) =
     λ i. record s { keys = filter-twice (is_found now) (is_found t) fewer s.keys i } ∷ thinned-twice t now fewer ss i
@@ -218,7 +230,8 @@ module _ (t now : Table Node) (key : NodeKey) (out : TakesOut t now key) where
   found_before k found = found-by k (same_key key k) (sym (ap is_some (out.look k)) ∙ found)
 
   -- a key is filed still, if it is found
-  filed-kept : (id : ℕ) (ks : List NodeKey) → list_all (is_filed t id) ks ≡ true → list_all (is_filed now id) (filter (is_found now) ks) ≡ true
+  filed-kept : (id : ℕ) (ks : List NodeKey) → list_all (is_filed t id) ks ≡ true →
+      list_all (is_filed now id) (filter (is_found now) ks) ≡ true
   filed-kept id [] filed = refl
   filed-kept id (k ∷ ks) filed = elim (either_way (same_key key k)) [
     | inl same ↦
@@ -227,7 +240,8 @@ module _ (t now : Table Node) (key : NodeKey) (out : TakesOut t now key) where
     | inr other ↦
         let there : node_at now k ≡ node_at t k = out.look k ∙ (rw other refl) in
         let found : is_found now k ≡ true = ap is_some there ∙ filed_found-by id (node_at t k) (and_left _ _ filed) in
-        let own : is_filed now id k ≡ true = ap (λ o. option_map_or (λ (n : Node). n.collection == id) o false) there ∙ and_left _ _ filed in
+        let own : is_filed now id k ≡ true =
+        ap (λ o. option_map_or (λ (n : Node). n.collection == id) o false) there ∙ and_left _ _ filed in
         rw found (and_both _ _ own (filed-kept id ks (and_right _ _ filed)))
   ]
 
@@ -250,17 +264,21 @@ module _ (t now : Table Node) (key : NodeKey) (out : TakesOut t now key) where
   -- all keys have nodes
   all_found : (ss : List Shelf) → are_filed t ss ≡ true → list_all (is_found t) (all_keys ss) ≡ true
   all_found [] filed = refl
-  all_found (s ∷ ss) filed = all-append (is_found t) s.keys (all_keys ss) (filed_all t s.id s.keys (and_left _ _ filed)) (all_found ss (and_right _ _ filed))
+  all_found (s ∷ ss) filed =
+      all-append (is_found t) s.keys (all_keys ss) (filed_all t s.id s.keys (and_left _ _ filed)) (all_found ss (and_right _ _ filed))
     where
-      all-append : (test : NodeKey → Bool) (xs ys : List NodeKey) → list_all test xs ≡ true → list_all test ys ≡ true → list_all test (xs ++ ys) ≡ true
+      all-append : (test : NodeKey → Bool) (xs ys : List NodeKey) → list_all test xs ≡ true → list_all test ys ≡ true →
+          list_all test (xs ++ ys) ≡ true
       all-append test [] ys one two = two
       all-append test (x ∷ xs) ys one two = and_both _ _ (and_left _ _ one) (all-append test xs ys (and_right _ _ one) two)
 
   -- the nodes are the others
-  pub nodes_left : ((k : NodeKey) (n : Node) → node_at t k ≡ Some n → n.key ≡ k) → (ks : List NodeKey) → nodes_with now (filter (is_found now) ks) ≡ filter (λ n. not (is_of key n)) (nodes_with t ks)
+  pub nodes_left : ((k : NodeKey) (n : Node) → node_at t k ≡ Some n → n.key ≡ k) → (ks : List NodeKey) →
+      nodes_with now (filter (is_found now) ks) ≡ filter (λ n. not (is_of key n)) (nodes_with t ks)
   nodes_left named ks = only_found ks ∙ looked-without key (node_at t) (node_at now) named out.look ks
     where
-      by : (k : NodeKey) (o : Option Node) (ks : List NodeKey) (ns : List Node) → node_at now k ≡ o → nodes_with now ks ≡ ns → nodes_with now (cond (is_some o) (k ∷ ks) ks) ≡ cons_option o ns
+      by : (k : NodeKey) (o : Option Node) (ks : List NodeKey) (ns : List Node) → node_at now k ≡ o → nodes_with now ks ≡ ns →
+          nodes_with now (cond (is_some o) (k ∷ ks) ks) ≡ cons_option o ns
       by k None ks ns is on = on
       by k (Some n) ks ns is on = rw (is, on) refl
 
@@ -269,20 +287,24 @@ module _ (t now : Table Node) (key : NodeKey) (out : TakesOut t now key) where
       only_found (k ∷ ks) = by k (node_at now k) (filter (is_found now) ks) (nodes_with now ks) refl (only_found ks)
 
   -- the collections stay whole, where the node is gone
-  whole-kept : ((m : Node) → node_at t key ≡ Some m → m.gone ≡ true) → ((k : NodeKey) (n : Node) → node_at t k ≡ Some n → n.key ≡ k) → (ss : List Shelf) → AllByRecursion (λ (s : Shelf). IsWhole (collection_in t s)) ss → AllByRecursion (λ (s : Shelf). IsWhole (collection_in now s)) (map (thinned now) ss)
+  whole-kept : ((m : Node) → node_at t key ≡ Some m → m.gone ≡ true) → ((k : NodeKey) (n : Node) → node_at t k ≡ Some n → n.key ≡ k) →
+      (ss : List Shelf) → AllByRecursion (λ (s : Shelf). IsWhole (collection_in t s)) ss →
+      AllByRecursion (λ (s : Shelf). IsWhole (collection_in now s)) (map (thinned now) ss)
   whole-kept goes named [] all = tt
   whole-kept goes named (s ∷ ss) all =
       (rw (nodes_left named s.keys) (IsWhole-filter (λ n. not (is_of key n)) (collection_in t s) (looked_gone t named key goes s.keys) all.0), whole-kept goes named ss all.1)
 
   -- a node that is not gone keeps its parent, where the other is gone
-  linked-kept : ((m : Node) → node_at t key ≡ Some m → m.gone ≡ true) → (ss : List Shelf) → IsKept t ss → (k : NodeKey) (n : Node) → node_at now k ≡ Some n → n.gone ≡ false → parent_at now k ≡ n.parent
+  linked-kept : ((m : Node) → node_at t key ≡ Some m → m.gone ≡ true) → (ss : List Shelf) → IsKept t ss → (k : NodeKey) (n : Node) →
+      node_at now k ≡ Some n → n.gone ≡ false → parent_at now k ≡ n.parent
   linked-kept goes ss ok k n is here =
       let was = still k n is in
       out.parents k (λ same. false≢true (sym was.0 ∙ same_key-true key k (sym same))) (childless t ss ok key goes k n was.1 here)
       ∙ ok.linked k n was.1 here
 
   -- by the node that is gone
-  counted-by : (ss : List Shelf) → IsKept t ss → (o : Option Node) → node_at t key ≡ o → is_some o ≡ true → length (all_keys (map (thinned now) ss)) ≡ table_len now
+  counted-by : (ss : List Shelf) → IsKept t ss → (o : Option Node) → node_at t key ≡ o → is_some o ≡ true →
+      length (all_keys (map (thinned now) ss)) ≡ table_len now
   counted-by ss ok None is was = absurd (false≢true was)
   counted-by ss ok (Some n) is was =
       let fewer = one_less key (all_keys ss) ok.apart (ok.there key n is) in
@@ -290,7 +312,8 @@ module _ (t now : Table Node) (key : NodeKey) (out : TakesOut t now key) where
       omega (arith, fewer, left, ok.counted, out.shorter)
 
   -- all that holds of forests holds of the shelves without the key
-  pub taken-kept : ((m : Node) → node_at t key ≡ Some m → m.gone ≡ true) → (ss : List Shelf) → IsKept t ss → IsKept now (map (thinned now) ss)
+  pub taken-kept : ((m : Node) → node_at t key ≡ Some m → m.gone ≡ true) → (ss : List Shelf) → IsKept t ss →
+      IsKept now (map (thinned now) ss)
   taken-kept goes ss ok = record {
     first = same_first t now out.keys ∙ ok.first;
     rising = thinned-rising now ss ok.rising;

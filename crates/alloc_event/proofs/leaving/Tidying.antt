@@ -16,7 +16,8 @@ use Rattle.alloc_event.specs.Nodes.{is_over}
 use Rattle.alloc_event.proofs.leaving.Thinning.{all-filter, each-filter, filed_all}
 
 -- a key of a collection has a node of it
-filed_there : (t : Table Node) (id : ℕ) (ks : List NodeKey) (key : NodeKey) → list_all (is_filed t id) ks ≡ true → list_any (same_key key) ks ≡ true → is_filed t id key ≡ true
+filed_there : (t : Table Node) (id : ℕ) (ks : List NodeKey) (key : NodeKey) → list_all (is_filed t id) ks ≡ true →
+    list_any (same_key key) ks ≡ true → is_filed t id key ≡ true
 filed_there t id [] key filed there = absurd (false≢true there)
 filed_there t id (k ∷ ks) key filed there = elim (or_cases (same_key key k) (list_any (same_key key) ks) there) [
   | inl same ↦ ap (is_filed t id) (true-same_key key k same) ∙ and_left _ _ filed
@@ -24,7 +25,8 @@ filed_there t id (k ∷ ks) key filed there = elim (or_cases (same_key key k) (l
 ]
 
 -- a node is of one collection
-one_collection-by : (one two : ℕ) (o : Option Node) → option_map_or (λ (n : Node). n.collection == one) o false ≡ true → option_map_or (λ (n : Node). n.collection == two) o false ≡ true → one ≡ two
+one_collection-by : (one two : ℕ) (o : Option Node) → option_map_or (λ (n : Node). n.collection == one) o false ≡ true →
+    option_map_or (λ (n : Node). n.collection == two) o false ≡ true → one ≡ two
 one_collection-by one two None a b = absurd (false≢true a)
 one_collection-by one two (Some n) a b = sym (eqb-true _ _ a) ∙ eqb-true _ _ b
 
@@ -34,20 +36,25 @@ not_both true h = absurd (h refl)
 not_both false h = refl
 
 -- the first that is left
-unless_first : (o : Option Node) (ns : List Node) → cons_option (unless_over o) (filter (λ n. not (is_over n)) ns) ≡ filter (λ n. not (is_over n)) (cons_option o ns)
+unless_first : (o : Option Node) (ns : List Node) → cons_option (unless_over o) (filter (λ n. not (is_over n)) ns) ≡ filter (λ n.
+    not (is_over n)) (cons_option o ns)
 unless_first None ns = refl
-unless_first (Some n) ns = elim (is_over n) as (λ b. cons_option (cond b None (Some n)) (filter (λ m. not (is_over m)) ns) ≡ cond (not b) (n ∷ filter (λ m. not (is_over m)) ns) (filter (λ m. not (is_over m)) ns)) [ true ↦ refl | false ↦ refl ]
+unless_first (Some n) ns = elim (is_over n) as (λ b. cons_option (cond b None (Some n)) (filter (λ m. not (is_over m)) ns) ≡ cond (not b)
+    (n ∷ filter (λ m. not (is_over m)) ns) (filter (λ m. not (is_over m)) ns)) [ true ↦ refl | false ↦ refl ]
 
-module _ (t now : Table Node) (s : Shelf) (filed : list_all (is_filed t s.id) s.keys ≡ true) (look : (k : NodeKey) → node_at now k ≡ left_at t s.keys k) where
+module _ (t now : Table Node) (s : Shelf) (filed : list_all (is_filed t s.id) s.keys ≡ true) (look : (k : NodeKey) →
+    node_at now k ≡ left_at t s.keys k) where
   -- a key of another collection finds what it found
   other_look : (id : ℕ) (key : NodeKey) → (id == s.id) ≡ false → is_filed t id key ≡ true → node_at now key ≡ node_at t key
   other_look id key other own =
       let off : list_any (same_key key) s.keys ≡ false =
-      not_both _ (λ there. eqb-false id s.id other (one_collection-by id s.id (node_at t key) own (filed_there t s.id s.keys key filed there))) in
+      not_both _ (λ there. eqb-false id s.id other (one_collection-by id s.id (node_at t key) own (filed_there t s.id s.keys key filed
+      there))) in
       look key ∙ (rw off refl)
 
   -- so do all of its keys
-  other_nodes : (id : ℕ) (ks : List NodeKey) → (id == s.id) ≡ false → list_all (is_filed t id) ks ≡ true → nodes_with now ks ≡ nodes_with t ks
+  other_nodes : (id : ℕ) (ks : List NodeKey) → (id == s.id) ≡ false → list_all (is_filed t id) ks ≡ true →
+      nodes_with now ks ≡ nodes_with t ks
   other_nodes id [] other own = refl
   other_nodes id (k ∷ ks) other own =
       let here : node_at now k ≡ node_at t k = other_look id k other (and_left _ _ own) in
@@ -62,22 +69,27 @@ module _ (t now : Table Node) (s : Shelf) (filed : list_all (is_filed t s.id) s.
   other_found id [] other own = refl
   other_found id (k ∷ ks) other own =
       let here : node_at now k ≡ node_at t k = other_look id k other (and_left _ _ own) in
-      and_both _ _ (ap is_some here ∙ and_left (is_found t k) (list_all (is_found t) ks) (filed_all t id (k ∷ ks) own)) (other_found id ks other (and_right _ _ own))
+      and_both _ _ (ap is_some here ∙ and_left (is_found t k) (list_all (is_found t) ks) (filed_all t id (k ∷ ks) own))
+      (other_found id ks other (and_right _ _ own))
 
   -- so its shelf stays
   pub other_thinned : (x : Shelf) → (x.id == s.id) ≡ false → list_all (is_filed t x.id) x.keys ≡ true → thinned now x ≡ x
   other_thinned x other own = λ i. record x { keys = all-filter (is_found now) x.keys (other_found x.id x.keys other own) i }
 
   -- the nodes of some of its keys are those that are not over
-  own_nodes : (ks : List NodeKey) → ((k : NodeKey) → list_any (same_key k) ks ≡ true → list_any (same_key k) s.keys ≡ true) → nodes_with now (filter (is_found now) ks) ≡ filter (λ n. not (is_over n)) (nodes_with t ks)
+  own_nodes : (ks : List NodeKey) → ((k : NodeKey) → list_any (same_key k) ks ≡ true → list_any (same_key k) s.keys ≡ true) →
+      nodes_with now (filter (is_found now) ks) ≡ filter (λ n. not (is_over n)) (nodes_with t ks)
   own_nodes [] within = refl
   own_nodes (k ∷ ks) within =
       let here : node_at now k ≡ unless_over (node_at t k) =
       look k ∙ (rw (within k (or_left _ _ (same_key-true k k refl))) refl) in
-      by (node_at now k) refl ∙ (rw here (ap (cons_option (unless_over (node_at t k))) (own_nodes ks (λ x there. within x (or_right _ _ there)))))
+      by (node_at now k) refl ∙ (rw here (ap (cons_option (unless_over (node_at t k))) (own_nodes ks (λ x there.
+      within x (or_right _ _ there)))))
       ∙ unless_first (node_at t k) (nodes_with t ks)
     where
-      by : (o : Option Node) → node_at now k ≡ o → nodes_with now (cond (is_some o) (k ∷ filter (is_found now) ks) (filter (is_found now) ks)) ≡ cons_option o (nodes_with now (filter (is_found now) ks))
+      by : (o : Option Node) → node_at now k ≡ o →
+          nodes_with now (cond (is_some o) (k ∷ filter (is_found now) ks) (filter (is_found now) ks)) ≡ cons_option o
+          (nodes_with now (filter (is_found now) ks))
       by None is = refl
       by (Some n) is = rw is refl
 
@@ -90,7 +102,9 @@ found-length : (t : Table Node) (ks : List NodeKey) → length (nodes_with t (fi
 found-length t [] = refl
 found-length t (k ∷ ks) = by (found-length t ks) (node_at t k) refl
   where
-    by : length (nodes_with t (filter (is_found t) ks)) ≡ length (filter (is_found t) ks) → (o : Option Node) → node_at t k ≡ o → length (nodes_with t (cond (is_some o) (k ∷ filter (is_found t) ks) (filter (is_found t) ks))) ≡ length (cond (is_some o) (k ∷ filter (is_found t) ks) (filter (is_found t) ks))
+    by : length (nodes_with t (filter (is_found t) ks)) ≡ length (filter (is_found t) ks) → (o : Option Node) → node_at t k ≡ o →
+        length (nodes_with t (cond (is_some o) (k ∷ filter (is_found t) ks) (filter (is_found t) ks))) ≡ length
+        (cond (is_some o) (k ∷ filter (is_found t) ks) (filter (is_found t) ks))
     by on None is = on
     by on (Some n) is = rw is (ap (λ n. suc n) on)
 
@@ -101,7 +115,8 @@ bare_left t s = ap (λ n. (n == 0) && (length s.held == 0)) (sym (found-length t
 -- ---- all collections
 
 -- ids above another are others
-pub above_other : (id low : ℕ) (ss : List Shelf) → AllByRecursion (λ (later : Shelf). low < later.id) ss → (low == id) ≡ true → AllByRecursion (λ (x : Shelf). (x.id == id) ≡ false) ss
+pub above_other : (id low : ℕ) (ss : List Shelf) → AllByRecursion (λ (later : Shelf). low < later.id) ss → (low == id) ≡ true →
+    AllByRecursion (λ (x : Shelf). (x.id == id) ≡ false) ss
 above_other id low [] all same = tt
 above_other id low (s ∷ ss) all same =
     (ne_eqb s.id id (λ equal. let own = eqb-true low id same in omega (arith, all.0, own, equal)), above_other id low ss all.1 same)
@@ -111,51 +126,67 @@ pub bare_others : (id : ℕ) (ss : List Shelf) → AllByRecursion (λ (x : Shelf
 bare_others id [] others = refl
 bare_others id (s ∷ ss) others = rw others.0 (ap (λ l. s ∷ l) (bare_others id ss others.1))
 
-pub thin_others : (t : Table Node) (id : ℕ) (ss : List Shelf) → AllByRecursion (λ (x : Shelf). (x.id == id) ≡ false) ss → thin_in t id ss ≡ ss
+pub thin_others : (t : Table Node) (id : ℕ) (ss : List Shelf) → AllByRecursion (λ (x : Shelf). (x.id == id) ≡ false) ss →
+    thin_in t id ss ≡ ss
 thin_others t id [] others = refl
 thin_others t id (s ∷ ss) others = rw others.0 (ap (λ l. s ∷ l) (thin_others t id ss others.1))
 
-over_others : (t : Table Node) (id : ℕ) (ss : List Shelf) → AllByRecursion (λ (x : Shelf). (x.id == id) ≡ false) ss → without_over_in id (map (collection_in t) ss) ≡ map (collection_in t) ss
+over_others : (t : Table Node) (id : ℕ) (ss : List Shelf) → AllByRecursion (λ (x : Shelf). (x.id == id) ≡ false) ss →
+    without_over_in id (map (collection_in t) ss) ≡ map (collection_in t) ss
 over_others t id [] others = refl
 over_others t id (s ∷ ss) others = rw others.0 (ap (λ l. collection_in t s ∷ l) (over_others t id ss others.1))
 
 -- where none is found all are others
-pub none_others : (id : ℕ) (ss : List Shelf) → find (λ (x : Shelf). x.id == id) ss ≡ None → AllByRecursion (λ (x : Shelf). (x.id == id) ≡ false) ss
+pub none_others : (id : ℕ) (ss : List Shelf) → find (λ (x : Shelf). x.id == id) ss ≡ None →
+    AllByRecursion (λ (x : Shelf). (x.id == id) ≡ false) ss
 none_others id [] none = tt
 none_others id (s ∷ ss) none = by (none_others id ss) (s.id == id) refl none
   where
-    by : (find (λ (x : Shelf). x.id == id) ss ≡ None → AllByRecursion (λ (x : Shelf). (x.id == id) ≡ false) ss) → (b : Bool) → (s.id == id) ≡ b → cond b (Some s) (find (λ (x : Shelf). x.id == id) ss) ≡ None → AllByRecursion (λ (x : Shelf). (x.id == id) ≡ false) (s ∷ ss)
+    by : (find (λ (x : Shelf). x.id == id) ss ≡ None → AllByRecursion (λ (x : Shelf). (x.id == id) ≡ false) ss) → (b : Bool) →
+        (s.id == id) ≡ b → cond b (Some s) (find (λ (x : Shelf). x.id == id) ss) ≡ None →
+        AllByRecursion (λ (x : Shelf). (x.id == id) ≡ false) (s ∷ ss)
     by on true same none = absurd (cc)
     by on false other none = (other, on none)
 
 -- and nothing is forgotten
-pub over_none : (t : Table Node) (id : ℕ) (ss : List Shelf) → find (λ (x : Shelf). x.id == id) ss ≡ None → map (collection_in t) ss ≡ without_over_in id (map (collection_in t) ss)
+pub over_none : (t : Table Node) (id : ℕ) (ss : List Shelf) → find (λ (x : Shelf). x.id == id) ss ≡ None →
+    map (collection_in t) ss ≡ without_over_in id (map (collection_in t) ss)
 over_none t id ss none = sym (over_others t id ss (none_others id ss none))
 
-module _ (t now : Table Node) (s : Shelf) (filed : list_all (is_filed t s.id) s.keys ≡ true) (look : (k : NodeKey) → node_at now k ≡ left_at t s.keys k) where
+module _ (t now : Table Node) (s : Shelf) (filed : list_all (is_filed t s.id) s.keys ≡ true) (look : (k : NodeKey) →
+    node_at now k ≡ left_at t s.keys k) where
   -- other collections stay
-  others_same : (ss : List Shelf) → are_filed t ss ≡ true → AllByRecursion (λ (x : Shelf). (x.id == s.id) ≡ false) ss → map (collection_in now) ss ≡ map (collection_in t) ss
+  others_same : (ss : List Shelf) → are_filed t ss ≡ true → AllByRecursion (λ (x : Shelf). (x.id == s.id) ≡ false) ss →
+      map (collection_in now) ss ≡ map (collection_in t) ss
   others_same [] all others = refl
   others_same (x ∷ xs) all others =
       λ i. other_same t now s filed look x others.0 (and_left _ _ all) i ∷ others_same xs (and_right _ _ all) others.1 i
 
   -- the found one, with all behind it
-  tidied_here : (ss : List Shelf) → are_filed t ss ≡ true → AllByRecursion (λ (x : Shelf). (x.id == s.id) ≡ false) ss → (b : Bool) → is_bare (thinned now s) ≡ b → map (collection_in now) (cond (not b) (thinned now s ∷ ss) ss) ≡ cond (is_left (tidied (collection_in t s))) (map (collection_in t) ss) (tidied (collection_in t s) ∷ map (collection_in t) ss)
+  tidied_here : (ss : List Shelf) → are_filed t ss ≡ true → AllByRecursion (λ (x : Shelf). (x.id == s.id) ≡ false) ss → (b : Bool) →
+      is_bare (thinned now s) ≡ b → map (collection_in now) (cond (not b) (thinned now s ∷ ss) ss) ≡ cond
+      (is_left (tidied (collection_in t s))) (map (collection_in t) ss) (tidied (collection_in t s) ∷ map (collection_in t) ss)
   tidied_here ss all others b bare =
       let own : collection_in now (thinned now s) ≡ tidied (collection_in t s) = own_tidied t now s filed look in
       let left : is_left (tidied (collection_in t s)) ≡ b = ap is_left (sym own) ∙ sym (bare_left now s) ∙ bare in
       rw left (by b)
     where
-      by : (b : Bool) → map (collection_in now) (cond (not b) (thinned now s ∷ ss) ss) ≡ cond b (map (collection_in t) ss) (tidied (collection_in t s) ∷ map (collection_in t) ss)
+      by : (b : Bool) → map (collection_in now) (cond (not b) (thinned now s ∷ ss) ss) ≡ cond b (map (collection_in t) ss)
+          (tidied (collection_in t s) ∷ map (collection_in t) ss)
       by true = others_same ss all others
       by false = λ i. own_tidied t now s filed look i ∷ others_same ss all others i
 
   -- the nodes that are over are gone from the collection with the id, and it too where nothing is left
-  pub tidied_all : (ss : List Shelf) → AreRising ss → are_filed t ss ≡ true → find (λ (x : Shelf). x.id == s.id) ss ≡ Some s → map (collection_in now) (without_bare s.id (thin_in now s.id ss)) ≡ without_over_in s.id (map (collection_in t) ss)
+  pub tidied_all : (ss : List Shelf) → AreRising ss → are_filed t ss ≡ true → find (λ (x : Shelf). x.id == s.id) ss ≡ Some s →
+      map (collection_in now) (without_bare s.id (thin_in now s.id ss)) ≡ without_over_in s.id (map (collection_in t) ss)
   tidied_all [] rising all found = absurd (cc)
   tidied_all (x ∷ xs) rising all found = by (tidied_all xs rising.1 (and_right _ _ all)) (x.id == s.id) refl found
     where
-      by : (find (λ (y : Shelf). y.id == s.id) xs ≡ Some s → map (collection_in now) (without_bare s.id (thin_in now s.id xs)) ≡ without_over_in s.id (map (collection_in t) xs)) → (b : Bool) → (x.id == s.id) ≡ b → cond b (Some x) (find (λ (y : Shelf). y.id == s.id) xs) ≡ Some s → map (collection_in now) (without_bare s.id (thin_in now s.id (x ∷ xs))) ≡ without_over_in s.id (map (collection_in t) (x ∷ xs))
+      by : (find (λ (y : Shelf). y.id == s.id) xs ≡ Some s →
+          map (collection_in now) (without_bare s.id (thin_in now s.id xs)) ≡ without_over_in s.id (map (collection_in t) xs)) →
+          (b : Bool) → (x.id == s.id) ≡ b → cond b (Some x) (find (λ (y : Shelf). y.id == s.id) xs) ≡ Some s →
+          map (collection_in now) (without_bare s.id (thin_in now s.id (x ∷ xs))) ≡ without_over_in s.id
+          (map (collection_in t) (x ∷ xs))
       by on true same is =
           let one : x ≡ s = cc in
           let others = above_other s.id x.id xs rising.0 same in
@@ -167,7 +198,8 @@ module _ (t now : Table Node) (s : Shelf) (filed : list_all (is_filed t s.id) s.
           (λ i. other_same t now s filed look x other (and_left _ _ all) i ∷ on is i)
 
   -- the shelves of others have only keys that the table has
-  others_thinned : (ss : List Shelf) → are_filed t ss ≡ true → AllByRecursion (λ (x : Shelf). (x.id == s.id) ≡ false) ss → map (thinned now) ss ≡ ss
+  others_thinned : (ss : List Shelf) → are_filed t ss ≡ true → AllByRecursion (λ (x : Shelf). (x.id == s.id) ≡ false) ss →
+      map (thinned now) ss ≡ ss
   others_thinned [] all others = refl
   others_thinned (x ∷ xs) all others =
       λ i. other_thinned t now s filed look x others.0 (and_left _ _ all) i ∷ others_thinned xs (and_right _ _ all) others.1 i
@@ -177,7 +209,8 @@ module _ (t now : Table Node) (s : Shelf) (filed : list_all (is_filed t s.id) s.
   thinned_all [] rising all = refl
   thinned_all (x ∷ xs) rising all = by (thinned_all xs rising.1 (and_right _ _ all)) (x.id == s.id) refl
     where
-      by : thin_in now s.id xs ≡ map (thinned now) xs → (b : Bool) → (x.id == s.id) ≡ b → cond b (thinned now x) x ∷ thin_in now s.id xs ≡ thinned now x ∷ map (thinned now) xs
+      by : thin_in now s.id xs ≡ map (thinned now) xs → (b : Bool) → (x.id == s.id) ≡ b →
+          cond b (thinned now x) x ∷ thin_in now s.id xs ≡ thinned now x ∷ map (thinned now) xs
       by on true same =
           let others = above_other s.id x.id xs rising.0 same in
           ap (λ l. thinned now x ∷ l) (thin_others now s.id xs others ∙ sym (others_thinned xs (and_right _ _ all) others))
@@ -187,20 +220,24 @@ module _ (t now : Table Node) (s : Shelf) (filed : list_all (is_filed t s.id) s.
 -- ---- shelves without a bare one
 
 -- greater ids stay greater
-bare-above : (id low : ℕ) (ss : List Shelf) → AllByRecursion (λ (later : Shelf). low < later.id) ss → AllByRecursion (λ (later : Shelf). low < later.id) (without_bare id ss)
+bare-above : (id low : ℕ) (ss : List Shelf) → AllByRecursion (λ (later : Shelf). low < later.id) ss →
+    AllByRecursion (λ (later : Shelf). low < later.id) (without_bare id ss)
 bare-above id low [] all = tt
-bare-above id low (s ∷ ss) all = elim (s.id == id && is_bare s) as (λ b. AllByRecursion (λ (later : Shelf). low < later.id) (cond (not b) (s ∷ without_bare id ss) (without_bare id ss))) [
-  | true ↦ bare-above id low ss all.1
-  | false ↦ (all.0, bare-above id low ss all.1)
-]
+bare-above id low (s ∷ ss) all =
+    elim (s.id == id && is_bare s) as (λ b. AllByRecursion (λ (later : Shelf).
+    low < later.id) (cond (not b) (s ∷ without_bare id ss) (without_bare id ss))) [
+      | true ↦ bare-above id low ss all.1
+      | false ↦ (all.0, bare-above id low ss all.1)
+    ]
 
 -- the ids still rise
 bare-rising : (id : ℕ) (ss : List Shelf) → AreRising ss → AreRising (without_bare id ss)
 bare-rising id [] rising = tt
-bare-rising id (s ∷ ss) rising = elim (s.id == id && is_bare s) as (λ b. AreRising (cond (not b) (s ∷ without_bare id ss) (without_bare id ss))) [
-  | true ↦ bare-rising id ss rising.1
-  | false ↦ (bare-above id s.id ss rising.0, bare-rising id ss rising.1)
-]
+bare-rising id (s ∷ ss) rising =
+    elim (s.id == id && is_bare s) as (λ b. AreRising (cond (not b) (s ∷ without_bare id ss) (without_bare id ss))) [
+      | true ↦ bare-rising id ss rising.1
+      | false ↦ (bare-above id s.id ss rising.0, bare-rising id ss rising.1)
+    ]
 
 -- the keys stay
 no_keys : (ks : List NodeKey) → (length ks == 0) ≡ true → ks ≡ []
@@ -211,7 +248,8 @@ bare-keys : (id : ℕ) (ss : List Shelf) → all_keys (without_bare id ss) ≡ a
 bare-keys id [] = refl
 bare-keys id (s ∷ ss) = by (bare-keys id ss) (s.id == id && is_bare s) refl
   where
-    by : all_keys (without_bare id ss) ≡ all_keys ss → (b : Bool) → (s.id == id && is_bare s) ≡ b → all_keys (cond (not b) (s ∷ without_bare id ss) (without_bare id ss)) ≡ s.keys ++ all_keys ss
+    by : all_keys (without_bare id ss) ≡ all_keys ss → (b : Bool) → (s.id == id && is_bare s) ≡ b →
+        all_keys (cond (not b) (s ∷ without_bare id ss) (without_bare id ss)) ≡ s.keys ++ all_keys ss
     by on true bare =
         let none : s.keys ≡ [] = no_keys s.keys (and_left _ _ (and_right (s.id == id) (is_bare s) bare)) in
         rw none on
@@ -219,15 +257,19 @@ bare-keys id (s ∷ ss) = by (bare-keys id ss) (s.id == id && is_bare s) refl
 
 -- they are filed still
 bare-filed : (t : Table Node) (id : ℕ) (ss : List Shelf) → are_filed t ss ≡ true → are_filed t (without_bare id ss) ≡ true
-bare-filed t id ss filed = each-filter (λ (s : Shelf). not (s.id == id && is_bare s)) (λ (s : Shelf). list_all (is_filed t s.id) s.keys) ss filed
+bare-filed t id ss filed =
+    each-filter (λ (s : Shelf). not (s.id == id && is_bare s)) (λ (s : Shelf). list_all (is_filed t s.id) s.keys) ss filed
 
 -- the collections stay whole
-bare-whole : (t : Table Node) (id : ℕ) (ss : List Shelf) → AllByRecursion (λ (s : Shelf). IsWhole (collection_in t s)) ss → AllByRecursion (λ (s : Shelf). IsWhole (collection_in t s)) (without_bare id ss)
+bare-whole : (t : Table Node) (id : ℕ) (ss : List Shelf) → AllByRecursion (λ (s : Shelf). IsWhole (collection_in t s)) ss →
+    AllByRecursion (λ (s : Shelf). IsWhole (collection_in t s)) (without_bare id ss)
 bare-whole t id [] all = tt
-bare-whole t id (s ∷ ss) all = elim (s.id == id && is_bare s) as (λ b. AllByRecursion (λ (x : Shelf). IsWhole (collection_in t x)) (cond (not b) (s ∷ without_bare id ss) (without_bare id ss))) [
-  | true ↦ bare-whole t id ss all.1
-  | false ↦ (all.0, bare-whole t id ss all.1)
-]
+bare-whole t id (s ∷ ss) all =
+    elim (s.id == id && is_bare s) as (λ b. AllByRecursion (λ (x : Shelf).
+    IsWhole (collection_in t x)) (cond (not b) (s ∷ without_bare id ss) (without_bare id ss))) [
+      | true ↦ bare-whole t id ss all.1
+      | false ↦ (all.0, bare-whole t id ss all.1)
+    ]
 
 -- all that holds of forests holds without a bare collection
 pub bare-kept : (t : Table Node) (id : ℕ) (ss : List Shelf) → IsKept t ss → IsKept t (without_bare id ss)

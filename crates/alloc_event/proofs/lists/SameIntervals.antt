@@ -66,14 +66,16 @@ pub less_of : (a b : ℕ) → a ≢ b → b ≤ a → b < a
 less_of a b differ le = elim (cases_lt b a) [ inl less ↦ less | inr more ↦ absurd (differ (omega arith)) ]
 
 -- two that go in at different places, in either order
-insert-swap : (x y : Interval) (zs : List Interval) → x.start ≢ y.start → insert_by start_of x (insert_by start_of y zs) ≡ insert_by start_of y (insert_by start_of x zs)
+insert-swap : (x y : Interval) (zs : List Interval) → x.start ≢ y.start →
+    insert_by start_of x (insert_by start_of y zs) ≡ insert_by start_of y (insert_by start_of x zs)
 insert-swap x y [] differ = elim (cases_lt x.start y.start) [
   | inl less ↦ rw (lt-ltb x.start y.start less, le-ltb y.start x.start (omega arith)) refl
   | inr more ↦ rw (le-ltb x.start y.start more, lt-ltb y.start x.start (less_of x.start y.start differ more)) refl
 ]
 insert-swap x y (z ∷ zs) differ = elim (cases_lt z.start x.start) [
   | inl zx ↦ elim (cases_lt z.start y.start) [
-    | inl zy ↦ rw (lt-ltb z.start x.start zx, lt-ltb z.start y.start zy, lt-ltb z.start x.start zx) (ap (λ l. z ∷ l) (insert-swap x y zs differ))
+    | inl zy ↦ rw (lt-ltb z.start x.start zx, lt-ltb z.start y.start zy, lt-ltb z.start x.start zx) (ap (λ l.
+        z ∷ l) (insert-swap x y zs differ))
     | inr yz ↦
         let yx : y.start < x.start = omega arith in
         rw (lt-ltb z.start x.start zx, le-ltb z.start y.start yz, lt-ltb y.start x.start yx, lt-ltb z.start x.start zx) refl
@@ -83,7 +85,8 @@ insert-swap x y (z ∷ zs) differ = elim (cases_lt z.start x.start) [
         let xy : x.start < y.start = omega arith in
         rw (le-ltb z.start x.start xz, lt-ltb z.start y.start zy, lt-ltb x.start y.start xy, le-ltb z.start x.start xz) refl
     | inr yz ↦ elim (cases_lt x.start y.start) [
-      | inl xy ↦ rw (le-ltb z.start x.start xz, le-ltb z.start y.start yz, le-ltb y.start x.start (omega arith), lt-ltb x.start y.start xy) refl
+      | inl xy ↦ rw (le-ltb z.start x.start xz, le-ltb z.start y.start yz, le-ltb y.start x.start (omega arith), lt-ltb x.start y.start xy)
+          refl
       | inr yx ↦ rw (le-ltb z.start x.start xz, le-ltb z.start y.start yz, lt-ltb y.start x.start (less_of x.start y.start differ yx), le-ltb x.start y.start yx, le-ltb z.start x.start xz) refl
     ]
   ]
@@ -99,7 +102,8 @@ parts_first x y zs parted same =
 Alike-swap : (x y : Interval) (zs : List Interval) → Alike (x ∷ y ∷ zs) (y ∷ x ∷ zs)
 Alike-swap x y zs = record {
   any = λ test. or_swap (test x) (test y) (list_any test zs);
-  parted = rw (eqb-swap y.start x.start) (part_swap (x.start == y.start) (list_any (begins_with x) zs) (list_any (begins_with y) zs) (are_parted zs));
+  parted = rw (eqb-swap y.start x.start) (part_swap (x.start == y.start) (list_any (begins_with x) zs) (list_any (begins_with y) zs)
+      (are_parted zs));
   sorted = λ parted. insert-swap x y (sorted_by start_of zs) (λ same. parts_first x y zs parted same);
 }
 
@@ -121,21 +125,25 @@ Alike-shift xs (y ∷ ys) zs =
     Alike-trans _ _ _ (Alike-move xs y (ys ++ zs)) (Alike-cons y (xs ++ (ys ++ zs)) (ys ++ (xs ++ zs)) (Alike-shift xs ys zs))
 
 -- what one more in its place passes
-any-insert : (test : Interval → Bool) (x : Interval) (zs : List Interval) → list_any test (insert_by start_of x zs) ≡ (test x || list_any test zs)
+any-insert : (test : Interval → Bool) (x : Interval) (zs : List Interval) →
+    list_any test (insert_by start_of x zs) ≡ (test x || list_any test zs)
 any-insert test x [] = refl
-any-insert test x (z ∷ zs) = elim (nat_lt z.start x.start) as (λ b. list_any test (cond b (z ∷ insert_by start_of x zs) (x ∷ z ∷ zs)) ≡ (test x || (test z || list_any test zs))) [
-  | true ↦ ap (λ b. test z || b) (any-insert test x zs) ∙ or_swap (test z) (test x) (list_any test zs)
-  | false ↦ refl
-]
+any-insert test x (z ∷ zs) =
+    elim (nat_lt z.start x.start) as (λ b.
+    list_any test (cond b (z ∷ insert_by start_of x zs) (x ∷ z ∷ zs)) ≡ (test x || (test z || list_any test zs))) [
+      | true ↦ ap (λ b. test z || b) (any-insert test x zs) ∙ or_swap (test z) (test x) (list_any test zs)
+      | false ↦ refl
+    ]
 
 -- one more in its place parts the list as in front
 parted-insert : (x : Interval) (zs : List Interval) → are_parted (insert_by start_of x zs) ≡ are_parted (x ∷ zs)
 parted-insert x [] = refl
-parted-insert x (z ∷ zs) = elim (nat_lt z.start x.start) as (λ b. are_parted (cond b (z ∷ insert_by start_of x zs) (x ∷ z ∷ zs)) ≡ are_parted (x ∷ z ∷ zs)) [
-  | true ↦ rw (any-insert (begins_with z) x zs, parted-insert x zs, eqb-swap x.start z.start)
-      (part_swap (z.start == x.start) (list_any (begins_with z) zs) (list_any (begins_with x) zs) (are_parted zs))
-  | false ↦ refl
-]
+parted-insert x (z ∷ zs) =
+    elim (nat_lt z.start x.start) as (λ b. are_parted (cond b (z ∷ insert_by start_of x zs) (x ∷ z ∷ zs)) ≡ are_parted (x ∷ z ∷ zs)) [
+      | true ↦ rw (any-insert (begins_with z) x zs, parted-insert x zs, eqb-swap x.start z.start)
+          (part_swap (z.start == x.start) (list_any (begins_with z) zs) (list_any (begins_with x) zs) (are_parted zs))
+      | false ↦ refl
+    ]
 
 -- sorting parts no less
 any-sorted : (test : Interval → Bool) (xs : List Interval) → list_any test (sorted_by start_of xs) ≡ list_any test xs
@@ -147,7 +155,8 @@ parted-sorted [] = refl
 parted-sorted (x ∷ xs) = parted-insert x (sorted_by start_of xs) ∙ rw (any-sorted (begins_with x) xs, parted-sorted xs) refl
 
 -- intervals in order from a page on begin at no page before
-none_before : (low high : ℕ) (x : Interval) (is : List Interval) → in_order low high is ≡ true → x.start < low → list_any (begins_with x) is ≡ false
+none_before : (low high : ℕ) (x : Interval) (is : List Interval) → in_order low high is ≡ true → x.start < low →
+    list_any (begins_with x) is ≡ false
 none_before low high x [] ok below = refl
 none_before low high x (i ∷ is) ok below =
     let from : low ≤ i.start = leb-true _ _ (and_left _ _ ok) in

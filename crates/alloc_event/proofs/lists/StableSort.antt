@@ -178,7 +178,8 @@ module _ {A : Type 0} (number : A → ℕ) where
           let heads : x ∷ filter (beside x) xs ≡ y ∷ filter (beside x) ys = sym first ∙ (same x ∙ second) in
           let is : x ≡ y = cc in
           let rests : (z : A) → filter (beside z) xs ≡ filter (beside z) ys = λ z.
-          rest_same z x xs ys (beside z x) (same z ∙ sym (ap (λ (w : A). cond (beside z w) (w ∷ filter (beside z) ys) (filter (beside z) ys)) is)) in
+          rest_same z x xs ys (beside z x) (same z
+          ∙ sym (ap (λ (w : A). cond (beside z w) (w ∷ filter (beside z) ys) (filter (beside z) ys)) is)) in
           λ i. is i ∷ rises_same xs ys up.1 on.1 rests i
     ]
   ]

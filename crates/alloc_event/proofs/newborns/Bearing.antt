@@ -28,40 +28,53 @@ ungiven t key first fresh = elim (cases_eq (next_at t key.slot) (key.generation 
 first_born : (t u : Table Node) (parent : Option NodeKey) (node : Node) (key : NodeKey) → Births t u parent node key → u.first ≡ t.first
 first_born t u parent node key b =
     let far = length t.nexts + (length u.nexts + (key.slot + 1)) in
-    sym (get_or_past u.nexts far u.first (omega arith)) ∙ b.nexts far (λ same. omega (arith, same)) ∙ get_or_past t.nexts far t.first (omega arith)
+    sym (get_or_past u.nexts far u.first (omega arith)) ∙ b.nexts far (λ same. omega (arith, same))
+    ∙ get_or_past t.nexts far t.first (omega arith)
 
 -- the other rows have their nodes
-still_node : (parent : Option NodeKey) (key other : NodeKey) (o : Option (Row Node)) → option_map (λ (row : Row Node). row.node) (option_map (at_parent parent (with_child key) other) o) ≡ option_map (λ (row : Row Node). row.node) o
+still_node : (parent : Option NodeKey) (key other : NodeKey) (o : Option (Row Node)) →
+    option_map (λ (row : Row Node). row.node) (option_map (at_parent parent (with_child key) other) o) ≡ option_map (λ (row : Row Node).
+    row.node) o
 still_node None key other None = refl
 still_node None key other (Some row) = refl
 still_node (Some above) key other None = refl
-still_node (Some above) key other (Some row) = elim (same_key above other) as (λ b. Some (cond b (with_child key row) row).node ≡ Some row.node) [ true ↦ refl | false ↦ refl ]
+still_node (Some above) key other (Some row) =
+    elim (same_key above other) as (λ b. Some (cond b (with_child key row) row).node ≡ Some row.node) [ true ↦ refl | false ↦ refl ]
 
 -- what the table has once the node is born and written
-pub born_look : (t u now : Table Node) (parent : Option NodeKey) (draft node : Node) → Births t u parent draft node.key → Writes u now node.key node → (k : NodeKey) → node_at now k ≡ (if same_key node.key k then Some node else node_at t k)
+pub born_look : (t u now : Table Node) (parent : Option NodeKey) (draft node : Node) → Births t u parent draft node.key →
+    Writes u now node.key node → (k : NodeKey) → node_at now k ≡ (if same_key node.key k then Some node else node_at t k)
 born_look t u now parent draft node b w k = look-written u now node.key node w k ∙ (elim (key_cases node.key k) [
   | inl same ↦
       let there : node_at u k ≡ Some draft = ap (node_at u) (sym same) ∙ ap (option_map (λ (row : Row Node). row.node)) b.born in
       rw (same_key-true node.key k same, there) refl
-  | inr differ ↦ rw (same_key-false node.key k differ) (ap (option_map (λ (row : Row Node). row.node)) (b.others k (λ same. differ (sym same))) ∙ still_node parent node.key k (row_at t k))
+  | inr differ ↦
+      rw (same_key-false node.key k differ) (ap (option_map (λ (row : Row Node). row.node)) (b.others k (λ same. differ (sym same)))
+      ∙ still_node parent node.key k (row_at t k))
 ])
 
 -- and their parents
-still_parent : (parent : Option NodeKey) (key other : NodeKey) (o : Option (Row Node)) → parent_in (option_map (at_parent parent (with_child key) other) o) ≡ parent_in o
+still_parent : (parent : Option NodeKey) (key other : NodeKey) (o : Option (Row Node)) →
+    parent_in (option_map (at_parent parent (with_child key) other) o) ≡ parent_in o
 still_parent None key other None = refl
 still_parent None key other (Some row) = refl
 still_parent (Some above) key other None = refl
-still_parent (Some above) key other (Some row) = elim (same_key above other) as (λ b. (cond b (with_child key row) row).parent ≡ row.parent) [ true ↦ refl | false ↦ refl ]
+still_parent (Some above) key other (Some row) =
+    elim (same_key above other) as (λ b. (cond b (with_child key row) row).parent ≡ row.parent) [ true ↦ refl | false ↦ refl ]
 
 -- the node has its parent in the table, and the others have theirs
-born_parents : (t u now : Table Node) (parent : Option NodeKey) (draft node : Node) → node.parent ≡ parent → Births t u parent draft node.key → Writes u now node.key node → (k : NodeKey) → parent_at now k ≡ (if same_key node.key k then node.parent else parent_at t k)
+born_parents : (t u now : Table Node) (parent : Option NodeKey) (draft node : Node) → node.parent ≡ parent →
+    Births t u parent draft node.key → Writes u now node.key node → (k : NodeKey) →
+    parent_at now k ≡ (if same_key node.key k then node.parent else parent_at t k)
 born_parents t u now parent draft node up b w k = parents-written u now node.key node w k ∙ (elim (key_cases node.key k) [
   | inl same ↦ rw (same_key-true node.key k same) (ap (parent_at u) (sym same) ∙ ap parent_in b.born ∙ sym up)
-  | inr differ ↦ rw (same_key-false node.key k differ) (ap parent_in (b.others k (λ same. differ (sym same))) ∙ still_parent parent node.key k (row_at t k))
+  | inr differ ↦ rw (same_key-false node.key k differ) (ap parent_in (b.others k (λ same. differ (sym same)))
+      ∙ still_parent parent node.key k (row_at t k))
 ])
 
 -- there is one more node
-pub bears_node : (t u now : Table Node) (parent : Option NodeKey) (draft node : Node) → t.first ≡ 0 → node.parent ≡ parent → Births t u parent draft node.key → now ≡ table_with_node u node.key node → Writes u now node.key node → Bears t now node
+pub bears_node : (t u now : Table Node) (parent : Option NodeKey) (draft node : Node) → t.first ≡ 0 → node.parent ≡ parent →
+    Births t u parent draft node.key → now ≡ table_with_node u node.key node → Writes u now node.key node → Bears t now node
 bears_node t u now parent draft node first up b becomes w = record {
   look = born_look t u now parent draft node b w;
   parents = born_parents t u now parent draft node up b w;
@@ -76,11 +89,13 @@ bears_node t u now parent draft node first up b becomes w = record {
 }
 
 -- a node that is born has its key
-pub born_key : (above : Option Node) (attached : Bool) (id event client : ℕ) (key : NodeKey) → (born above attached id event client key).key ≡ key
+pub born_key : (above : Option Node) (attached : Bool) (id event client : ℕ) (key : NodeKey) →
+    (born above attached id event client key).key ≡ key
 born_key None attached id event client key = refl
 born_key (Some above) attached id event client key = refl
 
 -- and the one above as its parent
-pub born_parent : (above : Option Node) (attached : Bool) (id event client : ℕ) (key : NodeKey) → (born above attached id event client key).parent ≡ option_map (λ (n : Node). n.key) above
+pub born_parent : (above : Option Node) (attached : Bool) (id event client : ℕ) (key : NodeKey) →
+    (born above attached id event client key).parent ≡ option_map (λ (n : Node). n.key) above
 born_parent None attached id event client key = refl
 born_parent (Some above) attached id event client key = refl

@@ -63,13 +63,16 @@ module _ (t : Table Node) (es : List Entry) (ok : IsKept t (shelves_of es)) (all
         (collection_is t id (shelves_of es) ∙ ap (option_map (collection_in t)) (shelf_found id es ∙ ap (option_map shelf_of) found))
 
     -- where memory was refused
-    module _ (new : Entry) (same : shelf_of new ≡ shelf_of old) (strong : new.strong ≡ old.strong) (tidy : new.tidy ≡ old.tidy) (one : new.one ≡ old.one) where
+    module _ (new : Entry) (same : shelf_of new ≡ shelf_of old) (strong : new.strong ≡ old.strong) (tidy : new.tidy ≡ old.tidy)
+        (one : new.one ≡ old.one) where
       pub refused_shelves : shelves_of (set es at new) ≡ shelves_of es
       refused_shelves = set_shelves es at new (λ within. same ∙ ap shelf_of (is ∙ get_or_default es at old new within))
 
       pub refused_counted : AreCounted t (set es at new)
       refused_counted = counted_set t es at new
-          (λ within was. recounted t old new (ap (collection_in t) same) strong (λ h. ap (λ (o : Option NodeKey). list_any (over_but o) (nodes_with t old.keys.items)) one ∙ counted.tidy (sym tidy ∙ h)) counted) all
+          (λ within was. recounted t old new (ap (collection_in t) same) strong (λ h.
+          ap (λ (o : Option NodeKey). list_any (over_but o) (nodes_with t old.keys.items)) one ∙ counted.tidy (sym tidy ∙ h)) counted)
+          all
 
     -- where the node was born
     module _ (key : NodeKey) (new : Entry) (shelf : shelf_of new ≡ shelf_with (shelf_of old) key) where
@@ -82,7 +85,8 @@ module _ (t : Table Node) (es : List Entry) (ok : IsKept t (shelves_of es)) (all
       pub among_shelves : shelves_of (set es at new) ≡ put_shelf (shelf_with (shelf_before id (shelves_of es)) key) (shelves_of es)
       among_shelves = ap shelves_of put_is ∙ shelves_put new es ∙ ap (λ (s : Shelf). put_shelf s (shelves_of es)) shelf_is
 
-      module _ (now : Table Node) (parent : Option NodeKey) (attached : Bool) (client event : ℕ) (above : Option Node) (over : Above t (shelves_of es) id parent above)
+      module _ (now : Table Node) (parent : Option NodeKey) (attached : Bool) (client event : ℕ) (above : Option Node)
+          (over : Above t (shelves_of es) id parent above)
           (bears : Bears t now (born above attached id event client key)) (handles : Handles)
           (still : IsStill handles (collection_or_new (forest_of t (shelves_of es)) id))
           (strong : new.strong ≡ old.strong + more_strong above) (tidy : new.tidy ≡ old.tidy) (one : new.one ≡ old.one) where
@@ -95,7 +99,8 @@ module _ (t : Table Node) (es : List Entry) (ok : IsKept t (shelves_of es)) (all
             (λ h. (λ i. list_any (over_but (one i)) (at_is i).nodes) ∙ counted.tidy (sym tidy ∙ h))))
 
   -- the first node of a collection
-  module _ (none : find (λ (e : Entry). e.id == id) es ≡ None) (key : NodeKey) (new : Entry) (shelf : shelf_of new ≡ shelf_with (no_shelf id) key) where
+  module _ (none : find (λ (e : Entry). e.id == id) es ≡ None) (key : NodeKey) (new : Entry) (shelf : shelf_of new ≡ shelf_with
+      (no_shelf id) key) where
     none_is : find (λ (s : Shelf). s.id == id) (shelves_of es) ≡ None
     none_is = shelf_found id es ∙ ap (option_map shelf_of) none
 
@@ -109,7 +114,8 @@ module _ (t : Table Node) (es : List Entry) (ok : IsKept t (shelves_of es)) (all
     pub first_shelves : shelves_of (put_in new es) ≡ put_shelf (shelf_with (shelf_before id (shelves_of es)) key) (shelves_of es)
     first_shelves = shelves_put new es ∙ ap (λ (s : Shelf). put_shelf s (shelves_of es)) first_is
 
-    module _ (now : Table Node) (parent : Option NodeKey) (attached : Bool) (client event : ℕ) (above : Option Node) (over : Above t (shelves_of es) id parent above)
+    module _ (now : Table Node) (parent : Option NodeKey) (attached : Bool) (client event : ℕ) (above : Option Node)
+        (over : Above t (shelves_of es) id parent above)
         (bears : Bears t now (born above attached id event client key)) (handles : Handles)
         (still : IsStill handles (collection_or_new (forest_of t (shelves_of es)) id)) (strong : new.strong ≡ more_strong above) where
       pub first_counted : AreCounted now (put_in new es)
@@ -117,6 +123,7 @@ module _ (t : Table Node) (es : List Entry) (ok : IsKept t (shelves_of es)) (all
           counted_put now new es ok.rising
           (counted_but now new.id es (moved_all t now es ok.filed (λ e filed. still_collection t now _ bears (shelf_of e) filed) all))
           (counted_born t now (shelves_of es) ok id parent attached client event above over key bears handles still new first_is
-          (let base : strong_count (collection_or_new (forest_of t (shelves_of es)) id).nodes ≡ 0 = ap (λ (c : Collection). strong_count c.nodes) empty_is in
+          (let base : strong_count (collection_or_new (forest_of t (shelves_of es)) id).nodes ≡ 0 =
+          ap (λ (c : Collection). strong_count c.nodes) empty_is in
           omega (arith, strong, base))
           (λ h. ap (λ (c : Collection). list_any (over_but new.one) c.nodes) empty_is))

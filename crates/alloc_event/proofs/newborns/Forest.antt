@@ -50,7 +50,8 @@ SameKeys-swap x y zs = record {
 
 SameKeys-move : (xs : List NodeKey) (y : NodeKey) (zs : List NodeKey) → SameKeys (xs ++ y ∷ zs) (y ∷ (xs ++ zs))
 SameKeys-move [] y zs = SameKeys-refl (y ∷ zs)
-SameKeys-move (x ∷ xs) y zs = SameKeys-trans _ _ _ (SameKeys-cons x (xs ++ y ∷ zs) (y ∷ (xs ++ zs)) (SameKeys-move xs y zs)) (SameKeys-swap x y (xs ++ zs))
+SameKeys-move (x ∷ xs) y zs =
+    SameKeys-trans _ _ _ (SameKeys-cons x (xs ++ y ∷ zs) (y ∷ (xs ++ zs)) (SameKeys-move xs y zs)) (SameKeys-swap x y (xs ++ zs))
 
 SameKeys-front : (xs ys zs : List NodeKey) → SameKeys ys zs → SameKeys (xs ++ ys) (xs ++ zs)
 SameKeys-front [] ys zs p = p
@@ -66,7 +67,8 @@ abbrev pub held_before : ℕ → List Shelf → List HeldPages
 held_before id ss = option_map_or (λ (s : Shelf). s.held) (find (λ (s : Shelf). s.id == id) ss) []
 
 -- all keys are those there were, and this one
-pub keys-born : (new : Shelf) (key : NodeKey) (ss : List Shelf) → AreRising ss → new.keys ≡ keys_before new.id ss ++ key ∷ [] → SameKeys (all_keys (put_shelf new ss)) (key ∷ all_keys ss)
+pub keys-born : (new : Shelf) (key : NodeKey) (ss : List Shelf) → AreRising ss → new.keys ≡ keys_before new.id ss ++ key ∷ [] →
+    SameKeys (all_keys (put_shelf new ss)) (key ∷ all_keys ss)
 keys-born new key [] rising keys = rw keys (SameKeys-refl (key ∷ []))
 keys-born new key (s ∷ ss) rising keys = cases_place s.id new.id (SameKeys (all_keys (put_shelf new (s ∷ ss))) (key ∷ all_keys (s ∷ ss)))
     (λ same.
@@ -79,12 +81,15 @@ keys-born new key (s ∷ ss) rising keys = cases_place s.id new.id (SameKeys (al
     rw (other, above, own) (SameKeys-refl (key ∷ (s.keys ++ all_keys ss))))
     (λ other below.
     let own : new.keys ≡ keys_before new.id ss ++ key ∷ [] = rw other at keys in
-    rw (other, below) (SameKeys-trans _ _ _ (SameKeys-front s.keys (all_keys (put_shelf new ss)) (key ∷ all_keys ss) (keys-born new key ss rising.1 own)) (SameKeys-move s.keys key (all_keys ss))))
+    rw (other, below) (SameKeys-trans _ _ _ (SameKeys-front s.keys (all_keys (put_shelf new ss)) (key ∷ all_keys ss)
+    (keys-born new key ss rising.1 own)) (SameKeys-move s.keys key (all_keys ss))))
 
 -- the pages are those there were
-pub helds-born : (new : Shelf) (ss : List Shelf) → AreRising ss → new.held ≡ held_before new.id ss → flat_map (λ (s : Shelf). s.held) (put_shelf new ss) ≡ flat_map (λ (s : Shelf). s.held) ss
+pub helds-born : (new : Shelf) (ss : List Shelf) → AreRising ss → new.held ≡ held_before new.id ss →
+    flat_map (λ (s : Shelf). s.held) (put_shelf new ss) ≡ flat_map (λ (s : Shelf). s.held) ss
 helds-born new [] rising held = rw held refl
-helds-born new (s ∷ ss) rising held = cases_place s.id new.id (flat_map (λ (x : Shelf). x.held) (put_shelf new (s ∷ ss)) ≡ flat_map (λ (x : Shelf). x.held) (s ∷ ss))
+helds-born new (s ∷ ss) rising held =
+    cases_place s.id new.id (flat_map (λ (x : Shelf). x.held) (put_shelf new (s ∷ ss)) ≡ flat_map (λ (x : Shelf). x.held) (s ∷ ss))
     (λ same. let own : new.held ≡ s.held = rw same at held in rw (same, own) refl)
     (λ other above.
     let less : new.id < s.id = ltb-true _ _ above in
@@ -101,7 +106,8 @@ helds_in t [] = refl
 helds_in t (s ∷ ss) = ap (λ l. s.held ++ l) (helds_in t ss)
 
 -- a shelf more that is filed
-filed-born : (t : Table Node) (new : Shelf) (ss : List Shelf) → list_all (is_filed t new.id) new.keys ≡ true → are_filed t ss ≡ true → are_filed t (put_shelf new ss) ≡ true
+filed-born : (t : Table Node) (new : Shelf) (ss : List Shelf) → list_all (is_filed t new.id) new.keys ≡ true → are_filed t ss ≡ true →
+    are_filed t (put_shelf new ss) ≡ true
 filed-born t new [] own all = rw own refl
 filed-born t new (s ∷ ss) own all = cases_place s.id new.id (are_filed t (put_shelf new (s ∷ ss)) ≡ true)
     (λ same. let rest : are_filed t ss ≡ true = and_right _ _ all in rw (same, own) rest)
@@ -123,7 +129,8 @@ pub both_none : {a b : Bool} → a ≡ false → b ≡ false → (a || b) ≡ fa
 both_none {a} {b} p q = rw (p, q) refl
 
 -- a test that all of two lists pass
-pub all-append : {A : Type 0} (test : A → Bool) (xs ys : List A) → list_all test xs ≡ true → list_all test ys ≡ true → list_all test (xs ++ ys) ≡ true
+pub all-append : {A : Type 0} (test : A → Bool) (xs ys : List A) → list_all test xs ≡ true → list_all test ys ≡ true →
+    list_all test (xs ++ ys) ≡ true
 all-append test [] ys p q = q
 all-append test (x ∷ xs) ys p q =
     let first : test x ≡ true = and_left _ _ p in
@@ -142,12 +149,14 @@ module _ (t now : Table Node) (node : Node) (bears : Bears t now node) where
   born_at = bears.look node.key ∙ rw (same_key-true node.key node.key refl) refl
 
   -- by what was there
-  still_filed-by : (id : ℕ) (key : NodeKey) (o : Option Node) → node_at t key ≡ o → option_map_or (λ (n : Node). n.collection == id) o false ≡ true → is_filed now id key ≡ true
+  still_filed-by : (id : ℕ) (key : NodeKey) (o : Option Node) → node_at t key ≡ o →
+      option_map_or (λ (n : Node). n.collection == id) o false ≡ true → is_filed now id key ≡ true
   still_filed-by id key None is filed = absurd (false≢true filed)
   still_filed-by id key (Some n) is filed = rw (still_at key n is) filed
 
   -- a filed key finds the node that it found
-  still_found : (id : ℕ) (key : NodeKey) (o : Option Node) → node_at t key ≡ o → option_map_or (λ (n : Node). n.collection == id) o false ≡ true → node_at now key ≡ node_at t key
+  still_found : (id : ℕ) (key : NodeKey) (o : Option Node) → node_at t key ≡ o →
+      option_map_or (λ (n : Node). n.collection == id) o false ≡ true → node_at now key ≡ node_at t key
   still_found id key None is filed = absurd (false≢true filed)
   still_found id key (Some n) is filed = still_at key n is ∙ sym is
 
@@ -185,7 +194,8 @@ module _ (t now : Table Node) (node : Node) (bears : Bears t now node) where
       λ i. first i ∷ rest i
 
   -- the keys with that of the node find the nodes with the node
-  pub born_looked : (id : ℕ) (keys : List NodeKey) → list_all (is_filed t id) keys ≡ true → nodes_with now (keys ++ node.key ∷ []) ≡ nodes_with t keys ++ node ∷ []
+  pub born_looked : (id : ℕ) (keys : List NodeKey) → list_all (is_filed t id) keys ≡ true →
+      nodes_with now (keys ++ node.key ∷ []) ≡ nodes_with t keys ++ node ∷ []
   born_looked id keys filed =
       filter_map-append (node_at now) keys (node.key ∷ [])
       ∙ λ i. still_looked id keys filed i ++ cons_option (born_at i) []
@@ -200,7 +210,8 @@ module _ (t now : Table Node) (node : Node) (bears : Bears t now node) where
   -- no filed key is the new one
   pub none_there : (id : ℕ) (keys : List NodeKey) → list_all (is_filed t id) keys ≡ true → list_any (same_key node.key) keys ≡ false
   none_there id [] filed = refl
-  none_there id (k ∷ ks) filed = both_none (not_this id k (same_key node.key k) refl (and_left _ _ filed)) (none_there id ks (and_right _ _ filed))
+  none_there id (k ∷ ks) filed =
+      both_none (not_this id k (same_key node.key k) refl (and_left _ _ filed)) (none_there id ks (and_right _ _ filed))
 
   -- each node knows its key
   named_more : {ss : List Shelf} → IsKept t ss → (key : NodeKey) (n : Node) → node_at now key ≡ Some n → n.key ≡ key
@@ -215,7 +226,8 @@ module _ (t now : Table Node) (node : Node) (bears : Bears t now node) where
   ]
 
   -- each node has its key among all
-  there_more : {ss : List Shelf} → IsKept t ss → (key : NodeKey) (n : Node) → node_at now key ≡ Some n → list_any (same_key key) (node.key ∷ all_keys ss) ≡ true
+  there_more : {ss : List Shelf} → IsKept t ss → (key : NodeKey) (n : Node) → node_at now key ≡ Some n →
+      list_any (same_key key) (node.key ∷ all_keys ss) ≡ true
   there_more ok key n is = elim (key_cases node.key key) [
     | inl same ↦ rw (same_key-true key node.key (sym same)) refl
     | inr differ ↦
@@ -224,7 +236,8 @@ module _ (t now : Table Node) (node : Node) (bears : Bears t now node) where
   ]
 
   -- each node that is not gone has its parent
-  linked_more : {ss : List Shelf} → IsKept t ss → (key : NodeKey) (n : Node) → node_at now key ≡ Some n → n.gone ≡ false → parent_at now key ≡ n.parent
+  linked_more : {ss : List Shelf} → IsKept t ss → (key : NodeKey) (n : Node) → node_at now key ≡ Some n → n.gone ≡ false →
+      parent_at now key ≡ n.parent
   linked_more ok key n is here = bears.parents key ∙ (elim (key_cases node.key key) [
     | inl same ↦
         let one : Some node ≡ Some n = sym (bears.look key ∙ rw (same_key-true node.key key same) refl) ∙ is in
@@ -238,20 +251,25 @@ module _ (t now : Table Node) (node : Node) (bears : Bears t now node) where
   -- no shelf has the key yet
   none_yet : (ss : List Shelf) → are_filed t ss ≡ true → list_any (same_key node.key) (all_keys ss) ≡ false
   none_yet [] filed = refl
-  none_yet (s ∷ ss) filed = any-append (same_key node.key) s.keys (all_keys ss) ∙ both_none (none_there s.id s.keys (and_left _ _ filed)) (none_yet ss (and_right _ _ filed))
+  none_yet (s ∷ ss) filed = any-append (same_key node.key) s.keys (all_keys ss)
+      ∙ both_none (none_there s.id s.keys (and_left _ _ filed)) (none_yet ss (and_right _ _ filed))
 
   -- it stands apart
   apart_more : {ss : List Shelf} → IsKept t ss → are_apart (node.key ∷ all_keys ss) ≡ true
   apart_more {ss} ok = rw (none_yet ss ok.filed) ok.apart
 
   -- the shelf is filed
-  own_more : (new : Shelf) (ss : List Shelf) → new.keys ≡ keys_before new.id ss ++ node.key ∷ [] → list_all (is_filed t new.id) (keys_before new.id ss) ≡ true → node.collection ≡ new.id → list_all (is_filed now new.id) new.keys ≡ true
+  own_more : (new : Shelf) (ss : List Shelf) → new.keys ≡ keys_before new.id ss ++ node.key ∷ [] →
+      list_all (is_filed t new.id) (keys_before new.id ss) ≡ true → node.collection ≡ new.id →
+      list_all (is_filed now new.id) new.keys ≡ true
   own_more new ss keys own of =
       rw keys (all-append (is_filed now new.id) (keys_before new.id ss) (node.key ∷ []) (still_filed new.id (keys_before new.id ss) own)
       (rw (born_at, eq-eqb node.collection new.id of) refl))
 
   -- all that holds of forests holds
-  pub kept-born : (new : Shelf) (ss : List Shelf) → IsKept t ss → new.keys ≡ keys_before new.id ss ++ node.key ∷ [] → list_all (is_filed t new.id) (keys_before new.id ss) ≡ true → node.collection ≡ new.id → IsWhole (collection_in now new) → IsKept now (put_shelf new ss)
+  pub kept-born : (new : Shelf) (ss : List Shelf) → IsKept t ss → new.keys ≡ keys_before new.id ss ++ node.key ∷ [] →
+      list_all (is_filed t new.id) (keys_before new.id ss) ≡ true → node.collection ≡ new.id → IsWhole (collection_in now new) →
+      IsKept now (put_shelf new ss)
   kept-born new ss ok keys own of whole =
       let same = keys-born new node.key ss ok.rising keys in
       record {
@@ -263,6 +281,7 @@ module _ (t now : Table Node) (node : Node) (bears : Bears t now node) where
         there = λ key n is. same.any (same_key key) ∙ there_more ok key n is;
         counted = same.len ∙ omega (arith, ok.counted, bears.len);
         linked = linked_more ok;
-        whole = whole-unmap now (put_shelf new ss) (subst (AllByRecursion IsWhole) (sym (put-map now new ss ∙ ap (put (collection_in now new)) (still_collections ss ok.filed)))
+        whole = whole-unmap now (put_shelf new ss) (subst (AllByRecursion IsWhole) (sym (put-map now new ss
+            ∙ ap (put (collection_in now new)) (still_collections ss ok.filed)))
             (whole-born (collection_in now new) (map (collection_in t) ss) whole (whole-map t ss ok.whole)));
       }

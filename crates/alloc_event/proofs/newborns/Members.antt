@@ -94,7 +94,8 @@ module _ (ms : List Member) (m : Member) (newborn : IsNewborn ms m) where
 
   -- a unit is ready, as far as it was
   ready_more : (key : NodeKey) → is_ready key more ≡ (is_ready key ms && is_ready key (m ∷ []))
-  ready_more key = ap (list_all is_settled) (filter-append (λ (x : Member). same_key x.head key) ms (m ∷ [])) ∙ list_all-append is_settled (unit key ms) (unit key (m ∷ []))
+  ready_more key = ap (list_all is_settled) (filter-append (λ (x : Member). same_key x.head key) ms (m ∷ []))
+      ∙ list_all-append is_settled (unit key ms) (unit key (m ∷ []))
 
   -- the newborn's own unit is not ready
   waits_here : m.head ≡ m.key → is_ready m.key (m ∷ []) ≡ false
@@ -168,7 +169,8 @@ module _ (ms : List Member) (m : Member) (newborn : IsNewborn ms m) where
   -- no other is the next head that was not
   next_less : (x : Member) → In x ms → is_next_head more x ≡ true → is_next_head ms x ≡ true
   next_less x on h =
-      more_asked x.attached x.gone x.allocated (option_map_or (is_allocated ms) x.parent false) (is_ready x.key ms) (is_ready x.key (m ∷ []))
+      more_asked x.attached x.gone x.allocated (option_map_or (is_allocated ms) x.parent false) (is_ready x.key ms)
+      (is_ready x.key (m ∷ []))
       (rw (parent_more x on x.parent refl, ready_more x.key) at h)
 
   -- nor is the newborn
@@ -238,7 +240,8 @@ module _ (s : Standing) (m : Member) (newborn : IsNewborn s.members m) (rest : A
       less true false false o mark h = h
 
       from : (o : Option Member) → option_and_then (loss_of (some_strong_live s.members) s.strong_open) o ≡ None →
-          option_and_then (loss_of (some_strong_live s.members || some_strong_live (m ∷ [])) s.strong_open) (option_or o (root_left (m ∷ []))) ≡ None
+          option_and_then (loss_of (some_strong_live s.members || some_strong_live (m ∷ [])) s.strong_open)
+          (option_or o (root_left (m ∷ []))) ≡ None
       from None h =
           newest_root s.members m newborn
           (λ o. option_and_then (loss_of (some_strong_live s.members || some_strong_live (m ∷ [])) s.strong_open) o ≡ None)
@@ -276,7 +279,8 @@ module _ (s : Standing) (m : Member) (newborn : IsNewborn s.members m) (rest : A
     where
       from : (o : Option Buffers) →
           option_and_then (λ buffers. option_map (becomes s.members buffers) (find (is_next_head s.members) s.members)) o ≡ None →
-          option_and_then (λ buffers. option_map (becomes with_it.members buffers) (find (is_next_head with_it.members) with_it.members)) o ≡ None
+          option_and_then (λ buffers. option_map (becomes with_it.members buffers) (find (is_next_head with_it.members) with_it.members))
+          o ≡ None
       from None h = refl
       from (Some buffers) h =
           let was : find (is_next_head s.members) s.members ≡ None =

@@ -51,7 +51,8 @@ whole-empty : (id : ℕ) → IsWhole (record { id = id; nodes = []; buffers = No
 whole-empty id = record { sound = record { distinct = refl; heads = refl; one_root = refl; few = refl }; rooted = refl; united = refl }
 
 -- by the shelf that is found
-before-by : (t : Table Node) (ss : List Shelf) → IsKept t ss → (id : ℕ) (o : Option Shelf) → find (λ (s : Shelf). s.id == id) ss ≡ o → IsBefore t ss id (unwrap_or (option_map (collection_in t) o) (record { id = id; nodes = []; buffers = None; held = [] }))
+before-by : (t : Table Node) (ss : List Shelf) → IsKept t ss → (id : ℕ) (o : Option Shelf) → find (λ (s : Shelf). s.id == id) ss ≡ o →
+    IsBefore t ss id (unwrap_or (option_map (collection_in t) o) (record { id = id; nodes = []; buffers = None; held = [] }))
 before-by t ss ok id None is = record {
   id_is = refl;
   nodes = ap (λ (o : Option Shelf). nodes_with t (option_map_or (λ (s : Shelf). s.keys) o [])) (sym is);
@@ -73,45 +74,56 @@ before-by t ss ok id (Some s) is =
 -- the collection with the id, or an empty one
 pub before_is : (t : Table Node) (ss : List Shelf) → IsKept t ss → (id : ℕ) → IsBefore t ss id (collection_or_new (forest_of t ss) id)
 before_is t ss ok id =
-    subst (λ (o : Option Collection). IsBefore t ss id (unwrap_or o (record { id = id; nodes = []; buffers = None; held = [] }))) (sym (collection_is t id ss))
+    subst (λ (o : Option Collection). IsBefore t ss id (unwrap_or o (record { id = id; nodes = []; buffers = None; held = [] })))
+    (sym (collection_is t id ss))
     (before-by t ss ok id (find (λ (s : Shelf). s.id == id) ss) refl)
 
 -- the shelf in front has another id, since the node's is found behind
-in_own-by : (s : Shelf) (ss : List Shelf) (key : NodeKey) (id : ℕ) → AreRising (s ∷ ss) → (here : Bool) → (s.id == id) ≡ here → is_some (find (λ (x : Shelf). x.id == id) ss) ≡ true → list_any (same_key key) (keys_before id ss) ≡ true → list_any (same_key key) (keys_before id (s ∷ ss)) ≡ true
+in_own-by : (s : Shelf) (ss : List Shelf) (key : NodeKey) (id : ℕ) → AreRising (s ∷ ss) → (here : Bool) → (s.id == id) ≡ here →
+    is_some (find (λ (x : Shelf). x.id == id) ss) ≡ true → list_any (same_key key) (keys_before id ss) ≡ true →
+    list_any (same_key key) (keys_before id (s ∷ ss)) ≡ true
 in_own-by s ss key id rising true here found on =
-    let none = none_above id ss (subst (λ (low : ℕ). AllByRecursion (λ (later : Shelf). low < later.id) ss) (eqb-true s.id id here) rising.0) in
+    let none = none_above id ss (subst (λ (low : ℕ). AllByRecursion (λ (later : Shelf). low < later.id) ss) (eqb-true s.id id here)
+    rising.0) in
     absurd (false≢true (ap is_some (sym none) ∙ found))
 in_own-by s ss key id rising false other found on = rw other on
 
 -- a node of the collection has its key there
-in_own : (t : Table Node) (ss : List Shelf) (key : NodeKey) (n : Node) → AreRising ss → are_filed t ss ≡ true → node_at t key ≡ Some n → list_any (same_key key) (all_keys ss) ≡ true → list_any (same_key key) (keys_before n.collection ss) ≡ true
+in_own : (t : Table Node) (ss : List Shelf) (key : NodeKey) (n : Node) → AreRising ss → are_filed t ss ≡ true → node_at t key ≡ Some n →
+    list_any (same_key key) (all_keys ss) ≡ true → list_any (same_key key) (keys_before n.collection ss) ≡ true
 in_own t [] key n rising filed is there = absurd (false≢true there)
 in_own t (s ∷ ss) key n rising filed is there = elim (or_cases _ _ (sym (any-append (same_key key) s.keys (all_keys ss)) ∙ there)) [
   | inl here ↦
       let own : (n.collection == s.id) ≡ true = filed_at t s.id s.keys key n (and_left _ _ filed) is here in
       rw (eq-eqb s.id n.collection (sym (eqb-true _ _ own))) here
-  | inr behind ↦ in_own-by s ss key n.collection rising (s.id == n.collection) refl (kept_of t ss key n (and_right _ _ filed) is behind) (in_own t ss key n rising.1 (and_right _ _ filed) is behind)
+  | inr behind ↦ in_own-by s ss key n.collection rising (s.id == n.collection) refl (kept_of t ss key n (and_right _ _ filed) is behind)
+      (in_own t ss key n rising.1 (and_right _ _ filed) is behind)
 ]
 
 -- ---- soundness
 
 -- keys are distinct with another behind
-distinct-more : (ns : List Node) (node : Node) → list_any (is_of node.key) ns ≡ false → are_distinct ns ≡ true → are_distinct (ns ++ node ∷ []) ≡ true
+distinct-more : (ns : List Node) (node : Node) → list_any (is_of node.key) ns ≡ false → are_distinct ns ≡ true →
+    are_distinct (ns ++ node ∷ []) ≡ true
 distinct-more [] node none ok = refl
 distinct-more (n ∷ ns) node none ok =
     let other : same_key node.key n.key ≡ false = same_key-swap node.key n.key ∙ or_none_left (same_key n.key node.key) _ none in
     let apart : list_any (is_of n.key) ns ≡ false = not-true _ (and_left _ _ ok) in
-    let rest : are_distinct (ns ++ node ∷ []) ≡ true = distinct-more ns node (or_none_right (same_key n.key node.key) _ none) (and_right _ _ ok) in
+    let rest : are_distinct (ns ++ node ∷ []) ≡ true =
+    distinct-more ns node (or_none_right (same_key n.key node.key) _ none) (and_right _ _ ok) in
     rw (any-append (is_of n.key) ns (node ∷ []), apart, other, rest) refl
 
 -- only the first may be a root
-one_root-more : (ns : List Node) (node : Node) → (is_some node.parent ≡ true) ⊎ (ns ≡ []) → list_all (λ (n : Node). is_some n.parent) (drop 1 ns) ≡ true → list_all (λ (n : Node). is_some n.parent) (drop 1 (ns ++ node ∷ [])) ≡ true
+one_root-more : (ns : List Node) (node : Node) → (is_some node.parent ≡ true) ⊎ (ns ≡ []) →
+    list_all (λ (n : Node). is_some n.parent) (drop 1 ns) ≡ true →
+    list_all (λ (n : Node). is_some n.parent) (drop 1 (ns ++ node ∷ [])) ≡ true
 one_root-more [] node kind ok = refl
 one_root-more (n ∷ ns) node (inl child) ok = all-append (λ (x : Node). is_some x.parent) ns (node ∷ []) ok (rw child refl)
 one_root-more (n ∷ ns) node (inr none) ok = absurd (cc)
 
 -- with another that fits it stays sound
-sound-more : (c : Collection) (node : Node) → IsSound c → list_any (is_of node.key) c.nodes ≡ false → heads_itself node ≡ true → (is_some node.parent ≡ true) ⊎ (c.nodes ≡ []) → IsSound (grown c node)
+sound-more : (c : Collection) (node : Node) → IsSound c → list_any (is_of node.key) c.nodes ≡ false → heads_itself node ≡ true →
+    (is_some node.parent ≡ true) ⊎ (c.nodes ≡ []) → IsSound (grown c node)
 sound-more c node ok none head kind = record {
   distinct = distinct-more c.nodes node none ok.distinct;
   heads = all-append heads_itself c.nodes (node ∷ []) ok.heads (rw head refl);
@@ -120,7 +132,8 @@ sound-more c node ok none head kind = record {
 }
 
 -- a node that is born heads its unit itself where it has to
-born_heads : (above : Option Node) (attached : Bool) (id event client : ℕ) (key : NodeKey) → heads_itself (born above attached id event client key) ≡ true
+born_heads : (above : Option Node) (attached : Bool) (id event client : ℕ) (key : NodeKey) →
+    heads_itself (born above attached id event client key) ≡ true
 born_heads None attached id event client key = same_key-true key key refl
 born_heads (Some above) true id event client key = same_key-true key key refl
 born_heads (Some above) false id event client key = refl
@@ -133,12 +146,15 @@ pub data Above (t : Table Node) (ss : List Shelf) (id : ℕ) : Option NodeKey �
   Child : (key : NodeKey) (n : Node) → node_at t key ≡ Some n → n.collection ≡ id → n.gone ≡ false → Above t ss id (Some key) (Some n)
 
 -- the node is of the collection
-of_above : {t : Table Node} {ss : List Shelf} {id : ℕ} {parent : Option NodeKey} {above : Option Node} → Above t ss id parent above → (attached : Bool) (event client : ℕ) (key : NodeKey) → (born above attached id event client key).collection ≡ id
+of_above : {t : Table Node} {ss : List Shelf} {id : ℕ} {parent : Option NodeKey} {above : Option Node} → Above t ss id parent above →
+    (attached : Bool) (event client : ℕ) (key : NodeKey) → (born above attached id event client key).collection ≡ id
 of_above (Root none) attached event client key = refl
 of_above (Child up n is own here) attached event client key = own
 
 -- a root comes first
-kind_of : {t : Table Node} {ss : List Shelf} {id : ℕ} {parent : Option NodeKey} {above : Option Node} → Above t ss id parent above → (attached : Bool) (event client : ℕ) (key : NodeKey) → (ns : List Node) → ns ≡ nodes_with t (keys_before id ss) → (is_some (born above attached id event client key).parent ≡ true) ⊎ (ns ≡ [])
+kind_of : {t : Table Node} {ss : List Shelf} {id : ℕ} {parent : Option NodeKey} {above : Option Node} → Above t ss id parent above →
+    (attached : Bool) (event client : ℕ) (key : NodeKey) → (ns : List Node) → ns ≡ nodes_with t (keys_before id ss) →
+    (is_some (born above attached id event client key).parent ≡ true) ⊎ (ns ≡ [])
 kind_of (Root none) attached event client key ns is = inr (is ∙ rw none refl)
 kind_of (Child up n there own here) attached event client key ns is = inl refl
 
@@ -148,18 +164,24 @@ any-is_of key [] = refl
 any-is_of key (n ∷ ns) = λ i. same_key-swap n.key key i || any-is_of key ns i
 
 -- no node has a key that none of the keys is
-lacks_key : (t : Table Node) (id : ℕ) → ((key : NodeKey) (n : Node) → node_at t key ≡ Some n → n.key ≡ key) → (key : NodeKey) (ns : List Node) (keys : List NodeKey) → ns ≡ nodes_with t keys → list_all (is_filed t id) keys ≡ true → list_any (same_key key) keys ≡ false → list_any (is_of key) ns ≡ false
+lacks_key : (t : Table Node) (id : ℕ) → ((key : NodeKey) (n : Node) → node_at t key ≡ Some n → n.key ≡ key) →
+    (key : NodeKey) (ns : List Node) (keys : List NodeKey) → ns ≡ nodes_with t keys → list_all (is_filed t id) keys ≡ true →
+    list_any (same_key key) keys ≡ false → list_any (is_of key) ns ≡ false
 lacks_key t id named key ns keys is filed none =
     any-is_of key ns ∙ ap (list_any (same_key key)) (ap keys_in is ∙ looked-keys t id named keys filed) ∙ none
 
 -- the node above is found in the collection
-pub found_above : (t : Table Node) (ss : List Shelf) → IsKept t ss → (c : Collection) (up : NodeKey) (n : Node) → node_at t up ≡ Some n → c.nodes ≡ nodes_with t (keys_before n.collection ss) → node_of c.nodes up ≡ Some n
+pub found_above : (t : Table Node) (ss : List Shelf) → IsKept t ss → (c : Collection) (up : NodeKey) (n : Node) → node_at t up ≡ Some n →
+    c.nodes ≡ nodes_with t (keys_before n.collection ss) → node_of c.nodes up ≡ Some n
 found_above t ss ok c up n is nodes =
     let own = in_own t ss up n ok.rising ok.filed is (ok.there up n is) in
     ap (λ ns. node_of ns up) nodes ∙ node_of-looked (node_at t) ok.named (keys_before n.collection ss) up ∙ rw (own, is) refl
 
 -- the collection with the birth
-birth_by : (t : Table Node) (ss : List Shelf) → IsKept t ss → (id : ℕ) (parent : Option NodeKey) (attached : Bool) (client event : ℕ) (above : Option Node) → Above t ss id parent above → (key : NodeKey) (c : Collection) → IsBefore t ss id c → with_birth parent attached client event key c ≡ grown c (born above attached id event client key)
+birth_by : (t : Table Node) (ss : List Shelf) → IsKept t ss →
+    (id : ℕ) (parent : Option NodeKey) (attached : Bool) (client event : ℕ) (above : Option Node) → Above t ss id parent above →
+    (key : NodeKey) (c : Collection) → IsBefore t ss id c →
+    with_birth parent attached client event key c ≡ grown c (born above attached id event client key)
 birth_by t ss ok id None attached client event None (Root none) key c before = λ i. grown c (new_root key (before.id_is i) event client)
 birth_by t ss ok id None attached client event (Some _) at key c before = elim at [ ]
 birth_by t ss ok id (Some _) attached client event None at key c before = elim at [ ]
@@ -168,7 +190,10 @@ birth_by t ss ok id (Some _) attached client event (Some _) (Child up n is own h
     rw found refl
 
 -- the node above is left in the collection
-above_left : (t : Table Node) (ss : List Shelf) → IsKept t ss → (id : ℕ) (parent : Option NodeKey) (attached : Bool) (client event : ℕ) (above : Option Node) → Above t ss id parent above → (key : NodeKey) (c : Collection) → IsBefore t ss id c → option_map_or (is_left_of c.nodes) (born above attached id event client key).parent true ≡ true
+above_left : (t : Table Node) (ss : List Shelf) → IsKept t ss →
+    (id : ℕ) (parent : Option NodeKey) (attached : Bool) (client event : ℕ) (above : Option Node) → Above t ss id parent above →
+    (key : NodeKey) (c : Collection) → IsBefore t ss id c →
+    option_map_or (is_left_of c.nodes) (born above attached id event client key).parent true ≡ true
 above_left t ss ok id None attached client event None (Root none) key c before = refl
 above_left t ss ok id None attached client event (Some _) at key c before = elim at [ ]
 above_left t ss ok id (Some _) attached client event None at key c before = elim at [ ]
@@ -177,27 +202,35 @@ above_left t ss ok id (Some _) attached client event (Some _) (Child up n is own
     left_in c.nodes n (In-find (is_of up) c.nodes n found).0 here
 
 -- and is the parent of the node, and of its unit where that heads none
-above_shares : (t : Table Node) (ss : List Shelf) → IsKept t ss → (id : ℕ) (parent : Option NodeKey) (attached : Bool) (client event : ℕ) (above : Option Node) → Above t ss id parent above → (key : NodeKey) (c : Collection) → IsBefore t ss id c → (q : Node) → In q c.nodes → shares_unit (born above attached id event client key) q ≡ true
+above_shares : (t : Table Node) (ss : List Shelf) → IsKept t ss →
+    (id : ℕ) (parent : Option NodeKey) (attached : Bool) (client event : ℕ) (above : Option Node) → Above t ss id parent above →
+    (key : NodeKey) (c : Collection) → IsBefore t ss id c → (q : Node) → In q c.nodes →
+    shares_unit (born above attached id event client key) q ≡ true
 above_shares t ss ok id None attached client event None (Root none) key c before q on = refl
 above_shares t ss ok id None attached client event (Some _) at key c before q on = elim at [ ]
 above_shares t ss ok id (Some _) attached client event None at key c before q on = elim at [ ]
 above_shares t ss ok id (Some _) true client event (Some _) (Child up n is own here) key c before q on = refl
-above_shares t ss ok id (Some _) false client event (Some _) (Child up n is own here) key c before q on = elim (either_way (same_key q.key n.key)) [
-  | inl e ↦
-      let found = found_above t ss ok c up n is (before.nodes ∙ ap (λ (i : ℕ). nodes_with t (keys_before i ss)) (sym own)) in
-      let same : q ≡ n = distinct_one c.nodes before.whole.sound.distinct q n on (In-find (is_of up) c.nodes n found).0 (true-same_key q.key n.key e) in
-      or_right (not (same_key q.key n.key)) (same_key q.head n.head) (ap (λ (x : Node). same_key x.head n.head) same ∙ same_key-refl n.head)
-  | inr e ↦ rw e refl
-]
+above_shares t ss ok id (Some _) false client event (Some _) (Child up n is own here) key c before q on =
+    elim (either_way (same_key q.key n.key)) [
+      | inl e ↦
+          let found = found_above t ss ok c up n is (before.nodes ∙ ap (λ (i : ℕ). nodes_with t (keys_before i ss)) (sym own)) in
+          let same : q ≡ n = distinct_one c.nodes before.whole.sound.distinct q n on (In-find (is_of up) c.nodes n found).0
+          (true-same_key q.key n.key e) in
+          or_right (not (same_key q.key n.key)) (same_key q.head n.head) (ap (λ (x : Node). same_key x.head n.head) same ∙ same_key-refl n.head)
+      | inr e ↦ rw e refl
+    ]
 
 -- it has the key that is named
-pub above_key : (t : Table Node) (ss : List Shelf) → IsKept t ss → (id : ℕ) (parent : Option NodeKey) (above : Option Node) → Above t ss id parent above → option_map (λ (n : Node). n.key) above ≡ parent
+pub above_key : (t : Table Node) (ss : List Shelf) → IsKept t ss → (id : ℕ) (parent : Option NodeKey) (above : Option Node) →
+    Above t ss id parent above → option_map (λ (n : Node). n.key) above ≡ parent
 above_key t ss ok id None None (Root none) = refl
 above_key t ss ok id None (Some _) at = elim at [ ]
 above_key t ss ok id (Some _) None at = elim at [ ]
 above_key t ss ok id (Some _) (Some _) (Child up n is own here) = ap Some (ok.named up n is)
 
-module _ (t now : Table Node) (ss : List Shelf) (ok : IsKept t ss) (id : ℕ) (parent : Option NodeKey) (attached : Bool) (client event : ℕ) (above : Option Node) (at : Above t ss id parent above) (key : NodeKey) (bears : Bears t now (born above attached id event client key)) where
+module _ (t now : Table Node) (ss : List Shelf) (ok : IsKept t ss) (id : ℕ) (parent : Option NodeKey) (attached : Bool) (client event : ℕ)
+    (above : Option Node) (at : Above t ss id parent above) (key : NodeKey)
+    (bears : Bears t now (born above attached id event client key)) where
   -- the node
   abbrev node : Node
   node = born above attached id event client key
@@ -223,7 +256,8 @@ module _ (t now : Table Node) (ss : List Shelf) (ok : IsKept t ss) (id : ℕ) (p
 
   -- none of the others has its key
   pub born_fresh : list_any (is_of node.key) c0.nodes ≡ false
-  born_fresh = lacks_key t id ok.named node.key c0.nodes (keys_before id ss) before.nodes before.filed (none_there t now node bears id (keys_before id ss) before.filed)
+  born_fresh = lacks_key t id ok.named node.key c0.nodes (keys_before id ss) before.nodes before.filed (none_there t now node bears id
+      (keys_before id ss) before.filed)
 
   -- it is sound
   pub born_sound : IsSound born_collection
@@ -245,7 +279,8 @@ module _ (t now : Table Node) (ss : List Shelf) (ok : IsKept t ss) (id : ℕ) (p
   pub born_all_of : all_of born_collection.id born_collection.nodes ≡ true
   born_all_of =
       subst (λ (i : ℕ). all_of i (c0.nodes ++ node ∷ []) ≡ true) (sym before.id_is)
-      (all-append (λ (n : Node). n.collection == id) c0.nodes (node ∷ []) (ap (all_of id) before.nodes ∙ looked-of t id (keys_before id ss) before.filed)
+      (all-append (λ (n : Node). n.collection == id) c0.nodes (node ∷ []) (ap (all_of id) before.nodes
+      ∙ looked-of t id (keys_before id ss) before.filed)
       (rw (eq-eqb node.collection id born_of) refl))
 
   -- its keys are those before, and that of the node
@@ -258,7 +293,8 @@ module _ (t now : Table Node) (ss : List Shelf) (ok : IsKept t ss) (id : ℕ) (p
   pub born_shown : collection_in now (shelf_by born_collection) ≡ born_collection
   born_shown = λ i. record {
     id = c0.id;
-    nodes = (ap (nodes_with now) born_keys ∙ born_looked t now node bears id (keys_before id ss) before.filed ∙ ap (λ ns. ns ++ node ∷ []) (sym before.nodes)) i;
+    nodes = (ap (nodes_with now) born_keys ∙ born_looked t now node bears id (keys_before id ss) before.filed
+        ∙ ap (λ ns. ns ++ node ∷ []) (sym before.nodes)) i;
     buffers = c0.buffers;
     held = c0.held;
   }
@@ -268,7 +304,8 @@ module _ (t now : Table Node) (ss : List Shelf) (ok : IsKept t ss) (id : ℕ) (p
   born_kept = kept-born t now node bears (shelf_by born_collection) ss ok
       (subst (λ (i : ℕ). keys_in born_collection.nodes ≡ keys_before i ss ++ node.key ∷ []) (sym before.id_is) born_keys)
       (subst (λ (i : ℕ). list_all (is_filed t i) (keys_before i ss) ≡ true) (sym before.id_is) before.filed)
-      (born_of ∙ sym before.id_is) (subst IsWhole (sym born_shown) (record { sound = born_sound; rooted = born_rooted; united = born_united }))
+      (born_of ∙ sym before.id_is) (subst IsWhole (sym born_shown)
+      (record { sound = born_sound; rooted = born_rooted; united = born_united }))
 
   -- its nodes hang in the table
   pub born_hung : IsHung now born_collection.nodes
@@ -296,28 +333,37 @@ none_by t None h = refl
 none_by t (Some s) h = absurd (false≢true (sym h))
 
 -- a new collection is not there yet
-new_root_is : (t : Table Node) (ss : List Shelf) (id : ℕ) → not (is_kept (forest_of t ss) id) ≡ true → find (λ (s : Shelf). s.id == id) ss ≡ None
-new_root_is t ss id new = none_by t (find (λ (s : Shelf). s.id == id) ss) (not-true _ (ap (λ o. not (is_some o)) (sym (collection_is t id ss)) ∙ new))
+new_root_is : (t : Table Node) (ss : List Shelf) (id : ℕ) → not (is_kept (forest_of t ss) id) ≡ true →
+    find (λ (s : Shelf). s.id == id) ss ≡ None
+new_root_is t ss id new =
+    none_by t (find (λ (s : Shelf). s.id == id) ss) (not-true _ (ap (λ o. not (is_some o)) (sym (collection_is t id ss)) ∙ new))
 
 -- by the node above
-child_is : (t : Table Node) (ss : List Shelf) (id : ℕ) (up : NodeKey) (o : Option Node) → node_at t up ≡ o → option_map_or (λ (n : Node). n.collection == id && not n.gone) o false ≡ true → Above t ss id (Some up) o
+child_is : (t : Table Node) (ss : List Shelf) (id : ℕ) (up : NodeKey) (o : Option Node) → node_at t up ≡ o →
+    option_map_or (λ (n : Node). n.collection == id && not n.gone) o false ≡ true → Above t ss id (Some up) o
 child_is t ss id up None is fit = absurd (false≢true fit)
 child_is t ss id up (Some n) is fit = Child up n is (eqb-true _ _ (and_left _ _ fit)) (not-true _ (and_right _ _ fit))
 
 -- the node above, by what the change asks
-pub above_is : (t : Table Node) (ss : List Shelf) → IsKept t ss → (id : ℕ) (parent : Option NodeKey) (attached : Bool) (client event : ℕ) → MayChange (forest_of t ss) id (Change.Birth parent attached client event) → Above t ss id parent (option_and_then (node_at t) parent)
+pub above_is : (t : Table Node) (ss : List Shelf) → IsKept t ss → (id : ℕ) (parent : Option NodeKey) (attached : Bool) (client event : ℕ) →
+    MayChange (forest_of t ss) id (Change.Birth parent attached client event) → Above t ss id parent (option_and_then (node_at t) parent)
 above_is t ss ok id None attached client event may = Root (new_root_is t ss id may.named)
-above_is t ss ok id (Some up) attached client event may = child_is t ss id up (node_at t up) refl (ap (λ o. option_map_or (λ (n : Node). n.collection == id && not n.gone) o false) (sym (node_is t ss ok up)) ∙ may.named)
+above_is t ss ok id (Some up) attached client event may =
+    child_is t ss id up (node_at t up) refl (ap (λ o. option_map_or (λ (n : Node). n.collection == id && not n.gone) o false)
+    (sym (node_is t ss ok up)) ∙ may.named)
 
 -- a node above has a row
-pub above_there : (t : Table Node) (ss : List Shelf) (id : ℕ) (parent : Option NodeKey) (above : Option Node) → Above t ss id parent above → IfSome parent (λ p. IsSome (row_at t p))
+pub above_there : (t : Table Node) (ss : List Shelf) (id : ℕ) (parent : Option NodeKey) (above : Option Node) → Above t ss id parent above →
+    IfSome parent (λ p. IsSome (row_at t p))
 above_there t ss id None None (Root none) = tt
 above_there t ss id None (Some _) at = elim at [ ]
 above_there t ss id (Some _) None at = elim at [ ]
 above_there t ss id (Some _) (Some _) (Child up n is own here) = row_there t up (ap is_some is)
 
 -- a scene with one more node
-pub grown_scene : (c0 : Collection) (id : ℕ) (nodes old : List Node) (buffers : Option Buffers) (held : List HeldPages) (n node : Node) → record { id = id; nodes = old; buffers = buffers; held = held } ≡ c0 → nodes ≡ old ++ n ∷ [] → n ≡ node → record { id = id; nodes = nodes; buffers = buffers; held = held } ≡ grown c0 node
+pub grown_scene : (c0 : Collection) (id : ℕ) (nodes old : List Node) (buffers : Option Buffers) (held : List HeldPages) (n node : Node) →
+    record { id = id; nodes = old; buffers = buffers; held = held } ≡ c0 → nodes ≡ old ++ n ∷ [] → n ≡ node →
+    record { id = id; nodes = nodes; buffers = buffers; held = held } ≡ grown c0 node
 grown_scene c0 id nodes old buffers held n node was added is =
     (λ i. record { id = id; nodes = (added ∙ ap (λ (m : Node). old ++ m ∷ []) is) i; buffers = buffers; held = held })
     ∙ ap (λ (c : Collection). grown c node) was
@@ -332,10 +378,12 @@ Gives-same t u now key gives same = record {
 }
 
 -- what was finished beside the same collections
-pub Finishes-before : (pool : ℕ) (handles : Handles) (t u now : Table Node) (ss behind : List Shelf) (c : Collection) → map (collection_in u) ss ≡ map (collection_in t) ss → Finishes pool handles u ss now behind c → Finishes pool handles t ss now behind c
+pub Finishes-before : (pool : ℕ) (handles : Handles) (t u now : Table Node) (ss behind : List Shelf) (c : Collection) →
+    map (collection_in u) ss ≡ map (collection_in t) ss → Finishes pool handles u ss now behind c → Finishes pool handles t ss now behind c
 Finishes-before pool handles t u now ss behind c same f = record {
   after = f.after;
-  settles = subst (λ (cs : List Collection). Settles pool handles (flat_map pages_in (filter (λ (d : Collection). not (d.id == c.id)) cs)) c f.after) same f.settles;
+  settles = subst (λ (cs : List Collection). Settles pool handles (flat_map pages_in (filter (λ (d : Collection). not (d.id == c.id)) cs)) c
+      f.after) same f.settles;
   collections = f.collections ∙ ap (put (given_back handles f.after)) same;
   rests = f.rests;
 }

@@ -49,7 +49,8 @@ module _ (nodes : List Node) (b : Node) (fresh : list_any (is_of b.key) nodes �
       ∙ (map-append (member_of more) (filter (λ (n : Node). not n.gone) nodes) (b ∷ [])
       ∙ ap (λ (ms : List Member). ms ++ member_of more b ∷ [])
       (map-In (member_of more) (member_of nodes) (filter (λ (n : Node). not n.gone) nodes)
-      (λ n on. let there = In-filter (λ (n : Node). not n.gone) nodes n on in λ i. record (member_of nodes n) { above = above_same n there.0 i })))
+      (λ n on. let there = In-filter (λ (n : Node). not n.gone) nodes n on in
+      λ i. record (member_of nodes n) { above = above_same n there.0 i })))
 
   -- none of the others is its child
   childless : HaveOthers nodes b.key → (m : Member) → In m (members_of nodes) → m.parent ≡ Some b.key → ⊥
@@ -66,7 +67,8 @@ module _ (pool : ℕ) (handles : Handles) (others : List Interval) (c : Collecti
       forced pool (standing handles others (record c { nodes = c.nodes ++ b ∷ [] })) ≡ None
   node_forces_nothing b fresh here newborn =
       let old : Standing = standing handles others c in
-      let is : standing handles others (record c { nodes = c.nodes ++ b ∷ [] }) ≡ record old { members = old.members ++ member_of (c.nodes ++ b ∷ []) b ∷ [] } =
+      let is : standing handles others (record
+      c { nodes = c.nodes ++ b ∷ [] }) ≡ record old { members = old.members ++ member_of (c.nodes ++ b ∷ []) b ∷ [] } =
       (λ i. record old { members = members_more c.nodes b fresh here i }) in
       ap (forced pool) is
       ∙ none_forced pool (record old { members = old.members ++ member_of (c.nodes ++ b ∷ []) b ∷ [] })
@@ -88,7 +90,8 @@ module _ (pool : ℕ) (handles : Handles) (others : List Interval) (c : Collecti
   births_force_nothing (Some above) attached client event key fresh parents = from (node_of c.nodes above)
     where
       from : (o : Option Node) →
-          forced pool (standing handles others (option_map_or (λ n. record c { nodes = c.nodes ++ new_child attached key event client n ∷ [] }) o c)) ≡ None
+          forced pool (standing handles others (option_map_or (λ n.
+          record c { nodes = c.nodes ++ new_child attached key event client n ∷ [] }) o c)) ≡ None
       from None = rest
       from (Some n) =
           node_forces_nothing (new_child attached key event client n) fresh refl
@@ -106,4 +109,5 @@ module _ (pool : ℕ) (handles : Handles) (others : List Interval) (c : Collecti
       Settles pool handles others (changed (Change.Birth parent attached client event) key c)
       (changed (Change.Birth parent attached client event) key c)
   birth_settles parent attached client event key fresh parents =
-      Rests (changed (Change.Birth parent attached client event) key c) (births_force_nothing parent attached client event key fresh parents)
+      Rests (changed (Change.Birth parent attached client event) key c) (births_force_nothing parent attached client event key fresh
+      parents)

@@ -37,10 +37,12 @@ use Rattle.alloc_event.proofs.shelves.Showing.{collection_is, filed_found}
 -- ---- parents
 
 -- a key that none of the nodes has is no parent of one that is not gone
-no_children : (nodes : List Node) (key : NodeKey) → are_rooted (reverse nodes) ≡ true → list_any (is_of key) nodes ≡ false → HaveOthers nodes key
+no_children : (nodes : List Node) (key : NodeKey) → are_rooted (reverse nodes) ≡ true → list_any (is_of key) nodes ≡ false →
+    HaveOthers nodes key
 no_children nodes key rooted fresh n on here up =
     let x = left_node nodes key (left_parent nodes rooted n key on here up) in
-    both_ways (list_any (is_of key) nodes) (In-any (is_of key) nodes x.node x.on (ap (λ (k : NodeKey). same_key k key) x.is ∙ same_key-refl key)) fresh
+    both_ways (list_any (is_of key) nodes) (In-any (is_of key) nodes x.node x.on (ap (λ (k : NodeKey). same_key k key) x.is
+    ∙ same_key-refl key)) fresh
 
 -- ---- buffers
 
@@ -56,12 +58,14 @@ out_more strong weak false true out = elim (either_way (strong == 0)) [
 -- all stay, where all are kept
 keep_all : {A : Type 0} (keep : A → Bool) (xs : List A) → list_all keep xs ≡ true → filter keep xs ≡ xs
 keep_all keep [] all = refl
-keep_all keep (x ∷ xs) all = rw (and_left (keep x) (list_all keep xs) all) (ap (λ ys. x ∷ ys) (keep_all keep xs (and_right (keep x) (list_all keep xs) all)))
+keep_all keep (x ∷ xs) all =
+    rw (and_left (keep x) (list_all keep xs) all) (ap (λ ys. x ∷ ys) (keep_all keep xs (and_right (keep x) (list_all keep xs) all)))
 
 -- a weaker test
 all_weaker : {A : Type 0} (p q : A → Bool) (xs : List A) → ((x : A) → p x ≡ true → q x ≡ true) → list_all p xs ≡ true → list_all q xs ≡ true
 all_weaker p q [] weaker all = refl
-all_weaker p q (x ∷ xs) weaker all = rw (weaker x (and_left (p x) (list_all p xs) all)) (all_weaker p q xs weaker (and_right (p x) (list_all p xs) all))
+all_weaker p q (x ∷ xs) weaker all =
+    rw (weaker x (and_left (p x) (list_all p xs) all)) (all_weaker p q xs weaker (and_right (p x) (list_all p xs) all))
 
 -- with one more node no buffer goes home
 pub still_out : (handles : Handles) (c : Collection) (b : Node) → list_any (is_of b.key) c.nodes ≡ false → b.gone ≡ false →
@@ -69,21 +73,27 @@ pub still_out : (handles : Handles) (c : Collection) (b : Node) → list_any (is
     given_back handles (record c { nodes = c.nodes ++ b ∷ [] }) ≡ record c { nodes = c.nodes ++ b ∷ [] }
 still_out handles c b fresh here out =
     let strong : Member → Bool = λ m. is_live m && not m.weak in
-    let live : some_strong_live (members_of (c.nodes ++ b ∷ [])) ≡ (some_strong_live (members_of c.nodes) || some_strong_live (member_of (c.nodes ++ b ∷ []) b ∷ [])) =
-    ap some_strong_live (members_more c.nodes b fresh here) ∙ any-append strong (members_of c.nodes) (member_of (c.nodes ++ b ∷ []) b ∷ []) in
-    let out' = all_weaker (λ (h : HeldPages). not (is_home_in handles c h.buffer)) (λ (h : HeldPages). not (is_home_in handles (record c { nodes = c.nodes ++ b ∷ [] }) h.buffer)) c.held
+    let live : some_strong_live (members_of (c.nodes ++ b ∷ [])) ≡ (some_strong_live (members_of c.nodes) || some_strong_live
+    (member_of (c.nodes ++ b ∷ []) b ∷ [])) =
+    ap some_strong_live (members_more c.nodes b fresh here)
+    ∙ any-append strong (members_of c.nodes) (member_of (c.nodes ++ b ∷ []) b ∷ []) in
+    let out' = all_weaker (λ (h : HeldPages). not (is_home_in handles c h.buffer)) (λ (h : HeldPages).
+    not (is_home_in handles (record c { nodes = c.nodes ++ b ∷ [] }) h.buffer)) c.held
     (λ h e. ap (λ l. not (is_home (handles h.buffer Strength.Strong) (handles h.buffer Strength.Weak) l)) live
-    ∙ out_more (handles h.buffer Strength.Strong) (handles h.buffer Strength.Weak) (some_strong_live (members_of c.nodes)) (some_strong_live (member_of (c.nodes ++ b ∷ []) b ∷ [])) e) out in
+    ∙ out_more (handles h.buffer Strength.Strong) (handles h.buffer Strength.Weak) (some_strong_live (members_of c.nodes))
+    (some_strong_live (member_of (c.nodes ++ b ∷ []) b ∷ [])) e) out in
     λ i. record c { nodes = c.nodes ++ b ∷ []; held = keep_all (λ (h : HeldPages). not (is_home_in handles (record c { nodes = c.nodes ++ b ∷ [] }) h.buffer)) c.held out' i }
 
 -- a node that is born is not gone
-pub born_here : (above : Option Node) (attached : Bool) (id event client : ℕ) (key : NodeKey) → (born above attached id event client key).gone ≡ false
+pub born_here : (above : Option Node) (attached : Bool) (id event client : ℕ) (key : NodeKey) →
+    (born above attached id event client key).gone ≡ false
 born_here None attached id event client key = refl
 born_here (Some above) attached id event client key = refl
 
 -- ---- the birth
 
-module _ (t now : Table Node) (ss : List Shelf) (ok : IsKept t ss) (id : ℕ) (parent : Option NodeKey) (attached : Bool) (client event : ℕ) (above : Option Node) (at : Above t ss id parent above) (key : NodeKey) (bears : Bears t now (born above attached id event client key))
+module _ (t now : Table Node) (ss : List Shelf) (ok : IsKept t ss) (id : ℕ) (parent : Option NodeKey) (attached : Bool) (client event : ℕ)
+    (above : Option Node) (at : Above t ss id parent above) (key : NodeKey) (bears : Bears t now (born above attached id event client key))
     (handles : Handles) (still : IsStill handles (collection_or_new (forest_of t ss) id)) where
   abbrev c0 : Collection
   c0 = collection_or_new (forest_of t ss) id
@@ -102,7 +112,8 @@ module _ (t now : Table Node) (ss : List Shelf) (ok : IsKept t ss) (id : ℕ) (p
   own = key_is t now ss ok id parent attached client event above at key bears
 
   fresh : list_any (is_of key) c0.nodes ≡ false
-  fresh = subst (λ (k : NodeKey). list_any (is_of k) c0.nodes ≡ false) own (born_fresh t now ss ok id parent attached client event above at key bears)
+  fresh = subst (λ (k : NodeKey). list_any (is_of k) c0.nodes ≡ false) own (born_fresh t now ss ok id parent attached client event above at
+      key bears)
 
   others : HaveOthers c0.nodes key
   others = no_children c0.nodes key (before_is t ss ok id).whole.rooted fresh
@@ -110,35 +121,44 @@ module _ (t now : Table Node) (ss : List Shelf) (ok : IsKept t ss) (id : ℕ) (p
   -- no pages go back
   stays : given_back handles after ≡ after
   stays = ap (given_back handles) grown_is
-      ∙ still_out handles c0 node (born_fresh t now ss ok id parent attached client event above at key bears) (born_here above attached id event client key) still.out
+      ∙ still_out handles c0 node (born_fresh t now ss ok id parent attached client event above at key bears)
+      (born_here above attached id event client key) still.out
       ∙ sym grown_is
 
   -- nothing is forced
-  pub quiet_finishes : (pool : ℕ) → Finishes pool handles t ss now (put_shelf (shelf_by (born_collection t now ss ok id parent attached client event above at key bears)) ss) after
+  pub quiet_finishes : (pool : ℕ) → Finishes pool handles t ss now
+      (put_shelf (shelf_by (born_collection t now ss ok id parent attached client event above at key bears)) ss) after
   quiet_finishes pool = record {
     after = after;
-    settles = birth_settles pool handles (beside (forest_of t ss) after.id) c0 (still.rest pool (beside (forest_of t ss) after.id)) parent attached client event key fresh others;
+    settles = birth_settles pool handles (beside (forest_of t ss) after.id) c0 (still.rest pool (beside (forest_of t ss) after.id)) parent
+        attached client event key fresh others;
     collections = put-map now (shelf_by (born_collection t now ss ok id parent attached client event above at key bears)) ss
-        ∙ (λ i. put (born_shown t now ss ok id parent attached client event above at key bears i) (still_collections t now node bears ss ok.filed i))
+        ∙ (λ i. put (born_shown t now ss ok id parent attached client event above at key bears i) (still_collections t now node bears ss
+        ok.filed i))
         ∙ ap (λ c. put c (map (collection_in t) ss)) (sym (stays ∙ grown_is));
     rests =
-        let behind = beside (forest_of now (put_shelf (shelf_by (born_collection t now ss ok id parent attached client event above at key bears)) ss)) after.id in
+        let behind =
+        beside (forest_of now (put_shelf (shelf_by (born_collection t now ss ok id parent attached client event above at key bears))
+        ss)) after.id in
         ap (λ c. forced pool (standing handles behind c)) stays
         ∙ births_force_nothing pool handles behind c0 (still.rest pool behind) parent attached client event key fresh others;
   }
 
   -- the collection is as calm as it was
   calm_after : IsCalm after
-  calm_after = calm_rested 0 handles [] after (births_force_nothing 0 handles [] c0 (still.rest 0 []) parent attached client event key fresh others)
+  calm_after = calm_rested 0 handles [] after (births_force_nothing 0 handles [] c0 (still.rest 0 []) parent attached client event key fresh
+      others)
 
   -- the shelf that showed the collection
   before_shelf : shelf_by c0 ≡ shelf_before id ss
   before_shelf =
-      ap (λ (o : Option Collection). shelf_by (unwrap_or o (record { id = id; nodes = []; buffers = None; held = [] }))) (collection_is t id ss)
+      ap (λ (o : Option Collection). shelf_by (unwrap_or o (record { id = id; nodes = []; buffers = None; held = [] })))
+      (collection_is t id ss)
       ∙ from (find (λ (s : Shelf). s.id == id) ss) refl
     where
       from : (o : Option Shelf) → find (λ (s : Shelf). s.id == id) ss ≡ o →
-          shelf_by (unwrap_or (option_map (collection_in t) o) (record { id = id; nodes = []; buffers = None; held = [] })) ≡ unwrap_or o (no_shelf id)
+          shelf_by (unwrap_or (option_map (collection_in t) o) (record { id = id; nodes = []; buffers = None; held = [] })) ≡ unwrap_or o
+          (no_shelf id)
       from None found = refl
       from (Some s) found = λ i. record s { keys = looked-keys t s.id ok.named s.keys (filed_found t id ss ok.filed s found) i }
 
@@ -154,7 +174,8 @@ module _ (t now : Table Node) (ss : List Shelf) (ok : IsKept t ss) (id : ℕ) (p
       }
 
   -- how many strong nodes the node adds
-  strong_more : (up : Option Node) → strong_count (born up attached id event client key ∷ []) ≡ (if option_map_or (λ (n : Node). n.weak) up false then 0 else 1)
+  strong_more : (up : Option Node) → strong_count (born up attached id event client key ∷ []) ≡ (if option_map_or (λ (n : Node).
+      n.weak) up false then 0 else 1)
   strong_more None = refl
   strong_more (Some up) = from up.weak
     where
@@ -184,10 +205,12 @@ module _ (t now : Table Node) (ss : List Shelf) (ok : IsKept t ss) (id : ℕ) (p
     behind_is = placed ∙ ap (λ (s : Shelf). put_shelf s ss) shelf_is
 
     -- and the collections are those with it
-    pub behind_shown : map (collection_in now) behind ≡ put (born_collection t now ss ok id parent attached client event above at key bears) (map (collection_in t) ss)
+    pub behind_shown : map (collection_in now) behind ≡ put (born_collection t now ss ok id parent attached client event above at key bears)
+        (map (collection_in t) ss)
     behind_shown = ap (map (collection_in now)) behind_is
         ∙ put-map now (shelf_by (born_collection t now ss ok id parent attached client event above at key bears)) ss
-        ∙ (λ i. put (born_shown t now ss ok id parent attached client event above at key bears i) (still_collections t now node bears ss ok.filed i))
+        ∙ (λ i. put (born_shown t now ss ok id parent attached client event above at key bears i) (still_collections t now node bears ss
+        ok.filed i))
 
     -- nothing more is forced
     pub quiet_ok : (pool : ℕ) → Finishes pool handles t ss now behind after
@@ -199,4 +222,5 @@ module _ (t now : Table Node) (ss : List Shelf) (ok : IsKept t ss) (id : ℕ) (p
 
     -- the pages stay
     pub quiet_held : all_held (forest_of now behind) ≡ all_held (forest_of t ss)
-    quiet_held = ap (λ (b : List Shelf). all_held (forest_of now b)) behind_is ∙ born_held t now ss ok id parent attached client event above at key bears
+    quiet_held = ap (λ (b : List Shelf). all_held (forest_of now b)) behind_is
+        ∙ born_held t now ss ok id parent attached client event above at key bears

@@ -34,10 +34,13 @@ times_zero test [] none = refl
 times_zero test (n ∷ ns) none = rw (none n (inl refl)) (times_zero test ns (λ m on. none m (inr on)))
 
 -- the table has the old nodes of the collection and the one that was born, and the others have their counts
-module _ (t : Table Node) (ss : List Shelf) (kept : IsKept t ss) (id : ℕ) (s : Shelf) (on : In s ss) (own : s.id ≡ id) (old : List Node) (node : Node)
+module _ (t : Table Node) (ss : List Shelf) (kept : IsKept t ss) (id : ℕ) (s : Shelf) (on : In s ss) (own : s.id ≡ id) (old : List Node)
+    (node : Node)
     (grown : nodes_with t s.keys ≡ old ++ node ∷ []) (here : node.gone ≡ false) (fresh : list_any (is_of node.key) old ≡ false)
-    (olds : (n : Node) → In n old → n.gone ≡ false → (h : Node) × In h old × (h.key ≡ n.head)) (of : (n : Node) → In n (nodes_with t s.keys) → n.collection ≡ id)
-    (us : List Unit) (has : HasUnits us old) (but : AreUnitsBut us id (map (collection_in t) ss)) (few : length (nodes_with t s.keys) ≤ 18446744073709551615) where
+    (olds : (n : Node) → In n old → n.gone ≡ false → (h : Node) × In h old × (h.key ≡ n.head)) (of : (n : Node) →
+    In n (nodes_with t s.keys) → n.collection ≡ id)
+    (us : List Unit) (has : HasUnits us old) (but : AreUnitsBut us id (map (collection_in t) ss))
+    (few : length (nodes_with t s.keys) ≤ 18446744073709551615) where
   abbrev nodes : List Node
   nodes = nodes_with t s.keys
 
@@ -81,7 +84,8 @@ module _ (t : Table Node) (ss : List Shelf) (kept : IsKept t ss) (id : ℕ) (s :
     | inr e ↦
         let h = olds n there e in
         let other : same_key n.head node.key ≡ false = elim (either_way (same_key n.head node.key)) [
-          | inl d ↦ both_ways (list_any (is_of node.key) old) (In-any (is_of node.key) old h.0 h.1 (ap (λ (k : NodeKey). same_key k node.key) h.2 ∙ d)) fresh
+          | inl d ↦ both_ways (list_any (is_of node.key) old) (In-any (is_of node.key) old h.0 h.1 (ap (λ (k : NodeKey).
+              same_key k node.key) h.2 ∙ d)) fresh
           | inr d ↦ d
         ] in
         (lives_other node.key n other, waits_other node.key n other)
@@ -91,7 +95,8 @@ module _ (t : Table Node) (ss : List Shelf) (kept : IsKept t ss) (id : ℕ) (s :
   old_slot : (n : Node) → In n old → n.key.slot ≢ node.key.slot
   old_slot n there slots =
       let same : n.key ≡ node.key = one_slot t n.key node.key n node (at n (was_old n there)) (at node born_on) slots in
-      both_ways (list_any (is_of node.key) old) (In-any (is_of node.key) old n there (ap (λ (k : NodeKey). same_key k node.key) same ∙ same_key-refl node.key)) fresh
+      both_ways (list_any (is_of node.key) old) (In-any (is_of node.key) old n there (ap (λ (k : NodeKey). same_key k node.key) same
+      ∙ same_key-refl node.key)) fresh
 
   long : length new ≡ length us1
   long = tallied_long (node ∷ []) us1
@@ -126,8 +131,10 @@ module _ (t : Table Node) (ss : List Shelf) (kept : IsKept t ss) (id : ℕ) (s :
       let adds = tallied_adds (node ∷ []) us1 n.key inside (head_of n there) (omega arith) (omega arith) in
       let a = adds.live in
       let b = adds.unready in
-      let l2 : times (lives_in n.key) nodes ≡ times (lives_in n.key) old + times (lives_in n.key) (node ∷ []) = ap (times (lives_in n.key)) grown ∙ times-append (lives_in n.key) old (node ∷ []) in
-      let w2 : times (waits_in n.key) nodes ≡ times (waits_in n.key) old + times (waits_in n.key) (node ∷ []) = ap (times (waits_in n.key)) grown ∙ times-append (waits_in n.key) old (node ∷ []) in
+      let l2 : times (lives_in n.key) nodes ≡ times (lives_in n.key) old + times (lives_in n.key) (node ∷ []) =
+      ap (times (lives_in n.key)) grown ∙ times-append (lives_in n.key) old (node ∷ []) in
+      let w2 : times (waits_in n.key) nodes ≡ times (waits_in n.key) old + times (waits_in n.key) (node ∷ []) =
+      ap (times (waits_in n.key)) grown ∙ times-append (waits_in n.key) old (node ∷ []) in
       let l : (unit_at new n.key.slot).live ≡ times (lives_in n.key) nodes = omega arith in
       let w : (unit_at new n.key.slot).unready ≡ times (waits_in n.key) nodes = omega arith in
       λ i. record { live = l i; unready = w i })
@@ -138,7 +145,8 @@ module _ (t : Table Node) (ss : List Shelf) (kept : IsKept t ss) (id : ℕ) (s :
 
       head_of : (n : Node) → In n nodes → (m : Node) → In m (node ∷ []) → m.gone ≡ false → m.head.slot ≡ n.key.slot → m.head ≡ n.key
       head_of n there m (inl is) stays slots =
-          let one : node.head ≡ n.key = one_slot t node.head n.key head.0 n head_at (at n there) (ap (λ (x : Node). x.head.slot) (sym is) ∙ slots) in
+          let one : node.head ≡ n.key =
+          one_slot t node.head n.key head.0 n head_at (at n there) (ap (λ (x : Node). x.head.slot) (sym is) ∙ slots) in
           ap (λ (x : Node). x.head) is ∙ one
       head_of n there m (inr none) stays slots = absurd none
 
@@ -187,8 +195,10 @@ keys_fewer s (x ∷ xs) (inr on) =
     let b = keys_fewer s xs on in
     omega arith
 
-module _ (t now : Table Node) (ss : List Shelf) (ok : IsKept t ss) (id : ℕ) (parent : Option NodeKey) (attached : Bool) (client event : ℕ) (above : Option Node) (up : Above t ss id parent above) (key : NodeKey) (bears : Bears t now (born above attached id event client key))
-    (handles : Handles) (still : IsStill handles (collection_or_new (forest_of t ss) id)) (behind : List Shelf) (placed : behind ≡ put_shelf (shelf_with (shelf_before id ss) key) ss) where
+module _ (t now : Table Node) (ss : List Shelf) (ok : IsKept t ss) (id : ℕ) (parent : Option NodeKey) (attached : Bool) (client event : ℕ)
+    (above : Option Node) (up : Above t ss id parent above) (key : NodeKey) (bears : Bears t now (born above attached id event client key))
+    (handles : Handles) (still : IsStill handles (collection_or_new (forest_of t ss) id)) (behind : List Shelf)
+    (placed : behind ≡ put_shelf (shelf_with (shelf_before id ss) key) ss) where
   abbrev c0 : Collection
   c0 = collection_or_new (forest_of t ss) id
 
@@ -205,7 +215,8 @@ module _ (t now : Table Node) (ss : List Shelf) (ok : IsKept t ss) (id : ℕ) (p
   kept_now = quiet_kept t now ss ok id parent attached client event above up key bears handles still behind placed
 
   shelf_on : In (shelf_by with_it) behind
-  shelf_on = subst (In (shelf_by with_it)) (sym (behind_is t now ss ok id parent attached client event above up key bears handles still behind placed)) (in_put_shelf (shelf_by with_it) ss)
+  shelf_on = subst (In (shelf_by with_it)) (sym (behind_is t now ss ok id parent attached client event above up key bears handles still
+      behind placed)) (in_put_shelf (shelf_by with_it) ss)
 
   shown_nodes : nodes_with now (shelf_by with_it).keys ≡ c0.nodes ++ child ∷ []
   shown_nodes = ap (λ (c : Collection). c.nodes) (born_shown t now ss ok id parent attached client event above up key bears)
@@ -214,14 +225,17 @@ module _ (t now : Table Node) (ss : List Shelf) (ok : IsKept t ss) (id : ℕ) (p
   filed_keys = all-In (λ (x : Shelf). list_all (is_filed now x.id) x.keys) behind (shelf_by with_it) shelf_on kept_now.filed
 
   found_key : node_at now key ≡ Some child
-  found_key = bears.look key ∙ (rw (ap (λ (k : NodeKey). same_key k key) (key_is t now ss ok id parent attached client event above up key bears) ∙ same_key-refl key) refl)
+  found_key = bears.look key ∙ (rw (ap (λ (k : NodeKey). same_key k key) (key_is t now ss ok id parent attached client event above up key
+      bears) ∙ same_key-refl key) refl)
 
   had : (us : List Unit) → AreUnits us (map (collection_in t) ss) → HasUnits us c0.nodes
   had us all = from (collection_at (forest_of t ss) id) refl
     where
-      from : (o : Option Collection) → collection_at (forest_of t ss) id ≡ o → HasUnits us (unwrap_or o (record { id = id; nodes = []; buffers = None; held = [] })).nodes
+      from : (o : Option Collection) → collection_at (forest_of t ss) id ≡ o →
+          HasUnits us (unwrap_or o (record { id = id; nodes = []; buffers = None; held = [] })).nodes
       from None is = tt
-      from (Some c) is = all_at (λ (d : Collection). HasUnits us d.nodes) (map (collection_in t) ss) all c (In-find (λ (d : Collection). d.id == id) (map (collection_in t) ss) c is).0
+      from (Some c) is = all_at (λ (d : Collection). HasUnits us d.nodes) (map (collection_in t) ss) all c (In-find (λ (d : Collection).
+          d.id == id) (map (collection_in t) ss) c is).0
 
   few_nodes : table_len now ≤ 18446744073709551615 → length (nodes_with now (shelf_by with_it).keys) ≤ 18446744073709551615
   few_nodes few =
@@ -238,13 +252,18 @@ module _ (t now : Table Node) (ss : List Shelf) (ok : IsKept t ss) (id : ℕ) (p
       let named : child.key ≡ key = key_is t now ss ok id parent attached client event above up key bears in
       let one : nodes_with now (key ∷ []) ≡ child ∷ [] = ap (λ (o : Option Node). cons_option o []) found_key in
       let but : AreUnitsBut us id (map (collection_in now) behind) =
-      subst (AreUnitsBut us id) (sym (behind_shown t now ss ok id parent attached client event above up key bears handles still behind placed))
-      (subst (λ (i : ℕ). AreUnitsBut us i (put with_it (map (collection_in t) ss))) own (but_put us with_it (map (collection_in t) ss) all)) in
+      subst (AreUnitsBut us id) (sym (behind_shown t now ss ok id parent attached client event above up key bears handles still behind
+      placed))
+      (subst (λ (i : ℕ). AreUnitsBut us i (put with_it (map (collection_in t) ss))) own (but_put us with_it (map (collection_in t) ss)
+      all)) in
       let made : AreUnits (tallied (child ∷ []) (started child.key.slot us)) (map (collection_in now) behind) =
-      born_units now behind kept_now id (shelf_by with_it) shelf_on own c0.nodes child shown_nodes (born_here above attached id event client key)
+      born_units now behind kept_now id (shelf_by with_it) shelf_on own c0.nodes child shown_nodes (born_here above attached id event client
+      key)
       (born_fresh t now ss ok id parent attached client event above up key bears)
-      (λ n on here. let h = head_there c0.nodes before_it.whole.sound.distinct before_it.whole.sound.heads before_it.whole.rooted before_it.whole.united n on here in (h.0, h.1, h.2))
-      (λ n on. eqb-true n.collection (shelf_by with_it).id (all-In (λ (m : Node). m.collection == (shelf_by with_it).id) (nodes_with now (shelf_by with_it).keys) n on (looked-of now (shelf_by with_it).id (shelf_by with_it).keys filed_keys)) ∙ own)
+      (λ n on here. let h = head_there c0.nodes before_it.whole.sound.distinct before_it.whole.sound.heads before_it.whole.rooted
+      before_it.whole.united n on here in (h.0, h.1, h.2))
+      (λ n on. eqb-true n.collection (shelf_by with_it).id (all-In (λ (m : Node). m.collection == (shelf_by with_it).id)
+      (nodes_with now (shelf_by with_it).keys) n on (looked-of now (shelf_by with_it).id (shelf_by with_it).keys filed_keys)) ∙ own)
       us (had us all) but (few_nodes few) in
       subst (λ (ns : List Node). AreUnits (tallied ns (started key.slot us)) (map (collection_in now) behind)) (sym one)
       (subst (λ (k : NodeKey). AreUnits (tallied (child ∷ []) (started k.slot us)) (map (collection_in now) behind)) named made)

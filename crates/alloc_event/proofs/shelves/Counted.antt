@@ -29,7 +29,8 @@ use Rattle.alloc_event.proofs.calm.Steps.{all-In}
 use Rattle.alloc_event.proofs.leaving.Thinning.{none-filter}
 
 -- what is told of the collection of an entry by one table is told by another that shows the same
-pub moved : (t now : Table Node) (e : Entry) → collection_in now (shelf_of e) ≡ collection_in t (shelf_of e) → IsCounted t e → IsCounted now e
+pub moved : (t now : Table Node) (e : Entry) → collection_in now (shelf_of e) ≡ collection_in t (shelf_of e) → IsCounted t e →
+    IsCounted now e
 moved t now e same counted = record {
   calm = subst IsCalm (sym same) counted.calm;
   strong = counted.strong ∙ ap (λ (c : Collection). strong_count c.nodes) (sym same);
@@ -56,8 +57,10 @@ moved_all t now (e ∷ es) filed same all = (
 )
 
 -- and of all but one
-pub moved_but : (t now : Table Node) (id : ℕ) (es : List Entry) → AllByRecursion (λ (e : Entry). e.id ≢ id → list_all (is_filed t e.id) e.keys.items ≡ true) es →
-    ((e : Entry) → e.id ≢ id → list_all (is_filed t e.id) e.keys.items ≡ true → collection_in now (shelf_of e) ≡ collection_in t (shelf_of e)) →
+pub moved_but : (t now : Table Node) (id : ℕ) (es : List Entry) → AllByRecursion (λ (e : Entry). e.id ≢ id →
+    list_all (is_filed t e.id) e.keys.items ≡ true) es →
+    ((e : Entry) → e.id ≢ id → list_all (is_filed t e.id) e.keys.items ≡ true →
+    collection_in now (shelf_of e) ≡ collection_in t (shelf_of e)) →
     AreCountedBut t id es → AreCountedBut now id es
 moved_but t now id [] filed same all = tt
 moved_but t now id (e ∷ es) filed same all =
@@ -88,7 +91,8 @@ counted_put t new (e ∷ es) rising but own = cases_place e.id new.id (AreCounte
     (λ same. rw same (
       own,
       counted_behind t new.id es
-          (subst (λ (low : ℕ). AllByRecursion (λ (later : Shelf). low < later.id) (shelves_of es)) (eqb-true e.id new.id same) rising.0) but.1,
+          (subst (λ (low : ℕ). AllByRecursion (λ (later : Shelf). low < later.id) (shelves_of es)) (eqb-true e.id new.id same) rising.0)
+          but.1,
     ))
     (λ other above. rw (other, above) (
       own,
@@ -155,7 +159,8 @@ module _ (t now : Table Node) (named : (k : NodeKey) (n : Node) → node_at t k 
         tidy = λ h. ap (list_any (over_but e.one)) (dropped_nodes e.keys.items) ∙ none-filter stays (over_but e.one) nodes (counted.tidy h);
       }
 
-  pub dropped_all : (es : List Entry) → AllByRecursion (λ (s : Shelf). IsWhole (collection_in t s)) (shelves_of es) → AreCounted t es → AreCounted now es
+  pub dropped_all : (es : List Entry) → AllByRecursion (λ (s : Shelf). IsWhole (collection_in t s)) (shelves_of es) → AreCounted t es →
+      AreCounted now es
   dropped_all [] whole all = tt
   dropped_all (e ∷ es) whole all = (dropped e whole.0 all.0, dropped_all es whole.1 all.1)
 
@@ -164,12 +169,15 @@ module _ (t now : Table Node) (named : (k : NodeKey) (n : Node) → node_at t k 
 -- where each node is as f makes it, which keeps what the counts read
 pub mapped_all : (t now : Table Node) (f : Node → Node) → ((n : Node) → IsPlain (f n) n) → ((n : Node) → is_strong (f n) ≡ is_strong n) →
     ((key : NodeKey) → node_at now key ≡ option_map f (node_at t key)) → (es : List Entry) →
-    AllByRecursion (λ (e : Entry). e.tidy ≡ true → list_any (over_but e.one) (map f (nodes_with t e.keys.items)) ≡ false) es → AreCounted t es → AreCounted now es
+    AllByRecursion (λ (e : Entry). e.tidy ≡ true → list_any (over_but e.one) (map f (nodes_with t e.keys.items)) ≡ false) es →
+    AreCounted t es → AreCounted now es
 mapped_all t now f plain strong look [] tidy all = tt
 mapped_all t now f plain strong look (e ∷ es) tidy all =
-    let nodes : nodes_with now e.keys.items ≡ map f (nodes_with t e.keys.items) = looked-map f (node_at t) (node_at now) look e.keys.items in (
+    let nodes : nodes_with now e.keys.items ≡ map f (nodes_with t e.keys.items) =
+    looked-map f (node_at t) (node_at now) look e.keys.items in (
       record {
-        calm = subst IsCalm (λ i. record (collection_in t (shelf_of e)) { nodes = sym nodes i }) (calm_map (collection_in t (shelf_of e)) f plain all.0.calm);
+        calm = subst IsCalm (λ i. record (collection_in t (shelf_of e)) { nodes = sym nodes i }) (calm_map (collection_in t (shelf_of e)) f
+            plain all.0.calm);
         strong = all.0.strong ∙ sym (times_map is_strong is_strong f (nodes_with t e.keys.items) strong) ∙ ap strong_count (sym nodes);
         tidy = λ h. ap (list_any (over_but e.one)) nodes ∙ tidy.0 h;
       },
@@ -186,7 +194,8 @@ counted_removed t (e ∷ es) zero all = all.1
 counted_removed t (e ∷ es) (suc n) all = (all.0, counted_removed t es n all.1)
 
 -- and where one is another that is counted
-pub counted_set : (t : Table Node) (es : List Entry) (at : ℕ) (new : Entry) → (at < length es → IsCounted t (get_or es at new) → IsCounted t new) →
+pub counted_set : (t : Table Node) (es : List Entry) (at : ℕ) (new : Entry) → (at < length es → IsCounted t (get_or es at new) →
+    IsCounted t new) →
     AreCounted t es → AreCounted t (set es at new)
 counted_set t [] at new own all = tt
 counted_set t (e ∷ es) zero new own all = (own (omega arith) all.0, all.1)
@@ -200,10 +209,12 @@ filed_every t id [] all = tt
 filed_every t id (e ∷ es) all =
     (λ differ. and_left (list_all (is_filed t e.id) e.keys.items) _ all, filed_every t id es (and_right (list_all (is_filed t e.id) e.keys.items) _ all))
 
-pub filed_but : (t : Table Node) (new : Shelf) (es : List Entry) → AreRising (shelves_of es) → are_filed t (put_shelf new (shelves_of es)) ≡ true →
+pub filed_but : (t : Table Node) (new : Shelf) (es : List Entry) → AreRising (shelves_of es) →
+    are_filed t (put_shelf new (shelves_of es)) ≡ true →
     AllByRecursion (λ (e : Entry). e.id ≢ new.id → list_all (is_filed t e.id) e.keys.items ≡ true) es
 filed_but t new [] rising filed = tt
-filed_but t new (e ∷ es) rising filed = cases_place e.id new.id (AllByRecursion (λ (x : Entry). x.id ≢ new.id → list_all (is_filed t x.id) x.keys.items ≡ true) (e ∷ es))
+filed_but t new (e ∷ es) rising filed =
+    cases_place e.id new.id (AllByRecursion (λ (x : Entry). x.id ≢ new.id → list_all (is_filed t x.id) x.keys.items ≡ true) (e ∷ es))
     (λ same.
     let all : are_filed t (new ∷ shelves_of es) ≡ true = rw same at filed in
     (λ differ. absurd (differ (eqb-true e.id new.id same)), filed_every t new.id es (and_right (list_all (is_filed t new.id) new.keys) _ all)))
@@ -233,7 +244,8 @@ drops_over t now keys look k = elim (either_way (list_any (same_key k) keys)) [
   | inr e ↦ inl (look k ∙ (rw e refl))
 ]
   where
-    by : (o : Option Node) → node_at now k ≡ unless_over o → (node_at now k ≡ o) ⊎ ((node_at now k ≡ None) × ((n : Node) → o ≡ Some n → n.gone ≡ true))
+    by : (o : Option Node) → node_at now k ≡ unless_over o → (node_at now k ≡ o) ⊎ ((node_at now k ≡ None) × ((n : Node) → o ≡ Some n →
+        n.gone ≡ true))
     by None is = inl is
     by (Some n) is = elim (either_way (is_over n)) [
       | inl e ↦ inr (is ∙ (rw e refl), λ m same. let one : n ≡ m = cc in ap (λ (x : Node). x.gone) (sym one) ∙ and_left n.gone _ e)
@@ -261,7 +273,8 @@ none_left t now keys look [] within = refl
 none_left t now keys look (k ∷ ks) within =
     from (node_at t k) (look k ∙ (rw (within k (inl refl)) refl)) (none_left t now keys look ks (λ j on. within j (inr on)))
   where
-    from : (o : Option Node) → node_at now k ≡ unless_over o → list_any is_over (nodes_with now ks) ≡ false → list_any is_over (nodes_with now (k ∷ ks)) ≡ false
+    from : (o : Option Node) → node_at now k ≡ unless_over o → list_any is_over (nodes_with now ks) ≡ false →
+        list_any is_over (nodes_with now (k ∷ ks)) ≡ false
     from None is rest = rw is rest
     from (Some n) is rest = elim (either_way (is_over n)) [
       | inl e ↦ let none : node_at now k ≡ None = is ∙ (rw e refl) in rw none rest
@@ -279,12 +292,14 @@ each_own P id [] rising found = tt
 each_own P id (e ∷ es) rising found = (
   λ is. found e (rw (eq-eqb e.id id is) refl),
   elim (either_way (e.id == id)) [
-    | inl same ↦ above es (subst (λ (low : ℕ). AllByRecursion (λ (later : Shelf). low < later.id) (shelves_of es)) (eqb-true e.id id same) rising.0)
+    | inl same ↦ above es (subst (λ (low : ℕ). AllByRecursion (λ (later : Shelf). low < later.id) (shelves_of es)) (eqb-true e.id id same)
+        rising.0)
     | inr other ↦ each_own P id es rising.1 (λ x is. found x (rw other is))
   ],
 )
   where
-    above : (xs : List Entry) → AllByRecursion (λ (later : Shelf). id < later.id) (shelves_of xs) → AllByRecursion (λ (x : Entry). x.id ≡ id → P x) xs
+    above : (xs : List Entry) → AllByRecursion (λ (later : Shelf). id < later.id) (shelves_of xs) →
+        AllByRecursion (λ (x : Entry). x.id ≡ id → P x) xs
     above [] all = tt
     above (x ∷ xs) all = (λ is. absurd (omega (arith, all.0)), above xs all.1)
 
@@ -294,7 +309,8 @@ tidy_one t id es rising found = each_own (λ (e : Entry). list_any is_over (node
 
 -- where one is set, it is tidy, and its nodes are those that were there
 pub tidied_set : (t : Table Node) (id : ℕ) (es : List Entry) (at : ℕ) (new : Entry) → AreTidy t id es →
-    (at < length es → (get_or es at new).id ≡ id → list_any is_over (nodes_with t (get_or es at new).keys.items) ≡ false → IsCounted t (get_or es at new) → IsCounted t new) →
+    (at < length es → (get_or es at new).id ≡ id → list_any is_over (nodes_with t (get_or es at new).keys.items) ≡ false →
+    IsCounted t (get_or es at new) → IsCounted t new) →
     (at < length es → (get_or es at new).id ≡ id) → AreCounted t es → AreCounted t (set es at new)
 tidied_set t id [] at new tidy own is all = tt
 tidied_set t id (e ∷ es) zero new tidy own is all = (own (omega arith) (is (omega arith)) (tidy.0 (is (omega arith))) all.0, all.1)
@@ -315,30 +331,36 @@ each_none : {A : Type 0} (p : A → Bool) (xs : List A) → ((x : A) → In x xs
 each_none p [] each = refl
 each_none p (x ∷ xs) each = rw (each x (inl refl)) (each_none p xs (λ y on. each y (inr on)))
 
-module _ (t : Table Node) (named : (k : NodeKey) (n : Node) → node_at t k ≡ Some n → n.key ≡ k) (key : NodeKey) (end : End) (n : Node) (was : node_at t key ≡ Some n) where
+module _ (t : Table Node) (named : (k : NodeKey) (n : Node) → node_at t k ≡ Some n → n.key ≡ k) (key : NodeKey) (end : End) (n : Node)
+    (was : node_at t key ≡ Some n) where
   abbrev f : Node → Node
   f = with_end key end
 
   -- one entry, where the node is noted if it is one of its own and is over then
   end_tidy : (e : Entry) → list_all (is_filed t e.id) e.keys.items ≡ true → list_any (over_but e.one) (nodes_with t e.keys.items) ≡ false →
-      (is_over (record n { end = end }) ≡ true → e.id ≡ n.collection → e.one ≡ Some key) → list_any (over_but e.one) (map f (nodes_with t e.keys.items)) ≡ false
+      (is_over (record n { end = end }) ≡ true → e.id ≡ n.collection → e.one ≡ Some key) →
+      list_any (over_but e.one) (map f (nodes_with t e.keys.items)) ≡ false
   end_tidy e filed none apart = each_none (over_but e.one) (map f (nodes_with t e.keys.items)) (λ m there.
       let x = In-map f (nodes_with t e.keys.items) m there in
       ap (over_but e.one) x.2 ∙ from x.0 x.1 (either_way (same_key key x.0.key)))
     where
-      from : (m : Node) → In m (nodes_with t e.keys.items) → (same_key key m.key ≡ true) ⊎ (same_key key m.key ≡ false) → over_but e.one (f m) ≡ false
+      from : (m : Node) → In m (nodes_with t e.keys.items) → (same_key key m.key ≡ true) ⊎ (same_key key m.key ≡ false) →
+          over_but e.one (f m) ≡ false
       from m on (inr other) =
           let same : f m ≡ m = λ i. record m { end = if other i then end else m.end } in
           ap (over_but e.one) same ∙ none_each (over_but e.one) (nodes_with t e.keys.items) none m on
       from m on (inl same) =
-          let found : node_at t m.key ≡ Some m = in_all (λ (x : Node). node_at t x.key ≡ Some x) (nodes_with t e.keys.items) (looked_there t named e.keys.items) m on in
+          let found : node_at t m.key ≡ Some m =
+          in_all (λ (x : Node). node_at t x.key ≡ Some x) (nodes_with t e.keys.items) (looked_there t named e.keys.items) m on in
           let two : Some n ≡ Some m = sym was ∙ ap (node_at t) (same_key-true key m.key same) ∙ found in
           let one : n ≡ m = cc in
-          let own : (m.collection == e.id) ≡ true = all-In (λ (x : Node). x.collection == e.id) (nodes_with t e.keys.items) m on (looked-of t e.id e.keys.items filed) in
+          let own : (m.collection == e.id) ≡ true =
+          all-In (λ (x : Node). x.collection == e.id) (nodes_with t e.keys.items) m on (looked-of t e.id e.keys.items filed) in
           let is : is_over (f m) ≡ is_over (record n { end = end }) = rw same (ap (λ (x : Node). x.gone && is_spent end) (sym one)) in
           elim (either_way (is_over (record n { end = end }))) [
             | inl over ↦
-                ap (λ (o : Option NodeKey). over_but o (f m)) (apart over (sym (eqb-true m.collection e.id own) ∙ ap (λ (x : Node). x.collection) (sym one)))
+                ap (λ (o : Option NodeKey). over_but o (f m)) (apart over (sym (eqb-true m.collection e.id own)
+                ∙ ap (λ (x : Node). x.collection) (sym one)))
                 ∙ noted_not key (f m) same
             | inr not_over ↦ not_over_but e.one (f m) (is ∙ not_over)
           ]
@@ -356,26 +378,32 @@ module _ (t : Table Node) (named : (k : NodeKey) (n : Node) → node_at t k ≡ 
 -- an entry that notes a node where it noted none
 pub noted : (t : Table Node) (es : List Entry) (at : ℕ) (new : Entry) → (at < length es → shelf_of new ≡ shelf_of (get_or es at new)) →
     (at < length es → new.strong ≡ (get_or es at new).strong) →
-    (at < length es → new.tidy ≡ true → ((get_or es at new).tidy ≡ true) × ((get_or es at new).one ≡ None)) → AreCounted t es → AreCounted t (set es at new)
+    (at < length es → new.tidy ≡ true → ((get_or es at new).tidy ≡ true) × ((get_or es at new).one ≡ None)) → AreCounted t es →
+    AreCounted t (set es at new)
 noted t es at new same strong known all = counted_set t es at new
     (λ within counted. recounted t (get_or es at new) new (ap (collection_in t) (same within)) (strong within)
     (λ tidy.
     let was = known within tidy in
     fewer_over new.one (nodes_with t (get_or es at new).keys.items)
-    (ap (λ (o : Option NodeKey). list_any (over_but o) (nodes_with t (get_or es at new).keys.items)) (sym was.1) ∙ counted.tidy was.0)) counted) all
+    (ap (λ (o : Option NodeKey). list_any (over_but o) (nodes_with t (get_or es at new).keys.items)) (sym was.1) ∙ counted.tidy was.0))
+    counted) all
 
 -- and the others of the id, which there are not
-pub noted_set : (P : Entry → Type 0) (id : ℕ) (es : List Entry) (at : ℕ) (new : Entry) → AreRising (shelves_of es) → place_in id es ≡ Some at → P new →
+pub noted_set : (P : Entry → Type 0) (id : ℕ) (es : List Entry) (at : ℕ) (new : Entry) → AreRising (shelves_of es) →
+    place_in id es ≡ Some at → P new →
     AllByRecursion (λ (e : Entry). e.id ≡ id → P e) (set es at new)
 noted_set P id [] at new rising told untidy = tt
-noted_set P id (e ∷ es) at new rising told untidy = from (λ n is. noted_set P id es n new rising.1 is untidy) (e.id == id) refl (place_in id es) refl told
+noted_set P id (e ∷ es) at new rising told untidy =
+    from (λ n is. noted_set P id es n new rising.1 is untidy) (e.id == id) refl (place_in id es) refl told
   where
-    above : (xs : List Entry) → AllByRecursion (λ (later : Shelf). id < later.id) (shelves_of xs) → AllByRecursion (λ (x : Entry). x.id ≡ id → P x) xs
+    above : (xs : List Entry) → AllByRecursion (λ (later : Shelf). id < later.id) (shelves_of xs) →
+        AllByRecursion (λ (x : Entry). x.id ≡ id → P x) xs
     above [] all = tt
     above (x ∷ xs) all = (λ is. absurd (omega (arith, all.0)), above xs all.1)
 
     from : ((n : ℕ) → place_in id es ≡ Some n → AllByRecursion (λ (x : Entry). x.id ≡ id → P x) (set es n new)) →
-        (here : Bool) → (e.id == id) ≡ here → (behind : Option ℕ) → place_in id es ≡ behind → cond here (Some 0) (option_map (λ n. n + 1) behind) ≡ Some at →
+        (here : Bool) → (e.id == id) ≡ here → (behind : Option ℕ) → place_in id es ≡ behind →
+        cond here (Some 0) (option_map (λ n. n + 1) behind) ≡ Some at →
         AllByRecursion (λ (x : Entry). x.id ≡ id → P x) (set (e ∷ es) at new)
     from on true here behind is told =
         let first : zero ≡ at = cc in
@@ -386,25 +414,29 @@ noted_set P id (e ∷ es) at new rising told untidy = from (λ n is. noted_set P
         rw next (λ same. absurd (eqb-false e.id id other same), on n is)
 
 -- where none has the id
-pub noted_none : (P : Entry → Type 0) (id : ℕ) (es : List Entry) → place_in id es ≡ None → AllByRecursion (λ (e : Entry). e.id ≡ id → P e) es
+pub noted_none : (P : Entry → Type 0) (id : ℕ) (es : List Entry) → place_in id es ≡ None → AllByRecursion (λ (e : Entry). e.id ≡ id →
+    P e) es
 noted_none P id [] told = tt
 noted_none P id (e ∷ es) told = from (noted_none P id es) (e.id == id) refl (place_in id es) refl told
   where
     from : (place_in id es ≡ None → AllByRecursion (λ (x : Entry). x.id ≡ id → P x) es) →
-        (here : Bool) → (e.id == id) ≡ here → (behind : Option ℕ) → place_in id es ≡ behind → cond here (Some 0) (option_map (λ n. n + 1) behind) ≡ None →
+        (here : Bool) → (e.id == id) ≡ here → (behind : Option ℕ) → place_in id es ≡ behind →
+        cond here (Some 0) (option_map (λ n. n + 1) behind) ≡ None →
         AllByRecursion (λ (x : Entry). x.id ≡ id → P x) (e ∷ es)
     from on true here behind is told = absurd (cc)
     from on false other None is told = (λ same. absurd (eqb-false e.id id other same), on is)
     from on false other (Some n) is told = absurd (cc)
 
 -- an entry that shows the same in the place of another
-pub set_shelves : (es : List Entry) (at : ℕ) (new : Entry) → (at < length es → shelf_of new ≡ shelf_of (get_or es at new)) → shelves_of (set es at new) ≡ shelves_of es
+pub set_shelves : (es : List Entry) (at : ℕ) (new : Entry) → (at < length es → shelf_of new ≡ shelf_of (get_or es at new)) →
+    shelves_of (set es at new) ≡ shelves_of es
 set_shelves [] at new same = refl
 set_shelves (e ∷ es) zero new same = ap (λ s. s ∷ shelves_of es) (same (omega arith))
 set_shelves (e ∷ es) (suc n) new same = ap (λ ss. shelf_of e ∷ ss) (set_shelves es n new (λ within. same (omega arith)))
 
 -- the count is no more than the keys
-pub count_few : (t : Table Node) (e : Entry) → list_all (is_filed t e.id) e.keys.items ≡ true → IsCounted t e → e.strong ≤ length e.keys.items
+pub count_few : (t : Table Node) (e : Entry) → list_all (is_filed t e.id) e.keys.items ≡ true → IsCounted t e →
+    e.strong ≤ length e.keys.items
 count_few t e filed counted =
     let few = times-le-length is_strong (nodes_with t e.keys.items) in
     let same = filed-length t e.id e.keys.items filed in

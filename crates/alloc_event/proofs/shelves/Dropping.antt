@@ -26,7 +26,8 @@ Some-inj : (a b : ℕ) → Some a ≡ Some b → a ≡ b
 Some-inj a b e = cc
 
 -- what is told of the first place, or of one behind it
-place_cases : (id : ℕ) (x : Entry) (es : List Entry) (at : ℕ) (P : ℕ → Type 0) → place_in id (x ∷ es) ≡ Some at → ((x.id == id) ≡ true → P zero) → ((n : ℕ) → (x.id == id) ≡ false → place_in id es ≡ Some n → P (suc n)) → P at
+place_cases : (id : ℕ) (x : Entry) (es : List Entry) (at : ℕ) (P : ℕ → Type 0) → place_in id (x ∷ es) ≡ Some at →
+    ((x.id == id) ≡ true → P zero) → ((n : ℕ) → (x.id == id) ≡ false → place_in id es ≡ Some n → P (suc n)) → P at
 place_cases id x es at P told first behind = by (x.id == id) refl (place_in id es) refl told
   where
     by : (b : Bool) → (x.id == id) ≡ b → (o : Option ℕ) → place_in id es ≡ o → cond b (Some 0) (option_map (λ n. n + 1) o) ≡ Some at → P at
@@ -37,29 +38,37 @@ place_cases id x es at P told first behind = by (x.id == id) refl (place_in id e
         subst P next (behind n other is)
 
 -- the entry at the place of the id keeps the keys that the table has
-pub set_thin : (t : Table Node) (id : ℕ) (es : List Entry) (at : ℕ) (e : Entry) → AreRising (shelves_of es) → place_in id es ≡ Some at → shelf_of e ≡ thinned t (shelf_of (get_or es at e)) → shelves_of (set es at e) ≡ thin_in t id (shelves_of es)
+pub set_thin : (t : Table Node) (id : ℕ) (es : List Entry) (at : ℕ) (e : Entry) → AreRising (shelves_of es) → place_in id es ≡ Some at →
+    shelf_of e ≡ thinned t (shelf_of (get_or es at e)) → shelves_of (set es at e) ≡ thin_in t id (shelves_of es)
 set_thin t id [] at e rising told is = absurd (cc)
 set_thin t id (x ∷ es) at e rising told is =
-    place_cases id x es at (λ at. shelf_of e ≡ thinned t (shelf_of (get_or (x ∷ es) at e)) → shelves_of (set (x ∷ es) at e) ≡ thin_in t id (shelves_of (x ∷ es))) told
-    (λ same is. rw (same, thin_others t id (shelves_of es) (above_other id x.id (shelves_of es) rising.0 same)) (ap (λ s. s ∷ shelves_of es) is))
+    place_cases id x es at (λ at. shelf_of e ≡ thinned t (shelf_of (get_or (x ∷ es) at e)) →
+    shelves_of (set (x ∷ es) at e) ≡ thin_in t id (shelves_of (x ∷ es))) told
+    (λ same is. rw (same, thin_others t id (shelves_of es) (above_other id x.id (shelves_of es) rising.0 same)) (ap (λ s.
+    s ∷ shelves_of es) is))
     (λ n other told is. rw other (ap (λ l. shelf_of x ∷ l) (set_thin t id es n e rising.1 told is)))
     is
 
 -- the entry at the place of the id goes, if it is bare
-pub remove_bare : (id : ℕ) (es : List Entry) (at : ℕ) (d : Entry) → AreRising (shelves_of es) → place_in id es ≡ Some at → is_bare (shelf_of (get_or es at d)) ≡ true → shelves_of (remove es at) ≡ without_bare id (shelves_of es)
+pub remove_bare : (id : ℕ) (es : List Entry) (at : ℕ) (d : Entry) → AreRising (shelves_of es) → place_in id es ≡ Some at →
+    is_bare (shelf_of (get_or es at d)) ≡ true → shelves_of (remove es at) ≡ without_bare id (shelves_of es)
 remove_bare id [] at d rising told bare = absurd (cc)
 remove_bare id (x ∷ es) at d rising told bare =
-    place_cases id x es at (λ at. is_bare (shelf_of (get_or (x ∷ es) at d)) ≡ true → shelves_of (remove (x ∷ es) at) ≡ without_bare id (shelves_of (x ∷ es))) told
+    place_cases id x es at (λ at. is_bare (shelf_of (get_or (x ∷ es) at d)) ≡ true →
+    shelves_of (remove (x ∷ es) at) ≡ without_bare id (shelves_of (x ∷ es))) told
     (λ same bare. rw (same, bare) (sym (bare_others id (shelves_of es) (above_other id x.id (shelves_of es) rising.0 same))))
     (λ n other told bare. rw other (ap (λ l. shelf_of x ∷ l) (remove_bare id es n d rising.1 told bare)))
     bare
 
 -- and stays, if it is not
-pub keep_bare : (id : ℕ) (es : List Entry) (at : ℕ) (d : Entry) → AreRising (shelves_of es) → place_in id es ≡ Some at → is_bare (shelf_of (get_or es at d)) ≡ false → shelves_of es ≡ without_bare id (shelves_of es)
+pub keep_bare : (id : ℕ) (es : List Entry) (at : ℕ) (d : Entry) → AreRising (shelves_of es) → place_in id es ≡ Some at →
+    is_bare (shelf_of (get_or es at d)) ≡ false → shelves_of es ≡ without_bare id (shelves_of es)
 keep_bare id [] at d rising told bare = absurd (cc)
 keep_bare id (x ∷ es) at d rising told bare =
-    place_cases id x es at (λ at. is_bare (shelf_of (get_or (x ∷ es) at d)) ≡ false → shelves_of (x ∷ es) ≡ without_bare id (shelves_of (x ∷ es))) told
-    (λ same bare. rw (same, bare) (ap (λ l. shelf_of x ∷ l) (sym (bare_others id (shelves_of es) (above_other id x.id (shelves_of es) rising.0 same)))))
+    place_cases id x es at (λ at. is_bare (shelf_of (get_or (x ∷ es) at d)) ≡ false →
+    shelves_of (x ∷ es) ≡ without_bare id (shelves_of (x ∷ es))) told
+    (λ same bare. rw (same, bare) (ap (λ l.
+    shelf_of x ∷ l) (sym (bare_others id (shelves_of es) (above_other id x.id (shelves_of es) rising.0 same)))))
     (λ n other told bare. rw other (ap (λ l. shelf_of x ∷ l) (keep_bare id es n d rising.1 told bare)))
     bare
 

@@ -11,7 +11,8 @@ use Rattle.alloc_event.specs.Calm.{put_in}
 use Rattle.alloc_event.specs.Kept.{Shelf, AreRising, place_in, shelf_of, shelves_of}
 
 -- ids that are greater, of shelves and of entries
-pub above_shelves : (id : ℕ) (es : List Entry) → AllByRecursion (λ (later : Shelf). id < later.id) (shelves_of es) → AllByRecursion (λ (later : Entry). id < later.id) es
+pub above_shelves : (id : ℕ) (es : List Entry) → AllByRecursion (λ (later : Shelf). id < later.id) (shelves_of es) →
+    AllByRecursion (λ (later : Entry). id < later.id) es
 above_shelves id [] all = tt
 above_shelves id (e ∷ es) all = (all.0, above_shelves id es all.1)
 
@@ -20,13 +21,15 @@ pub rises : (es : List Entry) → AreRising (shelves_of es) → IsNonDecreasingB
 rises [] rising i j d le within = absurd (omega arith)
 rises (e ∷ es) rising zero zero d le within = omega arith
 rises (e ∷ es) rising zero (suc j) d le within =
-    let below : e.id < (get_or es j d).id = All-from_recursion (λ (later : Entry). e.id < later.id) es (above_shelves e.id es rising.0) j d (omega arith) in
+    let below : e.id < (get_or es j d).id =
+    All-from_recursion (λ (later : Entry). e.id < later.id) es (above_shelves e.id es rising.0) j d (omega arith) in
     omega arith
 rises (e ∷ es) rising (suc i) zero d le within = absurd (omega arith)
 rises (e ∷ es) rising (suc i) (suc j) d le within = rises es rising.1 i j d (omega arith) (omega arith)
 
 -- a partition point is the length of the longest front that passes
-pub prefix_len-partition : {X : Type 0} (p : X → Bool) (xs : List X) (n : ℕ) → n ≤ length xs → IsPartitionPoint (λ y. p y ≡ true) (λ y. p y ≡ false) xs n → n ≡ prefix_len p xs
+pub prefix_len-partition : {X : Type 0} (p : X → Bool) (xs : List X) (n : ℕ) → n ≤ length xs →
+    IsPartitionPoint (λ y. p y ≡ true) (λ y. p y ≡ false) xs n → n ≡ prefix_len p xs
 prefix_len-partition p [] n le h = omega arith
 prefix_len-partition p (x ∷ xs) n le h =
     sym (prefix_len_is p (x ∷ xs) n x le (λ k lt. h.0 k x (omega arith) lt) (λ lt. h.1 n x (omega arith) lt))
@@ -47,7 +50,8 @@ none_above id (e ∷ es) all =
     rw (other, none_above id es all.1) refl
 
 -- ids that rise behind a greater one are greater
-pub above_all : (id : ℕ) (e : Entry) (es : List Entry) → id < e.id → AllByRecursion (λ (later : Entry). e.id < later.id) es → AllByRecursion (λ (later : Entry). id < later.id) es
+pub above_all : (id : ℕ) (e : Entry) (es : List Entry) → id < e.id → AllByRecursion (λ (later : Entry). e.id < later.id) es →
+    AllByRecursion (λ (later : Entry). id < later.id) es
 above_all id e [] le all = tt
 above_all id e (x ∷ es) le all = (omega (arith, all.0), above_all id e es le all.1)
 
@@ -56,7 +60,8 @@ pub get_behind : {X : Type 0} (x : X) (xs : List X) (n : ℕ) (d : X) → get_or
 get_behind x xs n d = let one : 1 + n ≡ suc n = omega arith in rw one refl
 
 -- the entry with the id stands behind all smaller ones
-pub place_found : (id : ℕ) (es : List Entry) (d : Entry) → AreRising (shelves_of es) → before id es < length es → (get_or es (before id es) d).id ≡ id → place_in id es ≡ Some (before id es)
+pub place_found : (id : ℕ) (es : List Entry) (d : Entry) → AreRising (shelves_of es) → before id es < length es →
+    (get_or es (before id es) d).id ≡ id → place_in id es ≡ Some (before id es)
 place_found id [] d rising within same = absurd (omega arith)
 place_found id (e ∷ es) d rising within same = elim (cases_lt e.id id) [
   | inl below ↦
@@ -73,7 +78,8 @@ place_found id (e ∷ es) d rising within same = elim (cases_lt e.id id) [
 ]
 
 -- and where another stands there, or none, there is none
-pub place_none : (id : ℕ) (es : List Entry) → AreRising (shelves_of es) → ((d : Entry) → before id es < length es → (get_or es (before id es) d).id ≢ id) → place_in id es ≡ None
+pub place_none : (id : ℕ) (es : List Entry) → AreRising (shelves_of es) → ((d : Entry) → before id es < length es →
+    (get_or es (before id es) d).id ≢ id) → place_in id es ≡ None
 place_none id [] rising other = refl
 place_none id (e ∷ es) rising other = elim (cases_lt e.id id) [
   | inl below ↦
@@ -97,7 +103,8 @@ pub record IsPlace (id : ℕ) (es : List Entry) (at : ℕ) : Type 0 where
   pub id_is : (d : Entry) → (get_or es at d).id ≡ id
 
 -- the place one further behind
-place_behind : (id : ℕ) (e : Entry) (es : List Entry) (at n : ℕ) → (e.id == id) ≡ false → n + 1 ≡ at → IsPlace id es n → IsPlace id (e ∷ es) at
+place_behind : (id : ℕ) (e : Entry) (es : List Entry) (at n : ℕ) → (e.id == id) ≡ false → n + 1 ≡ at → IsPlace id es n →
+    IsPlace id (e ∷ es) at
 place_behind id e es at n other is place =
     let next : at ≡ suc n = omega arith in
     rw next (record {
@@ -107,7 +114,8 @@ place_behind id e es at n other is place =
     })
 
 -- by whether the first entry has the id
-place_is-by : (id : ℕ) (e : Entry) (es : List Entry) (at : ℕ) (here : Bool) → (e.id == id) ≡ here → (behind : Option ℕ) → ((n : ℕ) → behind ≡ Some n → IsPlace id es n) → cond here (Some 0) (option_map (λ n. n + 1) behind) ≡ Some at → IsPlace id (e ∷ es) at
+place_is-by : (id : ℕ) (e : Entry) (es : List Entry) (at : ℕ) (here : Bool) → (e.id == id) ≡ here → (behind : Option ℕ) →
+    ((n : ℕ) → behind ≡ Some n → IsPlace id es n) → cond here (Some 0) (option_map (λ n. n + 1) behind) ≡ Some at → IsPlace id (e ∷ es) at
 place_is-by id e es at true here behind on told =
     let first : zero ≡ at = cc in
     subst (IsPlace id (e ∷ es)) first (record {
@@ -126,7 +134,9 @@ place_is id [] at told = absurd (cc)
 place_is id (e ∷ es) at told = place_is-by id e es at (e.id == id) refl (place_in id es) (place_is id es) told
 
 -- the same where none is told
-none_in-by : (id : ℕ) (e : Entry) (es : List Entry) (here : Bool) → (e.id == id) ≡ here → (behind : Option ℕ) → (behind ≡ None → find (λ (x : Entry). x.id == id) es ≡ None) → cond here (Some 0) (option_map (λ n. n + 1) behind) ≡ None → find (λ (x : Entry). x.id == id) (e ∷ es) ≡ None
+none_in-by : (id : ℕ) (e : Entry) (es : List Entry) (here : Bool) → (e.id == id) ≡ here → (behind : Option ℕ) →
+    (behind ≡ None → find (λ (x : Entry). x.id == id) es ≡ None) → cond here (Some 0) (option_map (λ n. n + 1) behind) ≡ None →
+    find (λ (x : Entry). x.id == id) (e ∷ es) ≡ None
 none_in-by id e es true here behind on told = absurd (cc)
 none_in-by id e es false other None on told = rw other (on refl)
 none_in-by id e es false other (Some n) on told = absurd (cc)
@@ -144,10 +154,12 @@ placed id (e ∷ es) at told =
     slice_get-get_or (e ∷ es) at e place.within ∙ sym (place.found e)
 
 -- the ids before that of an entry that is found are smaller
-found_above : (id : ℕ) (es : List Entry) (at : ℕ) (x : Shelf) → IsPlace id es at → AllByRecursion (λ (later : Shelf). x.id < later.id) (shelves_of es) → x.id < id
+found_above : (id : ℕ) (es : List Entry) (at : ℕ) (x : Shelf) → IsPlace id es at →
+    AllByRecursion (λ (later : Shelf). x.id < later.id) (shelves_of es) → x.id < id
 found_above id [] at x place all = absurd (omega (arith, place.within))
 found_above id (e ∷ es) at x place all =
-    let below : x.id < (get_or (e ∷ es) at e).id = All-from_recursion (λ (later : Entry). x.id < later.id) (e ∷ es) (above_shelves x.id (e ∷ es) all) at e place.within in
+    let below : x.id < (get_or (e ∷ es) at e).id =
+    All-from_recursion (λ (later : Entry). x.id < later.id) (e ∷ es) (above_shelves x.id (e ∷ es) all) at e place.within in
     omega (arith, place.id_is e)
 
 -- a number that is told
@@ -160,7 +172,9 @@ unplaced None e = refl
 unplaced (Some n) e = absurd (cc)
 
 -- by whether the first entry has the id
-set_put-by : (new x : Entry) (es : List Entry) (at : ℕ) → AreRising (shelves_of (x ∷ es)) → (here : Bool) → (x.id == new.id) ≡ here → (behind : Option ℕ) → place_in new.id es ≡ behind → ((n : ℕ) → behind ≡ Some n → set es n new ≡ put_in new es) → cond here (Some 0) (option_map (λ n. n + 1) behind) ≡ Some at → set (x ∷ es) at new ≡ put_in new (x ∷ es)
+set_put-by : (new x : Entry) (es : List Entry) (at : ℕ) → AreRising (shelves_of (x ∷ es)) → (here : Bool) → (x.id == new.id) ≡ here →
+    (behind : Option ℕ) → place_in new.id es ≡ behind → ((n : ℕ) → behind ≡ Some n → set es n new ≡ put_in new es) →
+    cond here (Some 0) (option_map (λ n. n + 1) behind) ≡ Some at → set (x ∷ es) at new ≡ put_in new (x ∷ es)
 set_put-by new x es at rising true here behind told on is =
     let first : zero ≡ at = cc in
     rw (← first, here) refl
@@ -172,13 +186,15 @@ set_put-by new x es at rising false other (Some n) told on is =
     rw (next, other, more) (ap (λ xs. x ∷ xs) (on n refl))
 
 -- an entry in the place of the one with its id
-pub set_put : (new : Entry) (es : List Entry) (at : ℕ) → AreRising (shelves_of es) → place_in new.id es ≡ Some at → set es at new ≡ put_in new es
+pub set_put : (new : Entry) (es : List Entry) (at : ℕ) → AreRising (shelves_of es) → place_in new.id es ≡ Some at →
+    set es at new ≡ put_in new es
 set_put new [] at rising told = absurd (cc)
 set_put new (x ∷ es) at rising told =
     set_put-by new x es at rising (x.id == new.id) refl (place_in new.id es) refl (λ n is. set_put new es n rising.1 is) told
 
 -- an entry where its place is, if none has its id
-pub insert_put : (new : Entry) (es : List Entry) → AreRising (shelves_of es) → place_in new.id es ≡ None → insert es (before new.id es) new ≡ put_in new es
+pub insert_put : (new : Entry) (es : List Entry) → AreRising (shelves_of es) → place_in new.id es ≡ None →
+    insert es (before new.id es) new ≡ put_in new es
 insert_put new [] rising told = refl
 insert_put new (x ∷ es) rising told = elim (cases_lt x.id new.id) [
   | inl below ↦

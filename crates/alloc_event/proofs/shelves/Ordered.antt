@@ -53,7 +53,8 @@ held_of_all (e ∷ es) =
 
 -- the buffers by page are those of the entries
 pub held_in_order : (t : Table Node) (es : List Entry) →
-    map held_buffer (held_by_page (forest_of t (shelves_of es))) ≡ sorted_by (λ (h : HeldBuffer). h.start) (flat_map (λ (e : Entry). e.held.items) es)
+    map held_buffer (held_by_page (forest_of t (shelves_of es))) ≡ sorted_by (λ (h : HeldBuffer). h.start) (flat_map (λ (e : Entry).
+    e.held.items) es)
 held_in_order t es =
     sym (sorted_by-map (λ (h : HeldBuffer). h.start) held_buffer (all_held (forest_of t (shelves_of es))))
     ∙ ap (sorted_by (λ (h : HeldBuffer). h.start)) (ap (map held_buffer) (helds_in t (shelves_of es)) ∙ held_of_all es)

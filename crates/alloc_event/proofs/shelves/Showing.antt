@@ -26,7 +26,8 @@ nodes_of_all t (e ∷ es) =
     ∙ sym (filter_map-append (node_at t) e.keys (all_keys es))
 
 -- by what the table has there
-node_is-by : (t : Table Node) (es : List Shelf) → IsKept t es → (key : NodeKey) (o : Option Node) → node_at t key ≡ o → (if list_any (same_key key) (all_keys es) then o else None) ≡ o
+node_is-by : (t : Table Node) (es : List Shelf) → IsKept t es → (key : NodeKey) (o : Option Node) → node_at t key ≡ o →
+    (if list_any (same_key key) (all_keys es) then o else None) ≡ o
 node_is-by t es ok key None is = nothing (list_any (same_key key) (all_keys es))
 node_is-by t es ok key (Some n) is = rw (ok.there key n is) refl
 
@@ -38,19 +39,22 @@ node_is t es ok key =
     ∙ node_is-by t es ok key (node_at t key) refl
 
 -- a key that is filed has a node
-filed-first : (id : ℕ) (o : Option Node) (ns : List Node) → option_map_or (λ (n : Node). n.collection == id) o false ≡ true → length (cons_option o ns) ≡ length ns + 1
+filed-first : (id : ℕ) (o : Option Node) (ns : List Node) → option_map_or (λ (n : Node). n.collection == id) o false ≡ true →
+    length (cons_option o ns) ≡ length ns + 1
 filed-first id None ns h = absurd (cc)
 filed-first id (Some n) ns h = omega arith
 
 -- there are as many nodes as keys
-pub filed-length : (t : Table Node) (id : ℕ) (keys : List NodeKey) → list_all (is_filed t id) keys ≡ true → length (nodes_with t keys) ≡ length keys
+pub filed-length : (t : Table Node) (id : ℕ) (keys : List NodeKey) → list_all (is_filed t id) keys ≡ true →
+    length (nodes_with t keys) ≡ length keys
 filed-length t id [] h = refl
 filed-length t id (k ∷ ks) h =
     let on : length (nodes_with t ks) ≡ length ks = filed-length t id ks (and_right _ _ h) in
     filed-first id (node_at t k) (nodes_with t ks) (and_left _ _ h) ∙ omega arith
 
 -- there are as many nodes as keys in all collections
-pub all_filed-length : (t : Table Node) (es : List Shelf) → are_filed t es ≡ true → length (all_nodes (forest_of t es)) ≡ length (all_keys es)
+pub all_filed-length : (t : Table Node) (es : List Shelf) → are_filed t es ≡ true →
+    length (all_nodes (forest_of t es)) ≡ length (all_keys es)
 all_filed-length t [] h = refl
 all_filed-length t (e ∷ es) h =
     let here : length (nodes_with t e.keys) ≡ length e.keys = filed-length t e.id e.keys (and_left _ _ h) in
@@ -59,22 +63,27 @@ all_filed-length t (e ∷ es) h =
     ∙ (omega (arith, length-append e.keys (all_keys es)))
 
 -- the collection with an id is that of the entry with it
-pub collection_is : (t : Table Node) (id : ℕ) (es : List Shelf) → collection_at (forest_of t es) id ≡ option_map (collection_in t) (find (λ (e : Shelf). e.id == id) es)
+pub collection_is : (t : Table Node) (id : ℕ) (es : List Shelf) →
+    collection_at (forest_of t es) id ≡ option_map (collection_in t) (find (λ (e : Shelf). e.id == id) es)
 collection_is t id [] = refl
-collection_is t id (e ∷ es) = elim (e.id == id) as (λ b. cond b (Some (collection_in t e)) (collection_at (forest_of t es) id) ≡ option_map (collection_in t) (cond b (Some e) (find (λ (x : Shelf). x.id == id) es))) [
-  | true ↦ refl
-  | false ↦ collection_is t id es
-]
+collection_is t id (e ∷ es) = elim (e.id == id) as (λ b. cond b (Some (collection_in t e)) (collection_at (forest_of t es) id) ≡ option_map
+    (collection_in t) (cond b (Some e) (find (λ (x : Shelf). x.id == id) es))) [
+      | true ↦ refl
+      | false ↦ collection_is t id es
+    ]
 
 -- by whether the first entry is found
-filed_found-by : (t : Table Node) (id : ℕ) (x : Shelf) (xs : List Shelf) → are_filed t (x ∷ xs) ≡ true → (e : Shelf) (here : Bool) → cond here (Some x) (find (λ (y : Shelf). y.id == id) xs) ≡ Some e → (find (λ (y : Shelf). y.id == id) xs ≡ Some e → list_all (is_filed t e.id) e.keys ≡ true) → list_all (is_filed t e.id) e.keys ≡ true
+filed_found-by : (t : Table Node) (id : ℕ) (x : Shelf) (xs : List Shelf) → are_filed t (x ∷ xs) ≡ true → (e : Shelf) (here : Bool) →
+    cond here (Some x) (find (λ (y : Shelf). y.id == id) xs) ≡ Some e → (find (λ (y : Shelf). y.id == id) xs ≡ Some e →
+    list_all (is_filed t e.id) e.keys ≡ true) → list_all (is_filed t e.id) e.keys ≡ true
 filed_found-by t id x xs h e true found on =
     let same : x ≡ e = cc in
     subst (λ (y : Shelf). list_all (is_filed t y.id) y.keys ≡ true) same (and_left _ _ h)
 filed_found-by t id x xs h e false found on = on found
 
 -- the keys of an entry that is found are filed
-pub filed_found : (t : Table Node) (id : ℕ) (es : List Shelf) → are_filed t es ≡ true → (e : Shelf) → find (λ (x : Shelf). x.id == id) es ≡ Some e → list_all (is_filed t e.id) e.keys ≡ true
+pub filed_found : (t : Table Node) (id : ℕ) (es : List Shelf) → are_filed t es ≡ true → (e : Shelf) →
+    find (λ (x : Shelf). x.id == id) es ≡ Some e → list_all (is_filed t e.id) e.keys ≡ true
 filed_found t id [] h e found = absurd (cc)
 filed_found t id (x ∷ xs) h e found = filed_found-by t id x xs h e (x.id == id) found (filed_found t id xs (and_right _ _ h) e)
 
@@ -84,23 +93,31 @@ held_length [] = refl
 held_length (h ∷ hs) = ap (λ n. suc n) (held_length hs)
 
 -- the shelf of an entry is found as it is
-pub shelf_found : (id : ℕ) (es : List Entry) → find (λ (s : Shelf). s.id == id) (shelves_of es) ≡ option_map shelf_of (find (λ (e : Entry). e.id == id) es)
+pub shelf_found : (id : ℕ) (es : List Entry) → find (λ (s : Shelf). s.id == id) (shelves_of es) ≡ option_map shelf_of (find (λ (e : Entry).
+    e.id == id) es)
 shelf_found id [] = refl
-shelf_found id (e ∷ es) = elim (e.id == id) as (λ b. cond b (Some (shelf_of e)) (find (λ (s : Shelf). s.id == id) (shelves_of es)) ≡ option_map shelf_of (cond b (Some e) (find (λ (x : Entry). x.id == id) es))) [
-  | true ↦ refl
-  | false ↦ shelf_found id es
-]
+shelf_found id (e ∷ es) =
+    elim (e.id == id) as (λ b. cond b (Some (shelf_of e)) (find (λ (s : Shelf). s.id == id) (shelves_of es)) ≡ option_map shelf_of
+    (cond b (Some e) (find (λ (x : Entry). x.id == id) es))) [
+      | true ↦ refl
+      | false ↦ shelf_found id es
+    ]
 
 -- the summary of a collection whose entry is found
-pub collection_some : (t : Table Node) (es : List Entry) → IsKept t (shelves_of es) → (id : ℕ) (e : Entry) → find (λ (x : Entry). x.id == id) es ≡ Some e → option_map summary_of (collection_at (forest_of t (shelves_of es)) id) ≡ Some (record { nodes = length e.keys.items; buffers = e.buffers; held = length e.held.items })
+pub collection_some : (t : Table Node) (es : List Entry) → IsKept t (shelves_of es) → (id : ℕ) (e : Entry) →
+    find (λ (x : Entry). x.id == id) es ≡ Some e →
+    option_map summary_of (collection_at (forest_of t (shelves_of es)) id) ≡ Some
+    (record { nodes = length e.keys.items; buffers = e.buffers; held = length e.held.items })
 collection_some t es ok id e found =
     let shelf = shelf_found id es ∙ ap (option_map shelf_of) found in
     ap (option_map summary_of) (collection_is t id (shelves_of es) ∙ ap (option_map (collection_in t)) shelf)
     ∙ (λ i. Some (record { nodes = filed-length t e.id e.keys.items (filed_found t id (shelves_of es) ok.filed (shelf_of e) shelf) i; buffers = e.buffers; held = held_length e.held.items i }))
 
 -- and where none is found
-pub collection_none : (t : Table Node) (es : List Entry) (id : ℕ) → find (λ (x : Entry). x.id == id) es ≡ None → collection_at (forest_of t (shelves_of es)) id ≡ None
-collection_none t es id none = collection_is t id (shelves_of es) ∙ ap (option_map (collection_in t)) (shelf_found id es ∙ ap (option_map shelf_of) none)
+pub collection_none : (t : Table Node) (es : List Entry) (id : ℕ) → find (λ (x : Entry). x.id == id) es ≡ None →
+    collection_at (forest_of t (shelves_of es)) id ≡ None
+collection_none t es id none =
+    collection_is t id (shelves_of es) ∙ ap (option_map (collection_in t)) (shelf_found id es ∙ ap (option_map shelf_of) none)
 
 -- so few buffers were given
 pub few_given : (o : Option Buffers) → given_few o ≡ true → IfSome o (λ b. b.count ≤ 64)

@@ -87,7 +87,8 @@ remain_made pool others (Ended top) c =
     (record { key = λ n. refl; parent = λ n. refl; gone = λ n. refl }) c.nodes
 
 -- and so do all the forced steps
-remain_settled : (pool : ℕ) (handles : Handles) (others : List Interval) (c after : Collection) → Settles pool handles others c after → Remain c.nodes after.nodes
+remain_settled : (pool : ℕ) (handles : Handles) (others : List Interval) (c after : Collection) → Settles pool handles others c after →
+    Remain c.nodes after.nodes
 remain_settled pool handles others _ _ (Rests c rest) = remain_same c.nodes
 remain_settled pool handles others _ _ (Forces c after mark forces settles) =
     remain_trans c.nodes (made pool others mark c).nodes after.nodes (remain_made pool others mark c)
@@ -108,18 +109,21 @@ module _ (t : Table Node) where
   }
 
   -- so after the forced steps
-  pub hung_settled : (pool : ℕ) (handles : Handles) (others : List Interval) (c after : Collection) → are_distinct c.nodes ≡ true → IsHung t c.nodes →
+  pub hung_settled : (pool : ℕ) (handles : Handles) (others : List Interval) (c after : Collection) → are_distinct c.nodes ≡ true →
+      IsHung t c.nodes →
       Settles pool handles others c after → IsHung t after.nodes
   hung_settled pool handles others c after distinct hung settles =
       hung_remain c.nodes after.nodes (remain_settled pool handles others c after settles) hung
       (rooted_settled pool handles others c after (record { one = distinct_one c.nodes distinct; rooted = hung.rooted }) settles).rooted
 
   -- and after a change that is no birth
-  pub hung_changed : (change : Change) (key : NodeKey) (c : Collection) → is_birth change ≡ false → are_distinct c.nodes ≡ true → IsHung t c.nodes →
+  pub hung_changed : (change : Change) (key : NodeKey) (c : Collection) → is_birth change ≡ false → are_distinct c.nodes ≡ true →
+      IsHung t c.nodes →
       IsHung t (changed change key c).nodes
   hung_changed (Change.Birth parent attached client event) key c h distinct hung = absurd (false≢true (sym h))
   hung_changed (Change.Effect on effect) key c h distinct hung =
-      hung_remain c.nodes (map (affected on effect) c.nodes) (remain_map (affected on effect) (λ n. false) (effect_takes on effect) c.nodes) hung
+      hung_remain c.nodes (map (affected on effect) c.nodes) (remain_map (affected on effect) (λ n. false) (effect_takes on effect) c.nodes)
+      hung
       (rooted_changed (Change.Effect on effect) key c tt (record { one = distinct_one c.nodes distinct; rooted = hung.rooted })).rooted
   hung_changed (Change.Loss origin cause) key c h distinct hung =
       hung_remain c.nodes _ (remain_made 0 [] (Loss origin cause) c) hung
@@ -128,7 +132,8 @@ module _ (t : Table Node) where
 
   module _ (named : (key : NodeKey) (n : Node) → node_at t key ≡ Some n → n.key ≡ key) where
     -- what holds of each node of the table holds of those that keys find
-    looked_each : (P : Node → Type 0) → ((key : NodeKey) (n : Node) → node_at t key ≡ Some n → P n) → (keys : List NodeKey) → AllByRecursion P (nodes_with t keys)
+    looked_each : (P : Node → Type 0) → ((key : NodeKey) (n : Node) → node_at t key ≡ Some n → P n) → (keys : List NodeKey) →
+        AllByRecursion P (nodes_with t keys)
     looked_each P each [] = tt
     looked_each P each (k ∷ ks) = by (node_at t k) refl (looked_each P each ks)
       where
@@ -141,10 +146,12 @@ module _ (t : Table Node) where
     looked_there = looked_each (λ (n : Node). node_at t n.key ≡ Some n) (λ key n is. ap (node_at t) (named key n is) ∙ is)
 
     -- and hangs in the table, where all do
-    pub looked_hung : ((key : NodeKey) (n : Node) → node_at t key ≡ Some n → n.gone ≡ false → parent_at t key ≡ n.parent) → (keys : List NodeKey) →
+    pub looked_hung : ((key : NodeKey) (n : Node) → node_at t key ≡ Some n → n.gone ≡ false → parent_at t key ≡ n.parent) →
+        (keys : List NodeKey) →
         are_rooted (reverse (nodes_with t keys)) ≡ true → IsHung t (nodes_with t keys)
     looked_hung linked keys rooted = record {
-      linked = looked_each (λ (n : Node). n.gone ≡ false → parent_at t n.key ≡ n.parent) (λ key n is here. ap (parent_at t) (named key n is) ∙ linked key n is here) keys;
+      linked = looked_each (λ (n : Node). n.gone ≡ false → parent_at t n.key ≡ n.parent) (λ key n is here. ap (parent_at t) (named key n is)
+          ∙ linked key n is here) keys;
       rooted = rooted;
     }
 
@@ -153,7 +160,8 @@ module _ (t : Table Node) where
     looked_tied keys hung = record { there = looked_there keys; linked = hung.linked; rooted = hung.rooted }
 
     -- where the node of a key is gone, so is each of them that has the key
-    pub looked_gone : (key : NodeKey) → ((m : Node) → node_at t key ≡ Some m → m.gone ≡ true) → (keys : List NodeKey) (n : Node) → In n (nodes_with t keys) → not (is_of key n) ≡ false → n.gone ≡ true
+    pub looked_gone : (key : NodeKey) → ((m : Node) → node_at t key ≡ Some m → m.gone ≡ true) → (keys : List NodeKey) (n : Node) →
+        In n (nodes_with t keys) → not (is_of key n) ≡ false → n.gone ≡ true
     looked_gone key goes keys n on out =
         let same : n.key ≡ key = same_key-true n.key key (not_false _ out) in
         goes n (ap (node_at t) (sym same) ∙ in_all (λ (m : Node). node_at t m.key ≡ Some m) (nodes_with t keys) (looked_there keys) n on)

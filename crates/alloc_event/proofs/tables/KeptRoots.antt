@@ -32,7 +32,8 @@ map-reverse_aux f [] ys = refl
 map-reverse_aux f (x ∷ xs) ys = map-reverse_aux f xs (x ∷ ys)
 
 -- what is kept of a list that is turned round
-pub filter-reverse_aux : {A : Type 0} (p : A → Bool) (xs ys : List A) → filter p (reverse_aux xs ys) ≡ reverse_aux (filter p xs) (filter p ys)
+pub filter-reverse_aux : {A : Type 0} (p : A → Bool) (xs ys : List A) →
+    filter p (reverse_aux xs ys) ≡ reverse_aux (filter p xs) (filter p ys)
 filter-reverse_aux p [] ys = refl
 filter-reverse_aux p (x ∷ xs) ys =
     filter-reverse_aux p xs (x ∷ ys)
@@ -94,7 +95,8 @@ module _ (nodes : List Node) (old : IsRooted nodes) where
         stays left spared (Some p) up h =
             let x = left_node older p h in
             let free : taken x.node ≡ false = elim (either_way (taken x.node)) [
-              | inl e ↦ both_ways (taken n) (down n x.node (within n (inl refl)) (within x.node (inr x.on)) left (up ∙ ap Some (sym x.is)) e) spared
+              | inl e ↦ both_ways (taken n) (down n x.node (within n (inl refl)) (within x.node (inr x.on)) left (up
+                  ∙ ap Some (sym x.is)) e) spared
               | inr e ↦ e
             ] in
             let still : (f x.node).gone ≡ false = takes.gone x.node ∙ rw (free, x.here) refl in
@@ -174,7 +176,8 @@ module _ (nodes : List Node) (old : IsRooted nodes) where
   taken_down : (origin : NodeKey) → GoesDown nodes (is_taken nodes origin)
   taken_down origin n m on there here up h = from (node_of nodes origin) h
     where
-      from : (o : Option Node) → option_map_or (λ x. is_under (highest (members_of nodes) (member_of nodes x)) (member_of nodes m)) o false ≡ true →
+      from : (o : Option Node) → option_map_or (λ x. is_under (highest (members_of nodes) (member_of nodes x)) (member_of nodes m)) o
+          false ≡ true →
           option_map_or (λ x. is_under (highest (members_of nodes) (member_of nodes x)) (member_of nodes n)) o false ≡ true
       from None h = cc
       from (Some x) h = under_down (highest (members_of nodes) (member_of nodes x)) n m on there here up h
@@ -237,7 +240,8 @@ module _ (nodes : List Node) (old : IsRooted nodes) where
             ]
           ]
 
-      from : (o : Option NodeKey) → option_map_or (is_left_of nodes) o true ≡ true → option_map_or (is_left_of (reverse nodes)) o true ≡ true
+      from : (o : Option NodeKey) → option_map_or (is_left_of nodes) o true ≡ true →
+          option_map_or (is_left_of (reverse nodes)) o true ≡ true
       from None h = refl
       from (Some p) h = left_within nodes (reverse nodes) (λ n on. In-reverse-back nodes n on) p h
 
@@ -245,7 +249,8 @@ module _ (nodes : List Node) (old : IsRooted nodes) where
   pub rooted_filter : (kept : Node → Bool) → ((n : Node) → In n nodes → kept n ≡ false → n.gone ≡ true) → IsRooted (filter kept nodes)
   rooted_filter kept over = record {
     one = λ a b on too same. old.one a b (In-filter kept nodes a on).0 (In-filter kept nodes b too).0 same;
-    rooted = ap are_rooted (sym (filter-reverse_aux kept nodes [])) ∙ rooted_left (reverse nodes) (λ n on. In-reverse nodes n on) old.rooted;
+    rooted = ap are_rooted (sym (filter-reverse_aux kept nodes []))
+        ∙ rooted_left (reverse nodes) (λ n on. In-reverse nodes n on) old.rooted;
   }
     where
       rooted_left : (ns : List Node) → ((n : Node) → In n ns → In n nodes) → are_rooted ns ≡ true → are_rooted (filter kept ns) ≡ true
@@ -302,7 +307,8 @@ rooted_settled pool handles others _ _ old (Forces c after mark forces settles) 
 -- so does a change
 pub rooted_changed : (change : Change) (key : NodeKey) (c : Collection) → IsFit change key c.nodes → IsRooted c.nodes →
     IsRooted (changed change key c).nodes
-rooted_changed (Change.Birth None attached client event) key c fit old = rooted_birth c.nodes old (new_root key c.id event client) fit.0 refl
+rooted_changed (Change.Birth None attached client event) key c fit old =
+    rooted_birth c.nodes old (new_root key c.id event client) fit.0 refl
 rooted_changed (Change.Birth (Some above) attached client event) key c fit old = from (node_of c.nodes above) refl
   where
     from : (o : Option Node) → node_of c.nodes above ≡ o →

@@ -27,7 +27,8 @@ module _ (t : Table Node) (ss : List Shelf) (ok : IsKept t ss) where
   -- a node of the table is in its collection
   in_collection : (key : NodeKey) (n : Node) → node_at t key ≡ Some n → In n (at n.collection).nodes
   in_collection key n is =
-      (In-find (is_of key) (at n.collection).nodes n (found_above t ss ok (at n.collection) key n is (before_is t ss ok n.collection).nodes)).0
+      (In-find (is_of key) (at n.collection).nodes n (found_above t ss ok (at n.collection) key n is
+      (before_is t ss ok n.collection).nodes)).0
 
   -- where the node of a key is gone, it is the parent of none that is not
   pub childless : (key : NodeKey) → ((m : Node) → node_at t key ≡ Some m → m.gone ≡ true) →
@@ -35,7 +36,8 @@ module _ (t : Table Node) (ss : List Shelf) (ok : IsKept t ss) where
   childless key goes k n is here up =
       let before = before_is t ss ok n.collection in
       let own : n.parent ≡ Some key = sym (ok.linked k n is here) ∙ up in
-      let x = left_node (at n.collection).nodes key (left_parent (at n.collection).nodes before.whole.rooted n key (in_collection k n is) here own) in
+      let x = left_node (at n.collection).nodes key (left_parent (at n.collection).nodes before.whole.rooted n key (in_collection k n is)
+      here own) in
       let on : In x.node (nodes_with t _) = subst (λ (ns : List Node). In x.node ns) before.nodes x.on in
       let there : node_at t key ≡ Some x.node =
       ap (node_at t) (sym x.is) ∙ in_all (λ (m : Node). node_at t m.key ≡ Some m) (nodes_with t _) (looked_there t ok.named _) x.node on in
@@ -52,10 +54,12 @@ module _ (t : Table Node) (ss : List Shelf) (ok : IsKept t ss) where
       subst (λ (ns : List Node). In n ns) nodes (in_collection key n is)
 
   -- the node that a change loses is left
-  pub loss_left : (id : ℕ) (change : Change) → MayChange (forest_of t ss) id change → (s : Shelf) → find (λ (x : Shelf). x.id == id) ss ≡ Some s →
+  pub loss_left : (id : ℕ) (change : Change) → MayChange (forest_of t ss) id change → (s : Shelf) →
+      find (λ (x : Shelf). x.id == id) ss ≡ Some s →
       loses_left change (nodes_with t s.keys) ≡ true
   loss_left id (Change.Loss origin cause) may s found =
-      by (node_at t origin) refl (ap (λ o. option_map_or (λ (n : Node). n.collection == id && not n.gone) o false) (sym (node_is t ss ok origin)) ∙ may.named)
+      by (node_at t origin) refl (ap (λ o. option_map_or (λ (n : Node). n.collection == id && not n.gone) o false)
+      (sym (node_is t ss ok origin)) ∙ may.named)
     where
       by : (o : Option Node) → node_at t origin ≡ o → option_map_or (λ (n : Node). n.collection == id && not n.gone) o false ≡ true →
           is_left_of (nodes_with t s.keys) origin ≡ true

@@ -37,7 +37,8 @@ distinct_one (n ∷ ns) distinct a b on too same =
 
     again : (m : Node) → In m ns → m.key ≡ n.key → ⊥
     again m there is =
-        both_ways (list_any (is_of n.key) ns) (In-any (is_of n.key) ns m there (ap (λ (k : NodeKey). same_key k n.key) is ∙ same_key-refl n.key)) alone
+        both_ways (list_any (is_of n.key) ns) (In-any (is_of n.key) ns m there (ap (λ (k : NodeKey). same_key k n.key) is
+        ∙ same_key-refl n.key)) alone
 
     key_of : (x y : Node) → x ≡ y → x.key ≡ y.key
     key_of x y = ap (λ (m : Node). m.key)
@@ -113,7 +114,8 @@ module _ (nodes : List Node) (parent : NodeKey → Option NodeKey) (one : AreOne
         | inl e ↦
             let is : n.key ≡ key = same_key-true n.key key e in
             let on : In n nodes = within n (inl refl) in
-            let here : n.gone ≡ false = here_too (n ∷ older) within n on (subst (λ (k : NodeKey). is_left_of (n ∷ older) k ≡ true) (sym is) left) in
+            let here : n.gone ≡ false =
+            here_too (n ∷ older) within n on (subst (λ (k : NodeKey). is_left_of (n ∷ older) k ≡ true) (sym is) left) in
             let up : parent key ≡ n.parent = ap parent (sym is) ∙ linked n on here in
             let stays : option_map_or (is_left_of older) n.parent true ≡ true = rw here at first in
             rw e (from n.parent up stays (λ p there. line_among older (λ m in_older. within m (inr in_older)) rest p there))
@@ -127,7 +129,8 @@ module _ (nodes : List Node) (parent : NodeKey → Option NodeKey) (one : AreOne
       from (Some p) up stays line = record { chain = (up, (line p stays).chain); left = each }
         where
           each : (k : NodeKey) → In k (p ∷ above_among older p) → is_left_of nodes k ≡ true
-          each k (inl is) = subst (λ (j : NodeKey). is_left_of nodes j ≡ true) (sym is) (left_within older nodes (λ m on. within m (inr on)) p stays)
+          each k (inl is) = subst (λ (j : NodeKey). is_left_of nodes j ≡ true) (sym is) (left_within older nodes (λ m on.
+              within m (inr on)) p stays)
           each k (inr on) = (line p stays).left k on
 
   -- the line of a key that is left
@@ -140,7 +143,8 @@ module _ (nodes : List Node) (parent : NodeKey → Option NodeKey) (one : AreOne
 -- ---- parents
 
 -- the parent of a node that is not gone is left, in a part of the nodes that hangs on parents
-parent_among : (ns : List Node) → are_rooted ns ≡ true → (n : Node) (p : NodeKey) → In n ns → n.gone ≡ false → n.parent ≡ Some p → is_left_of ns p ≡ true
+parent_among : (ns : List Node) → are_rooted ns ≡ true → (n : Node) (p : NodeKey) → In n ns → n.gone ≡ false → n.parent ≡ Some p →
+    is_left_of ns p ≡ true
 parent_among [] rooted n p on here up = absurd on
 parent_among (m ∷ older) rooted n p (inl is) here up =
     let first : hangs_on older m ≡ true =
@@ -153,7 +157,8 @@ parent_among (m ∷ older) rooted n p (inr on) here up =
     (parent_among older (and_right (hangs_on older m) (are_rooted older) rooted) n p on here up)
 
 -- so it is left among all
-pub left_parent : (nodes : List Node) → are_rooted (reverse nodes) ≡ true → (n : Node) (p : NodeKey) → In n nodes → n.gone ≡ false → n.parent ≡ Some p → is_left_of nodes p ≡ true
+pub left_parent : (nodes : List Node) → are_rooted (reverse nodes) ≡ true → (n : Node) (p : NodeKey) → In n nodes → n.gone ≡ false →
+    n.parent ≡ Some p → is_left_of nodes p ≡ true
 left_parent nodes rooted n p on here up =
     left_within (reverse nodes) nodes (λ m there. In-reverse nodes m there) p
     (parent_among (reverse nodes) rooted n p (In-reverse-back nodes n on) here up)

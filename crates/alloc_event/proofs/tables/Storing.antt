@@ -85,14 +85,17 @@ Stores-none t = record {
 }
 
 -- by what was there
-more-by : (ns : List Node) (n : Node) (key : NodeKey) (o : Option Node) → ((m : Node) → o ≡ Some m → m.key ≡ key) → (if same_key n.key key then option_map (λ _. n) (option_map (stored ns) o) else option_map (stored ns) o) ≡ option_map (stored (ns ++ n ∷ [])) o
+more-by : (ns : List Node) (n : Node) (key : NodeKey) (o : Option Node) → ((m : Node) → o ≡ Some m → m.key ≡ key) →
+    (if same_key n.key key then option_map (λ _. n) (option_map (stored ns) o) else option_map (stored ns) o) ≡ option_map
+    (stored (ns ++ n ∷ [])) o
 more-by ns n key None named = nothing_there (same_key n.key key)
 more-by ns n key (Some m) named =
     let own : (stored ns m).key ≡ key = stored-key ns m ∙ named m refl in
     rw (stored-push ns n m, own) (some_there (same_key n.key key) n (stored ns m))
 
 -- one more is written
-pub Stores-more : (t u now : Table Node) (ns : List Node) (n : Node) → ((key : NodeKey) (m : Node) → node_at t key ≡ Some m → m.key ≡ key) → Stores t u ns → now ≡ table_with_node u n.key n → Writes u now n.key n → Stores t now (ns ++ n ∷ [])
+pub Stores-more : (t u now : Table Node) (ns : List Node) (n : Node) → ((key : NodeKey) (m : Node) → node_at t key ≡ Some m → m.key ≡ key) →
+    Stores t u ns → now ≡ table_with_node u n.key n → Writes u now n.key n → Stores t now (ns ++ n ∷ [])
 Stores-more t u now ns n named stores becomes w = record {
   look = λ key. look-written u now n.key n w key ∙ rw (stores.look key) (more-by ns n key (node_at t key) (named key));
   parents = λ key. parents-written u now n.key n w key ∙ stores.parents key;
@@ -105,11 +108,13 @@ Stores-more t u now ns n named stores becomes w = record {
 }
 
 -- each node of the list has a place
-pub place_at : (t : Table Node) (ns : List Node) (i : ℕ) (d : Node) → have_places t ns ≡ true → i < length ns → is_some (node_at t (get_or ns i d).key) ≡ true
+pub place_at : (t : Table Node) (ns : List Node) (i : ℕ) (d : Node) → have_places t ns ≡ true → i < length ns →
+    is_some (node_at t (get_or ns i d).key) ≡ true
 place_at t [] i d all within = absurd (omega arith)
 place_at t (n ∷ ns) zero d all within = and_left _ _ all
 place_at t (n ∷ ns) (suc i) d all within = place_at t ns i d (and_right _ _ all) (omega arith)
 
 -- and has it still
-pub place_stored : (t u : Table Node) (ns : List Node) (key : NodeKey) → Stores t u ns → is_some (node_at t key) ≡ true → IsSome (row_at u key)
+pub place_stored : (t u : Table Node) (ns : List Node) (key : NodeKey) → Stores t u ns → is_some (node_at t key) ≡ true →
+    IsSome (row_at u key)
 place_stored t u ns key stores there = row_there u key (ap is_some (stores.look key) ∙ kept_there (stored ns) (node_at t key) ∙ there)

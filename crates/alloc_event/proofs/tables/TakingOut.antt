@@ -42,7 +42,8 @@ unparented None = refl
 unparented (Some row) = refl
 
 -- and where it loses a child
-still_node : (parent : Option NodeKey) (key other : NodeKey) (o : Option (Row Node)) → node_in (option_map (at_parent parent (without_child key) other) o) ≡ node_in o
+still_node : (parent : Option NodeKey) (key other : NodeKey) (o : Option (Row Node)) →
+    node_in (option_map (at_parent parent (without_child key) other) o) ≡ node_in o
 still_node None key other None = refl
 still_node None key other (Some row) = refl
 still_node (Some above) key other None = refl
@@ -50,7 +51,8 @@ still_node (Some above) key other (Some row) =
     elim (same_key above other) as (λ b. Some (cond b (without_child key row) row).node ≡ Some row.node) [ true ↦ refl | false ↦ refl ]
 
 -- a row keeps its parent where it loses a child
-still_parent : (parent : Option NodeKey) (key other : NodeKey) (o : Option (Row Node)) → parent_in (option_map (at_parent parent (without_child key) other) o) ≡ parent_in o
+still_parent : (parent : Option NodeKey) (key other : NodeKey) (o : Option (Row Node)) →
+    parent_in (option_map (at_parent parent (without_child key) other) o) ≡ parent_in o
 still_parent None key other None = refl
 still_parent None key other (Some row) = refl
 still_parent (Some above) key other None = refl
@@ -80,10 +82,12 @@ is_child t parent child forest listed =
     }
 
 -- the first of the children is one of them, if there are any
-pub first_child_is : (t : Table Node) (key : NodeKey) → IsForest t → (o : Option NodeKey) → o ≡ first_key (children_at t key) → MatchOption o (children_at t key ≡ []) (IsChild t key)
+pub first_child_is : (t : Table Node) (key : NodeKey) → IsForest t → (o : Option NodeKey) → o ≡ first_key (children_at t key) →
+    MatchOption o (children_at t key ≡ []) (IsChild t key)
 first_child_is t key forest o told = by_list (children_at t key) refl o told
   where
-    by_list : (xs : List NodeKey) → children_at t key ≡ xs → (o : Option NodeKey) → o ≡ first_key xs → MatchOption o (children_at t key ≡ []) (IsChild t key)
+    by_list : (xs : List NodeKey) → children_at t key ≡ xs → (o : Option NodeKey) → o ≡ first_key xs →
+        MatchOption o (children_at t key ≡ []) (IsChild t key)
     by_list [] list None told = list
     by_list [] list (Some k) told = absurd (cc)
     by_list (x ∷ xs) list None told = absurd (cc)
@@ -93,20 +97,25 @@ first_child_is t key forest o told = by_list (children_at t key) refl o told
         is_child t key k forest (subst (λ (l : List NodeKey). Contains l k) (sym list) there)
 
 -- the children of the row without one
-fewer : (key child : NodeKey) (o : Option (Row Node)) → children_in (option_map (at_parent (Some key) (without_child child) key) o) ≡ without child (children_in o)
+fewer : (key child : NodeKey) (o : Option (Row Node)) →
+    children_in (option_map (at_parent (Some key) (without_child child) key) o) ≡ without child (children_in o)
 fewer key child None = refl
 fewer key child (Some row) = rw (same_key-true key key refl) refl
 
 -- a list is no longer without a key
 without-shorter : (key : NodeKey) (keys : List NodeKey) → length (without key keys) ≤ length keys
 without-shorter key [] = omega arith
-without-shorter key (k ∷ ks) = elim (same_key key k) as (λ b. length (cond (not b) (k ∷ without key ks) (without key ks)) ≤ suc (length ks)) [
-  | true ↦ omega (arith, without-shorter key ks)
-  | false ↦ omega (arith, without-shorter key ks)
-]
+without-shorter key (k ∷ ks) =
+    elim (same_key key k) as (λ b. length (cond (not b) (k ∷ without key ks) (without key ks)) ≤ suc (length ks)) [
+      | true ↦ omega (arith, without-shorter key ks)
+      | false ↦ omega (arith, without-shorter key ks)
+    ]
 
 -- by whether the first is the key
-without-fewer-by : (key k : NodeKey) (ks : List NodeKey) (same : Bool) → same_key key k ≡ same → (cond (not same) (k ∷ without key ks) (without key ks) ≡ k ∷ ks → ⊥) → ((without key ks ≡ ks → ⊥) → length (without key ks) < length ks) → length (cond (not same) (k ∷ without key ks) (without key ks)) < suc (length ks)
+without-fewer-by : (key k : NodeKey) (ks : List NodeKey) (same : Bool) → same_key key k ≡ same →
+    (cond (not same) (k ∷ without key ks) (without key ks) ≡ k ∷ ks → ⊥) →
+    ((without key ks ≡ ks → ⊥) → length (without key ks) < length ks) →
+    length (cond (not same) (k ∷ without key ks) (without key ks)) < suc (length ks)
 without-fewer-by key k ks true is other on = omega (arith, without-shorter key ks)
 without-fewer-by key k ks false is other on =
     let less = on (λ same. other (ap (λ (l : List NodeKey). k ∷ l) same)) in omega (arith, less)
@@ -117,7 +126,8 @@ without-fewer key [] other = absurd (other refl)
 without-fewer key (k ∷ ks) other = without-fewer-by key k ks (same_key key k) refl other (without-fewer key ks)
 
 -- a cut leaves fewer children
-pub cut_fewer : (t now : Table Node) (key child : NodeKey) → IsChild t key child → Cuts t now child → length (children_at now key) < length (children_at t key)
+pub cut_fewer : (t now : Table Node) (key child : NodeKey) → IsChild t key child → Cuts t now child →
+    length (children_at now key) < length (children_at t key)
 cut_fewer t now key child is cuts =
     let parent : parent_at t child ≡ Some key = is.parent_is in
     let left : children_at now key ≡ without child (children_at t key) =
@@ -136,7 +146,8 @@ pub record CutsOff (old new : Table Node) (key : NodeKey) : Type 0 where
   pub len : table_len new ≡ table_len old
 
 -- one more
-pub CutsOff-more : (t u now : Table Node) (key child : NodeKey) → CutsOff t u key → IsChild u key child → Cuts u now child → CutsOff t now key
+pub CutsOff-more : (t u now : Table Node) (key child : NodeKey) → CutsOff t u key → IsChild u key child → Cuts u now child →
+    CutsOff t now key
 CutsOff-more t u now key child off is cuts = record {
   look = λ k. cut_look u now child cuts k ∙ off.look k;
   parents = λ k other. elim (key_cases k child) [
@@ -153,7 +164,8 @@ row_there-by None h = absurd (cc)
 row_there-by (Some row) h = refl
 
 -- the look-up of a table from which a node was removed
-removed_look : (t now : Table Node) (key : NodeKey) (n : Node) → Removes t now key n → (k : NodeKey) → node_at now k ≡ (if same_key key k then None else node_at t k)
+removed_look : (t now : Table Node) (key : NodeKey) (n : Node) → Removes t now key n → (k : NodeKey) →
+    node_at now k ≡ (if same_key key k then None else node_at t k)
 removed_look t now key n removes k = elim (key_cases k key) [
   | inl same ↦ rw (same_key-true key k (sym same)) (ap node_in (ap (row_at now) same ∙ removes.gone))
   | inr other ↦ rw (same_key-false key k (λ same. other (sym same)))
@@ -161,17 +173,20 @@ removed_look t now key n removes k = elim (key_cases k key) [
 ]
 
 -- a node is taken out once it has no child
-pub takes_out : (t u now : Table Node) (key : NodeKey) (n : Node) → IsSome (node_at t key) → Unlinks t u key → Removes u now key n → TakesOut t now key
+pub takes_out : (t u now : Table Node) (key : NodeKey) (n : Node) → IsSome (node_at t key) → Unlinks t u key → Removes u now key n →
+    TakesOut t now key
 takes_out t u now key n was un removes = record {
   was = was;
   look = λ k. removed_look u now key n removes k ∙ ap (λ (o : Option Node). if same_key key k then None else o) (un.look k);
-  parents = λ k differ other. ap parent_in (removes.others k differ) ∙ still_parent (parent_at u key) key k (row_at u k) ∙ un.parents k other;
+  parents = λ k differ other. ap parent_in (removes.others k differ) ∙ still_parent (parent_at u key) key k (row_at u k)
+      ∙ un.parents k other;
   keys = SameKeys-trans t u now un.keys removes.keys;
   shorter = removes.shorter ∙ un.len;
 }
 
 -- forests of two tables that gave the same keys tell of the same keys
-pub SameKeys-shown : (t now : Table Node) (ss after : List Shelf) → t.first ≡ 0 → SameKeys t now → SameForest (forest_of t ss) (forest_of now after)
+pub SameKeys-shown : (t now : Table Node) (ss after : List Shelf) → t.first ≡ 0 → SameKeys t now →
+    SameForest (forest_of t ss) (forest_of now after)
 SameKeys-shown t now ss after first keys = record {
   limit = keys.limit;
   keys = λ key.

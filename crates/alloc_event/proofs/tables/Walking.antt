@@ -44,7 +44,8 @@ left_before t older key k differ =
     rw any refl
 
 -- the last one
-left_last : (t : Table Node) (older : List NodeKey) (key k : NodeKey) → key ≡ k → left_at t (older ++ key ∷ []) k ≡ unless_over (node_at t k)
+left_last : (t : Table Node) (older : List NodeKey) (key k : NodeKey) → key ≡ k →
+    left_at t (older ++ key ∷ []) k ≡ unless_over (node_at t k)
 left_last t older key k same =
     let one : same_key k key ≡ true = same_key-true k key (sym same) in
     let any : list_any (same_key k) (older ++ key ∷ []) ≡ true =
@@ -59,7 +60,8 @@ unless-over : (o : Option Node) → option_map_or is_over o false ≡ true → u
 unless-over o h = rw h refl
 
 -- a last node that is not over stays
-stays_look : (t : Table Node) (older : List NodeKey) (key : NodeKey) → option_map_or is_over (node_at t key) false ≡ false → (k : NodeKey) → left_at t older k ≡ left_at t (older ++ key ∷ []) k
+stays_look : (t : Table Node) (older : List NodeKey) (key : NodeKey) → option_map_or is_over (node_at t key) false ≡ false → (k : NodeKey) →
+    left_at t older k ≡ left_at t (older ++ key ∷ []) k
 stays_look t older key not_over k = elim (key_cases key k) [
   | inl same ↦
       let own : unless_over (node_at t k) ≡ node_at t k =
@@ -69,7 +71,8 @@ stays_look t older key not_over k = elim (key_cases key k) [
 ]
 
 -- and one that is over goes
-goes_look : (t now : Table Node) (older : List NodeKey) (key : NodeKey) → TakesOut t now key → option_map_or is_over (node_at t key) false ≡ true → (k : NodeKey) → left_at now older k ≡ left_at t (older ++ key ∷ []) k
+goes_look : (t now : Table Node) (older : List NodeKey) (key : NodeKey) → TakesOut t now key →
+    option_map_or is_over (node_at t key) false ≡ true → (k : NodeKey) → left_at now older k ≡ left_at t (older ++ key ∷ []) k
 goes_look t now older key out over k = elim (key_cases key k) [
   | inl same ↦
       let gone : node_at now k ≡ None = out.look k ∙ (rw (same_key-true key k same) refl) in
@@ -82,7 +85,8 @@ goes_look t now older key out over k = elim (key_cases key k) [
 ]
 
 -- one node more was looked at, and stays
-pub Walks-stays : (old t : Table Node) (keys older : List NodeKey) (key : NodeKey) → Walks old t keys (older ++ key ∷ []) → option_map_or is_over (node_at t key) false ≡ false → Walks old t keys older
+pub Walks-stays : (old t : Table Node) (keys older : List NodeKey) (key : NodeKey) → Walks old t keys (older ++ key ∷ []) →
+    option_map_or is_over (node_at t key) false ≡ false → Walks old t keys older
 Walks-stays old t keys older key walks not_over = record {
   look = λ k. stays_look t older key not_over k ∙ walks.look k;
   kept = walks.kept;
@@ -94,9 +98,11 @@ over_gone : (o : Option Node) → option_map_or is_over o false ≡ true → (m 
 over_gone o over m is = and_left m.gone (is_spent m.end) (rw is at over)
 
 -- or goes
-pub Walks-goes : (old t now : Table Node) (keys older : List NodeKey) (key : NodeKey) → Walks old t keys (older ++ key ∷ []) → TakesOut t now key → option_map_or is_over (node_at t key) false ≡ true → Walks old now keys older
+pub Walks-goes : (old t now : Table Node) (keys older : List NodeKey) (key : NodeKey) → Walks old t keys (older ++ key ∷ []) →
+    TakesOut t now key → option_map_or is_over (node_at t key) false ≡ true → Walks old now keys older
 Walks-goes old t now keys older key walks out over = record {
   look = λ k. goes_look t now older key out over k ∙ walks.look k;
-  kept = λ ss ok. subst (IsKept now) (thinned-twice t now (found_before t now key out) ss) (taken-kept t now key out (over_gone (node_at t key) over) (map (thinned t) ss) (walks.kept ss ok));
+  kept = λ ss ok. subst (IsKept now) (thinned-twice t now (found_before t now key out) ss)
+      (taken-kept t now key out (over_gone (node_at t key) over) (map (thinned t) ss) (walks.kept ss ok));
   given = SameKeys-trans old t now walks.given out.keys;
 }

@@ -47,7 +47,8 @@ module _ (f : Node → Node) (same : (n : Node) → IsSameNode (f n) n) where
   parents-map (n ∷ ns) = rw ((same n).parent, parents-map ns) refl
 
   -- behind the first too
-  one_root-map : (ns : List Node) → list_all (λ (n : Node). is_some n.parent) (drop 1 (map f ns)) ≡ list_all (λ (n : Node). is_some n.parent) (drop 1 ns)
+  one_root-map : (ns : List Node) → list_all (λ (n : Node). is_some n.parent) (drop 1 (map f ns)) ≡ list_all (λ (n : Node).
+      is_some n.parent) (drop 1 ns)
   one_root-map [] = refl
   one_root-map (n ∷ ns) = parents-map ns
 
@@ -64,26 +65,31 @@ module _ (f : Node → Node) (same : (n : Node) → IsSameNode (f n) n) where
   pub IsWhole-map : ((n : Node) → (f n).gone ≡ n.gone) → (c : Collection) → IsWhole c → IsWhole (with_nodes (map f) c)
   IsWhole-map gone c ok = record {
     sound = IsSound-map c ok.sound;
-    rooted = (rooted_same c.nodes (whole_rooted c ok) f (record { key = λ n. (same n).key; parent = λ n. (same n).parent; gone = gone })).rooted;
+    rooted = (rooted_same c.nodes (whole_rooted c ok) f
+        (record { key = λ n. (same n).key; parent = λ n. (same n).parent; gone = gone })).rooted;
     united = united_mapped f (record { key = λ n. (same n).key; parent = λ n. (same n).parent; attached = λ n. (same n).attached; head = λ n. (same n).head }) c.nodes ∙ ok.united;
   }
 
   -- a key is filed where it was
-  filed-map : (t now : Table Node) → ((key : NodeKey) → node_at now key ≡ option_map f (node_at t key)) → (id : ℕ) (keys : List NodeKey) → list_all (is_filed now id) keys ≡ list_all (is_filed t id) keys
+  filed-map : (t now : Table Node) → ((key : NodeKey) → node_at now key ≡ option_map f (node_at t key)) → (id : ℕ) (keys : List NodeKey) →
+      list_all (is_filed now id) keys ≡ list_all (is_filed t id) keys
   filed-map t now each id [] = refl
   filed-map t now each id (k ∷ ks) = rw (each k, filed-map t now each id ks)
-      (elim (node_at t k) as (λ o. (option_map_or (λ (n : Node). n.collection == id) (option_map f o) false && list_all (is_filed t id) ks) ≡ (option_map_or (λ (n : Node). n.collection == id) o false && list_all (is_filed t id) ks)) [
+      (elim (node_at t k) as (λ o. (option_map_or (λ (n : Node). n.collection == id) (option_map f o) false && list_all (is_filed t id)
+      ks) ≡ (option_map_or (λ (n : Node). n.collection == id) o false && list_all (is_filed t id) ks)) [
         | None ↦ refl
         | Some n ↦ rw (same n).collection refl
       ])
 
   -- so in all entries
-  all_filed-map : (t now : Table Node) → ((key : NodeKey) → node_at now key ≡ option_map f (node_at t key)) → (es : List Shelf) → are_filed now es ≡ are_filed t es
+  all_filed-map : (t now : Table Node) → ((key : NodeKey) → node_at now key ≡ option_map f (node_at t key)) → (es : List Shelf) →
+      are_filed now es ≡ are_filed t es
   all_filed-map t now each [] = refl
   all_filed-map t now each (e ∷ es) = rw (filed-map t now each e.id e.keys, all_filed-map t now each es) refl
 
   -- the collections are as f makes their nodes
-  pub collections-map : (t now : Table Node) → ((key : NodeKey) → node_at now key ≡ option_map f (node_at t key)) → (es : List Shelf) → map (collection_in now) es ≡ map (with_nodes (map f)) (map (collection_in t) es)
+  pub collections-map : (t now : Table Node) → ((key : NodeKey) → node_at now key ≡ option_map f (node_at t key)) → (es : List Shelf) →
+      map (collection_in now) es ≡ map (with_nodes (map f)) (map (collection_in t) es)
   collections-map t now each [] = refl
   collections-map t now each (e ∷ es) = rw (looked-map f (node_at t) (node_at now) each e.keys, collections-map t now each es) refl
 
@@ -93,17 +99,23 @@ module _ (f : Node → Node) (same : (n : Node) → IsSameNode (f n) n) where
   found-map-by (Some m) n is = (m, refl, cc)
 
   -- a node that is found was found before
-  found-map : (t now : Table Node) → ((key : NodeKey) → node_at now key ≡ option_map f (node_at t key)) → (key : NodeKey) (n : Node) → node_at now key ≡ Some n → (m : Node) × (node_at t key ≡ Some m) × (f m ≡ n)
+  found-map : (t now : Table Node) → ((key : NodeKey) → node_at now key ≡ option_map f (node_at t key)) → (key : NodeKey) (n : Node) →
+      node_at now key ≡ Some n → (m : Node) × (node_at t key ≡ Some m) × (f m ≡ n)
   found-map t now each key n is = found-map-by (node_at t key) n (sym (each key) ∙ is)
 
   -- the collections stay whole
-  whole-map : ((n : Node) → (f n).gone ≡ n.gone) → (t now : Table Node) → ((key : NodeKey) → node_at now key ≡ option_map f (node_at t key)) → (es : List Shelf) → AllByRecursion (λ (e : Shelf). IsWhole (collection_in t e)) es → AllByRecursion (λ (e : Shelf). IsWhole (collection_in now e)) es
+  whole-map : ((n : Node) → (f n).gone ≡ n.gone) → (t now : Table Node) →
+      ((key : NodeKey) → node_at now key ≡ option_map f (node_at t key)) → (es : List Shelf) →
+      AllByRecursion (λ (e : Shelf). IsWhole (collection_in t e)) es → AllByRecursion (λ (e : Shelf). IsWhole (collection_in now e)) es
   whole-map gone t now each [] whole = tt
   whole-map gone t now each (e ∷ es) whole =
       (rw (looked-map f (node_at t) (node_at now) each e.keys) (IsWhole-map gone (collection_in t e) whole.0), whole-map gone t now each es whole.1)
 
   -- all stays so, where no node comes back, and the collections stay whole
-  pub kept-with : ((n : Node) → (f n).gone ≡ false → n.gone ≡ false) → (t now : Table Node) → now.first ≡ t.first → table_len now ≡ table_len t → ((key : NodeKey) → node_at now key ≡ option_map f (node_at t key)) → ((key : NodeKey) → parent_at now key ≡ parent_at t key) → (es : List Shelf) → AllByRecursion (λ (e : Shelf). IsWhole (collection_in now e)) es → IsKept t es → IsKept now es
+  pub kept-with : ((n : Node) → (f n).gone ≡ false → n.gone ≡ false) → (t now : Table Node) → now.first ≡ t.first →
+      table_len now ≡ table_len t → ((key : NodeKey) → node_at now key ≡ option_map f (node_at t key)) →
+      ((key : NodeKey) → parent_at now key ≡ parent_at t key) → (es : List Shelf) →
+      AllByRecursion (λ (e : Shelf). IsWhole (collection_in now e)) es → IsKept t es → IsKept now es
   kept-with before t now first len each parents es whole ok = record {
     first = first ∙ ok.first;
     rising = ok.rising;
@@ -120,17 +132,21 @@ module _ (f : Node → Node) (same : (n : Node) → IsSameNode (f n) n) where
   }
 
   -- so where no node goes
-  pub kept-map : ((n : Node) → (f n).gone ≡ n.gone) → (t now : Table Node) → now.first ≡ t.first → table_len now ≡ table_len t → ((key : NodeKey) → node_at now key ≡ option_map f (node_at t key)) → ((key : NodeKey) → parent_at now key ≡ parent_at t key) → (es : List Shelf) → IsKept t es → IsKept now es
+  pub kept-map : ((n : Node) → (f n).gone ≡ n.gone) → (t now : Table Node) → now.first ≡ t.first → table_len now ≡ table_len t →
+      ((key : NodeKey) → node_at now key ≡ option_map f (node_at t key)) → ((key : NodeKey) → parent_at now key ≡ parent_at t key) →
+      (es : List Shelf) → IsKept t es → IsKept now es
   kept-map gone t now first len each parents es ok =
       kept-with (λ n h. sym (gone n) ∙ h) t now first len each parents es (whole-map gone t now each es ok.whole) ok
 
 -- the row that is written has the node
-written_row : (node : Node) (o : Option (Row Node)) → option_map (λ (row : Row Node). row.node) (option_map (with_node node) o) ≡ option_map (λ _. node) (option_map (λ (row : Row Node). row.node) o)
+written_row : (node : Node) (o : Option (Row Node)) → option_map (λ (row : Row Node). row.node) (option_map (with_node node) o) ≡ option_map
+    (λ _. node) (option_map (λ (row : Row Node). row.node) o)
 written_row node None = refl
 written_row node (Some row) = refl
 
 -- what a table has at each key, once a node is written
-pub look-written : (t now : Table Node) (key : NodeKey) (node : Node) → Writes t now key node → (k : NodeKey) → node_at now k ≡ (if same_key key k then option_map (λ _. node) (node_at t k) else node_at t k)
+pub look-written : (t now : Table Node) (key : NodeKey) (node : Node) → Writes t now key node → (k : NodeKey) →
+    node_at now k ≡ (if same_key key k then option_map (λ _. node) (node_at t k) else node_at t k)
 look-written t now key node w k = elim (key_cases key k) [
   | inl same ↦ rw (same_key-true key k same) (subst (λ (x : NodeKey). node_at now x ≡ option_map (λ _. node) (node_at t x)) same
       (ap (option_map (λ (row : Row Node). row.node)) w.written ∙ written_row node (row_at t key)))
@@ -143,22 +159,27 @@ written_parent node None = refl
 written_parent node (Some row) = refl
 
 -- no parent changes where a node is written
-pub parents-written : (t now : Table Node) (key : NodeKey) (node : Node) → Writes t now key node → (k : NodeKey) → parent_at now k ≡ parent_at t k
+pub parents-written : (t now : Table Node) (key : NodeKey) (node : Node) → Writes t now key node → (k : NodeKey) →
+    parent_at now k ≡ parent_at t k
 parents-written t now key node w k = elim (key_cases key k) [
   | inl same ↦ subst (λ (x : NodeKey). parent_at now x ≡ parent_at t x) same (ap parent_in w.written ∙ written_parent node (row_at t key))
   | inr differ ↦ ap parent_in (w.others k (λ same. differ (sym same)))
 ]
 
 -- f keeps what is found under another key
-look-kept : (f : Node → Node) (key k : NodeKey) → key ≢ k → (o : Option Node) → ((n : Node) → o ≡ Some n → n.key ≡ k) → ((n : Node) → n.key ≢ key → f n ≡ n) → o ≡ option_map f o
+look-kept : (f : Node → Node) (key k : NodeKey) → key ≢ k → (o : Option Node) → ((n : Node) → o ≡ Some n → n.key ≡ k) →
+    ((n : Node) → n.key ≢ key → f n ≡ n) → o ≡ option_map f o
 look-kept f key k differ None named others = refl
 look-kept f key k differ (Some n) named others = ap Some (sym (others n (λ same. differ (sym same ∙ named n refl))))
 
 -- the node is f's of the one that was there, which f changes alone
-pub look-changed : (t now : Table Node) (f : Node → Node) (key : NodeKey) (old node : Node) → Writes t now key node → node_at t key ≡ Some old → f old ≡ node → ((k : NodeKey) (n : Node) → node_at t k ≡ Some n → n.key ≡ k) → ((n : Node) → n.key ≢ key → f n ≡ n) → (k : NodeKey) → node_at now k ≡ option_map f (node_at t k)
+pub look-changed : (t now : Table Node) (f : Node → Node) (key : NodeKey) (old node : Node) → Writes t now key node →
+    node_at t key ≡ Some old → f old ≡ node → ((k : NodeKey) (n : Node) → node_at t k ≡ Some n → n.key ≡ k) →
+    ((n : Node) → n.key ≢ key → f n ≡ n) → (k : NodeKey) → node_at now k ≡ option_map f (node_at t k)
 look-changed t now f key old node w was becomes named others k = elim (key_cases key k) [
   | inl same ↦
       let here : node_at t k ≡ Some old = subst (λ (x : NodeKey). node_at t x ≡ Some old) same was in
       look-written t now key node w k ∙ rw (same_key-true key k same, here) (ap Some (sym becomes))
-  | inr differ ↦ look-written t now key node w k ∙ rw (same_key-false key k differ) (look-kept f key k differ (node_at t k) (named k) others)
+  | inr differ ↦ look-written t now key node w k
+      ∙ rw (same_key-false key k differ) (look-kept f key k differ (node_at t k) (named k) others)
 ]

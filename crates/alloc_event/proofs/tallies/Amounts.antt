@@ -47,7 +47,8 @@ module _ (amount : Node → ℕ) (f : Node → Node) where
       let rest = amount_same xs (λ m on. same m (inr on) (elim (either_way (same_key n.key m.key)) [
         | inl e ↦ both_ways (list_any (is_of x.key) xs)
             (In-any (is_of x.key) xs m on
-            (subst (λ (k : NodeKey). same_key m.key k ≡ true) (sym (same_key-true n.key m.key e) ∙ ap (λ (y : Node). y.key) is) (same_key-refl m.key)))
+            (subst (λ (k : NodeKey). same_key m.key k ≡ true) (sym (same_key-true n.key m.key e)
+            ∙ ap (λ (y : Node). y.key) is) (same_key-refl m.key)))
             none
         | inr e ↦ e
       ])) in
@@ -71,5 +72,6 @@ pub times_changed : (test : Node → Bool) (f : Node → Node) (ns : List Node) 
 times_changed test f ns n distinct on alone =
     let a = times_is test (map f ns) in
     let b = times_is test ns in
-    let c = amount_changed (λ m. bit (test m)) f ns n distinct on (λ m there other. ap (λ (x : Node). bit (test x)) (alone m there other)) in
+    let c = amount_changed (λ m. bit (test m)) f ns n distinct on (λ m there other.
+    ap (λ (x : Node). bit (test x)) (alone m there other)) in
     omega arith

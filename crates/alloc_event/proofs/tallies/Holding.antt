@@ -40,7 +40,8 @@ are_held nodes = list_all (is_held nodes) nodes
 -- ---- parents
 
 -- a node that heads no unit is of its parent's
-shared_among : (ns : List Node) → are_united ns ≡ true → are_rooted ns ≡ true → (n : Node) → In n ns → n.gone ≡ false → is_head n ≡ false → (p : NodeKey) → n.parent ≡ Some p →
+shared_among : (ns : List Node) → are_united ns ≡ true → are_rooted ns ≡ true → (n : Node) → In n ns → n.gone ≡ false → is_head n ≡ false →
+    (p : NodeKey) → n.parent ≡ Some p →
     (q : Node) × In q ns × (q.key ≡ p) × (q.head ≡ n.head)
 shared_among [] united rooted n on here h p up = absurd on
 shared_among (m ∷ older) united rooted n (inl is) here h p up =
@@ -50,7 +51,8 @@ shared_among (m ∷ older) united rooted n (inl is) here h p up =
     let h' : is_head m ≡ false = ap is_head (sym is) ∙ h in
     let left : is_left_of older p ≡ true = rw (here', up') at first in
     let x = left_node older p left in
-    let all : shares_unit m x.node ≡ true = all-In (shares_unit m) older x.node x.on (and_left (list_all (shares_unit m) older) (are_united older) united) in
+    let all : shares_unit m x.node ≡ true =
+    all-In (shares_unit m) older x.node x.on (and_left (list_all (shares_unit m) older) (are_united older) united) in
     let above : is_parent m x.node ≡ true = ap (λ (o : Option NodeKey). option_map_or (λ k. same_key x.node.key k) o false) up'
     ∙ ap (λ (k : NodeKey). same_key k p) x.is ∙ same_key-refl p in
     let same : same_key x.node.head m.head ≡ true = from (is_head m) (is_parent m x.node) (same_key x.node.head m.head) h' above all in
@@ -61,7 +63,8 @@ shared_among (m ∷ older) united rooted n (inl is) here h p up =
     from false false c ea eb h = cc
     from false true c ea eb h = h
 shared_among (m ∷ older) united rooted n (inr on) here h p up =
-    let x = shared_among older (and_right (list_all (shares_unit m) older) (are_united older) united) (and_right (hangs_on older m) (are_rooted older) rooted) n on here h p up in
+    let x = shared_among older (and_right (list_all (shares_unit m) older) (are_united older) united) (and_right (hangs_on older m)
+    (are_rooted older) rooted) n on here h p up in
     (x.0, inr x.1, x.2, x.3)
 
 -- a line is no longer than the list
@@ -211,7 +214,8 @@ module _ (nodes : List Node) (distinct : are_distinct nodes ≡ true) (heads : l
     | inr e ↦
         let up' = has_parent n e in
         let x = shared n on here e up'.0 up'.1 in
-        let left : is_left_of nodes x.0.key ≡ true = subst (λ (k : NodeKey). is_left_of nodes k ≡ true) (sym x.2) (left_parent nodes rooted n up'.0 on here up'.1) in
+        let left : is_left_of nodes x.0.key ≡ true =
+        subst (λ (k : NodeKey). is_left_of nodes k ≡ true) (sym x.2) (left_parent nodes rooted n up'.0 on here up'.1) in
         let long : length (line n.key) ≡ length (up'.0 ∷ line up'.0) = ap length (step n on here up'.0 up'.1) in
         let same : length (line x.0.key) ≡ length (line up'.0) = ap (λ (k : NodeKey). length (line k)) x.2 in
         let above : is_below nodes x.0.head x.0.key ≡ true = unit_below fuel x.0 x.1 (still_here x.0 x.1 left) (omega arith) in
@@ -231,14 +235,16 @@ module _ (nodes : List Node) (distinct : are_distinct nodes ≡ true) (heads : l
     | inr e ↦
         let up' = has_parent n e in
         let x = shared n on here e up'.0 up'.1 in
-        let left : is_left_of nodes x.0.key ≡ true = subst (λ (k : NodeKey). is_left_of nodes k ≡ true) (sym x.2) (left_parent nodes rooted n up'.0 on here up'.1) in
+        let left : is_left_of nodes x.0.key ≡ true =
+        subst (λ (k : NodeKey). is_left_of nodes k ≡ true) (sym x.2) (left_parent nodes rooted n up'.0 on here up'.1) in
         let long : length (line n.key) ≡ length (up'.0 ∷ line up'.0) = ap length (step n on here up'.0 up'.1) in
         let same : length (line x.0.key) ≡ length (line up'.0) = ap (λ (k : NodeKey). length (line k)) x.2 in
         let r = head_found fuel x.0 x.1 (still_here x.0 x.1 left) (omega arith) in
         (r.0, r.1, r.2 ∙ x.3, r.3, r.4)
   ]
 
-  pub head_there : (n : Node) → In n nodes → n.gone ≡ false → (h : Node) × In h nodes × (h.key ≡ n.head) × (h.gone ≡ false) × (is_head h ≡ true)
+  pub head_there : (n : Node) → In n nodes → n.gone ≡ false → (h : Node) × In h nodes × (h.key ≡ n.head) × (h.gone ≡ false) ×
+      (is_head h ≡ true)
   head_there n on here = head_found (suc (length (line n.key))) n on here (omega arith)
 
   -- a head that lies above a node lies at or above the head of its unit
@@ -250,7 +256,8 @@ module _ (nodes : List Node) (distinct : are_distinct nodes ≡ true) (heads : l
     | inr e ↦
         let up' = has_parent a e in
         let x = shared a on here e up'.0 up'.1 in
-        let left : is_left_of nodes x.0.key ≡ true = subst (λ (k : NodeKey). is_left_of nodes k ≡ true) (sym x.2) (left_parent nodes rooted a up'.0 on here up'.1) in
+        let left : is_left_of nodes x.0.key ≡ true =
+        subst (λ (k : NodeKey). is_left_of nodes k ≡ true) (sym x.2) (left_parent nodes rooted a up'.0 on here up'.1) in
         let next : line a.key ≡ up'.0 ∷ line up'.0 = step a on here up'.0 up'.1 in
         let long : length (line a.key) ≡ length (up'.0 ∷ line up'.0) = ap length next in
         let same : length (line x.0.key) ≡ length (line up'.0) = ap (λ (k : NodeKey). length (line k)) x.2 in
@@ -259,7 +266,8 @@ module _ (nodes : List Node) (distinct : are_distinct nodes ≡ true) (heads : l
           | inr far ↦
               subst (λ (k : NodeKey). is_below nodes y.key k ≡ true) x.3
               (head_above fuel x.0 x.1 (still_here x.0 x.1 left) y there head
-              (subst (λ (k : NodeKey). is_below nodes y.key k ≡ true) (sym x.2) (sym (ap (list_any (same_key y.key)) next) ∙ far)) (omega arith))
+              (subst (λ (k : NodeKey). is_below nodes y.key k ≡ true) (sym x.2) (sym (ap (list_any (same_key y.key)) next)
+              ∙ far)) (omega arith))
         ]
   ]
 
@@ -281,17 +289,21 @@ module _ (nodes : List Node) (distinct : are_distinct nodes ≡ true) (heads : l
     lives (suc fuel) h on here head long =
         let x = In-list_any (holds_unit nodes h.key) nodes (holder h on here head) in
         let stays : x.0.gone ≡ false = not-true x.0.gone (and_left (not x.0.gone) _ x.2) in
-        elim (or_cases (same_key x.0.head h.key && not x.0.released) (x.0.attached && hangs_in nodes h.key x.0) (and_right (not x.0.gone) _ x.2)) [
+        elim (or_cases (same_key x.0.head h.key && not x.0.released) (x.0.attached && hangs_in nodes h.key x.0)
+        (and_right (not x.0.gone) _ x.2)) [
           | inl own ↦
               let is : x.0.head ≡ h.key = same_key-true x.0.head h.key (and_left (same_key x.0.head h.key) _ own) in
-              let live : is_live_node x.0 ≡ true = and_both (not x.0.gone) (not x.0.released) (and_left (not x.0.gone) _ x.2) (and_right (same_key x.0.head h.key) _ own) in
+              let live : is_live_node x.0 ≡ true =
+              and_both (not x.0.gone) (not x.0.released) (and_left (not x.0.gone) _ x.2) (and_right (same_key x.0.head h.key) _ own) in
               In-any (lives_below nodes h.key) nodes x.0 x.1
               (and_both (is_live_node x.0) (is_below nodes h.key x.0.key) live
               (subst (λ (k : NodeKey). is_below nodes k x.0.key ≡ true) is (in_unit_below x.0 x.1 stays)))
-          | inr under ↦ below (λ m there here' head' long'. lives fuel m there here' head' long') x.0 x.1 stays (and_left x.0.attached _ under) x.0.parent refl (and_right x.0.attached _ under)
+          | inr under ↦ below (λ m there here' head' long'. lives fuel m there here' head' long') x.0 x.1 stays
+              (and_left x.0.attached _ under) x.0.parent refl (and_right x.0.attached _ under)
         ]
       where
-        below : ((m : Node) → In m nodes → m.gone ≡ false → is_head m ≡ true → length nodes < fuel + length (line m.key) → list_any (lives_below nodes m.key) nodes ≡ true) →
+        below : ((m : Node) → In m nodes → m.gone ≡ false → is_head m ≡ true → length nodes < fuel + length (line m.key) →
+            list_any (lives_below nodes m.key) nodes ≡ true) →
             (m : Node) → In m nodes → m.gone ≡ false → m.attached ≡ true → (o : Option NodeKey) → m.parent ≡ o →
             option_map_or (λ p. list_any (λ (q : Node). is_of p q && same_key q.head h.key) nodes) o false ≡ true →
             list_any (lives_below nodes h.key) nodes ≡ true
@@ -354,7 +366,8 @@ module _ (nodes : List Node) (distinct : are_distinct nodes ≡ true) (heads : l
           | inr e ↦ from (λ q on' here' b' few'. dead_below fuel q on' here' h there head is_dead b' few') y.parent refl e
         ]
       where
-        from : ((q : Node) → In q nodes → q.gone ≡ false → is_below nodes h.key q.key ≡ true → length (line q.key) < fuel → dead q.head ≡ true) →
+        from : ((q : Node) → In q nodes → q.gone ≡ false → is_below nodes h.key q.key ≡ true → length (line q.key) < fuel →
+            dead q.head ≡ true) →
             (o : Option NodeKey) → y.parent ≡ o → list_any (same_key h.key) (line y.key) ≡ true → dead y.head ≡ true
         from lower None is e =
             let no : false ≡ true = sym (ap (list_any (same_key h.key)) (no_line y on here is)) ∙ e in cc
@@ -384,14 +397,17 @@ module _ (nodes : List Node) (distinct : are_distinct nodes ≡ true) (heads : l
         let live = and_left (is_live_node x.0) (is_below nodes h.key x.0.key) x.2 in
         let stays : x.0.gone ≡ false = not-true x.0.gone (and_left (not x.0.gone) (not x.0.released) live) in
         let gone : dead x.0.head ≡ true =
-        dead_below (suc (length (line x.0.key))) x.0 x.1 stays h on head is_dead (and_right (is_live_node x.0) (is_below nodes h.key x.0.key) x.2) (omega arith) in
+        dead_below (suc (length (line x.0.key))) x.0 x.1 stays h on head is_dead (and_right (is_live_node x.0)
+        (is_below nodes h.key x.0.key) x.2) (omega arith) in
         both_ways x.0.released (still x.0 x.1 stays gone) (not-true x.0.released (and_right (not x.0.gone) (not x.0.released) live))))))
 
   -- ---- what holds the units
 
   -- where no node is deserted, something holds each unit
   pub held_where : list_any (is_deserted_node nodes) nodes ≡ false → are_held nodes ≡ true
-  held_where none = each_all (is_held nodes) nodes (λ h on. one_held h on (either_way h.gone) (either_way (is_head h)) (either_way (list_any (holds_unit nodes h.key) nodes)))
+  held_where none =
+      each_all (is_held nodes) nodes (λ h on.
+      one_held h on (either_way h.gone) (either_way (is_head h)) (either_way (list_any (holds_unit nodes h.key) nodes)))
     where
       one_held : (h : Node) → In h nodes → (h.gone ≡ true) ⊎ (h.gone ≡ false) → (is_head h ≡ true) ⊎ (is_head h ≡ false) →
           (list_any (holds_unit nodes h.key) nodes ≡ true) ⊎ (list_any (holds_unit nodes h.key) nodes ≡ false) → is_held nodes h ≡ true
@@ -404,14 +420,17 @@ module _ (nodes : List Node) (distinct : are_distinct nodes ≡ true) (heads : l
           (dead_deserted (λ k. same_key k h.key)
           (λ x there here dead. elim (either_way x.released) [
             | inl r ↦ r
-            | inr r ↦ both_ways (list_any (holds_unit nodes h.key) nodes) (In-any (holds_unit nodes h.key) nodes x there (rw (here, dead, r) refl)) b
+            | inr r ↦ both_ways (list_any (holds_unit nodes h.key) nodes) (In-any (holds_unit nodes h.key) nodes x there
+                (rw (here, dead, r) refl)) b
           ])
           (λ x there here attached p up q in_nodes is dead.
           let hangs : hangs_in nodes h.key x ≡ true =
           ap (λ (o : Option NodeKey). option_map_or (λ k. list_any (λ (y : Node). is_of k y && same_key y.head h.key) nodes) o false) up
           ∙ In-any (λ (y : Node). is_of p y && same_key y.head h.key) nodes q in_nodes
           (and_both (is_of p q) (same_key q.head h.key) (ap (λ (k : NodeKey). same_key k p) is ∙ same_key-refl p) dead) in
-          let holds : holds_unit nodes h.key x ≡ true = and_both (not x.gone) _ (ap not here) (or_right (same_key x.head h.key && not x.released) (x.attached && hangs_in nodes h.key x) (and_both x.attached (hangs_in nodes h.key x) attached hangs)) in
+          let holds : holds_unit nodes h.key x ≡ true =
+          and_both (not x.gone) _ (ap not here) (or_right (same_key x.head h.key && not x.released) (x.attached && hangs_in nodes h.key
+          x) (and_both x.attached (hangs_in nodes h.key x) attached hangs)) in
           both_ways (list_any (holds_unit nodes h.key) nodes) (In-any (holds_unit nodes h.key) nodes x there holds) b)
           h on e a (same_key-refl h.key)))
           none

@@ -101,7 +101,8 @@ with_node_adds n us k within one live unready = elim (either_way (n.head.slot ==
   | inr e ↦
       let differ : n.head.slot ≢ k.slot = eqb-false n.head.slot k.slot e in
       let other : same_key n.head k ≡ false = other_slot n.head k differ in
-      let same : unit_at (with_node n us) k.slot ≡ unit_at us k.slot = get_or-set_other us n.head.slot k.slot (more n.head) no_unit (λ h. differ (sym h)) in
+      let same : unit_at (with_node n us) k.slot ≡ unit_at us k.slot =
+      get_or-set_other us n.head.slot k.slot (more n.head) no_unit (λ h. differ (sym h)) in
       let l : bit (lives_in k n) ≡ 0 = ap bit (lives_other k n other) in
       let w : bit (waits_in k n) ≡ 0 = ap bit (waits_other k n other) in
       let a : (unit_at (with_node n us) k.slot).live ≡ (unit_at us k.slot).live = ap (λ (u : Unit). u.live) same in
@@ -157,7 +158,8 @@ pub record AddsAll (old new : Unit) (head : NodeKey) (ns : List Node) : Type 0 w
   pub live : new.live ≡ old.live + times (lives_in head) ns
   pub unready : new.unready ≡ old.unready + times (waits_in head) ns
 
-pub tallied_adds : (ns : List Node) (us : List Unit) (k : NodeKey) → k.slot < length us → ((n : Node) → In n ns → n.gone ≡ false → n.head.slot ≡ k.slot → n.head ≡ k) →
+pub tallied_adds : (ns : List Node) (us : List Unit) (k : NodeKey) → k.slot < length us → ((n : Node) → In n ns → n.gone ≡ false →
+    n.head.slot ≡ k.slot → n.head ≡ k) →
     (unit_at us k.slot).live + length ns ≤ 18446744073709551615 → (unit_at us k.slot).unready + length ns ≤ 18446744073709551615 →
     AddsAll (unit_at us k.slot) (unit_at (tallied ns us) k.slot) k ns
 tallied_adds [] us k within one live unready = record { live = omega arith; unready = omega arith }
@@ -191,23 +193,27 @@ pub cleared_long : (keys : List NodeKey) (us : List Unit) → length (cleared ke
 cleared_long [] us = refl
 cleared_long (k ∷ ks) us = cleared_long ks (set us k.slot no_unit) ∙ length-set us k.slot no_unit
 
-pub cleared_other : (keys : List NodeKey) (us : List Unit) (slot : ℕ) → ((k : NodeKey) → In k keys → k.slot ≢ slot) → unit_at (cleared keys us) slot ≡ unit_at us slot
+pub cleared_other : (keys : List NodeKey) (us : List Unit) (slot : ℕ) → ((k : NodeKey) → In k keys → k.slot ≢ slot) →
+    unit_at (cleared keys us) slot ≡ unit_at us slot
 cleared_other [] us slot differ = refl
 cleared_other (k ∷ ks) us slot differ =
     cleared_other ks (set us k.slot no_unit) slot (λ j on. differ j (inr on))
     ∙ get_or-set_other us k.slot slot no_unit no_unit (λ h. differ k (inl refl) (sym h))
 
-cleared_stays : (keys : List NodeKey) (us : List Unit) (slot : ℕ) → slot < length us → unit_at us slot ≡ no_unit → unit_at (cleared keys us) slot ≡ no_unit
+cleared_stays : (keys : List NodeKey) (us : List Unit) (slot : ℕ) → slot < length us → unit_at us slot ≡ no_unit →
+    unit_at (cleared keys us) slot ≡ no_unit
 cleared_stays [] us slot within none = none
 cleared_stays (k ∷ ks) us slot within none =
     let long = length-set us k.slot no_unit in
     cleared_stays ks (set us k.slot no_unit) slot (omega arith) (from (either_way (k.slot == slot)))
   where
     from : ((k.slot == slot) ≡ true) ⊎ ((k.slot == slot) ≡ false) → unit_at (set us k.slot no_unit) slot ≡ no_unit
-    from (inl e) = subst (λ (s : ℕ). unit_at (set us s no_unit) slot ≡ no_unit) (sym (eqb-true k.slot slot e)) (get_or-set_same us slot no_unit no_unit within)
+    from (inl e) = subst (λ (s : ℕ). unit_at (set us s no_unit) slot ≡ no_unit) (sym (eqb-true k.slot slot e))
+        (get_or-set_same us slot no_unit no_unit within)
     from (inr e) = get_or-set_other us k.slot slot no_unit no_unit (λ h. eqb-false k.slot slot e (sym h)) ∙ none
 
-pub cleared_own : (keys : List NodeKey) (us : List Unit) (key : NodeKey) → In key keys → key.slot < length us → unit_at (cleared keys us) key.slot ≡ no_unit
+pub cleared_own : (keys : List NodeKey) (us : List Unit) (key : NodeKey) → In key keys → key.slot < length us →
+    unit_at (cleared keys us) key.slot ≡ no_unit
 cleared_own [] us key on within = absurd on
 cleared_own (k ∷ ks) us key (inl is) within =
     let long = length-set us k.slot no_unit in
@@ -219,7 +225,8 @@ cleared_own (k ∷ ks) us key (inr on) within =
 
 -- ---- slots that are started
 
-started_cases : (slot : ℕ) (us : List Unit) → ((slot ≡ length us) × (started slot us ≡ us ++ no_unit ∷ [])) ⊎ ((slot ≢ length us) × (started slot us ≡ set us slot no_unit))
+started_cases : (slot : ℕ) (us : List Unit) → ((slot ≡ length us) × (started slot us ≡ us ++ no_unit ∷ [])) ⊎
+    ((slot ≢ length us) × (started slot us ≡ set us slot no_unit))
 started_cases slot us = elim (either_way (slot == length us)) [
   | inl e ↦ inl (eqb-true slot (length us) e, ap (λ (b : Bool). if b then us ++ no_unit ∷ [] else set us slot no_unit) e)
   | inr e ↦ inr (eqb-false slot (length us) e, ap (λ (b : Bool). if b then us ++ no_unit ∷ [] else set us slot no_unit) e)
@@ -233,7 +240,8 @@ pub started_own : (slot : ℕ) (us : List Unit) → slot < length (started slot 
 started_own slot us within = elim (started_cases slot us) [
   | inl e ↦
       let at : length us + 0 ≡ slot = omega (arith, e.0) in
-      ap (λ (l : List Unit). unit_at l slot) e.1 ∙ subst (λ (s : ℕ). unit_at (us ++ no_unit ∷ []) s ≡ no_unit) at (get_or-append-add us (no_unit ∷ []) 0 no_unit)
+      ap (λ (l : List Unit). unit_at l slot) e.1
+      ∙ subst (λ (s : ℕ). unit_at (us ++ no_unit ∷ []) s ≡ no_unit) at (get_or-append-add us (no_unit ∷ []) 0 no_unit)
   | inr e ↦
       let long = length-set us slot no_unit in
       let inside : slot < length (set us slot no_unit) = subst (λ (l : List Unit). slot < length l) e.1 within in
@@ -241,7 +249,8 @@ started_own slot us within = elim (started_cases slot us) [
 ]
 
 -- and the others count what they did
-pub started_other : (slot other : ℕ) (us : List Unit) → other ≢ slot → other < length (started slot us) → (other < length us) × (unit_at (started slot us) other ≡ unit_at us other)
+pub started_other : (slot other : ℕ) (us : List Unit) → other ≢ slot → other < length (started slot us) → (other < length us) ×
+    (unit_at (started slot us) other ≡ unit_at us other)
 started_other slot other us differ within = elim (started_cases slot us) [
   | inl e ↦
       let long = one_longer us in

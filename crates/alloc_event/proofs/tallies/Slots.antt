@@ -76,17 +76,25 @@ one_shelf (s ∷ ss) rising x y (inr here) (inr there) same = one_shelf ss risin
 
 -- the counts in the slots of other collections' keys stay
 abbrev pub Stays : Table Node → ℕ → List Unit → List Unit → Type 0
-Stays t id us new = (k : NodeKey) (n : Node) → node_at t k ≡ Some n → n.collection ≢ id → k.slot < length new → (k.slot < length us) × (unit_at new k.slot ≡ unit_at us k.slot)
+Stays t id us new = (k : NodeKey) (n : Node) → node_at t k ≡ Some n → n.collection ≢ id → k.slot < length new → (k.slot < length us) ×
+    (unit_at new k.slot ≡ unit_at us k.slot)
 
-module _ (t : Table Node) (named : (key : NodeKey) (n : Node) → node_at t key ≡ Some n → n.key ≡ key) (us new : List Unit) (id : ℕ) (stays : Stays t id us new) where
-  units_stay : (x : ℕ) → x ≢ id → (keys : List NodeKey) → list_all (is_filed t x) keys ≡ true → HasUnits us (nodes_with t keys) → HasUnits new (nodes_with t keys)
-  units_stay x differ keys filed has = all_in (λ (n : Node). n.key.slot < length new → unit_at new n.key.slot ≡ unit_of (nodes_with t keys) n.key) (nodes_with t keys) (λ n on within.
-      let at : node_at t n.key ≡ Some n = in_all (λ (m : Node). node_at t m.key ≡ Some m) (nodes_with t keys) (looked_there t named keys) n on in
-      let own : n.collection ≡ x = eqb-true n.collection x (all-In (λ (m : Node). m.collection == x) (nodes_with t keys) n on (looked-of t x keys filed)) in
+module _ (t : Table Node) (named : (key : NodeKey) (n : Node) → node_at t key ≡ Some n →
+    n.key ≡ key) (us new : List Unit) (id : ℕ) (stays : Stays t id us new) where
+  units_stay : (x : ℕ) → x ≢ id → (keys : List NodeKey) → list_all (is_filed t x) keys ≡ true → HasUnits us (nodes_with t keys) →
+      HasUnits new (nodes_with t keys)
+  units_stay x differ keys filed has = all_in (λ (n : Node). n.key.slot < length new →
+      unit_at new n.key.slot ≡ unit_of (nodes_with t keys) n.key) (nodes_with t keys) (λ n on within.
+      let at : node_at t n.key ≡ Some n =
+      in_all (λ (m : Node). node_at t m.key ≡ Some m) (nodes_with t keys) (looked_there t named keys) n on in
+      let own : n.collection ≡ x =
+      eqb-true n.collection x (all-In (λ (m : Node). m.collection == x) (nodes_with t keys) n on (looked-of t x keys filed)) in
       let s = stays n.key n at (λ h. differ (sym own ∙ h)) within in
-      s.1 ∙ in_all (λ (m : Node). m.key.slot < length us → unit_at us m.key.slot ≡ unit_of (nodes_with t keys) m.key) (nodes_with t keys) has n on s.0)
+      s.1 ∙ in_all (λ (m : Node). m.key.slot < length us → unit_at us m.key.slot ≡ unit_of (nodes_with t keys) m.key) (nodes_with t keys)
+      has n on s.0)
 
-  pub but_stays : (ss : List Shelf) → are_filed t ss ≡ true → AreUnitsBut us id (map (collection_in t) ss) → AreUnitsBut new id (map (collection_in t) ss)
+  pub but_stays : (ss : List Shelf) → are_filed t ss ≡ true → AreUnitsBut us id (map (collection_in t) ss) →
+      AreUnitsBut new id (map (collection_in t) ss)
   but_stays [] filed all = tt
   but_stays (s ∷ ss) filed all = (
     λ differ. units_stay s.id differ s.keys (and_left (list_all (is_filed t s.id) s.keys) _ filed) (all.0 differ),
@@ -99,7 +107,8 @@ but_all us id [] all = tt
 but_all us id (c ∷ cs) all = (λ differ. all.0, but_all us id cs all.1)
 
 -- and with that one all have
-pub but_join : (us : List Unit) (id : ℕ) (cs : List Collection) → AreUnitsBut us id cs → ((c : Collection) → In c cs → c.id ≡ id → HasUnits us c.nodes) → AreUnits us cs
+pub but_join : (us : List Unit) (id : ℕ) (cs : List Collection) → AreUnitsBut us id cs → ((c : Collection) → In c cs → c.id ≡ id →
+    HasUnits us c.nodes) → AreUnits us cs
 but_join us id [] but own = tt
 but_join us id (c ∷ cs) but own = (
   elim (either_way (c.id == id)) [
@@ -110,7 +119,8 @@ but_join us id (c ∷ cs) but own = (
 )
 
 -- where the one has its counts and those of the others stay
-pub units_own : (t : Table Node) (ss : List Shelf) → IsKept t ss → (id : ℕ) (us new : List Unit) → Stays t id us new → AreUnitsBut us id (map (collection_in t) ss) →
+pub units_own : (t : Table Node) (ss : List Shelf) → IsKept t ss → (id : ℕ) (us new : List Unit) → Stays t id us new →
+    AreUnitsBut us id (map (collection_in t) ss) →
     (s : Shelf) → In s ss → s.id ≡ id → HasUnits new (nodes_with t s.keys) → AreUnits new (map (collection_in t) ss)
 units_own t ss kept id us new stays but s on own has =
     but_join new id (map (collection_in t) ss) (but_stays t kept.named us new id stays ss kept.filed but) (λ c there same.
@@ -119,7 +129,8 @@ units_own t ss kept id us new stays but s on own has =
     subst (λ (d : Collection). HasUnits new d.nodes) (sym (x.2 ∙ ap (collection_in t) one)) has)
 
 -- where the others are the same
-pub but_moved : (t now : Table Node) (us : List Unit) (id : ℕ) (ss : List Shelf) → ((s : Shelf) → In s ss → s.id ≢ id → collection_in now s ≡ collection_in t s) →
+pub but_moved : (t now : Table Node) (us : List Unit) (id : ℕ) (ss : List Shelf) → ((s : Shelf) → In s ss → s.id ≢ id →
+    collection_in now s ≡ collection_in t s) →
     AreUnitsBut us id (map (collection_in t) ss) → AreUnitsBut us id (map (collection_in now) ss)
 but_moved t now us id [] same but = tt
 but_moved t now us id (s ∷ ss) same but = (
@@ -132,7 +143,8 @@ pub but_put : (us : List Unit) (c : Collection) (cs : List Collection) → AreUn
 but_put us c [] all = (λ differ. absurd (differ refl), tt)
 but_put us c (d ∷ ds) all = from (d.id == c.id) (nat_lt c.id d.id) (but_put us c ds all.1)
   where
-    from : (here above : Bool) → AreUnitsBut us c.id (put c ds) → AreUnitsBut us c.id (if here then c ∷ ds else (if above then c ∷ d ∷ ds else d ∷ put c ds))
+    from : (here above : Bool) → AreUnitsBut us c.id (put c ds) →
+        AreUnitsBut us c.id (if here then c ∷ ds else (if above then c ∷ d ∷ ds else d ∷ put c ds))
     from true above on = (λ differ. absurd (differ refl), but_all us c.id ds all.1)
     from false true on = (λ differ. absurd (differ refl), (λ differ. all.0, but_all us c.id ds all.1))
     from false false on = (λ differ. all.0, on)
@@ -149,7 +161,8 @@ made_id pool others (Allocated head) c = elim (either_way (is_root_of c head)) [
 made_id pool others (Ended top) c = refl
 
 -- no forced step makes a collection another
-settles_id : (pool : ℕ) (handles : Handles) (others : List Interval) (c after : Collection) → Settles pool handles others c after → after.id ≡ c.id
+settles_id : (pool : ℕ) (handles : Handles) (others : List Interval) (c after : Collection) → Settles pool handles others c after →
+    after.id ≡ c.id
 settles_id pool handles others _ _ (Rests c rest) = refl
 settles_id pool handles others _ _ (Forces c after mark forces settles) =
     settles_id pool handles others (made pool others mark c) after settles ∙ made_id pool others mark c
@@ -165,21 +178,26 @@ changed_id Change.Nothing key c h = refl
 pub or_new_id : (f : Forest) (id : ℕ) → (collection_or_new f id).id ≡ id
 or_new_id f id = from (collection_at f id) refl
   where
-    from : (o : Option Collection) → collection_at f id ≡ o → (unwrap_or o (record { id = id; nodes = []; buffers = None; held = [] })).id ≡ id
+    from : (o : Option Collection) → collection_at f id ≡ o →
+        (unwrap_or o (record { id = id; nodes = []; buffers = None; held = [] })).id ≡ id
     from None is = refl
     from (Some c) is = eqb-true c.id id (In-find (λ (d : Collection). d.id == id) f.collections c is).1
 
-pub birth_id : (parent : Option NodeKey) (attached : Bool) (client event : ℕ) (key : NodeKey) (c : Collection) → (with_birth parent attached client event key c).id ≡ c.id
+pub birth_id : (parent : Option NodeKey) (attached : Bool) (client event : ℕ) (key : NodeKey) (c : Collection) →
+    (with_birth parent attached client event key c).id ≡ c.id
 birth_id None attached client event key c = refl
 birth_id (Some above) attached client event key c = from (node_of c.nodes above)
   where
-    from : (o : Option Node) → (option_map_or (λ (n : Node). record c { nodes = c.nodes ++ new_child attached key event client n ∷ [] }) o c).id ≡ c.id
+    from : (o : Option Node) → (option_map_or (λ (n : Node). record c { nodes = c.nodes ++ new_child attached key event client n ∷ [] }) o
+        c).id ≡ c.id
     from None = refl
     from (Some n) = refl
 
 -- the collections but the one that was settled have their counts still
-pub but_finished : (pool : ℕ) (handles : Handles) (old : Table Node) (before : List Shelf) (new : Table Node) (behind : List Shelf) (c : Collection) (id : ℕ) → c.id ≡ id →
-    Finishes pool handles old before new behind c → (us : List Unit) → AreUnits us (map (collection_in old) before) → AreUnitsBut us id (map (collection_in new) behind)
+pub but_finished : (pool : ℕ) (handles : Handles) (old : Table Node) (before : List Shelf) (new : Table Node) (behind : List Shelf)
+    (c : Collection) (id : ℕ) → c.id ≡ id →
+    Finishes pool handles old before new behind c → (us : List Unit) → AreUnits us (map (collection_in old) before) →
+    AreUnitsBut us id (map (collection_in new) behind)
 but_finished pool handles old before new behind c id own fin us all =
     let same : fin.after.id ≡ id = settles_id pool handles (beside (forest_of old before) c.id) c fin.after fin.settles ∙ own in
     subst (AreUnitsBut us id) (sym fin.collections)
@@ -189,7 +207,8 @@ but_finished pool handles old before new behind c id own fin us all =
 -- ---- a key that is new
 
 -- where a key was given that was new, keys that have nodes before and after have other slots
-fresh_slot : (old new : Table Node) (key : NodeKey) → Gives old new key → (k : NodeKey) (n m : Node) → node_at old k ≡ Some n → node_at new k ≡ Some m → k.slot ≢ key.slot
+fresh_slot : (old new : Table Node) (key : NodeKey) → Gives old new key → (k : NodeKey) (n m : Node) → node_at old k ≡ Some n →
+    node_at new k ≡ Some m → k.slot ≢ key.slot
 fresh_slot old new key gives k n m was is slots =
     let a : next_at old k.slot ≡ next_at new k.slot = last_given old k n was ∙ sym (last_given new k m is) in
     let b : next_at old key.slot ≡ next_at new key.slot = subst (λ (s : ℕ). next_at old s ≡ next_at new s) slots a in
@@ -203,7 +222,8 @@ in_put c d [] (inl is) differ = absurd (differ (ap (λ (x : Collection). x.id) i
 in_put c d [] (inr none) differ = absurd none
 in_put c d (e ∷ es) on differ = from (e.id == c.id) (nat_lt c.id e.id) (λ there. in_put c d es there differ) on
   where
-    from : (here above : Bool) → (In d (put c es) → In d es) → In d (if here then c ∷ es else (if above then c ∷ e ∷ es else e ∷ put c es)) → In d (e ∷ es)
+    from : (here above : Bool) → (In d (put c es) → In d es) →
+        In d (if here then c ∷ es else (if above then c ∷ e ∷ es else e ∷ put c es)) → In d (e ∷ es)
     from true above rest (inl is) = absurd (differ (ap (λ (x : Collection). x.id) is))
     from true above rest (inr there) = inr there
     from false true rest (inl is) = absurd (differ (ap (λ (x : Collection). x.id) is))
@@ -212,7 +232,8 @@ in_put c d (e ∷ es) on differ = from (e.id == c.id) (nat_lt c.id e.id) (λ the
     from false false rest (inr there) = inr (rest there)
 
 -- so the others have their counts where the new key's slot is started
-pub but_started : (pool : ℕ) (handles : Handles) (old : Table Node) (before : List Shelf) (new : Table Node) (behind : List Shelf) (c : Collection) (id : ℕ) → c.id ≡ id →
+pub but_started : (pool : ℕ) (handles : Handles) (old : Table Node) (before : List Shelf) (new : Table Node) (behind : List Shelf)
+    (c : Collection) (id : ℕ) → c.id ≡ id →
     IsKept old before → IsKept new behind → (key : NodeKey) → Gives old new key → Finishes pool handles old before new behind c →
     (us : List Unit) → AreUnits us (map (collection_in old) before) → AreUnitsBut (started key.slot us) id (map (collection_in new) behind)
 but_started pool handles old before new behind c id own kept_old kept_new key gives fin us all =
@@ -226,32 +247,41 @@ but_started pool handles old before new behind c id own kept_old kept_new key gi
     was_there x on differ n there =
         let d : In (collection_in new x) (put (given_back handles fin.after) (map (collection_in old) before)) =
         subst (In (collection_in new x)) fin.collections (In-map-back (collection_in new) behind x on) in
-        let e = In-map (collection_in old) before (collection_in new x) (in_put (given_back handles fin.after) (collection_in new x) (map (collection_in old) before) d (λ h. differ (h ∙ same))) in
+        let e = In-map (collection_in old) before (collection_in new x) (in_put (given_back handles fin.after) (collection_in new x)
+        (map (collection_in old) before) d (λ h. differ (h ∙ same))) in
         in_all (λ (m : Node). node_at old m.key ≡ Some m) (nodes_with old e.0.keys) (looked_there old kept_old.named e.0.keys) n
         (subst (In n) (ap (λ (y : Collection). y.nodes) e.2) there)
 
-    all_of_shelves : (xs : List Shelf) → ((x : Shelf) → In x xs → In x behind) → AreUnitsBut us id (map (collection_in new) xs) → AreUnitsBut (started key.slot us) id (map (collection_in new) xs)
+    all_of_shelves : (xs : List Shelf) → ((x : Shelf) → In x xs → In x behind) → AreUnitsBut us id (map (collection_in new) xs) →
+        AreUnitsBut (started key.slot us) id (map (collection_in new) xs)
     all_of_shelves [] within but = tt
     all_of_shelves (x ∷ xs) within but = (
-      λ differ. all_in (λ (n : Node). n.key.slot < length (started key.slot us) → unit_at (started key.slot us) n.key.slot ≡ unit_of (nodes_with new x.keys) n.key) (nodes_with new x.keys) (λ n there inside.
+      λ differ. all_in (λ (n : Node). n.key.slot < length (started key.slot us) →
+          unit_at (started key.slot us) n.key.slot ≡ unit_of (nodes_with new x.keys) n.key) (nodes_with new x.keys) (λ n there inside.
           let s = started_other key.slot n.key.slot us
           (fresh_slot old new key gives n.key n n (was_there x (within x (inl refl)) differ n there)
-          (in_all (λ (m : Node). node_at new m.key ≡ Some m) (nodes_with new x.keys) (looked_there new kept_new.named x.keys) n there)) inside in
-          s.1 ∙ in_all (λ (m : Node). m.key.slot < length us → unit_at us m.key.slot ≡ unit_of (nodes_with new x.keys) m.key) (nodes_with new x.keys) (but.0 differ) n there s.0),
+          (in_all (λ (m : Node). node_at new m.key ≡ Some m) (nodes_with new x.keys) (looked_there new kept_new.named x.keys) n there))
+          inside in
+          s.1 ∙ in_all (λ (m : Node). m.key.slot < length us → unit_at us m.key.slot ≡ unit_of (nodes_with new x.keys) m.key)
+          (nodes_with new x.keys) (but.0 differ) n there s.0),
       all_of_shelves xs (λ y on. within y (inr on)) but.1,
     )
 
 -- ---- nodes that count as before
 
-pub units_mapped : (us : List Unit) (f : Node → Node) (nodes : List Node) → ((n : Node) → (f n).key ≡ n.key) → ((k : NodeKey) → unit_of (map f nodes) k ≡ unit_of nodes k) →
+pub units_mapped : (us : List Unit) (f : Node → Node) (nodes : List Node) → ((n : Node) → (f n).key ≡ n.key) →
+    ((k : NodeKey) → unit_of (map f nodes) k ≡ unit_of nodes k) →
     HasUnits us nodes → HasUnits us (map f nodes)
-units_mapped us f nodes keys same has = all_in (λ (n : Node). n.key.slot < length us → unit_at us n.key.slot ≡ unit_of (map f nodes) n.key) (map f nodes) (λ n on.
+units_mapped us f nodes keys same has =
+    all_in (λ (n : Node). n.key.slot < length us → unit_at us n.key.slot ≡ unit_of (map f nodes) n.key) (map f nodes) (λ n on.
     let x = In-map f nodes n on in
     let key : x.0.key ≡ n.key = sym (ap (λ (m : Node). m.key) x.2 ∙ keys x.0) in
     subst (λ (k : NodeKey). k.slot < length us → unit_at us k.slot ≡ unit_of (map f nodes) k) key
-    (λ within. in_all (λ (m : Node). m.key.slot < length us → unit_at us m.key.slot ≡ unit_of nodes m.key) nodes has x.0 x.1 within ∙ sym (same x.0.key)))
+    (λ within. in_all (λ (m : Node). m.key.slot < length us → unit_at us m.key.slot ≡ unit_of nodes m.key) nodes has x.0 x.1 within
+    ∙ sym (same x.0.key)))
 
-times_filter : (p test : Node → Bool) (ns : List Node) → ((n : Node) → In n ns → p n ≡ false → test n ≡ false) → times test (filter p ns) ≡ times test ns
+times_filter : (p test : Node → Bool) (ns : List Node) → ((n : Node) → In n ns → p n ≡ false → test n ≡ false) →
+    times test (filter p ns) ≡ times test ns
 times_filter p test [] none = refl
 times_filter p test (n ∷ ns) none =
     let rest = times_filter p test ns (λ m on. none m (inr on)) in
@@ -260,14 +290,19 @@ times_filter p test (n ∷ ns) none =
       | inr e ↦ rw (e, none n (inl refl) e) rest
     ]
 
-pub units_filter : (us : List Unit) (p : Node → Bool) (nodes : List Node) → ((n : Node) → In n nodes → p n ≡ false → n.gone ≡ true) → HasUnits us nodes → HasUnits us (filter p nodes)
-units_filter us p nodes over has = all_in (λ (n : Node). n.key.slot < length us → unit_at us n.key.slot ≡ unit_of (filter p nodes) n.key) (filter p nodes) (λ n on within.
-    in_all (λ (m : Node). m.key.slot < length us → unit_at us m.key.slot ≡ unit_of nodes m.key) nodes has n (In-filter p nodes n on).0 within ∙ sym (same n.key))
+pub units_filter : (us : List Unit) (p : Node → Bool) (nodes : List Node) → ((n : Node) → In n nodes → p n ≡ false → n.gone ≡ true) →
+    HasUnits us nodes → HasUnits us (filter p nodes)
+units_filter us p nodes over has =
+    all_in (λ (n : Node). n.key.slot < length us → unit_at us n.key.slot ≡ unit_of (filter p nodes) n.key) (filter p nodes) (λ n on within.
+    in_all (λ (m : Node). m.key.slot < length us → unit_at us m.key.slot ≡ unit_of nodes m.key) nodes has n (In-filter p nodes n on).0
+    within ∙ sym (same n.key))
   where
     same : (k : NodeKey) → unit_of (filter p nodes) k ≡ unit_of nodes k
     same k =
-        let l : times (lives_in k) (filter p nodes) ≡ times (lives_in k) nodes = times_filter p (lives_in k) nodes (λ n on out. rw (over n on out) refl) in
-        let w : times (waits_in k) (filter p nodes) ≡ times (waits_in k) nodes = times_filter p (waits_in k) nodes (λ n on out. rw (over n on out) refl) in
+        let l : times (lives_in k) (filter p nodes) ≡ times (lives_in k) nodes =
+        times_filter p (lives_in k) nodes (λ n on out. rw (over n on out) refl) in
+        let w : times (waits_in k) (filter p nodes) ≡ times (waits_in k) nodes =
+        times_filter p (waits_in k) nodes (λ n on out. rw (over n on out) refl) in
         λ i. record { live = l i; unready = w i }
 
 -- ---- counting anew
@@ -290,7 +325,8 @@ module _ (t : Table Node) (ss : List Shelf) (kept : IsKept t ss) (id : ℕ) (s :
   at n on = in_all (λ (m : Node). node_at t m.key ≡ Some m) nodes (looked_there t kept.named s.keys) n on
 
   of : (n : Node) → In n nodes → n.collection ≡ id
-  of n on = eqb-true n.collection s.id (all-In (λ (m : Node). m.collection == s.id) nodes n on (looked-of t s.id s.keys filed)) ∙ found_id id ss s found
+  of n on = eqb-true n.collection s.id (all-In (λ (m : Node). m.collection == s.id) nodes n on (looked-of t s.id s.keys filed))
+      ∙ found_id id ss s found
 
   long : length new ≡ length us
   long = tallied_long nodes (cleared s.keys us) ∙ cleared_long s.keys us
@@ -298,7 +334,8 @@ module _ (t : Table Node) (ss : List Shelf) (kept : IsKept t ss) (id : ℕ) (s :
   -- each node's key has its unit's counts
   has : HasUnits new nodes
   has = all_in (λ (n : Node). n.key.slot < length new → unit_at new n.key.slot ≡ unit_of nodes n.key) nodes (λ n on within.
-      let key : In n.key s.keys = subst (In n.key) (looked-keys t s.id kept.named s.keys filed) (In-map-back (λ (m : Node). m.key) nodes n on) in
+      let key : In n.key s.keys =
+      subst (In n.key) (looked-keys t s.id kept.named s.keys filed) (In-map-back (λ (m : Node). m.key) nodes n on) in
       let short = cleared_long s.keys us in
       let same_long = long in
       let zero : unit_at (cleared s.keys us) n.key.slot ≡ no_unit = cleared_own s.keys us n.key key (omega arith) in
@@ -318,12 +355,14 @@ module _ (t : Table Node) (ss : List Shelf) (kept : IsKept t ss) (id : ℕ) (s :
   filed_at : (k : NodeKey) → In k s.keys → (m : Node) × (node_at t k ≡ Some m) × (m.collection ≡ id)
   filed_at k on = from (node_at t k) refl (all-In (is_filed t s.id) s.keys k on filed)
     where
-      from : (o : Option Node) → node_at t k ≡ o → option_map_or (λ (n : Node). n.collection == s.id) o false ≡ true → (m : Node) × (node_at t k ≡ Some m) × (m.collection ≡ id)
+      from : (o : Option Node) → node_at t k ≡ o → option_map_or (λ (n : Node). n.collection == s.id) o false ≡ true →
+          (m : Node) × (node_at t k ≡ Some m) × (m.collection ≡ id)
       from None is h = cc
       from (Some m) is h = (m, is, eqb-true m.collection s.id h ∙ found_id id ss s found)
 
   -- a key of another collection has another slot
-  apart : (k j : NodeKey) (n m : Node) → node_at t k ≡ Some n → n.collection ≢ id → node_at t j ≡ Some m → m.collection ≡ id → j.slot ≢ k.slot
+  apart : (k j : NodeKey) (n m : Node) → node_at t k ≡ Some n → n.collection ≢ id → node_at t j ≡ Some m → m.collection ≡ id →
+      j.slot ≢ k.slot
   apart k j n m is differ there own slots =
       let same : j ≡ k = one_slot t j k m n there is slots in
       let one : Some m ≡ Some n = sym there ∙ (ap (node_at t) same ∙ is) in
@@ -342,7 +381,8 @@ module _ (t : Table Node) (ss : List Shelf) (kept : IsKept t ss) (id : ℕ) (s :
 
   -- so have all
   pub recounted_all : AreUnitsBut us id (map (collection_in t) ss) → AreUnits new (map (collection_in t) ss)
-  recounted_all but = units_own t ss kept id us new stays but s (In-find (λ (y : Shelf). y.id == id) ss s found).0 (found_id id ss s found) has
+  recounted_all but = units_own t ss kept id us new stays but s (In-find (λ (y : Shelf). y.id == id) ss s found).0 (found_id id ss s found)
+      has
 
 -- where the collection is not there nothing is to be counted
 pub recounted_none : (t : Table Node) (ss : List Shelf) (id : ℕ) → find (λ (x : Shelf). x.id == id) ss ≡ None → (us : List Unit) →
@@ -350,13 +390,16 @@ pub recounted_none : (t : Table Node) (ss : List Shelf) (id : ℕ) → find (λ 
 recounted_none t ss id none us but = but_join us id (map (collection_in t) ss) but (λ c on same.
     let x = In-map (collection_in t) ss c on in
     let own : (x.0.id == id) ≡ true = eq-eqb x.0.id id (sym (ap (λ (d : Collection). d.id) x.2) ∙ same) in
-    both_ways (list_any (λ (y : Shelf). y.id == id) ss) (In-any (λ (y : Shelf). y.id == id) ss x.0 x.1 own) (none-find (λ (y : Shelf). y.id == id) ss none))
+    both_ways (list_any (λ (y : Shelf). y.id == id) ss) (In-any (λ (y : Shelf). y.id == id) ss x.0 x.1 own) (none-find (λ (y : Shelf).
+    y.id == id) ss none))
 
 -- ---- forests whose nodes are changed or forgotten
 
 -- where each node is as f makes it, which keeps what is counted
-pub units_with : (us : List Unit) (f : Node → Node) → ((n : Node) → (f n).key ≡ n.key) → ((k : NodeKey) (n : Node) → lives_in k (f n) ≡ lives_in k n) →
-    ((k : NodeKey) (n : Node) → waits_in k (f n) ≡ waits_in k n) → (cs : List Collection) → AreUnits us cs → AreUnits us (map (with_nodes (map f)) cs)
+pub units_with : (us : List Unit) (f : Node → Node) → ((n : Node) → (f n).key ≡ n.key) →
+    ((k : NodeKey) (n : Node) → lives_in k (f n) ≡ lives_in k n) →
+    ((k : NodeKey) (n : Node) → waits_in k (f n) ≡ waits_in k n) → (cs : List Collection) → AreUnits us cs →
+    AreUnits us (map (with_nodes (map f)) cs)
 units_with us f keys lives waits [] all = tt
 units_with us f keys lives waits (c ∷ cs) all = (
   units_mapped us f c.nodes keys (λ k.

@@ -41,8 +41,10 @@ without_takes n us k within one live unready = elim (either_way (n.head.slot == 
   | inl e ↦
       let is : n.head ≡ k = one (eqb-true n.head.slot k.slot e) in
       let own : same_key n.head k ≡ true = ap (λ (h : NodeKey). same_key h k) is ∙ same_key-refl k in
-      let l : bit (is_live_node n) ≤ (unit_at us k.slot).live = subst (λ (b : Bool). bit b ≤ (unit_at us k.slot).live) (lives_own k n own) live in
-      let w : bit (is_unready n) ≤ (unit_at us k.slot).unready = subst (λ (b : Bool). bit b ≤ (unit_at us k.slot).unready) (waits_own k n own) unready in
+      let l : bit (is_live_node n) ≤ (unit_at us k.slot).live =
+      subst (λ (b : Bool). bit b ≤ (unit_at us k.slot).live) (lives_own k n own) live in
+      let w : bit (is_unready n) ≤ (unit_at us k.slot).unready =
+      subst (λ (b : Bool). bit b ≤ (unit_at us k.slot).unready) (waits_own k n own) unready in
       subst (λ (h : NodeKey). Takes (unit_at us k.slot) (unit_at (set us h.slot (less h)) k.slot) k n) (sym is)
       (record {
         live = (λ i. (get_or-set_same us k.slot (less k) no_unit within i).live + bit (lives_own k n own i))
@@ -53,7 +55,8 @@ without_takes n us k within one live unready = elim (either_way (n.head.slot == 
   | inr e ↦
       let differ : n.head.slot ≢ k.slot = eqb-false n.head.slot k.slot e in
       let other : same_key n.head k ≡ false = other_slot n.head k differ in
-      let same : unit_at (without_node n us) k.slot ≡ unit_at us k.slot = get_or-set_other us n.head.slot k.slot (less n.head) no_unit (λ h. differ (sym h)) in
+      let same : unit_at (without_node n us) k.slot ≡ unit_at us k.slot =
+      get_or-set_other us n.head.slot k.slot (less n.head) no_unit (λ h. differ (sym h)) in
       let l : bit (lives_in k n) ≡ 0 = ap bit (lives_other k n other) in
       let w : bit (waits_in k n) ≡ 0 = ap bit (waits_other k n other) in
       let a : (unit_at (without_node n us) k.slot).live ≡ (unit_at us k.slot).live = ap (λ (u : Unit). u.live) same in
@@ -99,7 +102,8 @@ pub record TakesAll (old new : Unit) (head : NodeKey) (ns : List Node) : Type 0 
   pub live : new.live + times (lives_in head) ns ≡ old.live
   pub unready : new.unready + times (waits_in head) ns ≡ old.unready
 
-pub untallied_takes : (ns : List Node) (us : List Unit) (k : NodeKey) → k.slot < length us → ((n : Node) → In n ns → n.gone ≡ false → n.head.slot ≡ k.slot → n.head ≡ k) →
+pub untallied_takes : (ns : List Node) (us : List Unit) (k : NodeKey) → k.slot < length us → ((n : Node) → In n ns → n.gone ≡ false →
+    n.head.slot ≡ k.slot → n.head ≡ k) →
     times (lives_in k) ns ≤ (unit_at us k.slot).live → times (waits_in k) ns ≤ (unit_at us k.slot).unready →
     TakesAll (unit_at us k.slot) (unit_at (untallied ns us) k.slot) k ns
 untallied_takes [] us k within one live unready = record { live = omega arith; unready = omega arith }
@@ -110,7 +114,8 @@ untallied_takes (n ∷ ns) us k within one live unready =
     let first = one_takes n us k within (λ here slots. one n (inl refl) here slots) (omega arith) (omega arith) in
     let a = first.live in
     let b = first.unready in
-    let rest = untallied_takes ns (one_less n us) k (omega arith) (λ m on here slots. one m (inr on) here slots) (omega arith) (omega arith) in
+    let rest = untallied_takes ns (one_less n us) k (omega arith) (λ m on here slots. one m (inr on) here slots) (omega arith)
+    (omega arith) in
     let c = rest.live in
     let d = rest.unready in
     record { live = omega arith; unready = omega arith }
@@ -147,7 +152,8 @@ times_differ p q (x ∷ xs) m distinct (inl is) same =
     let rest : times p xs ≡ times q xs = times_same p q xs (λ n on. same n (inr on) (elim (either_way (same_key m.key n.key)) [
       | inl e ↦ both_ways (list_any (is_of x.key) xs)
           (In-any (is_of x.key) xs n on
-          (subst (λ (k : NodeKey). same_key n.key k ≡ true) (sym (same_key-true m.key n.key e) ∙ ap (λ (y : Node). y.key) is) (same_key-refl n.key)))
+          (subst (λ (k : NodeKey). same_key n.key k ≡ true) (sym (same_key-true m.key n.key e)
+          ∙ ap (λ (y : Node). y.key) is) (same_key-refl n.key)))
           none
       | inr e ↦ e
     ])) in
@@ -183,7 +189,8 @@ rest_once k ks once i j d lt within = once (suc i) (suc j) d (omega arith) (omeg
 abbrev pub but : (Node → Bool) → List NodeKey → Node → Bool
 but test ks n = test n && not (list_any (same_key n.key) ks)
 
-module _ (t : Table Node) (nodes : List Node) (distinct : are_distinct nodes ≡ true) (at_key : (n : Node) → In n nodes → node_at t n.key ≡ Some n)
+module _ (t : Table Node) (nodes : List Node) (distinct : are_distinct nodes ≡ true) (at_key : (n : Node) → In n nodes →
+    node_at t n.key ≡ Some n)
     (named : (key : NodeKey) (n : Node) → node_at t key ≡ Some n → n.key ≡ key) (test : Node → Bool) where
   -- those with other keys, and those of these keys, are all
   pub taken_count : (ks : List NodeKey) → AllPairs (λ (a b : NodeKey). a ≢ b) ks → ((n : Node) → In n (nodes_with t ks) → In n nodes) →
@@ -200,11 +207,13 @@ module _ (t : Table Node) (nodes : List Node) (distinct : are_distinct nodes ≡
       skip : (n : Node) → same_key n.key k ≡ false → but test (k ∷ ks) n ≡ but test ks n
       skip n other = ap (λ (b : Bool). test n && not (b || list_any (same_key n.key) ks)) other
 
-      by : (((n : Node) → In n (nodes_with t ks) → In n nodes) → times (but test ks) nodes + times test (nodes_with t ks) ≡ times test nodes) →
+      by : (((n : Node) → In n (nodes_with t ks) → In n nodes) →
+          times (but test ks) nodes + times test (nodes_with t ks) ≡ times test nodes) →
           (o : Option Node) → node_at t k ≡ o → ((n : Node) → In n (cons_option o (nodes_with t ks)) → In n nodes) →
           times (but test (k ∷ ks)) nodes + times test (cons_option o (nodes_with t ks)) ≡ times test nodes
       by on None is fewer =
-          let a : times (but test (k ∷ ks)) nodes ≡ times (but test ks) nodes = times_same (but test (k ∷ ks)) (but test ks) nodes (λ n there. skip n (elim (either_way (same_key n.key k)) [
+          let a : times (but test (k ∷ ks)) nodes ≡ times (but test ks) nodes =
+          times_same (but test (k ∷ ks)) (but test ks) nodes (λ n there. skip n (elim (either_way (same_key n.key k)) [
             | inl e ↦ let both : Some n ≡ None = sym (at_key n there) ∙ (ap (node_at t) (same_key-true n.key k e) ∙ is) in cc
             | inr e ↦ e
           ])) in
@@ -216,7 +225,8 @@ module _ (t : Table Node) (nodes : List Node) (distinct : are_distinct nodes ≡
           let other : list_any (same_key m.key) ks ≡ false = ap (λ (j : NodeKey). list_any (same_key j) ks) key ∙ first_once k ks once in
           let a = times_differ (but test (k ∷ ks)) (but test ks) nodes m distinct (fewer m (inl refl)) (λ n there differ. skip n
           (same_key-swap n.key k ∙ (ap (λ (j : NodeKey). same_key j n.key) (sym key) ∙ differ))) in
-          let b : bit (but test (k ∷ ks) m) ≡ 0 = ap bit (ap (λ (c : Bool). test m && not (c || list_any (same_key m.key) ks)) own ∙ never (test m)) in
+          let b : bit (but test (k ∷ ks) m) ≡ 0 =
+          ap bit (ap (λ (c : Bool). test m && not (c || list_any (same_key m.key) ks)) own ∙ never (test m)) in
           let c : bit (but test ks m) ≡ bit (test m) = ap bit (ap (λ (c : Bool). test m && not c) other ∙ always (test m)) in
           let d = times_more test m (nodes_with t ks) in
           let e = on (λ n there. fewer n (inr there)) in

@@ -25,7 +25,8 @@ of_end-fits call told None each = refl
 of_end-fits call told (Some e) each = each e
 
 -- or of buffers
-of_buffers-fits : (call : Call) (told : Buffers → Reply) (o : Option Buffers) → needs_buffers call ≡ true → ((b : Buffers) → fits_call call (told b) ≡ true) → fits_call call (option_map_or told o Reply.Pending) ≡ true
+of_buffers-fits : (call : Call) (told : Buffers → Reply) (o : Option Buffers) → needs_buffers call ≡ true →
+    ((b : Buffers) → fits_call call (told b) ≡ true) → fits_call call (option_map_or told o Reply.Pending) ≡ true
 of_buffers-fits call told None waits each = waits
 of_buffers-fits call told (Some b) waits each = each b
 
@@ -35,21 +36,27 @@ collected-fits r [] = refl
 collected-fits r (Parcel.Handle buffer strength ∷ more) = refl
 collected-fits r (Parcel.End key ∷ more) = by (r.end_of key)
   where
-    by : (o : Option OpenEnd) → fits_call Call.Collect (option_map_or (λ (e : OpenEnd). Reply.Collected key e.kind e.collection) o Reply.Empty) ≡ true
+    by : (o : Option OpenEnd) → fits_call Call.Collect (option_map_or (λ (e : OpenEnd). Reply.Collected key e.kind e.collection) o
+        Reply.Empty) ≡ true
     by None = refl
     by (Some e) = refl
 
 -- the effect of a call tells of nothing else
 effect-fits : (r : Readings) (client : ℕ) (new : NodeKey) (call : Call) → fits_call call (effect r client new call) ≡ true
-effect-fits r client new (Call.Duplicate key) = of_end-fits (Call.Duplicate key) (λ e. Reply.Token new e.collection) (r.end_of key) (λ e. refl)
-effect-fits r client new (Call.AttachToken key) = of_end-fits (Call.AttachToken key) (λ e. Reply.Token new e.collection) (r.end_of key) (λ e. refl)
+effect-fits r client new (Call.Duplicate key) =
+    of_end-fits (Call.Duplicate key) (λ e. Reply.Token new e.collection) (r.end_of key) (λ e. refl)
+effect-fits r client new (Call.AttachToken key) =
+    of_end-fits (Call.AttachToken key) (λ e. Reply.Token new e.collection) (r.end_of key) (λ e. refl)
 effect-fits r client new Call.Collect = collected-fits r (r.waiting client)
 effect-fits r client new (Call.Check key) =
-    of_end-fits (Call.Check key) (λ e. option_map_or (λ (b : Buffers). Reply.Allocated b.count b.size) e.buffers Reply.Pending) (r.end_of key)
+    of_end-fits (Call.Check key) (λ e. option_map_or (λ (b : Buffers). Reply.Allocated b.count b.size) e.buffers Reply.Pending)
+    (r.end_of key)
     (λ e. of_buffers-fits (Call.Check key) (λ b. Reply.Allocated b.count b.size) e.buffers refl (λ b. refl))
 effect-fits r client new (Call.Take key) =
-    of_end-fits (Call.Take key) (λ e. option_map_or (λ (b : Buffers). Reply.Taken e.collection (strength_of e.weak) (set_of e.to_open)) e.buffers Reply.Pending) (r.end_of key)
-    (λ e. of_buffers-fits (Call.Take key) (λ b. Reply.Taken e.collection (strength_of e.weak) (set_of e.to_open)) e.buffers refl (λ b. refl))
+    of_end-fits (Call.Take key) (λ e. option_map_or (λ (b : Buffers). Reply.Taken e.collection (strength_of e.weak) (set_of e.to_open))
+    e.buffers Reply.Pending) (r.end_of key)
+    (λ e. of_buffers-fits (Call.Take key) (λ b. Reply.Taken e.collection (strength_of e.weak) (set_of e.to_open)) e.buffers refl (λ b.
+    refl))
 effect-fits r client new _ = refl
 
 -- ---- the lines
@@ -72,19 +79,23 @@ refused-fits call b refusal = refusal-fits call (refused_if b refusal) (rejects_
 
 -- a Close is answered Done
 closing-fits : (call : Call) → Fits call (closing call)
-closing-fits (Call.Close key) reply is = let same : Reply.Done ≡ reply = cc in subst (λ (x : Reply). fits_call (Call.Close key) x ≡ true) same refl
+closing-fits (Call.Close key) reply is =
+    let same : Reply.Done ≡ reply = cc in subst (λ (x : Reply). fits_call (Call.Close key) x ≡ true) same refl
 closing-fits _ reply is = cc
 
 -- who is told of a failure named a node
-closed-fits : (call : Call) (fault : Option Fault) → is_some (key_of call) ≡ true → Fits call (option_map (λ (f : Fault). Reply.PeerClosed f.cause f.origin) fault)
+closed-fits : (call : Call) (fault : Option Fault) → is_some (key_of call) ≡ true →
+    Fits call (option_map (λ (f : Fault). Reply.PeerClosed f.cause f.origin) fault)
 closed-fits call None named reply is = cc
-closed-fits call (Some f) named reply is = let same : Reply.PeerClosed f.cause f.origin ≡ reply = cc in subst (λ (x : Reply). fits_call call x ≡ true) same named
+closed-fits call (Some f) named reply is =
+    let same : Reply.PeerClosed f.cause f.origin ≡ reply = cc in subst (λ (x : Reply). fits_call call x ≡ true) same named
 
 peer-fits : (r : Readings) (call : Call) → Fits call (peer_closed r call)
 peer-fits r call reply is = by (key_of call) refl
   where
     at : (o : Option OpenEnd) → is_some (key_of call) ≡ true →
-        option_and_then (λ (e : OpenEnd). option_map (λ (f : Fault). Reply.PeerClosed f.cause f.origin) e.fault) o ≡ Some reply → fits_call call reply ≡ true
+        option_and_then (λ (e : OpenEnd). option_map (λ (f : Fault). Reply.PeerClosed f.cause f.origin) e.fault) o ≡ Some reply →
+        fits_call call reply ≡ true
     at None named e = cc
     at (Some end) named e = closed-fits call end.fault named reply e
 
@@ -94,7 +105,8 @@ peer-fits r call reply is = by (key_of call) refl
 
 -- so did who misused one
 misused-fits : (call : Call) (b : Bool) (m : Misuse) → is_some (key_of call) ≡ true → Fits call (misused_if b m)
-misused-fits call true m named reply is = let same : Reply.Misused m ≡ reply = cc in subst (λ (x : Reply). fits_call call x ≡ true) same named
+misused-fits call true m named reply is =
+    let same : Reply.Misused m ≡ reply = cc in subst (λ (x : Reply). fits_call call x ≡ true) same named
 misused-fits call false m named reply is = cc
 
 misuse_of-fits : (e : OpenEnd) (call : Call) → Fits call (misuse_of e call)
@@ -128,18 +140,21 @@ AllFit call [] = Unit {0}
 AllFit call (line ∷ lines) = Fits call line × AllFit call lines
 
 -- one line before others
-or-fits : (call : Call) (line : Option Reply) (lines : List (Option Reply)) (last : Reply) → Fits call line → fits_call call (unwrap_or (first_some lines) last) ≡ true →
+or-fits : (call : Call) (line : Option Reply) (lines : List (Option Reply)) (last : Reply) → Fits call line →
+    fits_call call (unwrap_or (first_some lines) last) ≡ true →
     fits_call call (unwrap_or (first_some (line ∷ lines)) last) ≡ true
 or-fits call None lines last fits then = then
 or-fits call (Some reply) lines last fits then = fits reply refl
 
 -- so does the first that answers, or else the last answer
-first-fits : (call : Call) (lines : List (Option Reply)) (last : Reply) → AllFit call lines → fits_call call last ≡ true → fits_call call (unwrap_or (first_some lines) last) ≡ true
+first-fits : (call : Call) (lines : List (Option Reply)) (last : Reply) → AllFit call lines → fits_call call last ≡ true →
+    fits_call call (unwrap_or (first_some lines) last) ≡ true
 first-fits call [] last all fits = fits
 first-fits call (line ∷ lines) last all fits = or-fits call line lines last all.0 (first-fits call lines last all.1 fits)
 
 -- so the answer fits the call
-answer-fits : (limits : Bound) (r : Readings) (client : ℕ) (new : NodeKey) (call : Call) → fits_call call (answer limits r client new call) ≡ true
+answer-fits : (limits : Bound) (r : Readings) (client : ℕ) (new : NodeKey) (call : Call) →
+    fits_call call (answer limits r client new call) ≡ true
 answer-fits limits r client new call = first-fits call (answers_first limits r client call) (effect r client new call) (
   refusal-fits call (unknown_client r client call) (unknown_rejects r client call),
   (
@@ -183,5 +198,6 @@ answer-fits limits r client new call = first-fits call (answers_first limits r c
     (effect-fits r client new call)
 
 -- and so does each reply
-pub reply-fits : (limits : Bound) (r : Readings) (client : ℕ) (new : NodeKey) (call : Call) (reply : Reply) → reply ≡ answer limits r client new call → fits_call call reply ≡ true
+pub reply-fits : (limits : Bound) (r : Readings) (client : ℕ) (new : NodeKey) (call : Call) (reply : Reply) →
+    reply ≡ answer limits r client new call → fits_call call reply ≡ true
 reply-fits limits r client new call reply told = ap (fits_call call) told ∙ answer-fits limits r client new call

@@ -26,12 +26,14 @@ first_some-append (None ∷ os) ps = first_some-append os ps
 -- the lines of what the call names
 abbrev pub of_named : Readings → ℕ → Call → List (Option Reply)
 of_named r client call =
-    no_end r client call ∷ end_in_transit r call ∷ closing call ∷ peer_closed r call ∷ wrong_kind r call ∷ misuse r call ∷ no_handle r client call ∷ []
+    no_end r client call ∷ end_in_transit r call ∷ closing call ∷ peer_closed r call ∷ wrong_kind r call ∷ misuse r call ∷ no_handle r
+    client call ∷ []
 
 -- the lines stand in this order
 pub lines_in_order : (limits : Bound) (r : Readings) (client : ℕ) (call : Call) →
     first_some (answers_first limits r client call)
-    ≡ option_or (option_or (option_or (unknown_client r client call) (shut_client r client call)) (first_some (of_named r client call))) (first_some (limits_met limits r call))
+    ≡ option_or (option_or (option_or (unknown_client r client call) (shut_client r client call)) (first_some (of_named r client call)))
+    (first_some (limits_met limits r call))
 lines_in_order limits r client call = by (unknown_client r client call) (shut_client r client call)
   where
     by : (a b : Option Reply) → first_some (a ∷ b ∷ (of_named r client call ++ limits_met limits r call))
@@ -41,11 +43,13 @@ lines_in_order limits r client call = by (unknown_client r client call) (shut_cl
     by None None = first_some-append (of_named r client call) (limits_met limits r call)
 
 -- the limits that a call meets are those that its traits say
-pub same_limits : (limits : Bound) (r : Readings) (call : Call) (t : Traits) → Describes call t → limits_met limits r call ≡ limits_of limits r t
+pub same_limits : (limits : Bound) (r : Readings) (call : Call) (t : Traits) → Describes call t →
+    limits_met limits r call ≡ limits_of limits r t
 same_limits limits r call t law = rw (law.node, law.collection, law.tracker, law.handles limits r) refl
 
 -- the end that the call names is that of the node that its traits name
-pub end_of_named : (s : State) (call : Call) (on : Named) (there : Option Node) → key_of call ≡ key_in on → there ≡ option_and_then (node_at s.forest) (key_in on) →
+pub end_of_named : (s : State) (call : Call) (on : Named) (there : Option Node) → key_of call ≡ key_in on →
+    there ≡ option_and_then (node_at s.forest) (key_in on) →
     end_named (readings_of s) call ≡ option_and_then (open_end_in s) there
 end_of_named s call on there key is = rw (key, is) (by (key_in on))
   where

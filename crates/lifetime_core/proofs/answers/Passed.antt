@@ -18,7 +18,8 @@ is_closed (Reply.PeerClosed cause origin) = true
 is_closed _ = false
 
 -- an end that answers nothing against the call is there
-end_is : (o : Option OpenEnd) (client : ℕ) → refused_if (option_map_or (is_anothers client) o true) Refusal.NoSuchEnd ≡ None → (e : OpenEnd) × (o ≡ Some e)
+end_is : (o : Option OpenEnd) (client : ℕ) → refused_if (option_map_or (is_anothers client) o true) Refusal.NoSuchEnd ≡ None →
+    (e : OpenEnd) × (o ≡ Some e)
 end_is None client none = cc
 end_is (Some e) client none = (e, refl)
 
@@ -61,9 +62,12 @@ pub passed : (limits : Bound) (r : Readings) (client : ℕ) (new : NodeKey) (cal
 passed limits r client new call reply key told stands is =
     let e : Reply = effect r client new call in
     let last : List (Option Reply) = wrong_kind r call ∷ misuse r call ∷ no_handle r client call ∷ limits_met limits r call in
-    let a = strip (unknown_client r client call) (shut_client r client call ∷ no_end r client call ∷ end_in_transit r call ∷ closing call ∷ peer_closed r call ∷ last) e reply (unknown_rejects r client call) stands told in
-    let b = strip (shut_client r client call) (no_end r client call ∷ end_in_transit r call ∷ closing call ∷ peer_closed r call ∷ last) e reply (shut_rejects r client call) stands a.1 in
-    let c = strip (no_end r client call) (end_in_transit r call ∷ closing call ∷ peer_closed r call ∷ last) e reply (no_end_rejects r client call) stands b.1 in
+    let a = strip (unknown_client r client call) (shut_client r client call ∷ no_end r client call ∷ end_in_transit r call ∷ closing
+    call ∷ peer_closed r call ∷ last) e reply (unknown_rejects r client call) stands told in
+    let b = strip (shut_client r client call) (no_end r client call ∷ end_in_transit r call ∷ closing call ∷ peer_closed r call ∷ last) e
+    reply (shut_rejects r client call) stands a.1 in
+    let c = strip (no_end r client call) (end_in_transit r call ∷ closing call ∷ peer_closed r call ∷ last) e reply
+    (no_end_rejects r client call) stands b.1 in
     let d = strip (end_in_transit r call) (closing call ∷ peer_closed r call ∷ last) e reply (in_transit_rejects r call) stands c.1 in
     let there = end_is (r.end_of key) client (rw is at c.0) in
     record {

@@ -57,7 +57,8 @@ put_from new (d ∷ cs) c there =
     at_behind h = h
 
 -- another is found as before
-pub put_other : (new : Collection) (cs : List Collection) (id : ℕ) → (new.id == id) ≡ false → find (λ (c : Collection). c.id == id) (put new cs) ≡ find (λ (c : Collection). c.id == id) cs
+pub put_other : (new : Collection) (cs : List Collection) (id : ℕ) → (new.id == id) ≡ false →
+    find (λ (c : Collection). c.id == id) (put new cs) ≡ find (λ (c : Collection). c.id == id) cs
 put_other new [] id other = rw other refl
 put_other new (c ∷ cs) id other =
     elim (either_way (c.id == new.id)) [
@@ -74,7 +75,8 @@ weaken P Q more [] all = tt
 weaken P Q more (n ∷ ns) all = (more n all.0, weaken P Q more ns all.1)
 
 -- what holds of the new id and of all others
-put_each : (P : ℕ → Type 0) (new : Collection) (cs : List Collection) → P new.id → AllByRecursion P (ids cs) → AllByRecursion P (ids (put new cs))
+put_each : (P : ℕ → Type 0) (new : Collection) (cs : List Collection) → P new.id → AllByRecursion P (ids cs) →
+    AllByRecursion P (ids (put new cs))
 put_each P new [] here all = (here, tt)
 put_each P new (c ∷ cs) here all =
     elim (either_way (c.id == new.id)) [
@@ -99,16 +101,19 @@ put_rises new (c ∷ cs) rise =
     ]
   where
     less_by : (c.id == new.id) ≡ false → nat_lt new.id c.id ≡ false → c.id < new.id
-    less_by apart behind = let differ : c.id ≢ new.id = eqb-false c.id new.id apart in let order : c.id ≤ new.id = ltb-false new.id c.id behind in omega arith
+    less_by apart behind = let differ : c.id ≢ new.id =
+        eqb-false c.id new.id apart in let order : c.id ≤ new.id = ltb-false new.id c.id behind in omega arith
 
 -- a later collection has another id
 later_apart : (c : Collection) (cs : List Collection) (d : Collection) → AllByRecursion (λ m. c.id < m) (ids cs) → In d cs → c.id < d.id
 later_apart c cs d all there = each_id (λ m. c.id < m) cs d all there
 
 -- a collection is found by its id
-pub found_by_id : (cs : List Collection) (c : Collection) (id : ℕ) → Rise (ids cs) → In c cs → c.id ≡ id → find (λ (x : Collection). x.id == id) cs ≡ Some c
+pub found_by_id : (cs : List Collection) (c : Collection) (id : ℕ) → Rise (ids cs) → In c cs → c.id ≡ id →
+    find (λ (x : Collection). x.id == id) cs ≡ Some c
 found_by_id [] c id rise there is = absurd there
-found_by_id (d ∷ cs) c id rise (inl here) is = rw (eq-eqb d.id id (ap (λ (x : Collection). x.id) (sym here) ∙ is)) (ap (λ (x : Collection). Some x) (sym here))
+found_by_id (d ∷ cs) c id rise (inl here) is =
+    rw (eq-eqb d.id id (ap (λ (x : Collection). x.id) (sym here) ∙ is)) (ap (λ (x : Collection). Some x) (sym here))
 found_by_id (d ∷ cs) c id rise (inr on) is =
     let less : d.id < c.id = later_apart d cs c rise.0 on in
     let apart : (d.id == id) ≡ false = false_if (d.id == id) (λ same. let equal : d.id ≡ id = eqb-true d.id id same in omega arith) in
@@ -124,7 +129,8 @@ stays c rest tidy = by (tidied c) tidy.tidied tidy.kept
 -- where all are tidy, nothing is left out
 pub all_tidy : (cs : List Collection) → ((c : Collection) → In c cs → IsTidy c) → without_over cs ≡ cs
 all_tidy [] tidy = refl
-all_tidy (c ∷ cs) tidy = stays c (without_over cs) (tidy c (inl refl)) ∙ ap (λ (rest : List Collection). c ∷ rest) (all_tidy cs (λ d on. tidy d (inr on)))
+all_tidy (c ∷ cs) tidy =
+    stays c (without_over cs) (tidy c (inl refl)) ∙ ap (λ (rest : List Collection). c ∷ rest) (all_tidy cs (λ d on. tidy d (inr on)))
 
 -- where all others are tidy, it is enough to look at one
 pub others_tidy : (id : ℕ) (cs : List Collection) → Rise (ids cs) → ((c : Collection) → In c cs → (c.id == id) ≡ false → IsTidy c) →
@@ -138,7 +144,8 @@ others_tidy id (c ∷ cs) rise tidy = by (c.id == id) refl (others_tidy id cs ri
         let less : c.id < d.id = later_apart c cs d rise.0 on in
         absurd (omega arith))))
 
-    pick : (left : Bool) (t : Collection) (rest : List Collection) → rest ≡ cs → (if left then cs else t ∷ cs) ≡ (if not left then t ∷ rest else rest)
+    pick : (left : Bool) (t : Collection) (rest : List Collection) → rest ≡ cs →
+        (if left then cs else t ∷ cs) ≡ (if not left then t ∷ rest else rest)
     pick true t rest same = sym same
     pick false t rest same = ap (λ (ds : List Collection). t ∷ ds) (sym same)
 

@@ -33,7 +33,8 @@ same_beside_refl pool ours marks = record {
 }
 
 -- and are so after more marks that leave them so
-same_beside_on : (pool ours : ℕ) (earlier between later : Timeline) → SameBeside pool ours between later → SameBeside pool ours earlier between → SameBeside pool ours earlier later
+same_beside_on : (pool ours : ℕ) (earlier between later : Timeline) → SameBeside pool ours between later →
+    SameBeside pool ours earlier between → SameBeside pool ours earlier later
 same_beside_on pool ours earlier between later s t = record {
   nodes = λ theirs other. s.nodes theirs other ∙ t.nodes theirs other;
   buffers = λ theirs other. s.buffers theirs other ∙ t.buffers theirs other;
@@ -43,7 +44,8 @@ same_beside_on pool ours earlier between later s t = record {
 }
 
 -- one more mark at a node of the collection
-pub same_beside_mark : (pool ours : ℕ) (marks : Timeline) (mark : Mark) → IsWhole marks → IsIn marks ours mark → SameBeside pool ours marks (mark ∷ marks)
+pub same_beside_mark : (pool ours : ℕ) (marks : Timeline) (mark : Mark) → IsWhole marks → IsIn marks ours mark →
+    SameBeside pool ours marks (mark ∷ marks)
 same_beside_mark pool ours marks mark w at = record {
   nodes = nodes_apart marks ours w mark at;
   buffers = buffers_apart marks ours w mark at;
@@ -53,7 +55,8 @@ same_beside_mark pool ours marks mark w at = record {
 }
 
 -- a mark that the collection forces is at one of its nodes
-forced_in : (pool ours : ℕ) (marks : Timeline) (mark : Mark) → IsWhole marks → next_forced pool ours marks ≡ Some mark → IsIn marks ours mark
+forced_in : (pool ours : ℕ) (marks : Timeline) (mark : Mark) → IsWhole marks → next_forced pool ours marks ≡ Some mark →
+    IsIn marks ours mark
 forced_in pool ours marks mark w e = by_why mark (forced_why pool ours marks mark e)
   where
     by_why : (mark : Mark) → Why pool ours marks mark → IsIn marks ours mark
@@ -63,13 +66,18 @@ forced_in pool ours marks mark w e = by_why mark (forced_why pool ours marks mar
     by_why _ (Logical b on its child free waits attached) = of_ours marks ours w b on its
 
 -- so all that it forces leaves the others as they were
-settles_beside : (pool : ℕ) (limits : Bound) (ours : ℕ) (marks later : Timeline) → Grows pool limits [] marks → Settles pool ours marks later → SameBeside pool ours marks later
+settles_beside : (pool : ℕ) (limits : Bound) (ours : ℕ) (marks later : Timeline) → Grows pool limits [] marks →
+    Settles pool ours marks later → SameBeside pool ours marks later
 settles_beside pool limits ours marks _ grown (Rests _ none) = same_beside_refl pool ours marks
 settles_beside pool limits ours marks _ grown (Forces _ later mark some next) =
     let w : IsWhole marks = whole pool limits marks grown in
-    same_beside_on pool ours marks (mark ∷ marks) later (settles_beside pool limits ours (mark ∷ marks) later (grows_forced pool limits [] ours marks mark grown some) next)
+    same_beside_on pool ours marks (mark ∷ marks) later (settles_beside pool limits ours (mark ∷ marks) later
+    (grows_forced pool limits [] ours marks mark grown some) next)
     (same_beside_mark pool ours marks mark w (forced_in pool ours marks mark w some))
 
 -- and what the marks are settled to does
-pub settled_beside : (pool : ℕ) (limits : Bound) (ours : ℕ) (marks : Timeline) → Grows pool limits [] marks → SameBeside pool ours marks (settled pool ours marks)
-settled_beside pool limits ours marks grown = settles_beside pool limits ours marks (settled pool ours marks) grown (settled_rests pool ours marks (whole pool limits marks grown).sound).1
+pub settled_beside : (pool : ℕ) (limits : Bound) (ours : ℕ) (marks : Timeline) → Grows pool limits [] marks →
+    SameBeside pool ours marks (settled pool ours marks)
+settled_beside pool limits ours marks grown =
+    settles_beside pool limits ours marks (settled pool ours marks) grown (settled_rests pool ours marks
+    (whole pool limits marks grown).sound).1

@@ -55,7 +55,8 @@ id_root bs n on =
 -- and a root has its id among them
 pub root_id : (bs : List Birth) (b : Birth) → In b bs → b.parent ≡ None → In b.collection (ids bs)
 root_id bs b on root =
-    In-map-back (λ (c : Birth). c.collection) (filter is_root_birth (reverse bs)) b (In-filter-back is_root_birth (reverse bs) b (In-reverse-back bs b on) (ap is_none root))
+    In-map-back (λ (c : Birth). c.collection) (filter is_root_birth (reverse bs)) b (In-filter-back is_root_birth (reverse bs) b
+    (In-reverse-back bs b on) (ap is_none root))
 
 -- so has each node its collection's
 pub node_id : (marks : Timeline) → IsWhole marks → (b : Birth) → In b (births marks) → In b.collection (ids (births marks))
@@ -66,7 +67,8 @@ node_id marks w b on =
 -- ids rise
 pub ids_rise : (pool : ℕ) (limits : Bound) (marks : Timeline) → Grows pool limits [] marks → IsRising (ids (births marks))
 ids_rise pool limits _ Stays = tt
-ids_rise pool limits _ (Answers before client reply call g answer) = from (ids_rise pool limits before g) (birth_at (events before + 1) (Called client reply call)) refl
+ids_rise pool limits _ (Answers before client reply call g answer) =
+    from (ids_rise pool limits before g) (birth_at (events before + 1) (Called client reply call)) refl
   where
     early : (n : ℕ) → In n (ids (births before)) → n ≤ events before
     early n on =
@@ -75,12 +77,14 @@ ids_rise pool limits _ (Answers before client reply call g answer) = from (ids_r
         let y : r.0.collection ≡ n = r.3 in
         omega (arith, x, y)
 
-    from : IsRising (ids (births before)) → (o : Option Birth) → birth_at (events before + 1) (Called client reply call) ≡ o → IsRising (ids (cons_option o (births before)))
+    from : IsRising (ids (births before)) → (o : Option Birth) → birth_at (events before + 1) (Called client reply call) ≡ o →
+        IsRising (ids (cons_option o (births before)))
     from rise None e = rise
     from rise (Some b) e = elim (comes limits before client (events before + 1) reply call b answer e).from [
       | inl r ↦
           let last : b.collection ≡ events before + 1 = r.1 in
-          rw (ids-root b (births before) r.0) (rising-push (ids (births before)) b.collection rise (λ n on. let x : n ≤ events before = early n on in omega (arith, last, x)))
+          rw (ids-root b (births before) r.0) (rising-push (ids (births before)) b.collection rise (λ n on. let x : n ≤ events before =
+          early n on in omega (arith, last, x)))
       | inr r ↦ rw (ids-child b (births before) r.0.node r.2) rise
     ]
 ids_rise pool limits _ (Loses before origin cause g born) = ids_rise pool limits before g

@@ -41,49 +41,57 @@ other_way a b h = false_if (b == a) (λ e. both_ways (a == b) (eq-eqb a b (sym (
 
 module _ (marks : Timeline) (ours : ℕ) (w : IsWhole marks) where
   -- how the nodes of another stand
-  pub members_apart : (mark : Mark) → IsIn marks ours mark → (theirs : ℕ) → (ours == theirs) ≡ false → members (mark ∷ marks) theirs ≡ members marks theirs
+  pub members_apart : (mark : Mark) → IsIn marks ours mark → (theirs : ℕ) → (ours == theirs) ≡ false →
+      members (mark ∷ marks) theirs ≡ members marks theirs
   members_apart (Called client reply call) at theirs other = absurd at
   members_apart (Loss origin cause) at theirs other = members_loss marks ours theirs w other origin cause at
   members_apart (Allocated head) at theirs other = members_allocation marks ours theirs w other head at
   members_apart (Ended top) at theirs other = members_end marks ours theirs w other top at
 
   -- what another was given
-  pub buffers_apart : (mark : Mark) → IsIn marks ours mark → (theirs : ℕ) → (ours == theirs) ≡ false → buffers_of (mark ∷ marks) theirs ≡ buffers_of marks theirs
+  pub buffers_apart : (mark : Mark) → IsIn marks ours mark → (theirs : ℕ) → (ours == theirs) ≡ false →
+      buffers_of (mark ∷ marks) theirs ≡ buffers_of marks theirs
   buffers_apart (Called client reply call) at theirs other = absurd at
   buffers_apart (Loss origin cause) at theirs other = refl
   buffers_apart (Allocated head) at theirs other = buffers_allocation marks ours theirs w other head at
   buffers_apart (Ended top) at theirs other = refl
 
   -- the handles
-  pub open_apart : (mark : Mark) → IsIn marks ours mark → (buffer : BufferName) (strength : Strength) → open_total (mark ∷ marks) buffer strength ≡ open_total marks buffer strength
+  pub open_apart : (mark : Mark) → IsIn marks ours mark → (buffer : BufferName) (strength : Strength) →
+      open_total (mark ∷ marks) buffer strength ≡ open_total marks buffer strength
   open_apart (Called client reply call) at buffer strength = absurd at
   open_apart (Loss origin cause) at buffer strength = refl
   open_apart (Allocated head) at buffer strength = refl
   open_apart (Ended top) at buffer strength = refl
 
   -- which of its buffers are home
-  pub home_apart : (mark : Mark) → IsIn marks ours mark → (buffer : BufferName) → (ours == buffer.collection) ≡ false → home (mark ∷ marks) buffer ≡ home marks buffer
+  pub home_apart : (mark : Mark) → IsIn marks ours mark → (buffer : BufferName) → (ours == buffer.collection) ≡ false →
+      home (mark ∷ marks) buffer ≡ home marks buffer
   home_apart mark at buffer other =
       λ i. (is_some (buffers_apart mark at buffer.collection other i)
       && is_doomed (open_apart mark at buffer Strength.Strong i) (some_strong_live (members_apart mark at buffer.collection other i)))
       && open_apart mark at buffer Strength.Weak i == 0
 
   -- its nodes
-  pub nodes_apart : (mark : Mark) → IsIn marks ours mark → (theirs : ℕ) → (ours == theirs) ≡ false → nodes_after (mark ∷ marks) theirs ≡ nodes_after marks theirs
+  pub nodes_apart : (mark : Mark) → IsIn marks ours mark → (theirs : ℕ) → (ours == theirs) ≡ false →
+      nodes_after (mark ∷ marks) theirs ≡ nodes_after marks theirs
   nodes_apart (Called client reply call) at theirs other = absurd at
   nodes_apart (Loss origin cause) at theirs other =
       map-In (node_after (Loss origin cause ∷ marks)) (node_after marks) (births_in marks theirs)
       (λ b on.
       let t = birth_of_collection marks theirs b on in
       let same : member (Loss origin cause ∷ marks) b ≡ member marks b =
-      map-at (member (Loss origin cause ∷ marks)) (member marks) (births_in marks theirs) (members_loss marks ours theirs w other origin cause at) b on in
-      let fails : fault (Loss origin cause ∷ marks) b.node ≡ fault marks b.node = fault_loss marks ours theirs w other origin cause at b.node (of_ours marks theirs w b t.0 t.1) in
+      map-at (member (Loss origin cause ∷ marks)) (member marks) (births_in marks theirs) (members_loss marks ours theirs w other origin
+      cause at) b on in
+      let fails : fault (Loss origin cause ∷ marks) b.node ≡ fault marks b.node =
+      fault_loss marks ours theirs w other origin cause at b.node (of_ours marks theirs w b t.0 t.1) in
       λ i. record (node_after marks b) { gone = (same i).gone; fault = fails i })
   nodes_apart (Allocated head) at theirs other =
       map-In (node_after (Allocated head ∷ marks)) (node_after marks) (births_in marks theirs)
       (λ b on.
       let same : member (Allocated head ∷ marks) b ≡ member marks b =
-      map-at (member (Allocated head ∷ marks)) (member marks) (births_in marks theirs) (members_allocation marks ours theirs w other head at) b on in
+      map-at (member (Allocated head ∷ marks)) (member marks) (births_in marks theirs) (members_allocation marks ours theirs w other head
+      at) b on in
       λ i. record (node_after marks b) { allocated = (same i).allocated })
   nodes_apart (Ended top) at theirs other =
       map-In (node_after (Ended top ∷ marks)) (node_after marks) (births_in marks theirs)
@@ -93,7 +101,8 @@ module _ (marks : Timeline) (ours : ℕ) (w : IsWhole marks) where
       λ i. record (node_after marks b) { gone = (same i).gone })
 
   -- no buffer that is laid out is of another
-  pub laid_in : (pool : ℕ) (out : List Interval) (mark : Mark) → IsIn marks ours mark → (h : HeldPages) → In h (layout_at pool marks out mark) → is_beside ours h ≡ false
+  pub laid_in : (pool : ℕ) (out : List Interval) (mark : Mark) → IsIn marks ours mark → (h : HeldPages) →
+      In h (layout_at pool marks out mark) → is_beside ours h ≡ false
   laid_in pool out (Called client reply call) at h on = absurd at
   laid_in pool out (Loss origin cause) at h on = absurd on
   laid_in pool out (Ended top) at h on = absurd on
@@ -106,7 +115,8 @@ module _ (marks : Timeline) (ours : ℕ) (w : IsWhole marks) where
       ]
 
   -- the pages of the others
-  pub beside_apart : (pool : ℕ) (mark : Mark) → IsIn marks ours mark → filter (is_beside ours) (held pool (mark ∷ marks)) ≡ filter (is_beside ours) (held pool marks)
+  pub beside_apart : (pool : ℕ) (mark : Mark) → IsIn marks ours mark →
+      filter (is_beside ours) (held pool (mark ∷ marks)) ≡ filter (is_beside ours) (held pool marks)
   beside_apart pool mark at =
       let out : List Interval = map (λ (h : HeldPages). h.pages) (held pool marks) in
       let laid : List HeldPages = layout_at pool marks out mark in
@@ -114,9 +124,11 @@ module _ (marks : Timeline) (ours : ℕ) (w : IsWhole marks) where
       let after : HeldPages → Bool = λ h. not (home (mark ∷ marks) h.buffer) in
       let theirs : List HeldPages = filter (is_beside ours) (placed pool marks) in
       filter-swap (is_beside ours) after (laid ++ placed pool marks)
-      ∙ (ap (filter after) (filter-append (is_beside ours) laid (placed pool marks) ∙ ap (λ (l : List HeldPages). l ++ theirs) (filter-none (is_beside ours) laid (laid_in pool out mark at)))
+      ∙ (ap (filter after) (filter-append (is_beside ours) laid (placed pool marks)
+      ∙ ap (λ (l : List HeldPages). l ++ theirs) (filter-none (is_beside ours) laid (laid_in pool out mark at)))
       ∙ (filter-In after before theirs (λ h on.
-      ap not (home_apart mark at h.buffer (other_way h.buffer.collection ours (differs (h.buffer.collection == ours) (In-filter (is_beside ours) (placed pool marks) h on).1))))
+      ap not (home_apart mark at h.buffer (other_way h.buffer.collection ours (differs (h.buffer.collection == ours)
+      (In-filter (is_beside ours) (placed pool marks) h on).1))))
       ∙ filter-swap before (is_beside ours) (placed pool marks)))
     where
       differs : (b : Bool) → not b ≡ true → b ≡ false
@@ -124,7 +136,8 @@ module _ (marks : Timeline) (ours : ℕ) (w : IsWhole marks) where
       differs false h = refl
 
   -- the pages of another
-  pub held_apart : (pool : ℕ) (mark : Mark) → IsIn marks ours mark → (theirs : ℕ) → (ours == theirs) ≡ false → held_after pool (mark ∷ marks) theirs ≡ held_after pool marks theirs
+  pub held_apart : (pool : ℕ) (mark : Mark) → IsIn marks ours mark → (theirs : ℕ) → (ours == theirs) ≡ false →
+      held_after pool (mark ∷ marks) theirs ≡ held_after pool marks theirs
   held_apart pool mark at theirs other =
       filter-wider of_theirs (is_beside ours) (held pool (mark ∷ marks)) besides
       ∙ (ap (filter of_theirs) (beside_apart pool mark at) ∙ sym (filter-wider of_theirs (is_beside ours) (held pool marks) besides))

@@ -20,7 +20,8 @@ rising-push [] m r below = (λ k on. absurd on, tt)
 rising-push (n ∷ ns) m r below = (
   λ k on. elim (In-append ns (m ∷ []) k on) [
     | inl early ↦ r.0 k early
-    | inr last ↦ elim last [ inl is ↦ let x : k ≡ m = is in let y : n < m = below n (inl refl) in omega (arith, x, y) | inr none ↦ absurd none ]
+    | inr last ↦
+        elim last [ inl is ↦ let x : k ≡ m = is in let y : n < m = below n (inl refl) in omega (arith, x, y) | inr none ↦ absurd none ]
   ],
   rising-push ns m r.1 (λ k on. below k (inr on)),
 )
@@ -40,7 +41,8 @@ not_below a b h = false_if (nat_lt a b) (λ e. let is : a < b = ltb-true a b e i
 -- ---- filters and maps
 
 -- what is left of what a map makes of those that are asked for
-pub filter-map_asked : {A B : Type 0} (test : B → Bool) (f : A → B) (asked : A → Bool) (xs : List A) → filter test (map f (filter asked xs)) ≡ map f (filter (λ x. asked x && test (f x)) xs)
+pub filter-map_asked : {A B : Type 0} (test : B → Bool) (f : A → B) (asked : A → Bool) (xs : List A) →
+    filter test (map f (filter asked xs)) ≡ map f (filter (λ x. asked x && test (f x)) xs)
 filter-map_asked test f asked [] = refl
 filter-map_asked test f asked (x ∷ xs) =
     elim (either_way (asked x)) [
@@ -57,7 +59,8 @@ map-stays f [] same = refl
 map-stays f (x ∷ xs) same = λ i. same x (inl refl) i ∷ map-stays f xs (λ y on. same y (inr on)) i
 
 -- maps of those that are asked for agree where what is asked and what is made do
-pub map-asked : {A B : Type 0} (f g : A → B) (p q : A → Bool) (xs : List A) → ((x : A) → In x xs → p x ≡ q x) → ((x : A) → In x xs → q x ≡ true → f x ≡ g x) → map f (filter p xs) ≡ map g (filter q xs)
+pub map-asked : {A B : Type 0} (f g : A → B) (p q : A → Bool) (xs : List A) → ((x : A) → In x xs → p x ≡ q x) →
+    ((x : A) → In x xs → q x ≡ true → f x ≡ g x) → map f (filter p xs) ≡ map g (filter q xs)
 map-asked f g p q [] asks makes = refl
 map-asked f g p q (x ∷ xs) asks makes =
     let rest : map f (filter p xs) ≡ map g (filter q xs) = map-asked f g p q xs (λ y on. asks y (inr on)) (λ y on. makes y (inr on)) in
@@ -77,7 +80,8 @@ module _ (f : ℕ → Collection) (named : (d : ℕ) → (f d).id ≡ d) (new : 
   with_new d = cond (d == new.id) new (f d)
 
   -- before all that are greater
-  put-first : (kept : ℕ → Bool) (ds : List ℕ) → ((d : ℕ) → In d ds → new.id < d) → put new (map f (filter kept ds)) ≡ new ∷ map f (filter kept ds)
+  put-first : (kept : ℕ → Bool) (ds : List ℕ) → ((d : ℕ) → In d ds → new.id < d) →
+      put new (map f (filter kept ds)) ≡ new ∷ map f (filter kept ds)
   put-first kept [] above = refl
   put-first kept (d ∷ ds) above =
       elim (either_way (kept d)) [
@@ -90,13 +94,15 @@ module _ (f : ℕ → Collection) (named : (d : ℕ) → (f d).id ≡ d) (new : 
       ]
 
   -- the greater ones stay as they were
-  others-stay : (kept : ℕ → Bool) (ds : List ℕ) → ((d : ℕ) → In d ds → new.id < d) → map f (filter kept ds) ≡ map with_new (filter (λ d. d == new.id || kept d) ds)
+  others-stay : (kept : ℕ → Bool) (ds : List ℕ) → ((d : ℕ) → In d ds → new.id < d) →
+      map f (filter kept ds) ≡ map with_new (filter (λ d. d == new.id || kept d) ds)
   others-stay kept ds above = map-asked f with_new kept (λ d. d == new.id || kept d) ds
       (λ d on. let other : (d == new.id) ≡ false = other_greater d new.id (above d on) in rw other refl)
       (λ d on asked. let other : (d == new.id) ≡ false = other_greater d new.id (above d on) in rw other refl)
 
   -- among ids in order, of which some are kept, it comes where its id is
-  pub put-map : (kept : ℕ → Bool) (ds : List ℕ) → IsRising ds → In new.id ds → put new (map f (filter kept ds)) ≡ map with_new (filter (λ d. d == new.id || kept d) ds)
+  pub put-map : (kept : ℕ → Bool) (ds : List ℕ) → IsRising ds → In new.id ds →
+      put new (map f (filter kept ds)) ≡ map with_new (filter (λ d. d == new.id || kept d) ds)
   put-map kept [] r on = absurd on
   put-map kept (d ∷ ds) r (inl is) =
       let here : (d == new.id) ≡ true = eq-eqb d new.id (sym is) in

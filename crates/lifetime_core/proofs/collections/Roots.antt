@@ -23,7 +23,8 @@ use Rattle.lifetime_core.specs.Shown.{kept_ids}
 use Rattle.lifetime_core.proofs.lists.Maps.{times_none, any_of}
 
 -- the collection of a kept node is kept
-pub collection_of_kept : (marks : Timeline) (b : Birth) → In b (births marks) → is_kept marks b.node ≡ true → is_kept_collection marks b.collection ≡ true
+pub collection_of_kept : (marks : Timeline) (b : Birth) → In b (births marks) → is_kept marks b.node ≡ true →
+    is_kept_collection marks b.collection ≡ true
 collection_of_kept marks b on kept =
     or_left _ _ (any_of (λ (c : Birth). c.collection == b.collection && is_kept marks c.node) (births marks) b on
     (and_both (b.collection == b.collection) (is_kept marks b.node) (eq-eqb b.collection b.collection refl) kept))
@@ -69,7 +70,8 @@ buffers_root (mark ∷ before) collection given =
     born : HasRoot (births before) collection → HasRoot (births (mark ∷ before)) collection
     born r = record { root = r.root; there = In_old (birth_at (events before + 1) mark) (births before) r.root r.there; is_root = r.is_root; ours = r.ours }
 
-    of_birth : (head : NodeKey) (o : Option Birth) → birth_of before head ≡ o → option_map_or (λ (b : Birth). is_none b.parent && b.collection == collection) o false ≡ true → HasRoot (births before) collection
+    of_birth : (head : NodeKey) (o : Option Birth) → birth_of before head ≡ o →
+        option_map_or (λ (b : Birth). is_none b.parent && b.collection == collection) o false ≡ true → HasRoot (births before) collection
     of_birth head None e h = cc
     of_birth head (Some b) e h =
         record {
@@ -96,12 +98,14 @@ left_given marks collection some = from (buffers_of marks collection) refl
     from (Some b) e = rw e refl
 
 -- a collection that is kept has a root
-pub kept_root : (marks : Timeline) (collection : ℕ) → AreTogether (births marks) → is_kept_collection marks collection ≡ true → HasRoot (births marks) collection
+pub kept_root : (marks : Timeline) (collection : ℕ) → AreTogether (births marks) → is_kept_collection marks collection ≡ true →
+    HasRoot (births marks) collection
 kept_root marks collection together kept =
     elim (either_way (list_any (λ (b : Birth). b.collection == collection && is_kept marks b.node) (births marks))) [
       | inl e ↦
           let s = In-list_any (λ (b : Birth). b.collection == collection && is_kept marks b.node) (births marks) e in
-          let ours : s.0.collection ≡ collection = eqb-true s.0.collection collection (and_left (s.0.collection == collection) (is_kept marks s.0.node) s.2) in
+          let ours : s.0.collection ≡ collection =
+          eqb-true s.0.collection collection (and_left (s.0.collection == collection) (is_kept marks s.0.node) s.2) in
           subst (HasRoot (births marks)) ours (has_root (births marks) together s.0 s.1)
       | inr e ↦
           let some : not (left marks collection == 0) ≡ true = rw e at kept in
@@ -111,7 +115,8 @@ kept_root marks collection together kept =
 -- ---- once each
 
 -- a birth that alone passes is counted once
-times_only : (p : Birth → Bool) (bs : List Birth) (b : Birth) → AreSound bs → In b bs → p b ≡ true → ((c : Birth) → In c bs → p c ≡ true → c ≡ b) → times p bs ≡ 1
+times_only : (p : Birth → Bool) (bs : List Birth) (b : Birth) → AreSound bs → In b bs → p b ≡ true → ((c : Birth) → In c bs → p c ≡ true →
+    c ≡ b) → times p bs ≡ 1
 times_only p [] b sound on is only = absurd on
 times_only p (c ∷ older) b sound (inl here) is only =
     let e : p c ≡ true = ap p (sym here) ∙ is in
@@ -146,21 +151,25 @@ module _ (pool : ℕ) (limits : Bound) (marks : Timeline) (grown : Grows pool li
       times_only (roots_it collection) (births marks) r.root o.sound r.there is
       (λ c on h.
       let first : (is_none c.parent && is_kept_collection marks c.collection) ≡ true = and_left _ (c.collection == collection) h in
-      let ours : c.collection ≡ collection = eqb-true c.collection collection (and_right (is_none c.parent && is_kept_collection marks c.collection) _ h) in
+      let ours : c.collection ≡ collection =
+      eqb-true c.collection collection (and_right (is_none c.parent && is_kept_collection marks c.collection) _ h) in
       o.roots c r.root on r.there (none_if c.parent (and_left (is_none c.parent) _ first)) r.is_root (ours ∙ sym r.ours))
   roots_once collection false lost = times_none (roots_it collection) (births marks) (λ c on. fails c (either_way (roots_it collection c)))
     where
       fails : (c : Birth) → ((roots_it collection c ≡ true) ⊎ (roots_it collection c ≡ false)) → roots_it collection c ≡ false
       fails c (inr e) = e
       fails c (inl e) =
-          let ours : c.collection ≡ collection = eqb-true c.collection collection (and_right (is_none c.parent && is_kept_collection marks c.collection) _ e) in
-          let kept : is_kept_collection marks c.collection ≡ true = and_right (is_none c.parent) _ (and_left (is_none c.parent && is_kept_collection marks c.collection) _ e) in
+          let ours : c.collection ≡ collection =
+          eqb-true c.collection collection (and_right (is_none c.parent && is_kept_collection marks c.collection) _ e) in
+          let kept : is_kept_collection marks c.collection ≡ true =
+          and_right (is_none c.parent) _ (and_left (is_none c.parent && is_kept_collection marks c.collection) _ e) in
           both_ways (is_kept_collection marks collection) (ap (is_kept_collection marks) (sym ours) ∙ kept) lost
 
   -- a collection stands once among the kept ones if it is kept, else not at all
   pub listed_once : (collection : ℕ) → times (λ k. k == collection) (kept_ids marks) ≡ one (is_kept_collection marks collection)
   listed_once collection =
-      times-map_filter (λ k. k == collection) (λ (b : Birth). is_none b.parent && is_kept_collection marks b.collection) (λ (b : Birth). b.collection) (reverse (births marks))
+      times-map_filter (λ k. k == collection) (λ (b : Birth). is_none b.parent && is_kept_collection marks b.collection) (λ (b : Birth).
+      b.collection) (reverse (births marks))
       ∙ (times-reverse (roots_it collection) (births marks) ∙ roots_once collection (is_kept_collection marks collection) refl)
 
   -- so the collection of a kept node stands once among them

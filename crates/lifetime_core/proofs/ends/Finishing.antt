@@ -33,7 +33,9 @@ use Rattle.lifetime_core.proofs.collections.Replacing.{filter-map_asked, map-ask
 
 -- the collections with that end there
 pub placed_collections : (o : Option Place) (f : Forest) → (with_place o f).collections ≡ map (placed_in (place_of o)) f.collections
-placed_collections None f = sym (map-stays (placed_in (place_of None)) f.collections (λ c on i. record c { nodes = map-stays (placed_node (place_of None)) c.nodes (λ n there. refl) i }))
+placed_collections None f =
+    sym (map-stays (placed_in (place_of None)) f.collections (λ c on i.
+    record c { nodes = map-stays (placed_node (place_of None)) c.nodes (λ n there. refl) i }))
 placed_collections (Some place) f = refl
 
 -- ---- what is left
@@ -54,15 +56,18 @@ finished_ids o f w k ds is =
 
 -- a collection that is there comes to what the marks make of it, and one that is not there is not kept
 abbrev pub ComesTo : ℕ → Option Place → (ℕ → Collection) → (ℕ → Bool) → Timeline → ℕ → Type 0
-ComesTo pool o w k marks d = ((k d ≡ true) × (finished o (w d) ≡ collection_after pool marks d)) ⊎ ((k d ≡ false) × (is_kept_collection marks d ≡ false))
+ComesTo pool o w k marks d =
+    ((k d ≡ true) × (finished o (w d) ≡ collection_after pool marks d)) ⊎ ((k d ≡ false) × (is_kept_collection marks d ≡ false))
 
 -- then what is left is what the marks keep
-pub finished_kept : (pool : ℕ) (limits : Bound) (marks : Timeline) → Grows pool limits [] marks → (o : Option Place) (f : Forest) (w : ℕ → Collection) (k : ℕ → Bool) →
+pub finished_kept : (pool : ℕ) (limits : Bound) (marks : Timeline) → Grows pool limits [] marks → (o : Option Place) (f : Forest) (w : ℕ →
+    Collection) (k : ℕ → Bool) →
     f.collections ≡ map w (filter k (ids (births marks))) → ((d : ℕ) → In d (ids (births marks)) → ComesTo pool o w k marks d) →
     without_over (with_place o f).collections ≡ map (collection_after pool marks) (kept_ids marks)
 finished_kept pool limits marks grown o f w k is each =
     finished_ids o f w k (ids (births marks)) is
-    ∙ (map-asked (λ d. finished o (w d)) (collection_after pool marks) (λ d. k d && not (is_left (finished o (w d)))) (is_kept_collection marks) (ids (births marks))
+    ∙ (map-asked (λ d. finished o (w d)) (collection_after pool marks) (λ d. k d && not (is_left (finished o (w d))))
+    (is_kept_collection marks) (ids (births marks))
     (λ d on. asks d (each d on)) (λ d on kept. makes d kept (each d on))
     ∙ ap (map (collection_after pool marks)) (sym (kept_are marks)))
   where
@@ -104,16 +109,23 @@ over_mark marks mark node over =
     parts false t h = cc
 
 -- a node that is over stays so
-over_stays : (pool : ℕ) (limits : Bound) (marks later : Timeline) → Grows pool limits marks later → (node : NodeKey) → is_kept marks node ≡ false → is_kept later node ≡ false
+over_stays : (pool : ℕ) (limits : Bound) (marks later : Timeline) → Grows pool limits marks later → (node : NodeKey) →
+    is_kept marks node ≡ false → is_kept later node ≡ false
 over_stays pool limits marks _ Stays node over = over
-over_stays pool limits marks _ (Answers before client reply call g answer) node over = over_mark before (Called client reply call) node (over_stays pool limits marks before g node over)
-over_stays pool limits marks _ (Loses before origin cause g born) node over = over_mark before (Loss origin cause) node (over_stays pool limits marks before g node over)
-over_stays pool limits marks _ (Allocates before collection head g e) node over = over_mark before (Allocated head) node (over_stays pool limits marks before g node over)
-over_stays pool limits marks _ (Ends before collection top g e) node over = over_mark before (Ended top) node (over_stays pool limits marks before g node over)
+over_stays pool limits marks _ (Answers before client reply call g answer) node over =
+    over_mark before (Called client reply call) node (over_stays pool limits marks before g node over)
+over_stays pool limits marks _ (Loses before origin cause g born) node over =
+    over_mark before (Loss origin cause) node (over_stays pool limits marks before g node over)
+over_stays pool limits marks _ (Allocates before collection head g e) node over =
+    over_mark before (Allocated head) node (over_stays pool limits marks before g node over)
+over_stays pool limits marks _ (Ends before collection top g e) node over =
+    over_mark before (Ended top) node (over_stays pool limits marks before g node over)
 
 -- where the collection with that end there follows later marks, and holds what they hold, it comes to what they make of it
-pub finished_is : (pool : ℕ) (limits : Bound) (marks later : Timeline) → Grows pool limits marks later → (others : List Interval) (o : Option Place) (c : Collection) →
-    Matches pool (is_kept marks) later others (placed_in (place_of o) c) → c.held ≡ held_after pool later c.id → finished o c ≡ collection_after pool later c.id
+pub finished_is : (pool : ℕ) (limits : Bound) (marks later : Timeline) → Grows pool limits marks later →
+    (others : List Interval) (o : Option Place) (c : Collection) →
+    Matches pool (is_kept marks) later others (placed_in (place_of o) c) → c.held ≡ held_after pool later c.id →
+    finished o c ≡ collection_after pool later c.id
 finished_is pool limits marks later g others o c m held = λ i. record {
   id = c.id;
   nodes = nodes i;
@@ -128,7 +140,8 @@ finished_is pool limits marks later g others o c m held = λ i. record {
           | inl e ↦ rw e refl
           | inr e ↦
               let key : n.key ≡ b.0.node = ap (λ (x : Node). x.key) b.2 in
-              let over : is_kept later b.0.node ≡ false = over_stays pool limits marks later g b.0.node (ap (is_kept marks) (sym key) ∙ e) in
+              let over : is_kept later b.0.node ≡ false =
+              over_stays pool limits marks later g b.0.node (ap (is_kept marks) (sym key) ∙ e) in
               let now : not (is_over n) ≡ false = ap (λ (x : Node). not (is_over x)) b.2 ∙ (not_over later b.0 ∙ over) in
               rw (e, now) refl
         ]

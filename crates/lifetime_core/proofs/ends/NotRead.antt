@@ -48,7 +48,8 @@ module _ (place : NodeKey → End → End) where
   -- a node
   member_placed : (ns : List Node) (n : Node) → member_of (placed_nodes ns) (placed_node n) ≡ member_of ns n
   member_placed ns n =
-      let line : above_among (reverse (placed_nodes ns)) n.key ≡ above_among (reverse ns) n.key = ap (λ (l : List Node). above_among l n.key) (sym (map-reverse placed_node ns)) ∙ above_placed (reverse ns) n.key in
+      let line : above_among (reverse (placed_nodes ns)) n.key ≡ above_among (reverse ns) n.key =
+      ap (λ (l : List Node). above_among l n.key) (sym (map-reverse placed_node ns)) ∙ above_placed (reverse ns) n.key in
       λ i. record (member_of ns n) { above = line i }
 
   -- the nodes that are not gone
@@ -70,17 +71,21 @@ module _ (place : NodeKey → End → End) where
   -- which nodes a loss takes
   taken_placed : (ns : List Node) (key : NodeKey) (n : Node) → is_taken (placed_nodes ns) key (placed_node n) ≡ is_taken ns key n
   taken_placed ns key n =
-      ap (λ (o : Option Node). option_map_or (λ origin. is_under (highest (members_of (placed_nodes ns)) (member_of (placed_nodes ns) origin)) (member_of (placed_nodes ns) (placed_node n))) o false) (node_placed ns key)
+      ap (λ (o : Option Node). option_map_or (λ origin.
+      is_under (highest (members_of (placed_nodes ns)) (member_of (placed_nodes ns) origin))
+      (member_of (placed_nodes ns) (placed_node n))) o false) (node_placed ns key)
       ∙ from (node_of ns key)
     where
       from : (o : Option Node) →
-          option_map_or (λ origin. is_under (highest (members_of (placed_nodes ns)) (member_of (placed_nodes ns) origin)) (member_of (placed_nodes ns) (placed_node n))) (option_map placed_node o) false
+          option_map_or (λ origin. is_under (highest (members_of (placed_nodes ns)) (member_of (placed_nodes ns) origin))
+          (member_of (placed_nodes ns) (placed_node n))) (option_map placed_node o) false
           ≡ option_map_or (λ origin. is_under (highest (members_of ns) (member_of ns origin)) (member_of ns n)) o false
       from None = refl
       from (Some origin) = λ i. is_under (highest (members_placed ns i) (member_placed ns origin i)) (member_placed ns n i)
 
   -- a map of placed nodes by one function is one of the nodes by another, then placed
-  map-placed : (f g : Node → Node) → ((n : Node) → f (placed_node n) ≡ placed_node (g n)) → (ns : List Node) → map f (placed_nodes ns) ≡ placed_nodes (map g ns)
+  map-placed : (f g : Node → Node) → ((n : Node) → f (placed_node n) ≡ placed_node (g n)) → (ns : List Node) →
+      map f (placed_nodes ns) ≡ placed_nodes (map g ns)
   map-placed f g same [] = refl
   map-placed f g same (n ∷ ns) = λ i. same n i ∷ map-placed f g same ns i
 
@@ -104,16 +109,20 @@ module _ (place : NodeKey → End → End) where
 
   -- whether a node is a root
   root_placed : (c : Collection) (key : NodeKey) → is_root_of (placed_in c) key ≡ is_root_of c key
-  root_placed c key = ap (λ (o : Option Node). option_map_or (λ (n : Node). is_none n.parent) o false) (node_placed c.nodes key) ∙ from (node_of c.nodes key)
+  root_placed c key = ap (λ (o : Option Node). option_map_or (λ (n : Node). is_none n.parent) o false) (node_placed c.nodes key)
+      ∙ from (node_of c.nodes key)
     where
-      from : (o : Option Node) → option_map_or (λ (n : Node). is_none n.parent) (option_map placed_node o) false ≡ option_map_or (λ (n : Node). is_none n.parent) o false
+      from : (o : Option Node) → option_map_or (λ (n : Node). is_none n.parent) (option_map placed_node o) false ≡ option_map_or
+          (λ (n : Node). is_none n.parent) o false
       from None = refl
       from (Some n) = refl
 
   -- a mark makes of the collection with its ends elsewhere what it makes of the collection
-  made_placed : (pool : ℕ) (others : List Interval) (mark : Mark) (c : Collection) → made pool others mark (placed_in c) ≡ placed_in (made pool others mark c)
+  made_placed : (pool : ℕ) (others : List Interval) (mark : Mark) (c : Collection) →
+      made pool others mark (placed_in c) ≡ placed_in (made pool others mark c)
   made_placed pool others (Called client reply call) c = refl
-  made_placed pool others (Loss origin cause) c = λ i. record c { nodes = lost_placed (record { cause = cause; origin = origin }) c.nodes i }
+  made_placed pool others (Loss origin cause) c =
+      λ i. record c { nodes = lost_placed (record { cause = cause; origin = origin }) c.nodes i }
   made_placed pool others (Ended top) c = λ i. record c { nodes = ended_placed top c.nodes i }
   made_placed pool others (Allocated head) c =
       let first : List Member → List Node → Collection = λ ms ns. record {
@@ -123,7 +132,8 @@ module _ (place : NodeKey → End → End) where
         held = layout pool c.id (asked ms) (pages_in c ++ others) ++ c.held;
       } in
       let later : List Node → Collection = λ ns. record c { nodes = ns } in
-      (λ i. cond (root_placed c head i) (first (members_placed c.nodes i) (allocated_placed head c.nodes i)) (later (allocated_placed head c.nodes i)))
+      (λ i. cond (root_placed c head i) (first (members_placed c.nodes i) (allocated_placed head c.nodes i))
+      (later (allocated_placed head c.nodes i)))
       ∙ inside (is_root_of c head)
     where
       inside : (b : Bool) →
@@ -135,20 +145,24 @@ module _ (place : NodeKey → End → End) where
       inside false = refl
 
   -- the collection stands as it stood
-  pub standing_placed : (handles : Handles) (others : List Interval) (c : Collection) → standing handles others (placed_in c) ≡ standing handles others c
+  pub standing_placed : (handles : Handles) (others : List Interval) (c : Collection) →
+      standing handles others (placed_in c) ≡ standing handles others c
   standing_placed handles others c = λ i. record (standing handles others c) { members = members_placed c.nodes i }
 
   -- ---- the forced steps
 
   -- so it settles to the same
-  pub settles_placed : (pool : ℕ) (handles : Handles) (others : List Interval) (c after : Collection) → Settles pool handles others c after → Settles pool handles others (placed_in c) (placed_in after)
+  pub settles_placed : (pool : ℕ) (handles : Handles) (others : List Interval) (c after : Collection) →
+      Settles pool handles others c after → Settles pool handles others (placed_in c) (placed_in after)
   settles_placed pool handles others c _ (Rests _ none) = Rests (placed_in c) (ap (forced pool) (standing_placed handles others c) ∙ none)
   settles_placed pool handles others c _ (Forces _ after mark some next) =
       Forces (placed_in c) (placed_in after) mark (ap (forced pool) (standing_placed handles others c) ∙ some)
-      (subst (λ (d : Collection). Settles pool handles others d (placed_in after)) (sym (made_placed pool others mark c)) (settles_placed pool handles others (made pool others mark c) after next))
+      (subst (λ (d : Collection). Settles pool handles others d (placed_in after)) (sym (made_placed pool others mark c))
+      (settles_placed pool handles others (made pool others mark c) after next))
 
   -- and the same pages go back
   pub given_placed : (handles : Handles) (c : Collection) → given_back handles (placed_in c) ≡ placed_in (given_back handles c)
   given_placed handles c = λ i. record (placed_in c) {
-    held = filter (λ (h : HeldPages). not (is_home (handles h.buffer Strength.Strong) (handles h.buffer Strength.Weak) (some_strong_live (members_placed c.nodes i)))) c.held;
+    held = filter (λ (h : HeldPages). not (is_home (handles h.buffer Strength.Strong) (handles h.buffer Strength.Weak)
+        (some_strong_live (members_placed c.nodes i)))) c.held;
   }

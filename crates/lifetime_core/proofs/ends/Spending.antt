@@ -24,7 +24,8 @@ spent_in_one None c = c
 spent_in_one (Some key) c = with_nodes (map (with_end key End.Spent)) c
 
 -- each collection, once the end is spent
-spent_is : (leaving : Option NodeKey) (f : Forest) → (with_place (spent_place leaving) f).collections ≡ map (spent_in_one leaving) f.collections
+spent_is : (leaving : Option NodeKey) (f : Forest) →
+    (with_place (spent_place leaving) f).collections ≡ map (spent_in_one leaving) f.collections
 spent_is None f = sym (map-stays (λ c. c) f.collections (λ c on. refl))
 spent_is (Some key) f = refl
 
@@ -39,7 +40,8 @@ each_left : (P : ℕ → Type 0) (cs : List Collection) → AllByRecursion P (id
 each_left P [] all = tt
 each_left P (c ∷ cs) all = by (is_left (tidied c)) (each_left P cs all.1)
   where
-    by : (left : Bool) → AllByRecursion P (ids (without_over cs)) → AllByRecursion P (ids (if not left then tidied c ∷ without_over cs else without_over cs))
+    by : (left : Bool) → AllByRecursion P (ids (without_over cs)) →
+        AllByRecursion P (ids (if not left then tidied c ∷ without_over cs else without_over cs))
     by true rest = rest
     by false rest = (all.0, rest)
 
@@ -55,20 +57,24 @@ rises_left (c ∷ cs) rise = by (is_left (tidied c)) (rises_left cs rise.1)
 -- a collection without pages holds none
 empty : {A : Type 0} (nodes : List Node) (xs : List A) → (length nodes == 0 && length xs == 0) ≡ true → xs ≡ []
 empty nodes [] left = refl
-empty nodes (x ∷ xs) left = let none : length (x ∷ xs) ≡ 0 = eqb-true (length (x ∷ xs)) 0 (and_right (length nodes == 0) (length (x ∷ xs) == 0) left) in absurd (omega arith)
+empty nodes (x ∷ xs) left = let none : length (x ∷ xs) ≡ 0 =
+    eqb-true (length (x ∷ xs)) 0 (and_right (length nodes == 0) (length (x ∷ xs) == 0) left) in absurd (omega arith)
 
 -- forgetting gives back no pages
 held_left : (cs : List Collection) → flat_map (λ (c : Collection). c.held) (without_over cs) ≡ flat_map (λ (c : Collection). c.held) cs
 held_left [] = refl
 held_left (c ∷ cs) = by (is_left (tidied c)) refl (held_left cs)
   where
-    by : (left : Bool) → is_left (tidied c) ≡ left → flat_map (λ (d : Collection). d.held) (without_over cs) ≡ flat_map (λ (d : Collection). d.held) cs →
-        flat_map (λ (d : Collection). d.held) (if not left then tidied c ∷ without_over cs else without_over cs) ≡ c.held ++ flat_map (λ (d : Collection). d.held) cs
+    by : (left : Bool) → is_left (tidied c) ≡ left → flat_map (λ (d : Collection). d.held) (without_over cs) ≡ flat_map (λ (d : Collection).
+        d.held) cs →
+        flat_map (λ (d : Collection). d.held) (if not left then tidied c ∷ without_over cs else without_over cs) ≡ c.held ++ flat_map
+        (λ (d : Collection). d.held) cs
     by true is rest = rw (empty (tidied c).nodes c.held is) rest
     by false is rest = ap (λ (hs : List HeldPages). c.held ++ hs) rest
 
 -- nor does spending an end
-held_spent : (leaving : Option NodeKey) (cs : List Collection) → flat_map (λ (c : Collection). c.held) (map (spent_in_one leaving) cs) ≡ flat_map (λ (c : Collection). c.held) cs
+held_spent : (leaving : Option NodeKey) (cs : List Collection) →
+    flat_map (λ (c : Collection). c.held) (map (spent_in_one leaving) cs) ≡ flat_map (λ (c : Collection). c.held) cs
 held_spent leaving [] = refl
 held_spent None (c ∷ cs) = ap (λ (hs : List HeldPages). c.held ++ hs) (held_spent None cs)
 held_spent (Some key) (c ∷ cs) = ap (λ (hs : List HeldPages). c.held ++ hs) (held_spent (Some key) cs)
@@ -88,12 +94,14 @@ spent_node None n = n
 spent_node (Some key) n = with_end key End.Spent n
 
 -- a node of a collection of which the end is spent was one before
-spent_from : (leaving : Option NodeKey) (c : Collection) (n : Node) → In n (spent_in_one leaving c).nodes → (m : Node) × In m c.nodes × (n ≡ spent_node leaving m)
+spent_from : (leaving : Option NodeKey) (c : Collection) (n : Node) → In n (spent_in_one leaving c).nodes → (m : Node) × In m c.nodes ×
+    (n ≡ spent_node leaving m)
 spent_from None c n there = (n, there, refl)
 spent_from (Some key) c n there = In-map (with_end key End.Spent) c.nodes n there
 
 -- a node is fit once its end is spent
-spent_fit : (Known : NodeKey → Type 0) (id : ℕ) (leaving : Option NodeKey) (n : Node) → IsFit Known id leaving n → IsFit Known id None (spent_node leaving n)
+spent_fit : (Known : NodeKey → Type 0) (id : ℕ) (leaving : Option NodeKey) (n : Node) → IsFit Known id leaving n →
+    IsFit Known id None (spent_node leaving n)
 spent_fit Known id None n fit = fit
 spent_fit Known id (Some key) n fit = record {
   key = fit.key;
@@ -144,21 +152,27 @@ module _ (f : Forest) (id : ℕ) (leaving : Option NodeKey) (amid : IsAmid f id 
   tidy_spent : (c : Collection) → In c (map (spent_in_one leaving) f.collections) → (c.id == id) ≡ false → IsTidy c
   tidy_spent c there apart =
       let from = In-map (spent_in_one leaving) f.collections c there in
-      let elsewhere : (from.0.id == id) ≡ false = (ap (λ (n : ℕ). n == id) (sym (ap (λ (x : Collection). x.id) from.2 ∙ spent_id leaving from.0))) ∙ apart in
+      let elsewhere : (from.0.id == id) ≡ false =
+      (ap (λ (n : ℕ). n == id) (sym (ap (λ (x : Collection). x.id) from.2 ∙ spent_id leaving from.0))) ∙ apart in
       let same : c ≡ from.0 = from.2 ∙ untouched leaving refl from.0 from.1 elsewhere in
       subst IsTidy (sym same) (amid.tidy from.0 from.1 elsewhere)
 
   -- so it is enough to look at that one
-  pub forgets_all : without_over_in id (with_place (spent_place leaving) f).collections ≡ without_over (with_place (spent_place leaving) f).collections
+  pub forgets_all : without_over_in id (with_place (spent_place leaving) f).collections ≡ without_over (with_place (spent_place leaving)
+      f).collections
   forgets_all =
       rw (spent_is leaving f)
-      (others_tidy id (map (spent_in_one leaving) f.collections) (subst Rise (sym (spent_ids leaving f.collections)) amid.rising) tidy_spent)
+      (others_tidy id (map (spent_in_one leaving) f.collections) (subst Rise (sym (spent_ids leaving f.collections)) amid.rising)
+      tidy_spent)
 
 -- a node is fit among keys of which more is known
-pub known_more : (Known More : NodeKey → Type 0) (id : ℕ) (leaving : Option NodeKey) (n : Node) → (Known n.key → More n.key) → IsFit Known id leaving n → IsFit More id leaving n
-known_more Known More id leaving n more fit = record { key = more fit.key; collection = fit.collection; failed = fit.failed; left = fit.left }
+pub known_more : (Known More : NodeKey → Type 0) (id : ℕ) (leaving : Option NodeKey) (n : Node) → (Known n.key → More n.key) →
+    IsFit Known id leaving n → IsFit More id leaving n
+known_more Known More id leaving n more fit =
+    record { key = more fit.key; collection = fit.collection; failed = fit.failed; left = fit.left }
 
-module _ (f g : Forest) (id : ℕ) (leaving : Option NodeKey) (amid : IsAmid f id leaving) (same : SameKeys (with_place (spent_place leaving) f) g)
+module _ (f g : Forest) (id : ℕ) (leaving : Option NodeKey) (amid : IsAmid f id leaving)
+    (same : SameKeys (with_place (spent_place leaving) f) g)
     (collections : g.collections ≡ without_over_in id (with_place (spent_place leaving) f).collections) where
   -- the collections are those that are left
   pub are_left : g.collections ≡ without_over (with_place (spent_place leaving) f).collections
@@ -175,9 +189,11 @@ module _ (f g : Forest) (id : ℕ) (leaving : Option NodeKey) (amid : IsAmid f i
       ∙ (held_left (map (spent_in_one leaving) f.collections) ∙ held_spent leaving f.collections)
 
   -- a collection that is left was there before
-  pub left_from : (c : Collection) → In c g.collections → (d : Collection) × In d f.collections × (c ≡ tidied (spent_in_one leaving d)) × (is_left c ≡ false)
+  pub left_from : (c : Collection) → In c g.collections → (d : Collection) × In d f.collections × (c ≡ tidied (spent_in_one leaving d)) ×
+      (is_left c ≡ false)
   left_from c there =
-      let kept = In-filter (λ (x : Collection). not (is_left x)) (map tidied (map (spent_in_one leaving) f.collections)) c (subst (In c) are_left_of there) in
+      let kept = In-filter (λ (x : Collection). not (is_left x)) (map tidied (map (spent_in_one leaving) f.collections)) c
+      (subst (In c) are_left_of there) in
       let from = In-map tidied (map (spent_in_one leaving) f.collections) c kept.0 in
       let old = In-map (spent_in_one leaving) f.collections from.0 from.1 in
       (old.0, old.1, from.2 ∙ ap tidied old.2, not_back (is_left c) kept.1)
@@ -187,9 +203,11 @@ module _ (f g : Forest) (id : ℕ) (leaving : Option NodeKey) (amid : IsAmid f i
   left_id c d is = ap (λ (x : Collection). x.id) is ∙ spent_id leaving d
 
   -- a node that is left was there before
-  node_from : (c d : Collection) → c ≡ tidied (spent_in_one leaving d) → (n : Node) → In n c.nodes → (m : Node) × In m d.nodes × (n ≡ spent_node leaving m)
+  node_from : (c d : Collection) → c ≡ tidied (spent_in_one leaving d) → (n : Node) → In n c.nodes → (m : Node) × In m d.nodes ×
+      (n ≡ spent_node leaving m)
   node_from c d is n there =
-      let kept = In-filter (λ (x : Node). not (is_over x)) (spent_in_one leaving d).nodes n (subst (λ (x : Collection). In n x.nodes) is there) in
+      let kept = In-filter (λ (x : Node). not (is_over x)) (spent_in_one leaving d).nodes n (subst (λ (x : Collection).
+      In n x.nodes) is there) in
       spent_from leaving d n kept.0
 
   -- the keys that were given still are
@@ -203,12 +221,14 @@ module _ (f g : Forest) (id : ℕ) (leaving : Option NodeKey) (amid : IsAmid f i
       let m = node_from c old.0 old.2 n in_nodes in
       let fit = spent_fit (λ key. given f key ≡ true) old.0.id leaving m.0 (amid.fit old.0 old.1 m.0 m.1) in
       let here : IsFit (λ key. given g key ≡ true) old.0.id None (spent_node leaving m.0) =
-      known_more (λ key. given f key ≡ true) (λ key. given g key ≡ true) old.0.id None (spent_node leaving m.0) (still_given (spent_node leaving m.0).key) fit in
+      known_more (λ key. given f key ≡ true) (λ key. given g key ≡ true) old.0.id None (spent_node leaving m.0)
+      (still_given (spent_node leaving m.0).key) fit in
       subst (λ (i : ℕ). IsFit (λ key. given g key ≡ true) i None n) (sym (left_id c old.0 old.2))
       (subst (IsFit (λ key. given g key ≡ true) old.0.id None) (sym m.2) here)
 
   -- no key stands in two collections that are left
-  apart_left : (c d : Collection) → In c g.collections → In d g.collections → (n m : Node) → In n c.nodes → In m d.nodes → n.key ≡ m.key → c.id ≡ d.id
+  apart_left : (c d : Collection) → In c g.collections → In d g.collections → (n m : Node) → In n c.nodes → In m d.nodes → n.key ≡ m.key →
+      c.id ≡ d.id
   apart_left c d c_on d_on n m n_in m_in key =
       let a = left_from c c_on in
       let b = left_from d d_on in

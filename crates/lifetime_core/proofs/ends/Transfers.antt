@@ -61,7 +61,8 @@ module _ (key : NodeKey) (end : End) (unspent : is_spent end ≡ false) where
     kept = rw (length-map c.nodes) tidy.kept;
   }
 
-module _ (f : Forest) (sound : IsSound f) (key : NodeKey) (end : End) (here : Node) (at : node_at f key ≡ Some here) (was : is_spent here.end ≡ false) (unspent : is_spent end ≡ false) where
+module _ (f : Forest) (sound : IsSound f) (key : NodeKey) (end : End) (here : Node) (at : node_at f key ≡ Some here)
+    (was : is_spent here.end ≡ false) (unspent : is_spent end ≡ false) where
   -- the forest with the end there
   abbrev g : Forest
   g = with_place (Some (record { key = key; end = end })) f
@@ -80,7 +81,8 @@ module _ (f : Forest) (sound : IsSound f) (key : NodeKey) (end : End) (here : No
       some_is h = cc
 
   -- each node is still fit
-  carried_fit : (c : Collection) → In c f.collections → (n : Node) → In n c.nodes → IsFit (λ k. given f k ≡ true) c.id None (with_end key end n)
+  carried_fit : (c : Collection) → In c f.collections → (n : Node) → In n c.nodes →
+      IsFit (λ k. given f k ≡ true) c.id None (with_end key end n)
   carried_fit c on n n_in =
       let fit = sound.fit c on n n_in in
       record {
@@ -90,7 +92,8 @@ module _ (f : Forest) (sound : IsSound f) (key : NodeKey) (end : End) (here : No
         left = λ released. by (same_key key n.key) refl (fit.left released);
       }
     where
-      by : (same : Bool) → same_key key n.key ≡ same → (is_spent n.end || false) ≡ true → (is_spent (if same then end else n.end) || false) ≡ true
+      by : (same : Bool) → same_key key n.key ≡ same → (is_spent n.end || false) ≡ true →
+          (is_spent (if same then end else n.end) || false) ≡ true
       by false is before = before
       by true is before =
           let n_is : n ≡ here = one c on n n_in (sym (same_key-true key n.key is)) in
@@ -104,8 +107,10 @@ module _ (f : Forest) (sound : IsSound f) (key : NodeKey) (end : End) (here : No
     fit = λ c on n n_in.
         let c_from = In-map (placed_in key end unspent) f.collections c on in
         let n_from = In-map (with_end key end) c_from.0.nodes n (subst (λ (x : Collection). In n x.nodes) c_from.2 n_in) in
-        let fit : IsFit (λ k. given f k ≡ true) c_from.0.id None (with_end key end n_from.0) = carried_fit c_from.0 c_from.1 n_from.0 n_from.1 in
-        let here : IsFit (λ k. given f k ≡ true) c_from.0.id None n = subst (IsFit (λ k. given f k ≡ true) c_from.0.id None) (sym n_from.2) fit in
+        let fit : IsFit (λ k. given f k ≡ true) c_from.0.id None (with_end key end n_from.0) =
+        carried_fit c_from.0 c_from.1 n_from.0 n_from.1 in
+        let here : IsFit (λ k. given f k ≡ true) c_from.0.id None n =
+        subst (IsFit (λ k. given f k ≡ true) c_from.0.id None) (sym n_from.2) fit in
         subst (λ (x : Collection). IsFit (λ k. given f k ≡ true) x.id None n) (sym c_from.2) here;
     apart = λ c d c_on d_on n m n_in m_in keys.
         let c_from = In-map (placed_in key end unspent) f.collections c c_on in

@@ -62,23 +62,28 @@ pub record IsMade (limits : Bound) (s : State) (t : Waiting) : Type 0 where
 
 module _ (limits : Bound) (s : State) (client : ℕ) where
   -- so it is where the call is answered with one
-  called_made : (call : Call) (id : ℕ) → makes_tracker call ≡ true → closing call ≡ None → effect (readings_of s) client no_key call ≡ Reply.Tracker (s.events + 1) →
+  called_made : (call : Call) (id : ℕ) → makes_tracker call ≡ true → closing call ≡ None →
+      effect (readings_of s) client no_key call ≡ Reply.Tracker (s.events + 1) →
       Reply.Tracker id ≡ answer limits (readings_of s) client no_key call → (t : Waiting) → id ≡ t.id → IsMade limits s t
   called_made call id makes going tells told t is =
       let all = took_effect_all limits (readings_of s) client no_key call (Reply.Tracker id) refl going told in
-      let fits : nat_le limits.trackers (length s.trackers.unfired) ≡ false = passed _ Refusal.TrackersFull (rw makes at all.trackers_fit) in
+      let fits : nat_le limits.trackers (length s.trackers.unfired) ≡ false =
+      passed _ Refusal.TrackersFull (rw makes at all.trackers_fit) in
       record { number = sym is ∙ id_is id (s.events + 1) (all.answered ∙ tells); room = leb-false limits.trackers (length s.trackers.unfired) fits }
     where
       id_is : (a b : ℕ) → Reply.Tracker a ≡ Reply.Tracker b → a ≡ b
       id_is a b h = cc
 
   -- and no call makes one otherwise
-  is_made : (call : Call) (asked : Reply) → asked ≡ answer limits (readings_of s) client no_key call → (t : Waiting) → tracker_by s.forest call asked ≡ Some t → IsMade limits s t
+  is_made : (call : Call) (asked : Reply) → asked ≡ answer limits (readings_of s) client no_key call → (t : Waiting) →
+      tracker_by s.forest call asked ≡ Some t → IsMade limits s t
   is_made (Call.TrackNode key) (Reply.Tracker id) told t is =
-      let n = map-Some (λ (n : Node). record { id = id; place = n.collection; condition = Condition.Node key }) (node_at s.forest key) t is in
+      let n = map-Some (λ (n : Node). record { id = id; place = n.collection; condition = Condition.Node key }) (node_at s.forest key) t
+      is in
       called_made (Call.TrackNode key) id refl refl refl told t (ap (λ (w : Waiting). w.id) n.2)
   is_made (Call.TrackLifetime key most) (Reply.Tracker id) told t is =
-      let n = map-Some (λ (n : Node). record { id = id; place = n.collection; condition = Condition.Lifetime key n.collection most }) (node_at s.forest key) t is in
+      let n = map-Some (λ (n : Node). record { id = id; place = n.collection; condition = Condition.Lifetime key n.collection most })
+      (node_at s.forest key) t is in
       called_made (Call.TrackLifetime key most) id refl refl refl told t (ap (λ (w : Waiting). w.id) n.2)
   is_made (Call.TrackWeak buffer) (Reply.Tracker id) told t is = called_made (Call.TrackWeak buffer) id refl refl refl told t (id_of is)
     where
@@ -100,7 +105,8 @@ module _ (s : State) (call : Call) (asked : Reply) (limits : Bound) (client : �
   tracked told tracks t is = is_made limits s client call asked told (waiting_as t) (sym tracks ∙ ap (option_map waiting_as) is)
 
   -- its id is above all others
-  pub attached_above : IsTold → Tracks → All (λ (c : Cell). c.id ≤ s.events) s.trackers.cells → IfSome tracking (λ t. All (λ (c : Cell). c.id < t.id) s.trackers.cells)
+  pub attached_above : IsTold → Tracks → All (λ (c : Cell). c.id ≤ s.events) s.trackers.cells →
+      IfSome tracking (λ t. All (λ (c : Cell). c.id < t.id) s.trackers.cells)
   attached_above told tracks numbered = by tracking refl
     where
       by : (o : Option Tracking) → tracking ≡ o → IfSome o (λ t. All (λ (c : Cell). c.id < t.id) s.trackers.cells)
@@ -111,7 +117,8 @@ module _ (s : State) (call : Call) (asked : Reply) (limits : Bound) (client : �
           omega (arith, below, number))
 
   -- one more may wait
-  pub attached_fits : IsTold → Tracks → s.trackers.limit ≡ limits.trackers → IfSome tracking (λ t. length s.trackers.unfired < s.trackers.limit)
+  pub attached_fits : IsTold → Tracks → s.trackers.limit ≡ limits.trackers →
+      IfSome tracking (λ t. length s.trackers.unfired < s.trackers.limit)
   attached_fits told tracks limit = by tracking refl
     where
       by : (o : Option Tracking) → tracking ≡ o → IfSome o (λ t. length s.trackers.unfired < s.trackers.limit)
@@ -119,17 +126,22 @@ module _ (s : State) (call : Call) (asked : Reply) (limits : Bound) (client : �
       by (Some t) is = rw limit (tracked told tracks t is).room
 
   -- the ids are still those of events
-  pub still_numbered : (attached : Table) → IsTold → Tracks → Gains s.trackers (option_map waiting_as tracking) attached → All (λ (c : Cell). c.id ≤ s.events) s.trackers.cells →
+  pub still_numbered : (attached : Table) → IsTold → Tracks → Gains s.trackers (option_map waiting_as tracking) attached →
+      All (λ (c : Cell). c.id ≤ s.events) s.trackers.cells →
       All (λ (c : Cell). c.id ≤ s.events + 1) attached.cells
   still_numbered attached told tracks gains numbered = by tracking refl gains
     where
       before : (c : Cell) → In c s.trackers.cells → c.id ≤ s.events + 1
-      before c on = let below : c.id ≤ s.events = In-all (λ (d : Cell). d.id ≤ s.events) s.trackers.cells numbered c on in omega (arith, below)
+      before c on = let below : c.id ≤ s.events =
+          In-all (λ (d : Cell). d.id ≤ s.events) s.trackers.cells numbered c on in omega (arith, below)
 
-      by : (o : Option Tracking) → tracking ≡ o → Gains s.trackers (option_map waiting_as o) attached → All (λ (c : Cell). c.id ≤ s.events + 1) attached.cells
-      by None is gains = all_of (λ (c : Cell). c.id ≤ s.events + 1) attached.cells (λ c on. before c (subst (λ (t : Table). In c t.cells) gains on))
+      by : (o : Option Tracking) → tracking ≡ o → Gains s.trackers (option_map waiting_as o) attached →
+          All (λ (c : Cell). c.id ≤ s.events + 1) attached.cells
+      by None is gains = all_of (λ (c : Cell). c.id ≤ s.events + 1) attached.cells (λ c on.
+          before c (subst (λ (t : Table). In c t.cells) gains on))
       by (Some t) is gains = all_of (λ (c : Cell). c.id ≤ s.events + 1) attached.cells (λ c on.
-          elim (In-append s.trackers.cells (record { id = t.id; name = gains.name } ∷ []) c (subst (λ (x : Table). In c x.cells) gains.next on)) [
+          elim (In-append s.trackers.cells (record { id = t.id; name = gains.name } ∷ []) c (subst (λ (x : Table).
+          In c x.cells) gains.next on)) [
             | inl old ↦ before c old
             | inr (inl new) ↦
                 let id : c.id ≡ t.id = ap (λ (d : Cell). d.id) new in
@@ -147,12 +159,14 @@ node_filed f sound key n at =
     record { given = subst (λ (k : NodeKey). given f k ≡ true) c.3 (sound.fit c.0 c.1 n c.2).key; ours = rw at refl }
 
 -- a tracker is filed under the collection that it concerns
-made_filed : (f : Forest) → IsSound f → (call : Call) (asked : Reply) (t : Waiting) → tracker_by f call asked ≡ Some t → Concerns f t.place t.condition
+made_filed : (f : Forest) → IsSound f → (call : Call) (asked : Reply) (t : Waiting) → tracker_by f call asked ≡ Some t →
+    Concerns f t.place t.condition
 made_filed f sound (Call.TrackNode key) (Reply.Tracker id) t is =
     let n = map-Some (λ (n : Node). record { id = id; place = n.collection; condition = Condition.Node key }) (node_at f key) t is in
     subst (λ (w : Waiting). Concerns f w.place w.condition) n.2 (node_filed f sound key n.0 n.1)
 made_filed f sound (Call.TrackLifetime key most) (Reply.Tracker id) t is =
-    let n = map-Some (λ (n : Node). record { id = id; place = n.collection; condition = Condition.Lifetime key n.collection most }) (node_at f key) t is in
+    let n = map-Some (λ (n : Node). record { id = id; place = n.collection; condition = Condition.Lifetime key n.collection most })
+    (node_at f key) t is in
     subst (λ (w : Waiting). Concerns f w.place w.condition) n.2 (refl, node_filed f sound key n.0 n.1)
 made_filed f sound (Call.TrackWeak buffer) (Reply.Tracker id) t is = subst (λ (w : Waiting). Concerns f w.place w.condition) (one is) refl
   where
@@ -161,7 +175,8 @@ made_filed f sound (Call.TrackWeak buffer) (Reply.Tracker id) t is = subst (λ (
 made_filed f sound _ _ t is = cc
 
 -- the trackers that wait are those that waited, and the one that is attached
-attached_from : (old new : Table) (o : Option Waiting) → Gains old o new → (t : Waiting) → In t new.unfired → In t old.unfired ⊎ (o ≡ Some t)
+attached_from : (old new : Table) (o : Option Waiting) → Gains old o new → (t : Waiting) → In t new.unfired →
+    In t old.unfired ⊎ (o ≡ Some t)
 attached_from old new None gains t on = inl (subst (λ (x : Table). In t x.unfired) gains on)
 attached_from old new (Some w) gains t on = elim (In-append old.unfired (w ∷ []) t (subst (λ (x : Table). In t x.unfired) gains.next on)) [
   | inl before ↦ inl before
@@ -171,43 +186,55 @@ attached_from old new (Some w) gains t on = elim (In-append old.unfired (w ∷ [
 
 -- ---- the collection that is changed
 
-module _ (s : State) (client : ℕ) (call : Call) (asked : Reply) (task : Option Task) (tracking : Option Tracking) (starts : Starts s client call asked task tracking) where
+module _ (s : State) (client : ℕ) (call : Call) (asked : Reply) (task : Option Task) (tracking : Option Tracking)
+    (starts : Starts s client call asked task tracking) where
   -- the tracker that is made is filed under it, if one is
   made_here : (t : Waiting) → option_map waiting_as tracking ≡ Some t → (id : ℕ) → changed_by task ≡ Some id → t.place ≡ id
-  made_here t is id changed = by call asked (sym (ap (option_map (λ (w : Work). w.collection)) starts.work) ∙ changed) (sym starts.tracks ∙ is)
+  made_here t is id changed =
+      by call asked (sym (ap (option_map (λ (w : Work). w.collection)) starts.work) ∙ changed) (sym starts.tracks ∙ is)
     where
       same : (m n : ℕ) → Some m ≡ Some n → m ≡ n
       same m n h = cc
 
-      by : (call : Call) (asked : Reply) → option_map (λ (w : Work). w.collection) (work_of s client call asked) ≡ Some id → tracker_by s.forest call asked ≡ Some t → t.place ≡ id
+      by : (call : Call) (asked : Reply) → option_map (λ (w : Work). w.collection) (work_of s client call asked) ≡ Some id →
+          tracker_by s.forest call asked ≡ Some t → t.place ≡ id
       by (Call.TrackNode key) (Reply.Tracker number) there made =
-          let n = map-Some (λ (n : Node). record { id = number; place = n.collection; condition = Condition.Node key }) (node_at s.forest key) t made in
+          let n = map-Some (λ (n : Node). record { id = number; place = n.collection; condition = Condition.Node key })
+          (node_at s.forest key) t made in
           let here : Some n.0.collection ≡ Some id =
-          sym (ap (λ (o : Option Node). option_map (λ (w : Work). w.collection) (option_map (λ (m : Node). record { collection = m.collection; change = Change.Effect key Effect.Tracked }) o)) n.1) ∙ there in
+          sym (ap (λ (o : Option Node). option_map (λ (w : Work). w.collection) (option_map (λ (m : Node).
+          record { collection = m.collection; change = Change.Effect key Effect.Tracked }) o)) n.1) ∙ there in
           ap (λ (w : Waiting). w.place) (sym n.2) ∙ same n.0.collection id here
       by (Call.TrackLifetime key most) (Reply.Tracker number) there made = let no : None ≡ Some id = there in cc
       by (Call.TrackWeak buffer) (Reply.Tracker number) there made = let no : None ≡ Some id = there in cc
       by _ _ there made = cc
 
   -- a handle that is dropped is one of the collection that is changed, if it is there
-  drops_there : (buffer : BufferName) (strength : Strength) → drops anyone buffer strength (Called client asked call) ≡ true → is_some (collection_at s.forest buffer.collection) ≡ true →
+  drops_there : (buffer : BufferName) (strength : Strength) → drops anyone buffer strength (Called client asked call) ≡ true →
+      is_some (collection_at s.forest buffer.collection) ≡ true →
       changed_by task ≡ Some buffer.collection
   drops_there buffer strength dropped there = ap (option_map (λ (w : Work). w.collection)) starts.work ∙ by asked call dropped
     where
-      at : (id : ℕ) (o : Option Collection) → is_some o ≡ true → option_map (λ (w : Work). w.collection) (option_map (λ (c : Collection). record { collection = id; change = Change.Nothing }) o) ≡ Some id
+      at : (id : ℕ) (o : Option Collection) → is_some o ≡ true →
+          option_map (λ (w : Work). w.collection) (option_map (λ (c : Collection). record { collection = id; change = Change.Nothing })
+          o) ≡ Some id
       at id None h = cc
       at id (Some c) h = refl
 
-      by : (asked : Reply) (call : Call) → drops anyone buffer strength (Called client asked call) ≡ true → option_map (λ (w : Work). w.collection) (work_of s client call asked) ≡ Some buffer.collection
+      by : (asked : Reply) (call : Call) → drops anyone buffer strength (Called client asked call) ≡ true →
+          option_map (λ (w : Work). w.collection) (work_of s client call asked) ≡ Some buffer.collection
       by Reply.Done (Call.DropHandle name other) h =
-          let same : name.collection ≡ buffer.collection = ap (λ (b : BufferName). b.collection) (same_buffer-true name buffer (and_left (same_buffer name buffer) _ h)) in
-          at name.collection (collection_at s.forest name.collection) (ap (λ (id : ℕ). is_some (collection_at s.forest id)) same ∙ there) ∙ ap Some same
+          let same : name.collection ≡ buffer.collection =
+          ap (λ (b : BufferName). b.collection) (same_buffer-true name buffer (and_left (same_buffer name buffer) _ h)) in
+          at name.collection (collection_at s.forest name.collection) (ap (λ (id : ℕ). is_some (collection_at s.forest id)) same ∙ there)
+          ∙ ap Some same
       by _ _ h = cc
 
 -- ---- after the event
 
 -- a new tracker that is not looked for is not due
-new_elsewhere : (w : World) (changed : Option ℕ) (tracking : Option Tracking) (t : Waiting) → option_map waiting_as tracking ≡ Some t → ((id : ℕ) → changed ≡ Some id → t.place ≡ id) → (looked_in w changed tracking ≡ Some t.place → ⊥) → is_due w t ≡ false
+new_elsewhere : (w : World) (changed : Option ℕ) (tracking : Option Tracking) (t : Waiting) → option_map waiting_as tracking ≡ Some t →
+    ((id : ℕ) → changed ≡ Some id → t.place ≡ id) → (looked_in w changed tracking ≡ Some t.place → ⊥) → is_due w t ≡ false
 new_elsewhere w (Some id) tracking t is here other = absurd (other (ap Some (sym (here id refl))))
 new_elsewhere w None None t is here other = cc
 new_elsewhere w None (Some n) t is here other =
@@ -222,35 +249,45 @@ new_elsewhere w None (Some n) t is here other =
     not_looked true other = absurd (other refl)
     not_looked false other = refl
 
-module _ (s : State) (client : ℕ) (call : Call) (asked : Reply) (task : Option Task) (tracking : Option Tracking) (starts : Starts s client call asked task tracking)
-    (holds : Counts) (moves : Moves s.holds holds (Called client asked call)) (worked : Forest) (key : Option NodeKey) (work : Reworked s.pool (total holds) s.forest (work_in task) key worked)
+module _ (s : State) (client : ℕ) (call : Call) (asked : Reply) (task : Option Task) (tracking : Option Tracking)
+    (starts : Starts s client call asked task tracking)
+    (holds : Counts) (moves : Moves s.holds holds (Called client asked call)) (worked : Forest) (key : Option NodeKey)
+    (work : Reworked s.pool (total holds) s.forest (work_in task) key worked)
     (amid : CanFinish worked task) (attached : Table) (gains : Gains s.trackers (option_map waiting_as tracking) attached) where
   -- the other collections are as they were
   rest : LeavesRest s.forest worked (changed_by task)
   rest = leaves_rest s.pool (total holds) s.forest worked task key starts.sound starts.may work
 
   -- no strong handle of their buffers was lost
-  kept_elsewhere : (buffer : BufferName) → (changed_by task ≡ Some buffer.collection → ⊥) → is_some (collection_at s.forest buffer.collection) ≡ true → AreKept (total s.holds) (total holds) buffer
+  kept_elsewhere : (buffer : BufferName) → (changed_by task ≡ Some buffer.collection → ⊥) →
+      is_some (collection_at s.forest buffer.collection) ≡ true → AreKept (total s.holds) (total holds) buffer
   kept_elsewhere buffer other there none = elim (either_way (drops anyone buffer Strength.Strong (Called client asked call))) [
     | inl dropped ↦ absurd (other (drops_there s client call asked task tracking starts buffer Strength.Strong dropped there))
     | inr not_dropped ↦
         let sum : total holds buffer Strength.Strong + one_if (drops anyone buffer Strength.Strong (Called client asked call))
-        ≡ total s.holds buffer Strength.Strong + one_if (opens anyone buffer Strength.Strong (Called client asked call)) = (moves.in_all buffer Strength.Strong).adds_up in
+        ≡ total s.holds buffer Strength.Strong + one_if (opens anyone buffer Strength.Strong (Called client asked call)) =
+        (moves.in_all buffer Strength.Strong).adds_up in
         let lost : one_if (drops anyone buffer Strength.Strong (Called client asked call)) ≡ 0 = ap one_if not_dropped in
         let now : total holds buffer Strength.Strong ≡ 0 = eqb-true (total holds buffer Strength.Strong) 0 none in
         eq-eqb (total s.holds buffer Strength.Strong) 0 (omega (arith, sum, lost, now))
   ]
 
   -- no tracker is due elsewhere
-  pub elsewhere : All (λ (t : Waiting). (looked_in (world_in worked (total holds)) (changed_by task) tracking ≡ Some t.place → ⊥) → is_due (world_in worked (total holds)) t ≡ false) attached.unfired
-  elsewhere = all_of (λ (t : Waiting). (looked_in (world_in worked (total holds)) (changed_by task) tracking ≡ Some t.place → ⊥) → is_due (world_in worked (total holds)) t ≡ false) attached.unfired (λ t on other.
+  pub elsewhere : All (λ (t : Waiting). (looked_in (world_in worked (total holds)) (changed_by task) tracking ≡ Some t.place → ⊥) →
+      is_due (world_in worked (total holds)) t ≡ false) attached.unfired
+  elsewhere = all_of (λ (t : Waiting). (looked_in (world_in worked (total holds)) (changed_by task) tracking ≡ Some t.place → ⊥) →
+      is_due (world_in worked (total holds)) t ≡ false) attached.unfired (λ t on other.
       elim (attached_from s.trackers attached (option_map waiting_as tracking) gains t on) [
         | inl old ↦
-            let waits : StillWaits s.forest (total s.holds) t = In-all (StillWaits s.forest (total s.holds)) s.trackers.unfired starts.waiting t old in
-            let apart : changed_by task ≡ Some t.place → ⊥ = λ h. other (ap (λ (o : Option ℕ). looked_in (world_in worked (total holds)) o tracking) h) in
-            undue_elsewhere s.forest worked (changed_by task) starts.sound (amid_named worked task amid) rest (total s.holds) (total holds) t apart waits.filed
+            let waits : StillWaits s.forest (total s.holds) t =
+            In-all (StillWaits s.forest (total s.holds)) s.trackers.unfired starts.waiting t old in
+            let apart : changed_by task ≡ Some t.place → ⊥ =
+            λ h. other (ap (λ (o : Option ℕ). looked_in (world_in worked (total holds)) o tracking) h) in
+            undue_elsewhere s.forest worked (changed_by task) starts.sound (amid_named worked task amid) rest (total s.holds) (total holds)
+            t apart waits.filed
             (λ buffer its. kept_elsewhere buffer (λ h. apart (h ∙ ap Some its))) waits.undue
-        | inr new ↦ new_elsewhere (world_in worked (total holds)) (changed_by task) tracking t new (made_here s client call asked task tracking starts t new) other
+        | inr new ↦ new_elsewhere (world_in worked (total holds)) (changed_by task) tracking t new (made_here s client call asked task
+            tracking starts t new) other
       ])
 
   -- each tracker is filed under the collection that it concerns
@@ -260,11 +297,14 @@ module _ (s : State) (client : ℕ) (call : Call) (asked : Reply) (task : Option
     | inr new ↦ made_filed s.forest starts.sound call asked t (sym starts.tracks ∙ new)
   ]
 
-  module _ (place : Option Place) (g : Forest) (left : g.collections ≡ without_over (with_place place worked).collections) (keys : SameKeys worked g) (sound : IsSound g) where
+  module _ (place : Option Place) (g : Forest) (left : g.collections ≡ without_over (with_place place worked).collections)
+      (keys : SameKeys worked g) (sound : IsSound g) where
     -- those that wait still are where they belong, and not due
     pub waiting_after : All (StillWaits g (total holds)) (swept (world_in worked (total holds)) (s.events + 1) attached).unfired
     waiting_after = all_of (StillWaits g (total holds)) (swept (world_in worked (total holds)) (s.events + 1) attached).unfired (λ t on.
         let kept = In-filter (λ (x : Waiting). not (is_due (world_in worked (total holds)) x)) attached.unfired t on in
         let there : Concerns worked t.place t.condition =
-        concerns_worked s.forest worked (changed_by task) starts.sound (amid_named worked task amid) rest t.place t.condition (filed t kept.0) in
-        waits_on worked g place (amid_named worked task amid) (sound_named g sound) left keys (total holds) t there (not_back (is_due (world_in worked (total holds)) t) kept.1))
+        concerns_worked s.forest worked (changed_by task) starts.sound (amid_named worked task amid) rest t.place t.condition
+        (filed t kept.0) in
+        waits_on worked g place (amid_named worked task amid) (sound_named g sound) left keys (total holds) t there
+        (not_back (is_due (world_in worked (total holds)) t) kept.1))

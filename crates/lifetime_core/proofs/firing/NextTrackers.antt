@@ -39,20 +39,23 @@ use Rattle.lifetime_core.proofs.views.ForTrackers.{IsSeen, recalled}
 -- ---- the tracker that the event attaches
 
 -- a node that a call named is found
-found : (s : State) (marks : Timeline) → IsAfter s marks → (limits : Bound) → Grows s.pool limits [] marks → (key : NodeKey) (n : Named marks key) → node_at s.forest key ≡ Some (node_after marks n.birth)
+found : (s : State) (marks : Timeline) → IsAfter s marks → (limits : Bound) → Grows s.pool limits [] marks →
+    (key : NodeKey) (n : Named marks key) → node_at s.forest key ≡ Some (node_after marks n.birth)
 found s marks shown limits grown key n =
     let kept : is_kept marks key ≡ true = or_right _ _ (ap not n.unspent) in
     node_kept s marks shown limits grown key n.birth n.found kept
 
 -- but for where it is filed, it is the one that the marks tell
-tracker_is : (s : State) (marks : Timeline) → IsAfter s marks → (limits : Bound) → Grows s.pool limits [] marks → (client : ℕ) (reply : Reply) (call : Call) → IsAnswer limits (readings marks) client call reply →
+tracker_is : (s : State) (marks : Timeline) → IsAfter s marks → (limits : Bound) → Grows s.pool limits [] marks →
+    (client : ℕ) (reply : Reply) (call : Call) → IsAnswer limits (readings marks) client call reply →
     option_map tracked_as (tracker_by s.forest call reply) ≡ tracked_at marks (Called client reply call)
 tracker_is s marks shown limits grown client (Reply.Tracker id) (Call.TrackNode key) answer =
     let effective = took_effect_all limits (readings marks) client none_key (Call.TrackNode key) (Reply.Tracker id) refl refl answer.told in
     let n : Named marks key = named limits marks client none_key (Call.TrackNode key) (Reply.Tracker id) key effective refl in
     rw (found s marks shown limits grown key n) refl
 tracker_is s marks shown limits grown client (Reply.Tracker id) (Call.TrackLifetime key most) answer =
-    let effective = took_effect_all limits (readings marks) client none_key (Call.TrackLifetime key most) (Reply.Tracker id) refl refl answer.told in
+    let effective = took_effect_all limits (readings marks) client none_key (Call.TrackLifetime key most) (Reply.Tracker id) refl refl
+    answer.told in
     let n : Named marks key = named limits marks client none_key (Call.TrackLifetime key most) (Reply.Tracker id) key effective refl in
     rw (found s marks shown limits grown key n, n.found) refl
 tracker_is s marks shown limits grown client (Reply.Tracker id) (Call.TrackWeak buffer) answer = refl
@@ -63,7 +66,8 @@ tracker_is s marks shown limits grown client reply call answer = refl
 
 -- ---- the event
 
-module _ (s : State) (marks : Timeline) (shown : IsAfter s marks) (limits : Bound) (grown : Grows s.pool limits [] marks) (client : ℕ) (reply : Reply) (call : Call)
+module _ (s : State) (marks : Timeline) (shown : IsAfter s marks) (limits : Bound) (grown : Grows s.pool limits [] marks) (client : ℕ)
+    (reply : Reply) (call : Call)
     (answer : IsAnswer limits (readings marks) client call reply) where
   -- the event
   abbrev entry : Entry
@@ -77,21 +81,25 @@ module _ (s : State) (marks : Timeline) (shown : IsAfter s marks) (limits : Boun
   pub record AreAsked (t : Table) : Type 0 where
     pub fired : t.fired ≡ fired marks
     pub waiting : map tracked_as t.unfired ≡ asked marks (client, call, reply)
-    pub untaken : (id : ℕ) → is_untaken t.untaken id ≡ true → list_any (λ (u : Tracked). u.id == id) (tracked (after s.pool marks (client, call, reply))) ≡ true
+    pub untaken : (id : ℕ) → is_untaken t.untaken id ≡ true →
+        list_any (λ (u : Tracked). u.id == id) (tracked (after s.pool marks (client, call, reply))) ≡ true
 
   -- who was tracked is so still
-  tracked_later : (o : Option Tracked) → o ≡ tracked_at marks (Called client reply call) → tracked (after s.pool marks (client, call, reply)) ≡ cons_option o (tracked marks)
+  tracked_later : (o : Option Tracked) → o ≡ tracked_at marks (Called client reply call) →
+      tracked (after s.pool marks (client, call, reply)) ≡ cons_option o (tracked marks)
   tracked_later o is = tracked_after s.pool marks entry ∙ ap (λ (x : Option Tracked). cons_option x (tracked marks)) (sym is)
 
   -- so it is once the new tracker is attached
-  are_asked : (t : Table) (o : Option Waiting) → Gains s.trackers o t → option_map tracked_as o ≡ tracked_at marks (Called client reply call) → AreAsked t
+  are_asked : (t : Table) (o : Option Waiting) → Gains s.trackers o t →
+      option_map tracked_as o ≡ tracked_at marks (Called client reply call) → AreAsked t
   are_asked t None same is = record {
     fired = ap (λ (x : Table). x.fired) same ∙ shown.trackers.fired;
     waiting = ap (λ (x : Table). map tracked_as x.unfired) same
         ∙ (shown.trackers.waiting
         ∙ (sym (append-nil (waiting marks)) ∙ ap (λ (x : Option Tracked). waiting marks ++ cons_option x []) is));
     untaken = λ id on.
-        ap (list_any (λ (u : Tracked). u.id == id)) (tracked_later None is) ∙ shown.trackers.untaken id (ap (λ (x : Table). is_untaken x.untaken id) (sym same) ∙ on);
+        ap (list_any (λ (u : Tracked). u.id == id)) (tracked_later None is)
+        ∙ shown.trackers.untaken id (ap (λ (x : Table). is_untaken x.untaken id) (sym same) ∙ on);
   }
   are_asked t (Some new) gains is = record {
     fired = ap (λ (x : Table). x.fired) gains.next ∙ shown.trackers.fired;
@@ -100,17 +108,20 @@ module _ (s : State) (marks : Timeline) (shown : IsAfter s marks) (limits : Boun
         ∙ λ i. shown.trackers.waiting i ++ cons_option (is i) []);
     untaken = λ id on.
         ap (list_any (λ (u : Tracked). u.id == id)) (tracked_later (Some (tracked_as new)) is)
-        ∙ taken id (sym (list_any-append (λ i. i == id) s.trackers.untaken (new.id ∷ [])) ∙ (ap (λ (x : Table). is_untaken x.untaken id) (sym gains.next) ∙ on));
+        ∙ taken id (sym (list_any-append (λ i. i == id) s.trackers.untaken (new.id ∷ []))
+        ∙ (ap (λ (x : Table). is_untaken x.untaken id) (sym gains.next) ∙ on));
   }
     where
-      taken : (id : ℕ) → (is_untaken s.trackers.untaken id || (new.id == id || false)) ≡ true → (new.id == id || list_any (λ (u : Tracked). u.id == id) (tracked marks)) ≡ true
+      taken : (id : ℕ) → (is_untaken s.trackers.untaken id || (new.id == id || false)) ≡ true →
+          (new.id == id || list_any (λ (u : Tracked). u.id == id) (tracked marks)) ≡ true
       taken id h = elim (or_cases _ _ h) [
         | inl old ↦ or_right (new.id == id) _ (shown.trackers.untaken id old)
         | inr here ↦ or_left (new.id == id) _ (or_first _ _ here refl)
       ]
 
   -- the trackers are those of the marks once those that are due fired
-  are_swept : (t : Table) → AreAsked t → (w : World) → IsRecalled marks (after s.pool marks (client, call, reply)) w → (event : ℕ) → event ≡ events (after s.pool marks (client, call, reply)) →
+  are_swept : (t : Table) → AreAsked t → (w : World) → IsRecalled marks (after s.pool marks (client, call, reply)) w → (event : ℕ) →
+      event ≡ events (after s.pool marks (client, call, reply)) →
       AreTrackers (swept w event t) (after s.pool marks (client, call, reply))
   are_swept t asks w seen event now = record {
     fired =
@@ -125,22 +136,28 @@ module _ (s : State) (marks : Timeline) (shown : IsAfter s marks) (limits : Boun
     untaken = asks.untaken;
   }
     where
-      due : (u : Tracked) → In u (asked marks (client, call, reply)) → is_due w u ≡ is_due (world (after s.pool marks (client, call, reply))) u
+      due : (u : Tracked) → In u (asked marks (client, call, reply)) →
+          is_due w u ≡ is_due (world (after s.pool marks (client, call, reply))) u
       due = recalled_due s.pool limits marks later entry w grown (grows_after s.pool limits marks marks entry Stays answer) answer seen
 
-      named_fired : map (firing_in (events (after s.pool marks (client, call, reply)))) (filter (is_due_in w) t.unfired) ≡ map (firing (events (after s.pool marks (client, call, reply)))) (filter (is_due w) (asked marks (client, call, reply)))
+      named_fired : map (firing_in (events (after s.pool marks (client, call, reply)))) (filter (is_due_in w) t.unfired) ≡ map
+          (firing (events (after s.pool marks (client, call, reply)))) (filter (is_due w) (asked marks (client, call, reply)))
       named_fired =
           sym (map-map (firing (events later)) tracked_as (filter (is_due_in w) t.unfired))
           ∙ ap (map (firing (events later))) (sym (filter-map (is_due w) tracked_as t.unfired) ∙ ap (filter (is_due w)) asks.waiting)
 
-      due_fire : filter (is_due w) (asked marks (client, call, reply)) ≡ filter (is_due (world (after s.pool marks (client, call, reply)))) (asked marks (client, call, reply))
+      due_fire : filter (is_due w) (asked marks (client, call, reply)) ≡ filter (is_due (world (after s.pool marks (client, call, reply))))
+          (asked marks (client, call, reply))
       due_fire = filter-In (is_due w) (is_due (world later)) (asked marks entry) due
 
   -- the next state's trackers are those of the marks after the event
-  pub trackers_follow : (new : State) (f : Follows s new client call reply) → IsSeen f.worked (total new.holds) marks (after s.pool marks (client, call, reply)) →
+  pub trackers_follow : (new : State) (f : Follows s new client call reply) →
+      IsSeen f.worked (total new.holds) marks (after s.pool marks (client, call, reply)) →
       AreTrackers new.trackers (after s.pool marks (client, call, reply))
   trackers_follow new f seen =
-      let asks : AreAsked f.attached = are_asked f.attached (tracker_by s.forest call reply) f.gains (tracker_is s marks shown limits grown client reply call answer) in
+      let asks : AreAsked f.attached =
+      are_asked f.attached (tracker_by s.forest call reply) f.gains (tracker_is s marks shown limits grown client reply call answer) in
       let now : new.events ≡ events later = f.events ∙ (ap (λ (n : ℕ). n + 1) shown.events ∙ sym (events_after s.pool marks entry)) in
       subst (λ (t : Table). AreTrackers t later) (sym f.trackers)
-      (are_swept f.attached asks (world_in f.worked (total new.holds)) (recalled s.pool limits marks grown entry f.worked (total new.holds) seen) new.events now)
+      (are_swept f.attached asks (world_in f.worked (total new.holds)) (recalled s.pool limits marks grown entry f.worked (total new.holds)
+      seen) new.events now)

@@ -40,7 +40,8 @@ pub record LeavesRest (f worked : Forest) (here : Option ℕ) : Type 0 where
   pub others : (id : ℕ) → (here ≡ Some id → ⊥) → collection_at worked id ≡ collection_at f id
 
 -- so does an event
-pub leaves_rest : (pool : ℕ) (handles : Handles) (f worked : Forest) (task : Option Task) (key : Option NodeKey) → IsSound f → IfSome task (MayDo f) →
+pub leaves_rest : (pool : ℕ) (handles : Handles) (f worked : Forest) (task : Option Task) (key : Option NodeKey) → IsSound f →
+    IfSome task (MayDo f) →
     Reworked pool handles f (work_in task) key worked → LeavesRest f worked (changed_by task)
 leaves_rest pool handles f worked task key sound may work = by task may work
   where
@@ -51,7 +52,8 @@ leaves_rest pool handles f worked task key sound may work = by task may work
       others = λ id other. refl;
     })
 
-    settled : (t : Task) (change : Change) → MayDo f t → t.change ≡ Some change → Settled pool handles f worked t.collection change key → LeavesRest f worked (Some t.collection)
+    settled : (t : Task) (change : Change) → MayDo f t → t.change ≡ Some change → Settled pool handles f worked t.collection change key →
+        LeavesRest f worked (Some t.collection)
     settled t change may is s =
         let there = may_spend f t sound may in
         let spends = may_release f t change may is in
@@ -59,9 +61,11 @@ leaves_rest pool handles f worked task key sound may work = by task may work
           still_given = given_more pool handles f worked t.collection change key t.spends sound there spends s;
           keys = key_from pool handles f worked t.collection change key t.spends sound there spends s;
           others = λ id other.
-              let named : (given_back handles s.after).id ≡ t.collection = new_id pool handles f worked t.collection change key t.spends sound there spends s in
+              let named : (given_back handles s.after).id ≡ t.collection =
+              new_id pool handles f worked t.collection change key t.spends sound there spends s in
               ap (find (λ (c : Collection). c.id == id)) s.collections
-              ∙ put_other (given_back handles s.after) f.collections id (false_if ((given_back handles s.after).id == id) (λ e. other (ap Some (sym named ∙ eqb-true (given_back handles s.after).id id e))));
+              ∙ put_other (given_back handles s.after) f.collections id (false_if ((given_back handles s.after).id == id) (λ e.
+              other (ap Some (sym named ∙ eqb-true (given_back handles s.after).id id e))));
         }
 
     in_task : (t : Task) (o : Option Change) → t.change ≡ o → MayDo f t →
@@ -70,7 +74,8 @@ leaves_rest pool handles f worked task key sound may work = by task may work
     in_task t None is may work = same None work.0
     in_task t (Some change) is may work = settled t change may is work
 
-    by : (task : Option Task) → IfSome task (MayDo f) → Reworked pool handles f (work_in task) key worked → LeavesRest f worked (changed_by task)
+    by : (task : Option Task) → IfSome task (MayDo f) → Reworked pool handles f (work_in task) key worked →
+        LeavesRest f worked (changed_by task)
     by None may work = same None work.0
     by (Some t) may work = in_task t t.change refl may work
 
@@ -82,7 +87,8 @@ module _ (f worked : Forest) (here : Option ℕ) (sound : IsSound f) (named : Ar
       was : (n : Node) → node_at f key ≡ Some n → node_at worked key ≡ Some n
       was n at =
           let c = node_with_key f key n at in
-          let its : c.0.id ≡ id = sym (sound.fit c.0 c.1 n c.2).collection ∙ subst (λ (o : Option Node). IfSome o (λ m. m.collection ≡ id)) at of.ours in
+          let its : c.0.id ≡ id =
+          sym (sound.fit c.0 c.1 n c.2).collection ∙ subst (λ (o : Option Node). IfSome o (λ m. m.collection ≡ id)) at of.ours in
           let there : collection_at worked id ≡ Some c.0 = rest.others id other ∙ found_collection f (sound_named f sound) c.0 id c.1 its in
           found_node worked named c.0 n key (In-find (λ (x : Collection). x.id == id) worked.collections c.0 there).0 c.2 c.3
 
@@ -102,7 +108,8 @@ module _ (f worked : Forest) (here : Option ℕ) (sound : IsSound f) (named : Ar
   -- so what is waited for there holds, if it did
   same_world : (handles : Handles) (id : ℕ) (condition : Condition) → (here ≡ Some id → ⊥) → Concerns f id condition →
       holds (world_in worked handles) condition ≡ holds (world_in f handles) condition
-  same_world handles id (Condition.Node key) other of = ap (λ (o : Option Node). option_map_or (λ (n : Node). n.gone) o true) (same_node id key other of)
+  same_world handles id (Condition.Node key) other of =
+      ap (λ (o : Option Node). option_map_or (λ (n : Node). n.gone) o true) (same_node id key other of)
   same_world handles id (Condition.Lifetime key its most) other of =
       let collection : collection_at worked its ≡ collection_at f its = rest.others its (λ h. other (h ∙ ap Some of.0)) in
       λ i.
@@ -110,7 +117,8 @@ module _ (f worked : Forest) (here : Option ℕ) (sound : IsSound f) (named : Ar
       then nat_le (option_map_or (λ (c : Collection). length c.held) (collection i) 0) most
       else option_map_or (λ (n : Node). n.gone) (same_node id key other of.1 i) true
   same_world handles id (Condition.Weak buffer) other of =
-      ap (λ (o : Option Collection). option_map_or (λ (c : Collection). is_some c.buffers && is_doomed (handles buffer Strength.Strong) (some_strong_live (members_of c.nodes))) o false)
+      ap (λ (o : Option Collection). option_map_or (λ (c : Collection). is_some c.buffers && is_doomed (handles buffer Strength.Strong)
+      (some_strong_live (members_of c.nodes))) o false)
       (rest.others buffer.collection (λ h. other (h ∙ ap Some of)))
 
   -- what is waited for concerns the collection that it concerned
@@ -124,7 +132,8 @@ module _ (f worked : Forest) (here : Option ℕ) (sound : IsSound f) (named : Ar
           elim (rest.keys c.0 c.1 n c.2) [
             | inl old ↦
                 let was : node_at f key ≡ Some old.1 = found_node f (sound_named f sound) old.0 old.1 key old.2 old.3 (old.4 ∙ c.3) in
-                named.ours c.0 c.1 n c.2 ∙ (sym old.5 ∙ (sym (sound.fit old.0 old.2 old.1 old.3).collection ∙ subst (λ (o : Option Node). IfSome o (λ m. m.collection ≡ id)) was of.ours))
+                named.ours c.0 c.1 n c.2 ∙ (sym old.5 ∙ (sym (sound.fit old.0 old.2 old.1 old.3).collection
+                ∙ subst (λ (o : Option Node). IfSome o (λ m. m.collection ≡ id)) was of.ours))
             | inr fresh ↦ both_ways (given f key) of.given (subst (λ (k : NodeKey). given f k ≡ false) c.3 fresh)
           ]
 
@@ -140,30 +149,37 @@ abbrev pub AreKept : Handles → Handles → BufferName → Type 0
 AreKept old new buffer = (new buffer Strength.Strong == 0) ≡ true → (old buffer Strength.Strong == 0) ≡ true
 
 -- where the last strong handle of a buffer is not lost, unless its collection is gone, a buffer that was not doomed is not
-still_undoomed : (f : Forest) (old new : Handles) (buffer : BufferName) → (is_some (collection_at f buffer.collection) ≡ true → AreKept old new buffer) →
+still_undoomed : (f : Forest) (old new : Handles) (buffer : BufferName) → (is_some (collection_at f buffer.collection) ≡ true →
+    AreKept old new buffer) →
     (world_in f old).doomed buffer ≡ false → (world_in f new).doomed buffer ≡ false
 still_undoomed f old new buffer keeps was = by (collection_at f buffer.collection) keeps was
   where
-    less : (given before after live : Bool) → (after ≡ true → before ≡ true) → (given && (before && live)) ≡ false → (given && (after && live)) ≡ false
+    less : (given before after live : Bool) → (after ≡ true → before ≡ true) → (given && (before && live)) ≡ false →
+        (given && (after && live)) ≡ false
     less false before after live h none = refl
     less true before false live h none = refl
     less true true true live h none = none
     less true false true live h none = let no : false ≡ true = h refl in cc
 
     by : (o : Option Collection) → (is_some o ≡ true → AreKept old new buffer) →
-        option_map_or (λ (c : Collection). is_some c.buffers && is_doomed (old buffer Strength.Strong) (some_strong_live (members_of c.nodes))) o false ≡ false →
-        option_map_or (λ (c : Collection). is_some c.buffers && is_doomed (new buffer Strength.Strong) (some_strong_live (members_of c.nodes))) o false ≡ false
+        option_map_or (λ (c : Collection). is_some c.buffers && is_doomed (old buffer Strength.Strong)
+        (some_strong_live (members_of c.nodes))) o false ≡ false →
+        option_map_or (λ (c : Collection). is_some c.buffers && is_doomed (new buffer Strength.Strong)
+        (some_strong_live (members_of c.nodes))) o false ≡ false
     by None h none = refl
     by (Some c) h none = less (is_some c.buffers) (old buffer Strength.Strong == 0) (new buffer Strength.Strong == 0) _ (h refl) none
 
 -- what was not to be told still is not, where the strong handles of the collection's buffers are not lost
-pub undue_elsewhere : (f worked : Forest) (here : Option ℕ) → IsSound f → AreNamed worked → LeavesRest f worked here → (old new : Handles) (t : Waiting) →
-    (here ≡ Some t.place → ⊥) → Concerns f t.place t.condition → ((buffer : BufferName) → buffer.collection ≡ t.place → is_some (collection_at f buffer.collection) ≡ true → AreKept old new buffer) →
+pub undue_elsewhere : (f worked : Forest) (here : Option ℕ) → IsSound f → AreNamed worked → LeavesRest f worked here →
+    (old new : Handles) (t : Waiting) →
+    (here ≡ Some t.place → ⊥) → Concerns f t.place t.condition → ((buffer : BufferName) → buffer.collection ≡ t.place →
+    is_some (collection_at f buffer.collection) ≡ true → AreKept old new buffer) →
     is_due (world_in f old) t ≡ false → is_due (world_in worked new) t ≡ false
 undue_elsewhere f worked here sound named rest old new t other of keeps was =
     same_world f worked here sound named rest new t.place t.condition other of ∙ by t.condition of was
   where
-    by : (condition : Condition) → Concerns f t.place condition → holds (world_in f old) condition ≡ false → holds (world_in f new) condition ≡ false
+    by : (condition : Condition) → Concerns f t.place condition → holds (world_in f old) condition ≡ false →
+        holds (world_in f new) condition ≡ false
     by (Condition.Node key) of was = was
     by (Condition.Lifetime key its most) of was = was
     by (Condition.Weak buffer) of was = still_undoomed f old new buffer (keeps buffer of) was

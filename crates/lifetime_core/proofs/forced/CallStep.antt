@@ -40,7 +40,8 @@ use Rattle.lifetime_core.proofs.forced.ForcedStep.{held_match}
 use Rattle.lifetime_core.proofs.nodes.Unborn.{unsaid}
 
 -- a map that keeps keys passes through a filter by keys
-filter-keyed : (keep : NodeKey → Bool) (f : Node → Node) → ((n : Node) → (f n).key ≡ n.key) → (ns : List Node) → filter (λ (n : Node). keep n.key) (map f ns) ≡ map f (filter (λ (n : Node). keep n.key) ns)
+filter-keyed : (keep : NodeKey → Bool) (f : Node → Node) → ((n : Node) → (f n).key ≡ n.key) → (ns : List Node) →
+    filter (λ (n : Node). keep n.key) (map f ns) ≡ map f (filter (λ (n : Node). keep n.key) ns)
 filter-keyed keep f same [] = refl
 filter-keyed keep f same (n ∷ ns) =
     let here : keep (f n).key ≡ keep n.key = ap keep (same n) in
@@ -55,38 +56,46 @@ pub record IsIdle (marks : Timeline) (client : ℕ) (reply : Reply) (call : Call
   pub bears_none : birth_at 0 (Called client reply call) ≡ None
   pub says_nothing : (n : Node) → said call reply n ≡ n
   pub loses_none : own_loss marks call reply ≡ None
-  pub opens_alike : (buffer : BufferName) (strength : Strength) → (open_total (Called client reply call ∷ marks) buffer strength == 0) ≡ (open_total marks buffer strength == 0)
+  pub opens_alike : (buffer : BufferName) (strength : Strength) →
+      (open_total (Called client reply call ∷ marks) buffer strength == 0) ≡ (open_total marks buffer strength == 0)
 
-module _ (s : State) (marks : Timeline) (shown : IsAfter s marks) (limits : Bound) (grown : Grows s.pool limits [] marks) (client : ℕ) (reply : Reply) (call : Call)
+module _ (s : State) (marks : Timeline) (shown : IsAfter s marks) (limits : Bound) (grown : Grows s.pool limits [] marks) (client : ℕ)
+    (reply : Reply) (call : Call)
     (answer : IsAnswer limits (readings marks) client call reply) where
   -- the marks with that of the call
   abbrev called : Timeline
   called = Called client reply call ∷ marks
 
   -- the pages of the others, where their buffers are home as before
-  beside_called : (id : ℕ) → ((h : HeldPages) → is_beside id h ≡ true → home (Called client reply call ∷ marks) h.buffer ≡ home marks h.buffer) →
+  beside_called : (id : ℕ) → ((h : HeldPages) → is_beside id h ≡ true →
+      home (Called client reply call ∷ marks) h.buffer ≡ home marks h.buffer) →
       pages_beside s.pool (Called client reply call ∷ marks) id ≡ pages_beside s.pool marks id
   beside_called id homes =
       let now : HeldPages → Bool = λ h. not (home called h.buffer) in
       let before : HeldPages → Bool = λ h. not (home marks h.buffer) in
       ap (map (λ (h : HeldPages). h.pages))
       (filter-swap (is_beside id) now (placed s.pool marks)
-      ∙ (filter-In now before (filter (is_beside id) (placed s.pool marks)) (λ h on. ap not (homes h (In-filter (is_beside id) (placed s.pool marks) h on).1))
+      ∙ (filter-In now before (filter (is_beside id) (placed s.pool marks)) (λ h on.
+      ap not (homes h (In-filter (is_beside id) (placed s.pool marks) h on).1))
       ∙ filter-swap before (is_beside id) (placed s.pool marks)))
 
   -- a collection with the nodes that the mark makes follows it
-  pub matches_called : (id : ℕ) → ((h : HeldPages) → is_beside id h ≡ true → home (Called client reply call ∷ marks) h.buffer ≡ home marks h.buffer) →
+  pub matches_called : (id : ℕ) → ((h : HeldPages) → is_beside id h ≡ true →
+      home (Called client reply call ∷ marks) h.buffer ≡ home marks h.buffer) →
       (ns : List Node) → ns ≡ nodes_kept (is_kept marks) (Called client reply call ∷ marks) id →
-      Matches s.pool (is_kept marks) (Called client reply call ∷ marks) (beside s.forest id) (record (collection_after s.pool marks id) { nodes = ns })
+      Matches s.pool (is_kept marks) (Called client reply call ∷ marks) (beside s.forest id)
+      (record (collection_after s.pool marks id) { nodes = ns })
   matches_called id homes ns same =
-      let f : Matches s.pool (is_kept marks) marks (beside s.forest id) (collection_after s.pool marks id) = follows s marks shown limits grown id in
+      let f : Matches s.pool (is_kept marks) marks (beside s.forest id) (collection_after s.pool marks id) =
+      follows s marks shown limits grown id in
       record {
         keeps = f.keeps;
         nodes = same;
         buffers = refl;
         own = f.own;
         none = f.none;
-        held = held_match s.pool limits marks (Called client reply call) grown (Answers marks client reply call Stays answer) id refl (held_after s.pool marks id) f.held;
+        held = held_match s.pool limits marks (Called client reply call) grown (Answers marks client reply call Stays answer) id refl
+            (held_after s.pool marks id) f.held;
         beside = λ test. f.beside test ∙ ap (list_any test) (sym (beside_called id homes));
       }
 
@@ -94,7 +103,8 @@ module _ (s : State) (marks : Timeline) (shown : IsAfter s marks) (limits : Boun
 
   -- those that were there
   pub kept_answered : birth_at 0 (Called client reply call) ≡ None → (id : ℕ) →
-      map (answered client call reply) (collection_after s.pool marks id).nodes ≡ nodes_kept (is_kept marks) (Called client reply call ∷ marks) id
+      map (answered client call reply) (collection_after s.pool marks id).nodes ≡ nodes_kept (is_kept marks)
+      (Called client reply call ∷ marks) id
   kept_answered none id =
       ap (map (answered client call reply)) (follows s marks shown limits grown id).nodes
       ∙ (sym (filter-keyed (is_kept marks) (answered client call reply) (answered_key client call reply) (nodes_after marks id))
@@ -102,10 +112,12 @@ module _ (s : State) (marks : Timeline) (shown : IsAfter s marks) (limits : Boun
 
   -- and one that is born
   pub kept_born : (b : Birth) → birth_at (events marks + 1) (Called client reply call) ≡ Some b →
-      (collection_after s.pool marks b.collection).nodes ++ node_after (Called client reply call ∷ marks) b ∷ [] ≡ nodes_kept (is_kept marks) (Called client reply call ∷ marks) b.collection
+      (collection_after s.pool marks b.collection).nodes ++ node_after (Called client reply call ∷ marks) b ∷ [] ≡ nodes_kept
+      (is_kept marks) (Called client reply call ∷ marks) b.collection
   kept_born b born =
       let fresh : was_born (births marks) b.node ≡ false = (came s.pool limits marks grown client reply call answer b born).fresh in
-      let kept : is_kept marks b.node ≡ true = or_left (not (gone marks b.node)) _ (ap not (unsaid s.pool limits marks grown b.node fresh).not_gone) in
+      let kept : is_kept marks b.node ≡ true =
+      or_left (not (gone marks b.node)) _ (ap not (unsaid s.pool limits marks grown b.node fresh).not_gone) in
       let last : filter (λ (n : Node). is_kept marks n.key) (node_after called b ∷ []) ≡ node_after called b ∷ [] = rw kept refl in
       ap (λ (ns : List Node). ns ++ node_after called b ∷ []) (follows s marks shown limits grown b.collection).nodes
       ∙ (ap (λ (ns : List Node). nodes_kept (is_kept marks) marks b.collection ++ ns) (sym last)
@@ -127,8 +139,10 @@ module _ (s : State) (marks : Timeline) (shown : IsAfter s marks) (limits : Boun
 
   module _ (none : birth_at 0 (Called client reply call) ≡ None) (nothing : (n : Node) → said call reply n ≡ n) where
     -- where the event says nothing of any node, only an end is put elsewhere: a collection follows the mark with that end there
-    pub follows_placed : (id : ℕ) → ((h : HeldPages) → is_beside id h ≡ true → home (Called client reply call ∷ marks) h.buffer ≡ home marks h.buffer) →
-        Matches s.pool (is_kept marks) (Called client reply call ∷ marks) (beside s.forest id) (placed_in (place_of (end_by client call reply)) (collection_after s.pool marks id))
+    pub follows_placed : (id : ℕ) → ((h : HeldPages) → is_beside id h ≡ true →
+        home (Called client reply call ∷ marks) h.buffer ≡ home marks h.buffer) →
+        Matches s.pool (is_kept marks) (Called client reply call ∷ marks) (beside s.forest id)
+        (placed_in (place_of (end_by client call reply)) (collection_after s.pool marks id))
     follows_placed id homes =
         let place : NodeKey → End → End = place_of (end_by client call reply) in
         let c : Collection = collection_after s.pool marks id in
@@ -160,9 +174,11 @@ module _ (s : State) (marks : Timeline) (shown : IsAfter s marks) (limits : Boun
     -- each stands as it stood
     member_idle : (b : Birth) → member (Called client reply call ∷ marks) b ≡ member marks b
     member_idle b =
-        let lines : ancestors (births called) b.node ≡ ancestors (births marks) b.node = ap (λ (o : Option Birth). ancestors (cons_option o (births marks)) b.node) births_idle in
+        let lines : ancestors (births called) b.node ≡ ancestors (births marks) b.node =
+        ap (λ (o : Option Birth). ancestors (cons_option o (births marks)) b.node) births_idle in
         let same : node_after called b ≡ placed_node (place_of (end_by client call reply)) (node_after marks b) =
-        node_called s.pool limits marks grown client reply call answer idle.bears_none b ∙ ap (placed_node (place_of (end_by client call reply))) (idle.says_nothing (node_after marks b)) in
+        node_called s.pool limits marks grown client reply call answer idle.bears_none b
+        ∙ ap (placed_node (place_of (end_by client call reply))) (idle.says_nothing (node_after marks b)) in
         λ i. of_node (lines i) (same i)
 
     -- and so do all of a collection
@@ -174,13 +190,16 @@ module _ (s : State) (marks : Timeline) (shown : IsAfter s marks) (limits : Boun
     -- and the same buffers are home
     pub home_idle : (buffer : BufferName) → home (Called client reply call ∷ marks) buffer ≡ home marks buffer
     home_idle buffer = λ i.
-        (is_some (buffers_of marks buffer.collection) && (idle.opens_alike buffer Strength.Strong i && not (some_strong_live (members_idle buffer.collection i))))
+        (is_some (buffers_of marks buffer.collection) && (idle.opens_alike buffer Strength.Strong i && not
+        (some_strong_live (members_idle buffer.collection i))))
         && idle.opens_alike buffer Strength.Weak i
 
     -- so no page goes back
     pub held_idle : held s.pool (Called client reply call ∷ marks) ≡ held s.pool marks
-    held_idle = filter-In (λ (h : HeldPages). not (home called h.buffer)) (λ (h : HeldPages). not (home marks h.buffer)) (placed s.pool marks) (λ h on. ap not (home_idle h.buffer))
+    held_idle = filter-In (λ (h : HeldPages). not (home called h.buffer)) (λ (h : HeldPages).
+        not (home marks h.buffer)) (placed s.pool marks) (λ h on. ap not (home_idle h.buffer))
 
     -- each collection with the end that the event puts elsewhere follows its mark
-    pub follows_idle : (id : ℕ) → Matches s.pool (is_kept marks) (Called client reply call ∷ marks) (beside s.forest id) (placed_in (place_of (end_by client call reply)) (collection_after s.pool marks id))
+    pub follows_idle : (id : ℕ) → Matches s.pool (is_kept marks) (Called client reply call ∷ marks) (beside s.forest id)
+        (placed_in (place_of (end_by client call reply)) (collection_after s.pool marks id))
     follows_idle id = follows_placed idle.bears_none idle.says_nothing id (λ h at. home_idle h.buffer)

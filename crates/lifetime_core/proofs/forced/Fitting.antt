@@ -28,7 +28,8 @@ use Rattle.lifetime_core.specs.Whole.{AreFit, AreOnce, IsFit, is_leaving}
 -- ---- one mark on one node
 
 -- a node that is lost now has a fault
-faults : (taken gone released : Bool) (fault : Fault) (o : Option Fault) → (gone ≡ true → (is_some o || released) ≡ true) → (taken || gone) ≡ true →
+faults : (taken gone released : Bool) (fault : Fault) (o : Option Fault) → (gone ≡ true → (is_some o || released) ≡ true) →
+    (taken || gone) ≡ true →
     (is_some (if taken && not gone then Some fault else o) || released) ≡ true
 faults true true released fault o before now = before refl
 faults true false released fault o before now = refl
@@ -36,7 +37,8 @@ faults false true released fault o before now = before refl
 faults false false released fault o before now = cc
 
 -- what ends was released, or was gone
-ends : (under gone released : Bool) (o : Option Fault) → (gone ≡ true → (is_some o || released) ≡ true) → (under ≡ true → gone ≡ false → released ≡ true) → (under || gone) ≡ true →
+ends : (under gone released : Bool) (o : Option Fault) → (gone ≡ true → (is_some o || released) ≡ true) → (under ≡ true → gone ≡ false →
+    released ≡ true) → (under || gone) ≡ true →
     (is_some o || released) ≡ true
 ends under true released o before leaves now = before refl
 ends true false released o before leaves now = or_right (is_some o) released (leaves refl refl)
@@ -57,7 +59,8 @@ module _ (Known : NodeKey → Type 0) (id : ℕ) (leaving : Option NodeKey) wher
   given-fit head n fit = record { key = fit.key; collection = fit.collection; failed = fit.failed; left = fit.left }
 
   -- and an end, where all that end were released
-  ended-fit : (nodes : List Node) (top : NodeKey) (n : Node) → (is_under top (member_of nodes n) ≡ true → n.gone ≡ false → n.released ≡ true) →
+  ended-fit : (nodes : List Node) (top : NodeKey) (n : Node) → (is_under top (member_of nodes n) ≡ true → n.gone ≡ false →
+      n.released ≡ true) →
       IsFit Known id leaving n → IsFit Known id leaving (ended nodes top n)
   ended-fit nodes top n leaves fit = record {
     key = fit.key;
@@ -67,7 +70,8 @@ module _ (Known : NodeKey → Type 0) (id : ℕ) (leaving : Option NodeKey) wher
   }
 
   -- a release does, where it spends the end
-  released-fit : (key : NodeKey) (n : Node) → leaving ≡ Some key → IsFit Known id leaving n → IsFit Known id leaving (affected key Effect.Released n)
+  released-fit : (key : NodeKey) (n : Node) → leaving ≡ Some key → IsFit Known id leaving n →
+      IsFit Known id leaving (affected key Effect.Released n)
   released-fit key n spends fit = record {
     key = fit.key;
     collection = fit.collection;
@@ -79,20 +83,25 @@ module _ (Known : NodeKey → Type 0) (id : ℕ) (leaving : Option NodeKey) wher
       later true released o before = or_right (is_some o) true refl
       later false released o before = before
 
-      spent : (same released gone leaves : Bool) → leaves ≡ same → (same || released) ≡ true → (released ≡ true → (gone || leaves) ≡ true) → (gone || leaves) ≡ true
+      spent : (same released gone leaves : Bool) → leaves ≡ same → (same || released) ≡ true → (released ≡ true → (gone || leaves) ≡ true) →
+          (gone || leaves) ≡ true
       spent same true gone leaves is now before = before refl
       spent true false gone leaves is now before = or_right gone leaves is
       spent false false gone leaves is now before = cc
 
   -- any other effect does
-  affected-fit : (key : NodeKey) (effect : Effect) (n : Node) → ((k : NodeKey) → released_by (Change.Effect key effect) ≡ Some k → leaving ≡ Some k) →
+  affected-fit : (key : NodeKey) (effect : Effect) (n : Node) → ((k : NodeKey) → released_by (Change.Effect key effect) ≡ Some k →
+      leaving ≡ Some k) →
       IsFit Known id leaving n → IsFit Known id leaving (affected key effect n)
   affected-fit key Effect.Released n spends fit = released-fit key n (spends key refl) fit
   affected-fit key Effect.Bound n spends fit = record { key = fit.key; collection = fit.collection; failed = fit.failed; left = fit.left }
-  affected-fit key Effect.Dispensable n spends fit = record { key = fit.key; collection = fit.collection; failed = fit.failed; left = fit.left }
+  affected-fit key Effect.Dispensable n spends fit =
+      record { key = fit.key; collection = fit.collection; failed = fit.failed; left = fit.left }
   affected-fit key Effect.Weak n spends fit = record { key = fit.key; collection = fit.collection; failed = fit.failed; left = fit.left }
-  affected-fit key (Effect.WeakOk children) n spends fit = record { key = fit.key; collection = fit.collection; failed = fit.failed; left = fit.left }
-  affected-fit key (Effect.Constrained demand) n spends fit = record { key = fit.key; collection = fit.collection; failed = fit.failed; left = fit.left }
+  affected-fit key (Effect.WeakOk children) n spends fit =
+      record { key = fit.key; collection = fit.collection; failed = fit.failed; left = fit.left }
+  affected-fit key (Effect.Constrained demand) n spends fit =
+      record { key = fit.key; collection = fit.collection; failed = fit.failed; left = fit.left }
   affected-fit key Effect.Taken n spends fit = record { key = fit.key; collection = fit.collection; failed = fit.failed; left = fit.left }
   affected-fit key Effect.Tracked n spends fit = record { key = fit.key; collection = fit.collection; failed = fit.failed; left = fit.left }
 
@@ -116,7 +125,8 @@ outcome_ends head (Some failure) top is = cc
 
 -- nor is a loss of what nothing keeps
 abandoned_ends : (s : Standing) → NoEnd (abandoned s)
-abandoned_ends s top is = let found = and_then-Some _ (root_left s.members) (Ended top) is in let yes = when-Some _ (Loss found.0.key Cause.NoStrong) (Ended top) found.2 in cc
+abandoned_ends s top is = let found = and_then-Some _ (root_left s.members) (Ended top) is in let yes =
+    when-Some _ (Loss found.0.key Cause.NoStrong) (Ended top) found.2 in cc
 
 -- nor is what comes of the root unit
 initial_ends : (pool : ℕ) (s : Standing) → NoEnd (initial_allocation pool s)
@@ -138,7 +148,8 @@ ending_deserted s top is =
     let found = map-Some _ (find (is_deserted s.members) s.members) (Ended top) is in
     let key : found.0.key ≡ top = key_is found.0.key found.2 in
     let deserted = (In-find (is_deserted s.members) s.members found.0 found.1).1 in
-    subst (λ (k : NodeKey). some_live (subtree k s.members) ≡ false) key (not_back (some_live (subtree found.0.key s.members)) (and_right _ _ (and_right _ _ deserted)))
+    subst (λ (k : NodeKey). some_live (subtree k s.members) ≡ false) key (not_back (some_live (subtree found.0.key s.members))
+    (and_right _ _ (and_right _ _ deserted)))
   where
     key_is : (k : NodeKey) → Ended k ≡ Ended top → k ≡ top
     key_is k h = cc
@@ -147,7 +158,8 @@ ending_deserted s top is =
 released_below : (nodes : List Node) (top : NodeKey) (n : Node) → some_live (subtree top (members_of nodes)) ≡ false → In n nodes →
     is_under top (member_of nodes n) ≡ true → n.gone ≡ false → n.released ≡ true
 released_below nodes top n none in_nodes under here =
-    let standing_there = In-map-back (member_of nodes) (filter (λ (m : Node). not m.gone) nodes) n (In-filter-back (λ (m : Node). not m.gone) nodes n in_nodes (rw here refl)) in
+    let standing_there = In-map-back (member_of nodes) (filter (λ (m : Node). not m.gone) nodes) n (In-filter-back (λ (m : Node).
+    not m.gone) nodes n in_nodes (rw here refl)) in
     released n.released (rw here at (none-In (is_under top) is_live (members_of nodes) (member_of nodes n) none standing_there under))
   where
     released : (r : Bool) → (true && not r) ≡ false → r ≡ true
@@ -155,13 +167,15 @@ released_below nodes top n none in_nodes under here =
     released false h = cc
 
 -- where a forced step ends a subtree, all in it were released
-ended_released : (pool : ℕ) (handles : Handles) (others : List Interval) (c : Collection) (top : NodeKey) → forced pool (standing handles others c) ≡ Some (Ended top) →
+ended_released : (pool : ℕ) (handles : Handles) (others : List Interval) (c : Collection) (top : NodeKey) →
+    forced pool (standing handles others c) ≡ Some (Ended top) →
     (n : Node) → In n c.nodes → is_under top (member_of c.nodes n) ≡ true → n.gone ≡ false → n.released ≡ true
 ended_released pool handles others c top is n in_nodes under here =
     let s : Standing = standing handles others c in
     by s refl (In-first_some (ending s ∷ abandoned s ∷ initial_allocation pool s ∷ logical_allocation s ∷ []) (Ended top) is)
   where
-    by : (s : Standing) → s.members ≡ members_of c.nodes → In (Some (Ended top)) (ending s ∷ abandoned s ∷ initial_allocation pool s ∷ logical_allocation s ∷ []) → n.released ≡ true
+    by : (s : Standing) → s.members ≡ members_of c.nodes →
+        In (Some (Ended top)) (ending s ∷ abandoned s ∷ initial_allocation pool s ∷ logical_allocation s ∷ []) → n.released ≡ true
     by s are (inl ends) = released_below c.nodes top n (rw are at (ending_deserted s top (sym ends))) in_nodes under here
     by s are (inr (inl abandons)) = absurd (abandoned_ends s top (sym abandons))
     by s are (inr (inr (inl begins))) = absurd (initial_ends pool s top (sym begins))
@@ -178,7 +192,8 @@ pub record Keeps (Known : NodeKey → Type 0) (id : ℕ) (leaving : Option NodeK
   pub once : AreOnce c.nodes → AreOnce d.nodes
 
 -- a map that keeps the keys
-mapped : (f : Node → Node) → ((n : Node) → (f n).key ≡ n.key) → (nodes : List Node) (n : Node) → In n nodes → (m : Node) × In m (map f nodes) × (m.key ≡ n.key)
+mapped : (f : Node → Node) → ((n : Node) → (f n).key ≡ n.key) → (nodes : List Node) (n : Node) → In n nodes →
+    (m : Node) × In m (map f nodes) × (m.key ≡ n.key)
 mapped f same nodes n in_nodes = (f n, In-map-back f nodes n in_nodes, same n)
 
 -- and leaves each key once
@@ -207,7 +222,8 @@ module _ (Known : NodeKey → Type 0) (id : ℕ) (leaving : Option NodeKey) wher
   loses : (c : Collection) (fault : Fault) → Keeps Known id leaving c (with_nodes (after_loss fault) c)
   loses c fault = record {
     same_id = refl;
-    fit = map-fit Known id leaving (lost (is_taken c.nodes fault.origin) fault) c.nodes (λ n in_nodes fit. lost-fit Known id leaving (is_taken c.nodes fault.origin) fault n fit);
+    fit = map-fit Known id leaving (lost (is_taken c.nodes fault.origin) fault) c.nodes (λ n in_nodes fit.
+        lost-fit Known id leaving (is_taken c.nodes fault.origin) fault n fit);
     keys = mapped (lost (is_taken c.nodes fault.origin) fault) (λ n. refl) c.nodes;
     once = mapped_once (lost (is_taken c.nodes fault.origin) fault) (λ n. refl) c.nodes;
   }
@@ -223,12 +239,14 @@ module _ (Known : NodeKey → Type 0) (id : ℕ) (leaving : Option NodeKey) wher
   }
 
   -- one of two
-  either : (b : Bool) (c d e : Collection) → Keeps Known id leaving c d → Keeps Known id leaving c e → Keeps Known id leaving c (if b then d else e)
+  either : (b : Bool) (c d e : Collection) → Keeps Known id leaving c d → Keeps Known id leaving c e →
+      Keeps Known id leaving c (if b then d else e)
   either true c d e first later = first
   either false c d e first later = later
 
   -- a forced step
-  forced_keeps : (pool : ℕ) (handles : Handles) (others : List Interval) (c : Collection) (mark : Mark) → forced pool (standing handles others c) ≡ Some mark →
+  forced_keeps : (pool : ℕ) (handles : Handles) (others : List Interval) (c : Collection) (mark : Mark) →
+      forced pool (standing handles others c) ≡ Some mark →
       Keeps Known id leaving c (made pool others mark c)
   forced_keeps pool handles others c (Called client reply call) is = nothing c
   forced_keeps pool handles others c (Loss origin cause) is = loses c (record { cause = cause; origin = origin })
@@ -241,16 +259,19 @@ module _ (Known : NodeKey → Type 0) (id : ℕ) (leaving : Option NodeKey) wher
       }) (with_nodes (after_allocation head) c) (gives c _ head refl refl) (gives c _ head refl refl)
   forced_keeps pool handles others c (Ended top) is = record {
     same_id = refl;
-    fit = map-fit Known id leaving (ended c.nodes top) c.nodes (λ n in_nodes fit. ended-fit Known id leaving c.nodes top n (ended_released pool handles others c top is n in_nodes) fit);
+    fit = map-fit Known id leaving (ended c.nodes top) c.nodes (λ n in_nodes fit.
+        ended-fit Known id leaving c.nodes top n (ended_released pool handles others c top is n in_nodes) fit);
     keys = mapped (ended c.nodes top) (λ n. refl) c.nodes;
     once = mapped_once (ended c.nodes top) (λ n. refl) c.nodes;
   }
 
   -- all forced steps
-  pub settles_keeps : (pool : ℕ) (handles : Handles) (others : List Interval) (c after : Collection) → Settles pool handles others c after → Keeps Known id leaving c after
+  pub settles_keeps : (pool : ℕ) (handles : Handles) (others : List Interval) (c after : Collection) → Settles pool handles others c after →
+      Keeps Known id leaving c after
   settles_keeps pool handles others c after (Rests rests none) = nothing c
   settles_keeps pool handles others c after (Forces from to mark is on) =
-      after_that from (made pool others mark from) to (forced_keeps pool handles others from mark is) (settles_keeps pool handles others (made pool others mark from) to on)
+      after_that from (made pool others mark from) to (forced_keeps pool handles others from mark is) (settles_keeps pool handles others
+      (made pool others mark from) to on)
 
 -- an element of the first of two lists
 pub in_front : {A : Type 0} (xs ys : List A) (x : A) → In x xs → In x (xs ++ ys)
@@ -260,7 +281,8 @@ in_front (z ∷ xs) ys x (inr on) = inr (in_front xs ys x on)
 
 module _ (Known : NodeKey → Type 0) (id : ℕ) (leaving : Option NodeKey) where
   -- one more node that is fit, with a key of its own
-  born : (c : Collection) (new : Node) → (AreFit Known id leaving c.nodes → IsFit Known id leaving new) → ((n : Node) → In n c.nodes → n.key ≡ new.key → ⊥) →
+  born : (c : Collection) (new : Node) → (AreFit Known id leaving c.nodes → IsFit Known id leaving new) →
+      ((n : Node) → In n c.nodes → n.key ≡ new.key → ⊥) →
       Keeps Known id leaving c (with_nodes (λ nodes. nodes ++ new ∷ []) c)
   born c new fits own = record {
     same_id = refl;
@@ -287,12 +309,15 @@ module _ (Known : NodeKey → Type 0) (id : ℕ) (leaving : Option NodeKey) wher
   IsOwn c key = (n : Node) → In n c.nodes → n.key ≡ key → ⊥
 
   -- the birth of a root
-  root_born : (key : NodeKey) (event client : ℕ) (c : Collection) → c.id ≡ id → Known key → IsOwn c key → Keeps Known id leaving c (with_birth None false client event key c)
+  root_born : (key : NodeKey) (event client : ℕ) (c : Collection) → c.id ≡ id → Known key → IsOwn c key →
+      Keeps Known id leaving c (with_birth None false client event key c)
   root_born key event client c here known own =
-      born c (new_root key c.id event client) (λ fit. record { key = known; collection = here; failed = λ gone. cc; left = λ released. cc }) own
+      born c (new_root key c.id event client) (λ fit. record { key = known; collection = here; failed = λ gone. cc; left = λ released. cc })
+      own
 
   -- the birth of a child
-  child_born : (attached : Bool) (key : NodeKey) (event client : ℕ) (c : Collection) (above : NodeKey) (o : Option Node) → node_of c.nodes above ≡ o → Known key → IsOwn c key →
+  child_born : (attached : Bool) (key : NodeKey) (event client : ℕ) (c : Collection) (above : NodeKey) (o : Option Node) →
+      node_of c.nodes above ≡ o → Known key → IsOwn c key →
       Keeps Known id leaving c (option_map_or (λ n. record c { nodes = c.nodes ++ new_child attached key event client n ∷ [] }) o c)
   child_born attached key event client c above None is known own = nothing Known id leaving c
   child_born attached key event client c above (Some n) is known own =
@@ -302,7 +327,8 @@ module _ (Known : NodeKey → Type 0) (id : ℕ) (leaving : Option NodeKey) wher
   -- what the event changes
   pub changed_keeps : (change : Change) (key : NodeKey) (c : Collection) → c.id ≡ id → (is_birth change ≡ true → Known key × IsOwn c key) →
       ((k : NodeKey) → released_by change ≡ Some k → leaving ≡ Some k) → Keeps Known id leaving c (changed change key c)
-  changed_keeps (Change.Birth None attached client event) key c here known spends = root_born key event client c here (known refl).0 (known refl).1
+  changed_keeps (Change.Birth None attached client event) key c here known spends =
+      root_born key event client c here (known refl).0 (known refl).1
   changed_keeps (Change.Birth (Some above) attached client event) key c here known spends =
       child_born attached key event client c above (node_of c.nodes above) refl (known refl).0 (known refl).1
   changed_keeps (Change.Effect on effect) key c here known spends = record {
@@ -315,7 +341,8 @@ module _ (Known : NodeKey → Type 0) (id : ℕ) (leaving : Option NodeKey) wher
   changed_keeps Change.Nothing key c here known spends = nothing Known id leaving c
 
   -- what the event changes, and all that it forces
-  pub event_keeps : (pool : ℕ) (handles : Handles) (others : List Interval) (change : Change) (key : NodeKey) (c after : Collection) → c.id ≡ id →
+  pub event_keeps : (pool : ℕ) (handles : Handles) (others : List Interval) (change : Change) (key : NodeKey) (c after : Collection) →
+      c.id ≡ id →
       (is_birth change ≡ true → Known key × IsOwn c key) → ((k : NodeKey) → released_by change ≡ Some k → leaving ≡ Some k) →
       Settles pool handles others (changed change key c) after → Keeps Known id leaving c after
   event_keeps pool handles others change key c after here known spends settles =

@@ -47,39 +47,48 @@ not_turned true true h k = cc
 not_turned true false h k = let no : false ≡ true = h refl in cc
 not_turned false b h k = refl
 
-module _ (pool : ℕ) (limits : Bound) (marks : Timeline) (mark : Mark) (grown : Grows pool limits [] marks) (step : Grows pool limits marks (mark ∷ marks)) where
+module _ (pool : ℕ) (limits : Bound) (marks : Timeline) (mark : Mark) (grown : Grows pool limits [] marks) (step : Grows pool limits marks
+    (mark ∷ marks)) where
   -- a buffer that is out now was out before
   was_out : (h : HeldPages) → not (home (mark ∷ marks) h.buffer) ≡ true → not (home marks h.buffer) ≡ true
-  was_out h k = not_turned (home marks h.buffer) (home (mark ∷ marks) h.buffer) (λ e. home_on pool limits marks grown h.buffer e (mark ∷ marks) step) k
+  was_out h k = not_turned (home marks h.buffer) (home (mark ∷ marks) h.buffer) (λ e.
+      home_on pool limits marks grown h.buffer e (mark ∷ marks) step) k
 
   -- so of some pages those are held still that were held and are not home now
   pub still_still : (hs : List HeldPages) → still_out (mark ∷ marks) hs ≡ still_out (mark ∷ marks) (still_out marks hs)
-  still_still hs = filter-wider (λ (h : HeldPages). not (home (mark ∷ marks) h.buffer)) (λ (h : HeldPages). not (home marks h.buffer)) hs was_out
+  still_still hs = filter-wider (λ (h : HeldPages). not (home (mark ∷ marks) h.buffer)) (λ (h : HeldPages). not (home marks h.buffer)) hs
+      was_out
 
   -- and where no buffers are laid out, these are all that are held
-  pub held_still : layout_at pool marks (map (λ (h : HeldPages). h.pages) (held pool marks)) mark ≡ [] → held pool (mark ∷ marks) ≡ still_out (mark ∷ marks) (held pool marks)
+  pub held_still : layout_at pool marks (map (λ (h : HeldPages). h.pages) (held pool marks)) mark ≡ [] →
+      held pool (mark ∷ marks) ≡ still_out (mark ∷ marks) (held pool marks)
   held_still none = ap (λ (l : List HeldPages). still_out (mark ∷ marks) (l ++ placed pool marks)) none ∙ still_still (placed pool marks)
 
   -- in one collection too
-  pub held_match : (collection : ℕ) → layout_at pool marks (map (λ (h : HeldPages). h.pages) (held pool marks)) mark ≡ [] → (hs : List HeldPages) → still_out marks hs ≡ held_after pool marks collection →
+  pub held_match : (collection : ℕ) → layout_at pool marks (map (λ (h : HeldPages). h.pages) (held pool marks)) mark ≡ [] →
+      (hs : List HeldPages) → still_out marks hs ≡ held_after pool marks collection →
       still_out (mark ∷ marks) hs ≡ held_after pool (mark ∷ marks) collection
   held_match collection none hs same =
       let ours : HeldPages → Bool = λ h. h.buffer.collection == collection in
       still_still hs
       ∙ (ap (still_out (mark ∷ marks)) same
-      ∙ (filter-swap (λ (h : HeldPages). not (home (mark ∷ marks) h.buffer)) ours (held pool marks) ∙ ap (filter ours) (sym (held_still none))))
+      ∙ (filter-swap (λ (h : HeldPages). not (home (mark ∷ marks) h.buffer)) ours (held pool marks)
+      ∙ ap (filter ours) (sym (held_still none))))
 
 -- ---- one mark
 
-module _ (pool : ℕ) (limits : Bound) (keep : NodeKey → Bool) (marks : Timeline) (others : List Interval) (c : Collection) (grown : Grows pool limits [] marks)
+module _ (pool : ℕ) (limits : Bound) (keep : NodeKey → Bool) (marks : Timeline) (others : List Interval) (c : Collection)
+    (grown : Grows pool limits [] marks)
     (m : Matches pool keep marks others c) where
   -- the history hangs together
   abbrev w : IsWhole marks
   w = whole pool limits marks grown
 
   -- one more mark of the collection leaves the pages of the others
-  beside_on : (mark : Mark) → IsIn marks c.id mark → (test : Interval → Bool) → list_any test others ≡ list_any test (map (λ (h : HeldPages). h.pages) (filter (is_beside c.id) (held pool (mark ∷ marks))))
-  beside_on mark at test = m.beside test ∙ ap (λ (hs : List HeldPages). list_any test (map (λ (h : HeldPages). h.pages) hs)) (sym (beside_apart marks c.id w pool mark at))
+  beside_on : (mark : Mark) → IsIn marks c.id mark → (test : Interval → Bool) →
+      list_any test others ≡ list_any test (map (λ (h : HeldPages). h.pages) (filter (is_beside c.id) (held pool (mark ∷ marks))))
+  beside_on mark at test = m.beside test ∙ ap (λ (hs : List HeldPages). list_any test (map (λ (h : HeldPages). h.pages) hs))
+      (sym (beside_apart marks c.id w pool mark at))
 
   -- an end
   step_ended : (b : Birth) → In b (births marks) → b.collection == c.id ≡ true → Grows pool limits marks (Ended b.node ∷ marks) →
@@ -95,11 +104,13 @@ module _ (pool : ℕ) (limits : Bound) (keep : NodeKey → Bool) (marks : Timeli
   }
 
   -- a loss
-  step_lost : (b : Birth) (cause : Cause) → In b (births marks) → b.collection == c.id ≡ true → gone marks b.node ≡ false → Grows pool limits marks (Loss b.node cause ∷ marks) →
+  step_lost : (b : Birth) (cause : Cause) → In b (births marks) → b.collection == c.id ≡ true → gone marks b.node ≡ false →
+      Grows pool limits marks (Loss b.node cause ∷ marks) →
       Matches pool keep (Loss b.node cause ∷ marks) others (made pool others (Loss b.node cause) c)
   step_lost b cause on ours free step = record {
     keeps = keeps_on keep marks (Loss b.node cause) m.keeps;
-    nodes = ap (after_loss (record { cause = cause; origin = b.node })) m.nodes ∙ sym (nodes_lost keep marks c.id w m.keeps b on (eqb-true b.collection c.id ours) free cause);
+    nodes = ap (after_loss (record { cause = cause; origin = b.node })) m.nodes
+        ∙ sym (nodes_lost keep marks c.id w m.keeps b on (eqb-true b.collection c.id ours) free cause);
     buffers = m.buffers;
     own = m.own;
     none = m.none;
@@ -108,13 +119,16 @@ module _ (pool : ℕ) (limits : Bound) (keep : NodeKey → Bool) (marks : Timeli
   }
 
   -- whether a node is a root
-  root_as : (b : Birth) → In b (births marks) → b.collection == c.id ≡ true → gone marks b.node ≡ false → is_root_of c b.node ≡ is_none b.parent
+  root_as : (b : Birth) → In b (births marks) → b.collection == c.id ≡ true → gone marks b.node ≡ false →
+      is_root_of c b.node ≡ is_none b.parent
   root_as b on ours free =
       ap (λ (o : Option Node). option_map_or (λ (n : Node). is_none n.parent) o false)
-      (ap (λ (ns : List Node). node_of ns b.node) m.nodes ∙ node_found keep marks c.id w m.keeps b on (eqb-true b.collection c.id ours) (m.keeps b.node free))
+      (ap (λ (ns : List Node). node_of ns b.node) m.nodes
+      ∙ node_found keep marks c.id w m.keeps b on (eqb-true b.collection c.id ours) (m.keeps b.node free))
 
   -- an allocation of an attached unit
-  step_attached : (b : Birth) → In b (births marks) → b.collection == c.id ≡ true → is_none b.parent ≡ false → gone marks b.node ≡ false → Grows pool limits marks (Allocated b.node ∷ marks) →
+  step_attached : (b : Birth) → In b (births marks) → b.collection == c.id ≡ true → is_none b.parent ≡ false → gone marks b.node ≡ false →
+      Grows pool limits marks (Allocated b.node ∷ marks) →
       Matches pool keep (Allocated b.node ∷ marks) others (made pool others (Allocated b.node) c)
   step_attached b on ours child free step =
       let found : birth_of marks b.node ≡ Some b = find_birth (births marks) b w.sound on in
@@ -133,7 +147,8 @@ module _ (pool : ℕ) (limits : Bound) (keep : NodeKey → Bool) (marks : Timeli
       rw is matches
 
   -- the allocation of the root unit
-  module _ (b : Birth) (on : In b (births marks)) (ours : b.collection == c.id ≡ true) (root : b.parent ≡ None) (free : gone marks b.node ≡ false) (waits : allocated marks b.node ≡ false)
+  module _ (b : Birth) (on : In b (births marks)) (ours : b.collection == c.id ≡ true) (root : b.parent ≡ None)
+      (free : gone marks b.node ≡ false) (waits : allocated marks b.node ≡ false)
       (step : Grows pool limits marks (Allocated b.node ∷ marks)) where
     -- what it asks for
     abbrev want : Buffers
@@ -159,7 +174,8 @@ module _ (pool : ℕ) (limits : Bound) (keep : NodeKey → Bool) (marks : Timeli
         from None e = refl
         from (Some g) e =
             both_ways (allocated marks b.node)
-            (given_root pool limits marks grown b on root (ap (λ (k : ℕ). is_some (buffers_of marks k)) (eqb-true b.collection c.id ours) ∙ ap is_some e)) waits
+            (given_root pool limits marks grown b on root (ap (λ (k : ℕ). is_some (buffers_of marks k)) (eqb-true b.collection c.id ours)
+            ∙ ap is_some e)) waits
 
     -- it is given what it asks for
     now_given : buffers_of (Allocated b.node ∷ marks) c.id ≡ Some want
@@ -168,9 +184,11 @@ module _ (pool : ℕ) (limits : Bound) (keep : NodeKey → Bool) (marks : Timeli
     -- what the state lays out is what the history does
     laid_same : layout pool c.id (asked (members_of c.nodes)) (pages_in c ++ others) ≡ laid
     laid_same =
-        let is : asked (members_of c.nodes) ≡ want = ap asked (members_match pool limits keep marks others c grown m) ∙ asked_left (members marks c.id) in
+        let is : asked (members_of c.nodes) ≡ want =
+        ap asked (members_match pool limits keep marks others c grown m) ∙ asked_left (members marks c.id) in
         let room : places pool (pages_of want.size) want.count (pages_in c ++ others) ≡ places pool (pages_of want.size) want.count out =
-        sym (places_same pool (pages_of want.size) want.count out (pages_in c ++ others) (pages_match pool limits keep marks others c grown m not_given)) in
+        sym (places_same pool (pages_of want.size) want.count out (pages_in c ++ others) (pages_match pool limits keep marks others c grown
+        m not_given)) in
         let here : laid ≡ layout pool b.collection (asked (members marks b.collection)) out = rw (found, root) refl in
         ap (λ (x : Buffers). layout pool c.id x (pages_in c ++ others)) is
         ∙ (ap (λ (o : Option (List ℕ)). option_map_or (laid_out (pages_of want.size) (names c.id want.count)) o []) room
@@ -186,7 +204,8 @@ module _ (pool : ℕ) (limits : Bound) (keep : NodeKey → Bool) (marks : Timeli
 
     -- each is of the collection
     laid_own : (h : HeldPages) → In h laid → (h.buffer.collection == c.id) ≡ true
-    laid_own h there = from (h.buffer.collection == c.id) (laid_in marks c.id w pool out (Allocated b.node) (of_ours marks c.id w b on ours) h there)
+    laid_own h there = from (h.buffer.collection == c.id) (laid_in marks c.id w pool out (Allocated b.node) (of_ours marks c.id w b on ours)
+        h there)
       where
         from : (x : Bool) → not x ≡ false → x ≡ true
         from true e = refl
@@ -196,7 +215,8 @@ module _ (pool : ℕ) (limits : Bound) (keep : NodeKey → Bool) (marks : Timeli
     placed_none : filter (λ (h : HeldPages). h.buffer.collection == c.id) (placed pool marks) ≡ []
     placed_none = filter-none (λ (h : HeldPages). h.buffer.collection == c.id) (placed pool marks)
         (λ h there. false_if (h.buffer.collection == c.id)
-        (λ e. both_ways (is_some (buffers_of marks h.buffer.collection)) (placed_given pool marks h there) (ap (λ (k : ℕ). is_some (buffers_of marks k)) (eqb-true h.buffer.collection c.id e) ∙ ap is_some not_given)))
+        (λ e. both_ways (is_some (buffers_of marks h.buffer.collection)) (placed_given pool marks h there) (ap (λ (k : ℕ).
+        is_some (buffers_of marks k)) (eqb-true h.buffer.collection c.id e) ∙ ap is_some not_given)))
 
     -- those that are out are held
     held_first : still_out (Allocated b.node ∷ marks) (laid ++ []) ≡ held_after pool (Allocated b.node ∷ marks) c.id
@@ -216,7 +236,8 @@ module _ (pool : ℕ) (limits : Bound) (keep : NodeKey → Bool) (marks : Timeli
           buffers = Some (asked (members_of c.nodes));
           held = layout pool c.id (asked (members_of c.nodes)) (pages_in c ++ others) ++ c.held;
         } in
-        let is : asked (members_of c.nodes) ≡ want = ap asked (members_match pool limits keep marks others c grown m) ∙ asked_left (members marks c.id) in
+        let is : asked (members_of c.nodes) ≡ want =
+        ap asked (members_match pool limits keep marks others c grown m) ∙ asked_left (members marks c.id) in
         let matches : Matches pool keep (Allocated b.node ∷ marks) others first = record {
           keeps = keeps_on keep marks (Allocated b.node) m.keeps;
           nodes = ap (after_allocation b.node) m.nodes ∙ sym (nodes_allocated keep marks c.id b.node);
@@ -233,10 +254,12 @@ module _ (pool : ℕ) (limits : Bound) (keep : NodeKey → Bool) (marks : Timeli
         of_laid h there = elim (In-append laid [] h there) [ inl new ↦ laid_own h new | inr none ↦ absurd none ]
 
   -- a mark that the history forces, made in the state too
-  pub step_matches : (mark : Mark) → next_forced pool c.id marks ≡ Some mark → Matches pool keep (mark ∷ marks) others (made pool others mark c)
+  pub step_matches : (mark : Mark) → next_forced pool c.id marks ≡ Some mark →
+      Matches pool keep (mark ∷ marks) others (made pool others mark c)
   step_matches mark e = by_why mark (forced_why pool c.id marks mark e) (grows_forced pool limits marks c.id marks mark Stays e)
     where
-      by_why : (mark : Mark) → Why pool c.id marks mark → Grows pool limits marks (mark ∷ marks) → Matches pool keep (mark ∷ marks) others (made pool others mark c)
+      by_why : (mark : Mark) → Why pool c.id marks mark → Grows pool limits marks (mark ∷ marks) →
+          Matches pool keep (mark ∷ marks) others (made pool others mark c)
       by_why _ (No_live b on ours free none) step = step_ended b on ours step
       by_why _ (Fails b cause on ours free) step = step_lost b cause on ours free step
       by_why _ (Initial b on ours root free waits found fits) step = step_first b on ours root free waits step
@@ -249,4 +272,5 @@ module _ (pool : ℕ) (limits : Bound) (keep : NodeKey → Bool) (marks : Timeli
   -- a loss that an event makes itself, of a node that is not gone
   pub loss_matches : (b : Birth) → In b (births marks) → b.collection ≡ c.id → gone marks b.node ≡ false → (cause : Cause) →
       Matches pool keep (Loss b.node cause ∷ marks) others (with_nodes (after_loss (record { cause = cause; origin = b.node })) c)
-  loss_matches b on ours free cause = step_lost b cause on (eq-eqb b.collection c.id ours) free (Loses marks b.node cause Stays (In-was_born (births marks) b on))
+  loss_matches b on ours free cause =
+      step_lost b cause on (eq-eqb b.collection c.id ours) free (Loses marks b.node cause Stays (In-was_born (births marks) b on))

@@ -30,7 +30,8 @@ any_in test (y ∷ ys) x (inl is) passes = or_left (test y) (list_any test ys) (
 any_in test (y ∷ ys) x (inr on) passes = or_right (test y) (list_any test ys) (any_in test ys x on passes)
 
 -- a node of all collections is one of some collection
-pub node_in : (cs : List Collection) (n : Node) → In n (flat_map (λ (c : Collection). c.nodes) cs) → (c : Collection) × In c cs × In n c.nodes
+pub node_in : (cs : List Collection) (n : Node) → In n (flat_map (λ (c : Collection). c.nodes) cs) → (c : Collection) × In c cs ×
+    In n c.nodes
 node_in [] n there = absurd there
 node_in (c ∷ cs) n there = elim (In-append c.nodes (flat_map (λ (d : Collection). d.nodes) cs) n there) [
   | inl here ↦ (c, inl refl, here)
@@ -38,23 +39,27 @@ node_in (c ∷ cs) n there = elim (In-append c.nodes (flat_map (λ (d : Collecti
 ]
 
 -- and the other way round
-pub in_all_nodes : (cs : List Collection) (c : Collection) (n : Node) → In c cs → In n c.nodes → In n (flat_map (λ (d : Collection). d.nodes) cs)
+pub in_all_nodes : (cs : List Collection) (c : Collection) (n : Node) → In c cs → In n c.nodes →
+    In n (flat_map (λ (d : Collection). d.nodes) cs)
 in_all_nodes [] c n c_on n_in = absurd c_on
 in_all_nodes (d ∷ cs) c n (inl is) n_in = in_front d.nodes _ n (subst (λ (x : Collection). In n x.nodes) is n_in)
 in_all_nodes (d ∷ cs) c n (inr on) n_in = in_behind d.nodes _ n (in_all_nodes cs c n on n_in)
 
 -- the node with a key, in its collection
-pub node_with_key : (f : Forest) (key : NodeKey) (n : Node) → node_at f key ≡ Some n → (c : Collection) × In c f.collections × In n c.nodes × (n.key ≡ key)
+pub node_with_key : (f : Forest) (key : NodeKey) (n : Node) → node_at f key ≡ Some n → (c : Collection) × In c f.collections ×
+    In n c.nodes × (n.key ≡ key)
 node_with_key f key n is =
     let found = In-find (is_of key) (all_nodes f) n is in
     let c = node_in f.collections n found.0 in
     (c.0, c.1, c.2, same_key-true n.key key found.1)
 
 -- a node with this key is found
-pub key_is_there : (f : Forest) (c : Collection) (n : Node) (key : NodeKey) → In c f.collections → In n c.nodes → n.key ≡ key → is_some (node_at f key) ≡ true
+pub key_is_there : (f : Forest) (c : Collection) (n : Node) (key : NodeKey) → In c f.collections → In n c.nodes → n.key ≡ key →
+    is_some (node_at f key) ≡ true
 key_is_there f c n key c_on n_in is =
     is_some-find (is_of key) (all_nodes f)
-    ∙ any_in (is_of key) (all_nodes f) n (in_all_nodes f.collections c n c_on n_in) (subst (λ (k : NodeKey). same_key n.key k ≡ true) is (same_key-refl n.key))
+    ∙ any_in (is_of key) (all_nodes f) n (in_all_nodes f.collections c n c_on n_in) (subst (λ (k : NodeKey).
+    same_key n.key k ≡ true) is (same_key-refl n.key))
 
 -- an end that was not about to be spent is none that is
 leaves_more : (Known : NodeKey → Type 0) (id : ℕ) (leaving : Option NodeKey) (n : Node) → IsFit Known id None n → IsFit Known id leaving n
@@ -71,7 +76,8 @@ leaves_more Known id leaving n fit = record {
 
 -- the end that is about to be spent, if one is, is of a node of the collection
 abbrev pub IsThere : Forest → ℕ → Option NodeKey → Type 0
-IsThere f id leaving = (key : NodeKey) → leaving ≡ Some key → (c : Collection) × (n : Node) × In c f.collections × In n c.nodes × (n.key ≡ key) × (c.id ≡ id)
+IsThere f id leaving = (key : NodeKey) → leaving ≡ Some key → (c : Collection) × (n : Node) × In c f.collections × In n c.nodes ×
+    (n.key ≡ key) × (c.id ≡ id)
 
 -- nothing was changed yet
 pub amid_same : (f : Forest) (id : ℕ) (leaving : Option NodeKey) → IsSound f → IsThere f id leaving → IsAmid f id leaving
@@ -88,7 +94,8 @@ amid_same f id leaving sound there = record {
 or_new_id : (f : Forest) (id : ℕ) → (collection_or_new f id).id ≡ id
 or_new_id f id = by (collection_at f id) refl
   where
-    by : (o : Option Collection) → collection_at f id ≡ o → (unwrap_or o (record { id = id; nodes = []; buffers = None; held = [] })).id ≡ id
+    by : (o : Option Collection) → collection_at f id ≡ o →
+        (unwrap_or o (record { id = id; nodes = []; buffers = None; held = [] })).id ≡ id
     by None is = refl
     by (Some c) is = eqb-true c.id id (In-find (λ (x : Collection). x.id == id) f.collections c is).1
 
@@ -97,16 +104,19 @@ abbrev pub IsOld : Forest → ℕ → NodeKey → Type 0
 IsOld f id key = (c : Collection) × (n : Node) × In c f.collections × In n c.nodes × (n.key ≡ key) × (c.id ≡ id)
 
 -- the nodes of the collection, if it is there
-or_new_fit : (f : Forest) (id : ℕ) (leaving : Option NodeKey) (Known : NodeKey → Type 0) → IsSound f → ((key : NodeKey) → IsOld f id key → Known key) →
+or_new_fit : (f : Forest) (id : ℕ) (leaving : Option NodeKey) (Known : NodeKey → Type 0) → IsSound f → ((key : NodeKey) → IsOld f id key →
+    Known key) →
     AreFit Known id leaving (collection_or_new f id).nodes
 or_new_fit f id leaving Known sound known = by (collection_at f id) refl
   where
-    by : (o : Option Collection) → collection_at f id ≡ o → AreFit Known id leaving (unwrap_or o (record { id = id; nodes = []; buffers = None; held = [] })).nodes
+    by : (o : Option Collection) → collection_at f id ≡ o →
+        AreFit Known id leaving (unwrap_or o (record { id = id; nodes = []; buffers = None; held = [] })).nodes
     by None is n n_in = absurd n_in
     by (Some c) is n n_in =
         let found = In-find (λ (x : Collection). x.id == id) f.collections c is in
         let here : c.id ≡ id = eqb-true c.id id found.1 in
-        let fit : IsFit (λ key. given f key ≡ true) id None n = subst (λ (i : ℕ). IsFit (λ key. given f key ≡ true) i None n) here (sound.fit c found.0 n n_in) in
+        let fit : IsFit (λ key. given f key ≡ true) id None n =
+        subst (λ (i : ℕ). IsFit (λ key. given f key ≡ true) i None n) here (sound.fit c found.0 n n_in) in
         known_more (λ key. given f key ≡ true) Known id leaving n (λ before. known n.key (c, n, found.0, n_in, refl, here))
         (leaves_more (λ key. given f key ≡ true) id leaving n fit)
 
@@ -114,7 +124,8 @@ or_new_fit f id leaving Known sound known = by (collection_at f id) refl
 or_new_once : (f : Forest) (id : ℕ) → IsSound f → AreOnce (collection_or_new f id).nodes
 or_new_once f id sound = by (collection_at f id) refl
   where
-    by : (o : Option Collection) → collection_at f id ≡ o → AreOnce (unwrap_or o (record { id = id; nodes = []; buffers = None; held = [] })).nodes
+    by : (o : Option Collection) → collection_at f id ≡ o →
+        AreOnce (unwrap_or o (record { id = id; nodes = []; buffers = None; held = [] })).nodes
     by None is n m n_in m_in = absurd n_in
     by (Some c) is n m n_in m_in = sound.once c (In-find (λ (x : Collection). x.id == id) f.collections c is).0 n m n_in m_in
 
@@ -142,18 +153,22 @@ module _ (pool : ℕ) (handles : Handles) (f worked : Forest) (id : ℕ) (change
   -- a key that was given to no node is that of none in the collection
   own : (k : NodeKey) → given f k ≡ false → (n : Node) → In n (collection_or_new f id).nodes → n.key ≡ k → ⊥
   own k fresh n n_in is =
-      let fit = or_new_fit f id None (λ (x : NodeKey). given f x ≡ true) sound (λ x old. subst (λ (y : NodeKey). given f y ≡ true) old.4 (sound.fit old.0 old.2 old.1 old.3).key) n n_in in
+      let fit = or_new_fit f id None (λ (x : NodeKey). given f x ≡ true) sound (λ x old.
+      subst (λ (y : NodeKey). given f y ≡ true) old.4 (sound.fit old.0 old.2 old.1 old.3).key) n n_in in
       both_ways (given f k) (subst (λ (x : NodeKey). given f x ≡ true) is fit.key) fresh
 
   -- a new node has a new key
-  birth_known : is_birth change ≡ true → Known (unwrap_or key no_key) × ((n : Node) → In n (collection_or_new f id).nodes → n.key ≡ unwrap_or key no_key → ⊥)
+  birth_known : is_birth change ≡ true → Known (unwrap_or key no_key) × ((n : Node) → In n (collection_or_new f id).nodes →
+      n.key ≡ unwrap_or key no_key → ⊥)
   birth_known birth = by key refl
     where
-      by : (o : Option NodeKey) → key ≡ o → Known (unwrap_or o no_key) × ((n : Node) → In n (collection_or_new f id).nodes → n.key ≡ unwrap_or o no_key → ⊥)
+      by : (o : Option NodeKey) → key ≡ o → Known (unwrap_or o no_key) × ((n : Node) → In n (collection_or_new f id).nodes →
+          n.key ≡ unwrap_or o no_key → ⊥)
       by None is = let not_told : is_some key ≡ false = ap is_some is in both_ways (is_some key) (settled.told ∙ birth) not_told
       by (Some k) is = (
         (
-          settled.keys k ∙ (ap (λ (o : Option NodeKey). option_map_or (λ x. same_key x k) o false || given f k) is ∙ or_left (same_key k k) (given f k) (same_key-refl k)),
+          settled.keys k ∙ (ap (λ (o : Option NodeKey). option_map_or (λ x. same_key x k) o false || given f k) is
+              ∙ or_left (same_key k k) (given f k) (same_key-refl k)),
           inr (fresh is settled.fresh),
         ),
         own k (fresh is settled.fresh),
@@ -164,7 +179,8 @@ module _ (pool : ℕ) (handles : Handles) (f worked : Forest) (id : ℕ) (change
 
   -- what became of the collection
   keeps : Keeps Known id leaving (collection_or_new f id) settled.after
-  keeps = event_keeps Known id leaving pool handles (beside f id) change (unwrap_or key no_key) (collection_or_new f id) settled.after (or_new_id f id) birth_known spends settled.settles
+  keeps = event_keeps Known id leaving pool handles (beside f id) change (unwrap_or key no_key) (collection_or_new f id) settled.after
+      (or_new_id f id) birth_known spends settled.settles
 
   -- it has the same id
   pub new_id : new.id ≡ id
@@ -187,7 +203,8 @@ module _ (pool : ℕ) (handles : Handles) (f worked : Forest) (id : ℕ) (change
   key_from c on n n_in = elim (worked_from c on) [
     | inl is ↦
         let here : c.id ≡ id = ap (λ (x : Collection). x.id) is ∙ new_id in
-        subst (λ (i : ℕ). IsOld f i n.key ⊎ (given f n.key ≡ false)) (sym here) (new_fit n (subst (λ (x : Collection). In n x.nodes) is n_in)).key.1
+        subst (λ (i : ℕ). IsOld f i n.key ⊎ (given f n.key ≡ false)) (sym here) (new_fit n (subst (λ (x : Collection).
+        In n x.nodes) is n_in)).key.1
     | inr old ↦ inl (c, n, old, n_in, refl, refl)
   ]
 
@@ -215,15 +232,18 @@ module _ (pool : ℕ) (handles : Handles) (f worked : Forest) (id : ℕ) (change
           both_ways (given f n.key) given_before fresh
 
   -- no key stands in two collections
-  all_apart : (c d : Collection) → In c worked.collections → In d worked.collections → (n m : Node) → In n c.nodes → In m d.nodes → n.key ≡ m.key → c.id ≡ d.id
+  all_apart : (c d : Collection) → In c worked.collections → In d worked.collections → (n m : Node) → In n c.nodes → In m d.nodes →
+      n.key ≡ m.key → c.id ≡ d.id
   all_apart c d c_on d_on n m n_in m_in same = by (worked_from c c_on) (worked_from d d_on)
     where
       by : (c ≡ new) ⊎ In c f.collections → (d ≡ new) ⊎ In d f.collections → c.id ≡ d.id
       by (inl c_is) (inl d_is) = ap (λ (x : Collection). x.id) (c_is ∙ sym d_is)
       by (inl c_is) (inr d_old) =
-          (ap (λ (x : Collection). x.id) c_is ∙ new_id) ∙ sym (new_apart d n m d_old (subst (λ (x : Collection). In n x.nodes) c_is n_in) m_in same)
+          (ap (λ (x : Collection). x.id) c_is ∙ new_id)
+          ∙ sym (new_apart d n m d_old (subst (λ (x : Collection). In n x.nodes) c_is n_in) m_in same)
       by (inr c_old) (inl d_is) =
-          new_apart c m n c_old (subst (λ (x : Collection). In m x.nodes) d_is m_in) n_in (sym same) ∙ sym (ap (λ (x : Collection). x.id) d_is ∙ new_id)
+          new_apart c m n c_old (subst (λ (x : Collection). In m x.nodes) d_is m_in) n_in (sym same)
+          ∙ sym (ap (λ (x : Collection). x.id) d_is ∙ new_id)
       by (inr c_old) (inr d_old) = sound.apart c d c_old d_old n m n_in m_in same
 
   -- nor twice in one

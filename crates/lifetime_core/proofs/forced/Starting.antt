@@ -47,25 +47,31 @@ any-mixed test xs ys m = both_tests _ _
 
 -- the pages of the other collections are those of buffers of others
 beside_ids : (pool : ℕ) (marks : Timeline) (id : ℕ) (ks : List ℕ) →
-    flat_map pages_in (filter (λ (c : Collection). not (c.id == id)) (map (collection_after pool marks) ks)) ≡ map (λ (h : HeldPages). h.pages) (filter (is_beside id) (flat_map (held_after pool marks) ks))
+    flat_map pages_in (filter (λ (c : Collection). not (c.id == id)) (map (collection_after pool marks) ks)) ≡ map (λ (h : HeldPages).
+    h.pages) (filter (is_beside id) (flat_map (held_after pool marks) ks))
 beside_ids pool marks id [] = refl
 beside_ids pool marks id (k ∷ ks) =
     let page : HeldPages → Interval = λ (h : HeldPages). h.pages in
     let rest = beside_ids pool marks id ks in
     let here : (h : HeldPages) → In h (held_after pool marks k) → is_beside id h ≡ not (k == id) =
-    λ h on. ap (λ (n : ℕ). not (n == id)) (eqb-true h.buffer.collection k (In-filter (λ (x : HeldPages). x.buffer.collection == k) (held pool marks) h on).1) in
+    λ h on. ap (λ (n : ℕ). not (n == id)) (eqb-true h.buffer.collection k (In-filter (λ (x : HeldPages).
+    x.buffer.collection == k) (held pool marks) h on).1) in
     let split : map page (filter (is_beside id) (held_after pool marks k ++ flat_map (held_after pool marks) ks))
     ≡ map page (filter (is_beside id) (held_after pool marks k)) ++ map page (filter (is_beside id) (flat_map (held_after pool marks) ks)) =
     ap (map page) (filter-append (is_beside id) (held_after pool marks k) (flat_map (held_after pool marks) ks))
     ∙ map-append page (filter (is_beside id) (held_after pool marks k)) (filter (is_beside id) (flat_map (held_after pool marks) ks)) in
     elim (either_way (k == id)) [
       | inl e ↦
-          let none : filter (is_beside id) (held_after pool marks k) ≡ [] = filter-none (is_beside id) (held_after pool marks k) (λ h on. here h on ∙ ap not e) in
-          rw e (rest ∙ sym (split ∙ ap (λ (l : List HeldPages). map page l ++ map page (filter (is_beside id) (flat_map (held_after pool marks) ks))) none))
+          let none : filter (is_beside id) (held_after pool marks k) ≡ [] =
+          filter-none (is_beside id) (held_after pool marks k) (λ h on. here h on ∙ ap not e) in
+          rw e (rest ∙ sym (split ∙ ap (λ (l : List HeldPages).
+          map page l ++ map page (filter (is_beside id) (flat_map (held_after pool marks) ks))) none))
       | inr e ↦
-          let all : filter (is_beside id) (held_after pool marks k) ≡ held_after pool marks k = filter-all (is_beside id) (held_after pool marks k) (λ h on. here h on ∙ ap not e) in
+          let all : filter (is_beside id) (held_after pool marks k) ≡ held_after pool marks k =
+          filter-all (is_beside id) (held_after pool marks k) (λ h on. here h on ∙ ap not e) in
           rw e (ap (λ (l : List Interval). map page (held_after pool marks k) ++ l) rest
-          ∙ sym (split ∙ ap (λ (l : List HeldPages). map page l ++ map page (filter (is_beside id) (flat_map (held_after pool marks) ks))) all))
+          ∙ sym (split ∙ ap (λ (l : List HeldPages). map page l ++ map page (filter (is_beside id) (flat_map (held_after pool marks) ks)))
+          all))
     ]
 
 module _ (s : State) (marks : Timeline) (shown : IsAfter s marks) (limits : Bound) (grown : Grows s.pool limits [] marks) where
@@ -74,10 +80,14 @@ module _ (s : State) (marks : Timeline) (shown : IsAfter s marks) (limits : Boun
   beside_same id test =
       let page : HeldPages → Interval = λ (h : HeldPages). h.pages in
       let all : all_held s.forest ≡ flat_map (held_after s.pool marks) (kept_ids marks) =
-      ap (flat_map (λ (c : Collection). c.held)) shown.collections ∙ flat_map-map (λ (c : Collection). c.held) (collection_after s.pool marks) (kept_ids marks) in
-      let mixed : Mixed (pages_beside s.pool marks id) (map page (filter (is_beside id) (flat_map (held_after s.pool marks) (kept_ids marks)))) =
-      mixed_map page (filter (is_beside id) (held s.pool marks)) (filter (is_beside id) (flat_map (held_after s.pool marks) (kept_ids marks)))
-      (mixed_filter (is_beside id) (held s.pool marks) (flat_map (held_after s.pool marks) (kept_ids marks)) (subst (λ (l : List HeldPages). Mixed (held s.pool marks) l) all (mixed_held s marks shown limits grown))) in
+      ap (flat_map (λ (c : Collection). c.held)) shown.collections
+      ∙ flat_map-map (λ (c : Collection). c.held) (collection_after s.pool marks) (kept_ids marks) in
+      let mixed : Mixed (pages_beside s.pool marks id)
+      (map page (filter (is_beside id) (flat_map (held_after s.pool marks) (kept_ids marks)))) =
+      mixed_map page (filter (is_beside id) (held s.pool marks))
+      (filter (is_beside id) (flat_map (held_after s.pool marks) (kept_ids marks)))
+      (mixed_filter (is_beside id) (held s.pool marks) (flat_map (held_after s.pool marks) (kept_ids marks)) (subst (λ (l : List HeldPages).
+      Mixed (held s.pool marks) l) all (mixed_held s marks shown limits grown))) in
       ap (λ (cs : List Collection). list_any test (flat_map pages_in (filter (λ (c : Collection). not (c.id == id)) cs))) shown.collections
       ∙ (ap (list_any test) (beside_ids s.pool marks id (kept_ids marks)) ∙ any-mixed test (pages_beside s.pool marks id) _ mixed)
 
@@ -93,9 +103,11 @@ module _ (s : State) (marks : Timeline) (shown : IsAfter s marks) (limits : Boun
 
   -- no page is held before there are buffers
   none_held : (id : ℕ) → buffers_of marks id ≡ None → held_after s.pool marks id ≡ []
-  none_held id none = filter-none (λ (h : HeldPages). h.buffer.collection == id) (held s.pool marks) (λ h on. false_if (h.buffer.collection == id) (λ e.
+  none_held id none = filter-none (λ (h : HeldPages). h.buffer.collection == id) (held s.pool marks) (λ h on.
+      false_if (h.buffer.collection == id) (λ e.
       let there : In h (placed s.pool marks) = (In-filter (λ (x : HeldPages). not (home marks x.buffer)) (placed s.pool marks) h on).0 in
-      both_ways (is_some (buffers_of marks h.buffer.collection)) (placed_given s.pool marks h there) (ap (λ (k : ℕ). is_some (buffers_of marks k)) (eqb-true h.buffer.collection id e) ∙ ap is_some none)))
+      both_ways (is_some (buffers_of marks h.buffer.collection)) (placed_given s.pool marks h there) (ap (λ (k : ℕ).
+      is_some (buffers_of marks k)) (eqb-true h.buffer.collection id e) ∙ ap is_some none)))
 
   -- what is held is not home
   out_still : (id : ℕ) → still_out marks (held_after s.pool marks id) ≡ held_after s.pool marks id
@@ -137,10 +149,12 @@ module _ (s : State) (marks : Timeline) (shown : IsAfter s marks) (limits : Boun
     where
       from : (o : Option Buffers) → buffers_of marks id ≡ o → o ≡ None
       from None e = refl
-      from (Some b) e = let early : id ≤ events marks = buffers_early s.pool limits marks grown id (ap is_some e) in absurd (omega (arith, early, late))
+      from (Some b) e = let early : id ≤ events marks =
+          buffers_early s.pool limits marks grown id (ap is_some e) in absurd (omega (arith, early, late))
 
   -- so it is empty
-  pub still_empty : (id : ℕ) → events marks < id → collection_after s.pool marks id ≡ record { id = id; nodes = []; buffers = None; held = [] }
+  pub still_empty : (id : ℕ) → events marks < id →
+      collection_after s.pool marks id ≡ record { id = id; nodes = []; buffers = None; held = [] }
   still_empty id late = λ i. record {
     id = id;
     nodes = filter (λ n. not (is_over n)) (map (node_after marks) (none_born id late i));

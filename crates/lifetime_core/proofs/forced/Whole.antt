@@ -46,7 +46,8 @@ pub record Named (s : State) (call : Call) (reply : Reply) (key : NodeKey) : Typ
   pub unfailed : closing call ≡ None → is_closed reply ≡ false → node.fault ≡ None
 
 -- what stands behind an end that is read
-pub end_at : (s : State) (n : Node) (e : OpenEnd) → (if is_spent n.end then None else Some (open_end_of s n)) ≡ Some e → (is_spent n.end ≡ false) × (e ≡ open_end_of s n)
+pub end_at : (s : State) (n : Node) (e : OpenEnd) → (if is_spent n.end then None else Some (open_end_of s n)) ≡ Some e →
+    (is_spent n.end ≡ false) × (e ≡ open_end_of s n)
 end_at s n e is = by (is_spent n.end) refl
   where
     by : (b : Bool) → is_spent n.end ≡ b → (is_spent n.end ≡ false) × (e ≡ open_end_of s n)
@@ -58,7 +59,8 @@ pub named : (limits : Bound) (s : State) (client : ℕ) (new : NodeKey) (call : 
     reply ≡ answer limits (readings_of s) client new call → is_refusal reply ≡ false → key_of call ≡ Some key → Named s call reply key
 named limits s client new call reply key told stands is =
     let p : Passed (readings_of s) call reply key = passed limits (readings_of s) client new call reply key told stands is in
-    let found = and_then-Some (λ (n : Node). if is_spent n.end then None else Some (open_end_of s n)) (node_at s.forest key) p.end p.there in
+    let found = and_then-Some (λ (n : Node). if is_spent n.end then None else Some (open_end_of s n)) (node_at s.forest key) p.end
+    p.there in
     let e = end_at s found.0 p.end found.2 in
     record {
       node = found.0;
@@ -68,7 +70,8 @@ named limits s client new call reply key told stands is =
     }
 
 -- a node with an end that has not failed is not gone
-not_gone : (gone released spent : Bool) (fault : Option Fault) → (gone ≡ true → (is_some fault || released) ≡ true) → (released ≡ true → (spent || false) ≡ true) →
+not_gone : (gone released spent : Bool) (fault : Option Fault) → (gone ≡ true → (is_some fault || released) ≡ true) →
+    (released ≡ true → (spent || false) ≡ true) →
     spent ≡ false → fault ≡ None → gone ≡ false
 not_gone false released spent fault failed left unspent unfailed = refl
 not_gone true released true fault failed left unspent unfailed = cc
@@ -146,9 +149,11 @@ module _ (limits : Bound) (s : State) (client : ℕ) (call : Call) (asked : Repl
       (named_so.node, named_so.at, is_in s.forest key named_so.node named_so.at gone, omega arith)
 
   -- a call that takes effect on its node
-  effect_well : (key : NodeKey) (effect : Effect) → is_refusal asked ≡ false → is_closed asked ≡ false → closing call ≡ None → key_of call ≡ Some key → new_key asked ≡ None →
+  effect_well : (key : NodeKey) (effect : Effect) → is_refusal asked ≡ false → is_closed asked ≡ false → closing call ≡ None →
+      key_of call ≡ Some key → new_key asked ≡ None →
       ((k : NodeKey) → released_by (Change.Effect key effect) ≡ Some k → spent_by call asked ≡ Some k) →
-      ((k : NodeKey) (n : Node) → Change.Effect key effect ≡ Change.Effect k Effect.Tracked → node_at s.forest k ≡ Some n → n.trackers < 64) →
+      ((k : NodeKey) (n : Node) → Change.Effect key effect ≡ Change.Effect k Effect.Tracked → node_at s.forest k ≡ Some n →
+      n.trackers < 64) →
       (w : Work) → at_node s.forest key (λ n. Change.Effect key effect) ≡ Some w → Well s call asked w
   effect_well key effect stands_so alive going is none releases tracks w work =
       let on = on_node key stands_so alive going is in
@@ -161,7 +166,8 @@ module _ (limits : Bound) (s : State) (client : ℕ) (call : Call) (asked : Repl
       })
 
   -- a misuse, which fails the node
-  misuse_well : (key : NodeKey) (misuse : Misuse) → is_refusal asked ≡ false → is_closed asked ≡ false → closing call ≡ None → key_of call ≡ Some key → new_key asked ≡ None →
+  misuse_well : (key : NodeKey) (misuse : Misuse) → is_refusal asked ≡ false → is_closed asked ≡ false → closing call ≡ None →
+      key_of call ≡ Some key → new_key asked ≡ None →
       (w : Work) → at_node s.forest key (λ n. Change.Loss key (Cause.Misused misuse)) ≡ Some w → Well s call asked w
   misuse_well key misuse stands_so alive going is none w work =
       let on = on_node key stands_so alive going is in
@@ -174,7 +180,8 @@ module _ (limits : Bound) (s : State) (client : ℕ) (call : Call) (asked : Repl
       })
 
 -- a Close that fails its node
-close_well : (limits : Bound) (s : State) (client : ℕ) (key : NodeKey) → Known limits s client (Call.Close key) Reply.Done → (w : Work) → loss_at s.forest key Cause.Lost ≡ Some w → Well s (Call.Close key) Reply.Done w
+close_well : (limits : Bound) (s : State) (client : ℕ) (key : NodeKey) → Known limits s client (Call.Close key) Reply.Done → (w : Work) →
+    loss_at s.forest key Cause.Lost ≡ Some w → Well s (Call.Close key) Reply.Done w
 close_well limits s client key known w work =
     let l : IsLosing s.forest key Cause.Lost w = losing s.forest key Cause.Lost w work in
     let n : Node = l.node in
@@ -195,17 +202,20 @@ not_met true reply none = cc
 not_met false reply none = refl
 
 -- room for one more node
-has_room : (limits : Bound) (s : State) (client : ℕ) (call : Call) (asked : Reply) → Known limits s client call asked → took_effect asked ≡ true → closing call ≡ None →
+has_room : (limits : Bound) (s : State) (client : ℕ) (call : Call) (asked : Reply) → Known limits s client call asked →
+    took_effect asked ≡ true → closing call ≡ None →
     makes_node call ≡ true → kept s.forest < s.forest.limit
 has_room limits s client call asked known effective going makes =
     let all = took_effect_all limits (readings_of s) client no_key call asked effective going known.told in
-    let test : nat_le limits.nodes (kept s.forest) ≡ false = not_met (nat_le limits.nodes (kept s.forest)) (Reply.Refused Refusal.TooManyNodes) (rw makes at all.nodes_fit) in
+    let test : nat_le limits.nodes (kept s.forest) ≡ false =
+    not_met (nat_le limits.nodes (kept s.forest)) (Reply.Refused Refusal.TooManyNodes) (rw makes at all.nodes_fit) in
     let less : kept s.forest < limits.nodes = leb-false limits.nodes (kept s.forest) test in
     rw known.whole.limit less
 
 -- a new collection
 root_well : (limits : Bound) (s : State) (client : ℕ) (key : NodeKey) (c : ℕ) → Known limits s client Call.OpenRoot (Reply.Token key c) →
-    (w : Work) → Some (record { collection = c; change = Change.Birth None false client (s.events + 1) }) ≡ Some w → Well s Call.OpenRoot (Reply.Token key c) w
+    (w : Work) → Some (record { collection = c; change = Change.Birth None false client (s.events + 1) }) ≡ Some w →
+    Well s Call.OpenRoot (Reply.Token key c) w
 root_well limits s client key c known w work =
     let all = took_effect_all limits (readings_of s) client no_key Call.OpenRoot (Reply.Token key c) refl refl known.told in
     let new : c ≡ s.events + 1 = token_is all.answered in
@@ -222,20 +232,26 @@ root_well limits s client key c known w work =
     token_is h = cc
 
 -- what is read of an end that is there
-read_end : (s : State) (key : NodeKey) (n : Node) → node_at s.forest key ≡ Some n → is_spent n.end ≡ false → end_in s key ≡ Some (open_end_of s n)
+read_end : (s : State) (key : NodeKey) (n : Node) → node_at s.forest key ≡ Some n → is_spent n.end ≡ false →
+    end_in s key ≡ Some (open_end_of s n)
 read_end s key n at unspent = rw (at, unspent) refl
 
 -- a new child, attached or not
-child_well : (limits : Bound) (s : State) (client : ℕ) (call : Call) (attached : Bool) (above key : NodeKey) (c : ℕ) → key_of call ≡ Some above → closing call ≡ None → makes_node call ≡ true →
+child_well : (limits : Bound) (s : State) (client : ℕ) (call : Call) (attached : Bool) (above key : NodeKey) (c : ℕ) →
+    key_of call ≡ Some above → closing call ≡ None → makes_node call ≡ true →
     effect (readings_of s) client no_key call ≡ of_end (readings_of s) above (λ e. Reply.Token no_key e.collection) →
     Known limits s client call (Reply.Token key c) →
-    (w : Work) → Some (record { collection = c; change = Change.Birth (Some above) attached client (s.events + 1) }) ≡ Some w → Well s call (Reply.Token key c) w
+    (w : Work) → Some (record { collection = c; change = Change.Birth (Some above) attached client (s.events + 1) }) ≡ Some w →
+    Well s call (Reply.Token key c) w
 child_well limits s client call attached above key c is going makes tells known w work =
     let all = took_effect_all limits (readings_of s) client no_key call (Reply.Token key c) refl going known.told in
-    let named_so : Named s call (Reply.Token key c) above = named limits s client no_key call (Reply.Token key c) above known.told refl is in
+    let named_so : Named s call (Reply.Token key c) above =
+    named limits s client no_key call (Reply.Token key c) above known.told refl is in
     let on = on_node limits s client call (Reply.Token key c) known above refl refl going is in
     let same : named_so.node ≡ on.0 = some_is (sym named_so.at ∙ on.1) in
-    let told : Reply.Token key c ≡ Reply.Token no_key named_so.node.collection = all.answered ∙ tells ∙ ap (λ (o : Option OpenEnd). option_map_or (λ (e : OpenEnd). Reply.Token no_key e.collection) o (Reply.Refused Refusal.NoSuchEnd)) (read_end s above named_so.node named_so.at named_so.unspent) in
+    let told : Reply.Token key c ≡ Reply.Token no_key named_so.node.collection = all.answered ∙ tells
+    ∙ ap (λ (o : Option OpenEnd). option_map_or (λ (e : OpenEnd). Reply.Token no_key e.collection) o (Reply.Refused Refusal.NoSuchEnd))
+    (read_end s above named_so.node named_so.at named_so.unspent) in
     let new : c ≡ on.0.collection = token_is told ∙ ap (λ (n : Node). n.collection) same in
     let room : kept s.forest < s.forest.limit = has_room limits s client call (Reply.Token key c) known refl going makes in
     subst (Well s call (Reply.Token key c)) (some_is work) (record {
@@ -253,9 +269,11 @@ child_well limits s client call attached above key c is going makes tells known 
     no_root false = refl
 
 -- a call that is answered as a misuse is no Close
-not_closing : (limits : Bound) (s : State) (client : ℕ) (call : Call) (key : NodeKey) (m : Misuse) → Known limits s client call (Reply.Misused m) → key_of call ≡ Some key → closing call ≡ None
+not_closing : (limits : Bound) (s : State) (client : ℕ) (call : Call) (key : NodeKey) (m : Misuse) →
+    Known limits s client call (Reply.Misused m) → key_of call ≡ Some key → closing call ≡ None
 not_closing limits s client (Call.Close key) key' m known is =
-    let p : Passed (readings_of s) (Call.Close key) (Reply.Misused m) key = passed limits (readings_of s) client no_key (Call.Close key) (Reply.Misused m) key known.told refl refl in
+    let p : Passed (readings_of s) (Call.Close key) (Reply.Misused m) key =
+    passed limits (readings_of s) client no_key (Call.Close key) (Reply.Misused m) key known.told refl refl in
     let done : Reply.Misused m ≡ Reply.Done = p.closed Reply.Done refl in
     cc
 not_closing limits s client _ key m known is = refl
@@ -265,13 +283,16 @@ misused_well : (limits : Bound) (s : State) (client : ℕ) (call : Call) (m : Mi
     (w : Work) → work_of s client call (Reply.Misused m) ≡ Some w → Well s call (Reply.Misused m) w
 misused_well limits s client call m known w work =
     let found = and_then-Some (λ key. at_node s.forest key (λ n. Change.Loss key (Cause.Misused m))) (key_of call) w work in
-    misuse_well limits s client call (Reply.Misused m) known found.0 m refl refl (not_closing limits s client call found.0 m known found.1) found.1 refl w found.2
+    misuse_well limits s client call (Reply.Misused m) known found.0 m refl refl (not_closing limits s client call found.0 m known found.1)
+    found.1 refl w found.2
 
 -- what a drop of a handle changes
-drop_well : (limits : Bound) (s : State) (client : ℕ) (buffer : BufferName) (strength : Strength) → Known limits s client (Call.DropHandle buffer strength) Reply.Done →
+drop_well : (limits : Bound) (s : State) (client : ℕ) (buffer : BufferName) (strength : Strength) →
+    Known limits s client (Call.DropHandle buffer strength) Reply.Done →
     (w : Work) → at_collection s.forest buffer.collection Change.Nothing ≡ Some w → Well s (Call.DropHandle buffer strength) Reply.Done w
 drop_well limits s client buffer strength known w work =
-    let found = map-Some (λ (c : Collection). record { collection = buffer.collection; change = Change.Nothing }) (collection_at s.forest buffer.collection) w work in
+    let found = map-Some (λ (c : Collection). record { collection = buffer.collection; change = Change.Nothing })
+    (collection_at s.forest buffer.collection) w work in
     let here = In-find (λ (c : Collection). c.id == buffer.collection) s.forest.collections found.0 found.1 in
     let same : found.0.id ≡ buffer.collection = eqb-true found.0.id buffer.collection here.1 in
     let less : found.0.id ≤ s.events = known.whole.opened found.0 here.0 in
@@ -283,40 +304,60 @@ drop_well limits s client buffer strength known w work =
     })
 
 -- a node on which one more tracker is made has fewer than 64
-few_trackers : (limits : Bound) (s : State) (client : ℕ) (key : NodeKey) (id : ℕ) → Known limits s client (Call.TrackNode key) (Reply.Tracker id) →
+few_trackers : (limits : Bound) (s : State) (client : ℕ) (key : NodeKey) (id : ℕ) →
+    Known limits s client (Call.TrackNode key) (Reply.Tracker id) →
     (n : Node) → node_at s.forest key ≡ Some n → n.trackers < 64
 few_trackers limits s client key id known n at =
     let all = took_effect_all limits (readings_of s) client no_key (Call.TrackNode key) (Reply.Tracker id) refl refl known.told in
-    let named_so : Named s (Call.TrackNode key) (Reply.Tracker id) key = named limits s client no_key (Call.TrackNode key) (Reply.Tracker id) key known.told refl refl in
+    let named_so : Named s (Call.TrackNode key) (Reply.Tracker id) key =
+    named limits s client no_key (Call.TrackNode key) (Reply.Tracker id) key known.told refl refl in
     let same : named_so.node ≡ n = some_is (sym named_so.at ∙ at) in
     let unspent : is_spent n.end ≡ false = subst (λ (m : Node). is_spent m.end ≡ false) same named_so.unspent in
-    let none : when (nat_le 64 n.trackers) (Reply.Misused Misuse.TooManyNodeTrackers) ≡ None = rw (read_end s key n at unspent) at all.no_misuse in
+    let none : when (nat_le 64 n.trackers) (Reply.Misused Misuse.TooManyNodeTrackers) ≡ None =
+    rw (read_end s key n at unspent) at all.no_misuse in
     leb-false 64 n.trackers (not_met (nat_le 64 n.trackers) (Reply.Misused Misuse.TooManyNodeTrackers) none)
 
 -- what a call that was answered Done changes
-done_well : (limits : Bound) (s : State) (client : ℕ) (call : Call) → Known limits s client call Reply.Done → (w : Work) → done_to s.forest call ≡ Some w → Well s call Reply.Done w
-done_well limits s client (Call.Bind key) known w work = effect_well limits s client (Call.Bind key) Reply.Done known key Effect.Bound refl refl refl refl refl (λ k h. cc) (λ k n h. cc) w work
-done_well limits s client (Call.SetDispensable key) known w work = effect_well limits s client (Call.SetDispensable key) Reply.Done known key Effect.Dispensable refl refl refl refl refl (λ k h. cc) (λ k n h. cc) w work
-done_well limits s client (Call.SetWeak key) known w work = effect_well limits s client (Call.SetWeak key) Reply.Done known key Effect.Weak refl refl refl refl refl (λ k h. cc) (λ k n h. cc) w work
-done_well limits s client (Call.SetWeakOk key children) known w work = effect_well limits s client (Call.SetWeakOk key children) Reply.Done known key (Effect.WeakOk children) refl refl refl refl refl (λ k h. cc) (λ k n h. cc) w work
-done_well limits s client (Call.SetConstraints key demand) known w work = effect_well limits s client (Call.SetConstraints key demand) Reply.Done known key (Effect.Constrained demand) refl refl refl refl refl (λ k h. cc) (λ k n h. cc) w work
-done_well limits s client (Call.Release key) known w work = effect_well limits s client (Call.Release key) Reply.Done known key Effect.Released refl refl refl refl refl (λ k h. h) (λ k n h. cc) w work
+done_well : (limits : Bound) (s : State) (client : ℕ) (call : Call) → Known limits s client call Reply.Done → (w : Work) →
+    done_to s.forest call ≡ Some w → Well s call Reply.Done w
+done_well limits s client (Call.Bind key) known w work =
+    effect_well limits s client (Call.Bind key) Reply.Done known key Effect.Bound refl refl refl refl refl (λ k h. cc) (λ k n h. cc) w work
+done_well limits s client (Call.SetDispensable key) known w work =
+    effect_well limits s client (Call.SetDispensable key) Reply.Done known key Effect.Dispensable refl refl refl refl refl (λ k h.
+    cc) (λ k n h. cc) w work
+done_well limits s client (Call.SetWeak key) known w work = effect_well limits s client (Call.SetWeak key) Reply.Done known key Effect.Weak
+    refl refl refl refl refl (λ k h. cc) (λ k n h. cc) w work
+done_well limits s client (Call.SetWeakOk key children) known w work =
+    effect_well limits s client (Call.SetWeakOk key children) Reply.Done known key (Effect.WeakOk children) refl refl refl refl refl (λ k h.
+    cc) (λ k n h. cc) w work
+done_well limits s client (Call.SetConstraints key demand) known w work =
+    effect_well limits s client (Call.SetConstraints key demand) Reply.Done known key (Effect.Constrained demand) refl refl refl refl refl
+    (λ k h. cc) (λ k n h. cc) w work
+done_well limits s client (Call.Release key) known w work =
+    effect_well limits s client (Call.Release key) Reply.Done known key Effect.Released refl refl refl refl refl (λ k h. h) (λ k n h.
+    cc) w work
 done_well limits s client (Call.Close key) known w work = close_well limits s client key known w work
 done_well limits s client (Call.DropHandle buffer strength) known w work = drop_well limits s client buffer strength known w work
 done_well limits s client _ known w work = none_some work
 
 -- what an answered call changes, it may change
-pub well : (limits : Bound) (s : State) (client : ℕ) (call : Call) (asked : Reply) → Known limits s client call asked → (w : Work) → work_of s client call asked ≡ Some w → Well s call asked w
+pub well : (limits : Bound) (s : State) (client : ℕ) (call : Call) (asked : Reply) → Known limits s client call asked → (w : Work) →
+    work_of s client call asked ≡ Some w → Well s call asked w
 well limits s client Call.OpenRoot (Reply.Token key c) known w work = root_well limits s client key c known w work
-well limits s client (Call.Duplicate above) (Reply.Token key c) known w work = child_well limits s client (Call.Duplicate above) false above key c refl refl refl refl known w work
-well limits s client (Call.AttachToken above) (Reply.Token key c) known w work = child_well limits s client (Call.AttachToken above) true above key c refl refl refl refl known w work
+well limits s client (Call.Duplicate above) (Reply.Token key c) known w work =
+    child_well limits s client (Call.Duplicate above) false above key c refl refl refl refl known w work
+well limits s client (Call.AttachToken above) (Reply.Token key c) known w work =
+    child_well limits s client (Call.AttachToken above) true above key c refl refl refl refl known w work
 well limits s client call (Reply.Misused m) known w work = misused_well limits s client call m known w work
 well limits s client call Reply.Done known w work = done_well limits s client call known w work
 well limits s client (Call.Take key) (Reply.Taken c strength set) known w work =
-    effect_well limits s client (Call.Take key) (Reply.Taken c strength set) known key Effect.Taken refl refl refl refl refl (λ k h. cc) (λ k n h. cc) w work
+    effect_well limits s client (Call.Take key) (Reply.Taken c strength set) known key Effect.Taken refl refl refl refl refl (λ k h.
+    cc) (λ k n h. cc) w work
 well limits s client (Call.TrackNode key) (Reply.Tracker id) known w work =
-    effect_well limits s client (Call.TrackNode key) (Reply.Tracker id) known key Effect.Tracked refl refl refl refl refl (λ k h. cc) (λ k n is at. few k n is at) w work
+    effect_well limits s client (Call.TrackNode key) (Reply.Tracker id) known key Effect.Tracked refl refl refl refl refl (λ k h.
+    cc) (λ k n is at. few k n is at) w work
   where
-    few : (k : NodeKey) (n : Node) → Change.Effect key Effect.Tracked ≡ Change.Effect k Effect.Tracked → node_at s.forest k ≡ Some n → n.trackers < 64
+    few : (k : NodeKey) (n : Node) → Change.Effect key Effect.Tracked ≡ Change.Effect k Effect.Tracked → node_at s.forest k ≡ Some n →
+        n.trackers < 64
     few k n is at = let same : key ≡ k = cc in few_trackers limits s client key id known n (rw same at)
 well limits s client _ _ known w work = none_some work

@@ -32,20 +32,24 @@ opens_alike (Call.Take key) (Reply.Taken collection strength set) = false
 opens_alike _ _ = true
 
 -- such a call drops none
-alike_drops : (client : ℕ) (reply : Reply) (call : Call) → opens_alike call reply ≡ true → (buffer : BufferName) (strength : Strength) → drops anyone buffer strength (Called client reply call) ≡ false
+alike_drops : (client : ℕ) (reply : Reply) (call : Call) → opens_alike call reply ≡ true → (buffer : BufferName) (strength : Strength) →
+    drops anyone buffer strength (Called client reply call) ≡ false
 alike_drops client Reply.Done (Call.DropHandle name dropped) alike buffer strength = cc
 alike_drops client reply call alike buffer strength = refl
 
 -- and opens one where its caller had one
-alike_opens : (pool : ℕ) (limits : Bound) (marks : Timeline) → Grows pool limits [] marks → (client : ℕ) (reply : Reply) (call : Call) → IsAnswer limits (readings marks) client call reply → opens_alike call reply ≡ true →
-    (buffer : BufferName) (strength : Strength) → opens anyone buffer strength (Called client reply call) ≡ true → 0 < open_total marks buffer strength
+alike_opens : (pool : ℕ) (limits : Bound) (marks : Timeline) → Grows pool limits [] marks → (client : ℕ) (reply : Reply) (call : Call) →
+    IsAnswer limits (readings marks) client call reply → opens_alike call reply ≡ true →
+    (buffer : BufferName) (strength : Strength) → opens anyone buffer strength (Called client reply call) ≡ true →
+    0 < open_total marks buffer strength
 alike_opens pool limits marks g client (Reply.Taken collection taken set) (Call.Take key) answer alike buffer strength h = cc
 alike_opens pool limits marks g client Reply.Done (Call.DupHandle name dup) answer alike buffer strength h =
     let which : name ≡ buffer = same_buffer-true name buffer (and_left _ _ h) in
     let how : dup ≡ strength = same_strength-true dup strength (and_right (same_buffer name buffer) _ h) in
     let had : 0 < open_of marks client name dup = dup_was_open limits marks client name dup answer in
     let all : open_of marks client name dup ≤ open_total marks name dup =
-    client-le-total marks (counted pool limits marks g) client name dup (caller_joined limits marks client Reply.Done (Call.DupHandle name dup) answer refl) in
+    client-le-total marks (counted pool limits marks g) client name dup (caller_joined limits marks client Reply.Done
+    (Call.DupHandle name dup) answer refl) in
     let some : 0 < open_total marks name dup = omega (arith, had, all) in
     subst (λ (s : Strength). 0 < open_total marks buffer s) how (subst (λ (b : BufferName). 0 < open_total marks b dup) which some)
 alike_opens pool limits marks g client reply call answer alike buffer strength h = cc
@@ -60,7 +64,8 @@ some_is n some = false_if (n == 0) (λ e. let none : n ≡ 0 = eqb-true n 0 e in
 counted_on : (added taken more less : ℕ) → taken ≤ added → (added + more) - (taken + less) ≡ ((added - taken) + more) - less
 counted_on added taken more less paid = omega (arith, paid)
 
-module _ (pool : ℕ) (limits : Bound) (marks : Timeline) (grown : Grows pool limits [] marks) (client : ℕ) (reply : Reply) (call : Call) (answer : IsAnswer limits (readings marks) client call reply) where
+module _ (pool : ℕ) (limits : Bound) (marks : Timeline) (grown : Grows pool limits [] marks) (client : ℕ) (reply : Reply) (call : Call)
+    (answer : IsAnswer limits (readings marks) client call reply) where
   -- the mark of the call
   abbrev mark : Mark
   mark = Called client reply call
@@ -76,7 +81,8 @@ module _ (pool : ℕ) (limits : Bound) (marks : Timeline) (grown : Grows pool li
   -- ---- elsewhere
 
   -- of a collection that is not that of the call as many handles are open
-  pub open_elsewhere : (buffer : BufferName) → (collection_of (Called client reply call ∷ marks) call reply ≡ Some buffer.collection → ⊥) → (strength : Strength) →
+  pub open_elsewhere : (buffer : BufferName) → (collection_of (Called client reply call ∷ marks) call reply ≡ Some buffer.collection → ⊥) →
+      (strength : Strength) →
       open_total (Called client reply call ∷ marks) buffer strength ≡ open_total marks buffer strength
   open_elsewhere buffer away strength =
       sym (λ i. (same_after pool marks (client, call, reply)).in_all i buffer strength)
@@ -86,23 +92,28 @@ module _ (pool : ℕ) (limits : Bound) (marks : Timeline) (grown : Grows pool li
 
   -- those of a client
   open_of_by : (c : ℕ) (buffer : BufferName) (strength : Strength) → open_of (Called client reply call ∷ marks) c buffer strength
-      ≡ (open_of marks c buffer strength + one_if (gains (only c) buffer strength (Called client reply call))) - one_if (loses (only c) buffer strength (Called client reply call))
+      ≡ (open_of marks c buffer strength + one_if (gains (only c) buffer strength (Called client reply call))) - one_if
+      (loses (only c) buffer strength (Called client reply call))
   open_of_by c buffer strength = omega (arith, (open_of_mark marks mark were are buffer strength c).adds_up)
 
   -- those in parcels
   moving_by : (buffer : BufferName) (strength : Strength) → moving (Called client reply call ∷ marks) buffer strength
-      ≡ (moving marks buffer strength + one_if (lifts anyone buffer strength (Called client reply call))) - one_if (lands anyone buffer strength (Called client reply call))
+      ≡ (moving marks buffer strength + one_if (lifts anyone buffer strength (Called client reply call))) - one_if
+      (lands anyone buffer strength (Called client reply call))
   moving_by buffer strength =
       (λ i. times-cons (lifts anyone buffer strength) mark marks i - times-cons (lands anyone buffer strength) mark marks i)
-      ∙ counted_on (times (lifts anyone buffer strength) marks) (times (lands anyone buffer strength) marks) (one_if (lifts anyone buffer strength mark)) (one_if (lands anyone buffer strength mark))
+      ∙ counted_on (times (lifts anyone buffer strength) marks) (times (lands anyone buffer strength) marks)
+      (one_if (lifts anyone buffer strength mark)) (one_if (lands anyone buffer strength mark))
       (lands-le-lifts marks were buffer strength)
 
   -- and all that are open
   total_by : (buffer : BufferName) (strength : Strength) → open_total (Called client reply call ∷ marks) buffer strength
-      ≡ (open_total marks buffer strength + one_if (opens anyone buffer strength (Called client reply call))) - one_if (drops anyone buffer strength (Called client reply call))
+      ≡ (open_total marks buffer strength + one_if (opens anyone buffer strength (Called client reply call))) - one_if
+      (drops anyone buffer strength (Called client reply call))
   total_by buffer strength =
       (λ i. times-cons (opens anyone buffer strength) mark marks i - times-cons (drops anyone buffer strength) mark marks i)
-      ∙ counted_on (times (opens anyone buffer strength) marks) (times (drops anyone buffer strength) marks) (one_if (opens anyone buffer strength mark)) (one_if (drops anyone buffer strength mark))
+      ∙ counted_on (times (opens anyone buffer strength) marks) (times (drops anyone buffer strength) marks)
+      (one_if (opens anyone buffer strength mark)) (one_if (drops anyone buffer strength mark))
       (drops-le-opens marks were buffer strength)
 
   -- so the mark of the call tells them
@@ -129,8 +140,10 @@ module _ (pool : ℕ) (limits : Bound) (marks : Timeline) (grown : Grows pool li
       let none : one_if (drops anyone buffer strength mark) ≡ 0 = ap one_if (alike_drops client reply call alike buffer strength) in
       elim (either_way (opens anyone buffer strength mark)) [
         | inl e ↦
-            let was : 0 < open_total marks buffer strength = alike_opens pool limits marks grown client reply call answer alike buffer strength e in
-            some_is (open_total (mark ∷ marks) buffer strength) (omega (arith, by, none, was)) ∙ sym (some_is (open_total marks buffer strength) was)
+            let was : 0 < open_total marks buffer strength =
+            alike_opens pool limits marks grown client reply call answer alike buffer strength e in
+            some_is (open_total (mark ∷ marks) buffer strength) (omega (arith, by, none, was))
+            ∙ sym (some_is (open_total marks buffer strength) was)
         | inr e ↦
             let still : one_if (opens anyone buffer strength mark) ≡ 0 = ap one_if e in
             let same : open_total (mark ∷ marks) buffer strength ≡ open_total marks buffer strength = omega (arith, by, none, still) in

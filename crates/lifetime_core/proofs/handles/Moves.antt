@@ -26,7 +26,10 @@ goes before after came went by = let sum : after + one_if went ≡ before + one_
 -- the counts are those that the mark makes
 pub moved : (old new : Counts) (mark : Mark) → Moves old new mark → counts_of new ≡ handles_by mark (counts_of old)
 moved old new mark moves = λ i. record {
-  of = λ client buffer strength. goes (of old client buffer strength) (of new client buffer strength) (gains (only client) buffer strength mark) (loses (only client) buffer strength mark) (moves.each client buffer strength) i;
-  moving = λ buffer strength. goes (moving old buffer strength) (moving new buffer strength) (lifts anyone buffer strength mark) (lands anyone buffer strength mark) (moves.in_parcels buffer strength) i;
-  total = λ buffer strength. goes (total old buffer strength) (total new buffer strength) (opens anyone buffer strength mark) (drops anyone buffer strength mark) (moves.in_all buffer strength) i;
+  of = λ client buffer strength. goes (of old client buffer strength) (of new client buffer strength) (gains (only client) buffer strength
+      mark) (loses (only client) buffer strength mark) (moves.each client buffer strength) i;
+  moving = λ buffer strength. goes (moving old buffer strength) (moving new buffer strength) (lifts anyone buffer strength mark)
+      (lands anyone buffer strength mark) (moves.in_parcels buffer strength) i;
+  total = λ buffer strength. goes (total old buffer strength) (total new buffer strength) (opens anyone buffer strength mark)
+      (drops anyone buffer strength mark) (moves.in_all buffer strength) i;
 }

@@ -19,7 +19,8 @@ use Rattle.lifetime_core.specs.Hands.{Opens, is_the, is_below}
 use Rattle.lifetime_core.specs.State.{counts_of}
 
 -- a client's handles are at most all
-pub of-le-total : (holds : Counts) (client : ℕ) (buffer : BufferName) (strength : Strength) → of holds client buffer strength ≤ total holds buffer strength
+pub of-le-total : (holds : Counts) (client : ℕ) (buffer : BufferName) (strength : Strength) →
+    of holds client buffer strength ≤ total holds buffer strength
 of-le-total holds client buffer strength =
     let hold = hold_of client buffer strength in
     omega (
@@ -29,7 +30,8 @@ of-le-total holds client buffer strength =
     )
 
 -- counts that agree everywhere are the same
-pub same_counts : (old new : Counts) → ((c : ℕ) (b : BufferName) (s : Strength) → of new c b s ≡ of old c b s) → ((b : BufferName) (s : Strength) → moving new b s ≡ moving old b s) →
+pub same_counts : (old new : Counts) → ((c : ℕ) (b : BufferName) (s : Strength) → of new c b s ≡ of old c b s) →
+    ((b : BufferName) (s : Strength) → moving new b s ≡ moving old b s) →
     ((b : BufferName) (s : Strength) → total new b s ≡ total old b s) → counts_of new ≡ counts_of old
 same_counts old new each in_parcels in_all = λ i. record {
   of = λ c b s. each c b s i;
@@ -56,17 +58,21 @@ still false is one = is
 
 -- these handles have one count
 module _ (client : ℕ) (buffer : BufferName) (strength : Strength) where
-  pub one_hold : (count : ℕ → BufferName → Strength → ℕ) (c : ℕ) (b : BufferName) (s : Strength) → (client == c && is_the buffer strength b s) ≡ true → count client buffer strength ≡ count c b s
-  one_hold count c b s same = ap (λ h. count h.client h.kind.buffer h.kind.strength) (same_hold-one (hold_of client buffer strength) (hold_of c b s) same)
+  pub one_hold : (count : ℕ → BufferName → Strength → ℕ) (c : ℕ) (b : BufferName) (s : Strength) →
+      (client == c && is_the buffer strength b s) ≡ true → count client buffer strength ≡ count c b s
+  one_hold count c b s same =
+      ap (λ h. count h.client h.kind.buffer h.kind.strength) (same_hold-one (hold_of client buffer strength) (hold_of c b s) same)
 
-  pub one_kind : (count : BufferName → Strength → ℕ) (b : BufferName) (s : Strength) → is_the buffer strength b s ≡ true → count buffer strength ≡ count b s
+  pub one_kind : (count : BufferName → Strength → ℕ) (b : BufferName) (s : Strength) → is_the buffer strength b s ≡ true →
+      count buffer strength ≡ count b s
   one_kind count b s same = ap (λ k. count k.buffer k.strength) (same_kind-one (kind_of buffer strength) (kind_of b s) same)
 
 -- ---- one handle
 
 -- one handle more
 pub opens_one : (old new : Counts) (client : ℕ) (buffer : BufferName) (strength : Strength) →
-    Sets old new client buffer strength (of old client buffer strength + 1) (moving old buffer strength) (total old buffer strength + 1) → Opens old new client (is_the buffer strength)
+    Sets old new client buffer strength (of old client buffer strength + 1) (moving old buffer strength) (total old buffer strength + 1) →
+    Opens old new client (is_the buffer strength)
 opens_one old new client buffer strength sets = record {
   counts = λ c b s. up (client == c && is_the buffer strength b s) (sets.counts c b s) (one_hold client buffer strength (of old) c b s);
   parcels = λ b s. still (is_the buffer strength b s) (sets.parcels b s) (one_kind client buffer strength (moving old) b s);
@@ -75,22 +81,29 @@ opens_one old new client buffer strength sets = record {
 
 -- one handle less, where there was one
 pub closes_one : (old mid new : Counts) (client : ℕ) (buffer : BufferName) (strength : Strength) → 0 < of old client buffer strength →
-    Sets old mid client buffer strength (of old client buffer strength - 1) (moving old buffer strength) (total old buffer strength - 1) → Tidies mid new client buffer strength →
+    Sets old mid client buffer strength (of old client buffer strength - 1) (moving old buffer strength) (total old buffer strength - 1) →
+    Tidies mid new client buffer strength →
     Opens new old client (is_the buffer strength)
 closes_one old mid new client buffer strength some sets tidies = record {
-  counts = λ c b s. down (client == c && is_the buffer strength b s) some (tidies.counts c b s ∙ sets.counts c b s) (one_hold client buffer strength (of old) c b s);
-  parcels = λ b s. sym (still (is_the buffer strength b s) (tidies.parcels b s ∙ sets.parcels b s) (one_kind client buffer strength (moving old) b s));
-  totals = λ b s. down (is_the buffer strength b s) (omega (arith, of-le-total old client buffer strength)) (tidies.totals b s ∙ sets.totals b s) (one_kind client buffer strength (total old) b s);
+  counts = λ c b s. down (client == c && is_the buffer strength b s) some (tidies.counts c b s
+      ∙ sets.counts c b s) (one_hold client buffer strength (of old) c b s);
+  parcels = λ b s. sym (still (is_the buffer strength b s) (tidies.parcels b s
+      ∙ sets.parcels b s) (one_kind client buffer strength (moving old) b s));
+  totals = λ b s. down (is_the buffer strength b s) (omega (arith, of-le-total old client buffer strength)) (tidies.totals b s
+      ∙ sets.totals b s) (one_kind client buffer strength (total old) b s);
 }
 
 -- a handle that was opened is there
-pub has_one : (old new : Counts) (client : ℕ) (buffer : BufferName) (strength : Strength) → Opens old new client (is_the buffer strength) → 0 < of new client buffer strength
+pub has_one : (old new : Counts) (client : ℕ) (buffer : BufferName) (strength : Strength) → Opens old new client (is_the buffer strength) →
+    0 < of new client buffer strength
 has_one old new client buffer strength opens =
-    let it : one_if (client == client && is_the buffer strength buffer strength) ≡ 1 = ap one_if (same_hold-refl (hold_of client buffer strength)) in
+    let it : one_if (client == client && is_the buffer strength buffer strength) ≡ 1 =
+    ap one_if (same_hold-refl (hold_of client buffer strength)) in
     omega (arith, it, opens.counts client buffer strength)
 
 -- what was opened from the one counts and from the others leaves both the same
-pub same_before : (before new old : Counts) (client : ℕ) (passes : BufferName → Strength → Bool) → Opens before old client passes → Opens new old client passes → counts_of new ≡ counts_of before
+pub same_before : (before new old : Counts) (client : ℕ) (passes : BufferName → Strength → Bool) → Opens before old client passes →
+    Opens new old client passes → counts_of new ≡ counts_of before
 same_before before new old client passes opened closed = same_counts before new
     (λ c b s. let a = opened.counts c b s in let d = closed.counts c b s in omega arith)
     (λ b s. sym (closed.parcels b s) ∙ opened.parcels b s)
@@ -128,7 +141,8 @@ module _ (collection : ℕ) (strength : Strength) (set : ℕ) where
     where
       split : (who here strong same : Bool) → (index == b.index) ≡ same →
           one_if (who && (here && (strong && (bit_at set b.index == 1 && nat_lt b.index (index + 1)))))
-          ≡ one_if (who && (here && (strong && (bit_at set b.index == 1 && nat_lt b.index index)))) + one_if (who && ((here && same) && strong))
+          ≡ one_if (who && (here && (strong && (bit_at set b.index == 1 && nat_lt b.index index)))) + one_if
+          (who && ((here && same) && strong))
       split false here strong same is = refl
       split true false strong same is = refl
       split true true false true is = refl
@@ -140,10 +154,12 @@ module _ (collection : ℕ) (strength : Strength) (set : ℕ) where
       split true true true false is = ap (λ t. one_if (bit_at set b.index == 1 && t)) (next_lt b.index index is) ∙ sym (plus_zero _)
 
   -- where the set has not the buffer with this index there is none more
-  none_below : (index : ℕ) (b : BufferName) (s : Strength) → (bit_at set index == 1) ≡ false → is_below collection strength set (index + 1) b s ≡ is_below collection strength set index b s
+  none_below : (index : ℕ) (b : BufferName) (s : Strength) → (bit_at set index == 1) ≡ false →
+      is_below collection strength set (index + 1) b s ≡ is_below collection strength set index b s
   none_below index b s lacks = ap (λ t. collection == b.collection && (same_strength strength s && t)) (by (index == b.index) refl)
     where
-      by : (same : Bool) → (index == b.index) ≡ same → (bit_at set b.index == 1 && nat_lt b.index (index + 1)) ≡ (bit_at set b.index == 1 && nat_lt b.index index)
+      by : (same : Bool) → (index == b.index) ≡ same →
+          (bit_at set b.index == 1 && nat_lt b.index (index + 1)) ≡ (bit_at set b.index == 1 && nat_lt b.index index)
       by true is =
           let here : index ≡ b.index = eqb-true index b.index is in
           let bit : (bit_at set b.index == 1) ≡ false = ap (λ i. bit_at set i == 1) (sym here) ∙ lacks in
@@ -170,30 +186,38 @@ module _ (collection : ℕ) (strength : Strength) (set : ℕ) where
 
   -- one more, where the set has it
   pub opens_next : (before old new : Counts) (client index : ℕ) → bit_at set index ≡ 1 → Opens old new client (is_the (at index) strength) →
-      Opens before old client (is_below collection strength set index) → Opens before new client (is_below collection strength set (index + 1))
+      Opens before old client (is_below collection strength set index) →
+      Opens before new client (is_below collection strength set (index + 1))
   opens_next before old new client index has one opened = record {
-    counts = λ c b s. let d = one.counts c b s in let a = opened.counts c b s in let e = next_below (client == c) index b s has in omega arith;
+    counts = λ c b s. let d =
+        one.counts c b s in let a = opened.counts c b s in let e = next_below (client == c) index b s has in omega arith;
     parcels = λ b s. one.parcels b s ∙ opened.parcels b s;
     totals = λ b s. let d = one.totals b s in let a = opened.totals b s in let e = next_below true index b s has in omega arith;
   }
 
   -- one less, where the set has it
-  pub opens_less : (before old new : Counts) (client index : ℕ) → bit_at set index ≡ 1 → (0 < of old client (at index) strength → Opens new old client (is_the (at index) strength)) →
-      Opens before old client (is_below collection strength set (index + 1)) → Opens before new client (is_below collection strength set index)
+  pub opens_less : (before old new : Counts) (client index : ℕ) → bit_at set index ≡ 1 → (0 < of old client (at index) strength →
+      Opens new old client (is_the (at index) strength)) →
+      Opens before old client (is_below collection strength set (index + 1)) →
+      Opens before new client (is_below collection strength set index)
   opens_less before old new client index has closes opened =
-      let strong : same_strength strength strength ≡ true = and_right (same_buffer (at index) (at index)) (same_strength strength strength) (same_kind-refl (kind_of (at index) strength)) in
+      let strong : same_strength strength strength ≡ true =
+      and_right (same_buffer (at index) (at index)) (same_strength strength strength) (same_kind-refl (kind_of (at index) strength)) in
       let there : one_if (client == client && is_below collection strength set (index + 1) (at index) strength) ≡ 1 =
       rw (eq-eqb client client refl, eq-eqb collection collection refl, strong, has, next_is index) refl in
-      let one : Opens new old client (is_the (at index) strength) = closes (omega (arith, opened.counts client (at index) strength, there)) in
+      let one : Opens new old client (is_the (at index) strength) =
+      closes (omega (arith, opened.counts client (at index) strength, there)) in
       record {
-        counts = λ c b s. let d = one.counts c b s in let a = opened.counts c b s in let e = next_below (client == c) index b s has in omega arith;
+        counts = λ c b s. let d =
+            one.counts c b s in let a = opened.counts c b s in let e = next_below (client == c) index b s has in omega arith;
         parcels = λ b s. sym (one.parcels b s) ∙ opened.parcels b s;
         totals = λ b s. let d = one.totals b s in let a = opened.totals b s in let e = next_below true index b s has in omega arith;
       }
 
   -- none more, where the set lacks it
   pub opens_same : (before new : Counts) (client index : ℕ) → (bit_at set index == 1) ≡ false →
-      Opens before new client (is_below collection strength set index) → Opens before new client (is_below collection strength set (index + 1))
+      Opens before new client (is_below collection strength set index) →
+      Opens before new client (is_below collection strength set (index + 1))
   opens_same before new client index lacks opened = record {
     counts = λ c b s. rw (none_below index b s lacks) (opened.counts c b s);
     parcels = opened.parcels;
@@ -202,7 +226,8 @@ module _ (collection : ℕ) (strength : Strength) (set : ℕ) where
 
   -- so too the other way
   pub opens_still : (before new : Counts) (client index : ℕ) → (bit_at set index == 1) ≡ false →
-      Opens before new client (is_below collection strength set (index + 1)) → Opens before new client (is_below collection strength set index)
+      Opens before new client (is_below collection strength set (index + 1)) →
+      Opens before new client (is_below collection strength set index)
   opens_still before new client index lacks opened = record {
     counts = λ c b s. rw (← none_below index b s lacks) (opened.counts c b s);
     parcels = opened.parcels;
@@ -210,5 +235,7 @@ module _ (collection : ℕ) (strength : Strength) (set : ℕ) where
   }
 
   -- where none is left open the counts are those before
-  pub all_closed : (before new : Counts) (client : ℕ) → Opens before new client (is_below collection strength set 0) → counts_of new ≡ counts_of before
-  all_closed before new client opened = same_before before new new client (is_below collection strength set 0) opened (opens_none new client)
+  pub all_closed : (before new : Counts) (client : ℕ) → Opens before new client (is_below collection strength set 0) →
+      counts_of new ≡ counts_of before
+  all_closed before new client opened =
+      same_before before new new client (is_below collection strength set 0) opened (opens_none new client)

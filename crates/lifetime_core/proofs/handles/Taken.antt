@@ -64,7 +64,8 @@ HaveSome marks = (c : ℕ) (w : Buffers) → buffers_of marks c ≡ Some w → 0
 
 module _ (pool : ℕ) (limits : Bound) where
   -- an allocation gives some
-  some_after : (before : Timeline) (collection : ℕ) (head : NodeKey) → Grows pool limits [] before → Why pool collection before (Allocated head) → HaveSome before → HaveSome (Allocated head ∷ before)
+  some_after : (before : Timeline) (collection : ℕ) (head : NodeKey) → Grows pool limits [] before →
+      Why pool collection before (Allocated head) → HaveSome before → HaveSome (Allocated head ∷ before)
   some_after before collection _ g (Initial b on ours root free waits found fits) old c w h =
       let is : birth_of before b.node ≡ Some b = find_birth (births before) b (ordered pool limits before g).sound on in
       elim (either_way (b.collection == c)) [
@@ -72,9 +73,12 @@ module _ (pool : ℕ) (limits : Bound) where
             let same : collection ≡ c = sym (eqb-true b.collection collection ours) ∙ eqb-true b.collection c e in
             let v : Buffers = asked (members before c) in
             let told : Some (asked (members before c)) ≡ Some w = rw (is, root, e) at h in
-            let fits' : initial_failure pool (standing pool before c) (asked (members before c)) ≡ None = subst (λ (k : ℕ). initial_failure pool (standing pool before k) (asked (members before k)) ≡ None) same fits in
+            let fits' : initial_failure pool (standing pool before c) (asked (members before c)) ≡ None =
+            subst (λ (k : ℕ). initial_failure pool (standing pool before k) (asked (members before k)) ≡ None) same fits in
             let none : (v.count == 0) ≡ false =
-            not_none (not (some_strong_live (members before c))) (v.count == 0) (nat_lt 64 v.count) (is_none (places pool (pages_of v.size) v.count (standing pool before c).held)) Failure.NoStrong Failure.NoBuffers Failure.TooManyBuffers Failure.PoolFull fits' in
+            not_none (not (some_strong_live (members before c))) (v.count == 0) (nat_lt 64 v.count)
+            (is_none (places pool (pages_of v.size) v.count (standing pool before c).held)) Failure.NoStrong Failure.NoBuffers
+            Failure.TooManyBuffers Failure.PoolFull fits' in
             let is_it : asked (members before c) ≡ w = cc in
             subst (λ (x : Buffers). 0 < x.count) is_it (above_nothing v.count none)
         | inr e ↦ old c w (rw (is, root, e) at h)
@@ -94,13 +98,16 @@ module _ (pool : ℕ) (limits : Bound) where
   have_some _ (Loses before origin cause g born) c w h = have_some before g c w h
   have_some _ (Ends before collection top g e) c w h = have_some before g c w h
   have_some _ (Answers before client reply call g answer) c w h = have_some before g c w h
-  have_some _ (Allocates before collection head g e) c w h = some_after before collection head g (forced_why pool collection before (Allocated head) e) (have_some before g) c w h
+  have_some _ (Allocates before collection head g e) c w h =
+      some_after before collection head g (forced_why pool collection before (Allocated head) e) (have_some before g) c w h
 
 -- ---- a node that is not gone has a root that is not gone
 
 -- what goes at the root goes everywhere in its collection
-module _ (marks : Timeline) (ord : IsOrdered marks) (root : Birth) (there : In root (births marks)) (top : root.parent ≡ None) (taken : gone marks root.node ≡ true) where
-  gone_with_root : (bs : List Birth) → ((b : Birth) → In b bs → In b (births marks)) → AreTogether bs → (b : Birth) → In b bs → root.collection ≡ b.collection → gone marks b.node ≡ true
+module _ (marks : Timeline) (ord : IsOrdered marks) (root : Birth) (there : In root (births marks)) (top : root.parent ≡ None)
+    (taken : gone marks root.node ≡ true) where
+  gone_with_root : (bs : List Birth) → ((b : Birth) → In b bs → In b (births marks)) → AreTogether bs → (b : Birth) → In b bs →
+      root.collection ≡ b.collection → gone marks b.node ≡ true
   gone_with_root [] among together b on same = absurd on
   gone_with_root (c ∷ older) among together b (inr on) same = gone_with_root older (λ q far. among q (inr far)) together.1 b on same
   gone_with_root (c ∷ older) among together b (inl here) same =
@@ -110,7 +117,8 @@ module _ (marks : Timeline) (ord : IsOrdered marks) (root : Birth) (there : In r
       ours : root.collection ≡ c.collection
       ours = same ∙ ap (λ (x : Birth). x.collection) here
 
-      below : ((q : Birth) → In q older → root.collection ≡ q.collection → gone marks q.node ≡ true) → (o : Option NodeKey) → c.parent ≡ o → gone marks c.node ≡ true
+      below : ((q : Birth) → In q older → root.collection ≡ q.collection → gone marks q.node ≡ true) → (o : Option NodeKey) → c.parent ≡ o →
+          gone marks c.node ≡ true
       below above None up =
           let is : root ≡ c = ord.roots root c there (among c (inl refl)) top up ours in
           subst (λ (x : Birth). gone marks x.node ≡ true) is taken
@@ -158,13 +166,15 @@ same_strength-refl Strength.Weak = refl
 same_itself : (b : BufferName) → same_buffer b b ≡ true
 same_itself b = rw (eq-eqb b.collection b.collection refl) (eq-eqb b.index b.index refl)
 
-module _ (pool : ℕ) (limits : Bound) (marks : Timeline) (grown : Grows pool limits [] marks) (rest : (c : ℕ) → next_forced pool c marks ≡ None) where
+module _ (pool : ℕ) (limits : Bound) (marks : Timeline) (grown : Grows pool limits [] marks) (rest : (c : ℕ) →
+    next_forced pool c marks ≡ None) where
   -- the root of a node that is not gone is left
   root_is_left : (b : Birth) → In b (births marks) → gone marks b.node ≡ false → is_some (root_left (members marks b.collection)) ≡ true
   root_is_left b on here =
       let r : HasRoot (births marks) b.collection = has_root (births marks) (whole pool limits marks grown).together b on in
       let stays : gone marks r.root.node ≡ false = false_if (gone marks r.root.node) (λ h.
-      both_ways (gone marks b.node) (gone_with_root marks (ordered pool limits marks grown) r.root r.there r.is_root h (births marks) (λ x far. far) (whole pool limits marks grown).together b on r.ours) here) in
+      both_ways (gone marks b.node) (gone_with_root marks (ordered pool limits marks grown) r.root r.there r.is_root h (births marks)
+      (λ x far. far) (whole pool limits marks grown).together b on r.ours) here) in
       let test : (is_none r.root.parent && not (gone marks r.root.node)) ≡ true = rw (r.is_root, stays) refl in
       is_some-find (λ (m : Member). is_root m && not m.gone) (members marks b.collection)
       ∙ In-any (λ (m : Member). is_root m && not m.gone) (members marks b.collection) (member marks r.root)
@@ -176,7 +186,9 @@ module _ (pool : ℕ) (limits : Bound) (marks : Timeline) (grown : Grows pool li
       let f = In-find (λ m. is_root m && not m.gone) (members marks c) m e in
       let r = member_birth marks c m f.0 in
       let top : r.0.parent ≡ None = none_if r.0.parent (ap is_root (sym r.2) ∙ and_left (is_root m) (not m.gone) f.1) in
-      ap (λ (m : Member). m.allocated) r.2 ∙ given_root pool limits marks grown r.0 r.1 top (ap (λ (k : ℕ). is_some (buffers_of marks k)) (eqb-true r.0.collection c r.3) ∙ given)
+      ap (λ (m : Member). m.allocated) r.2
+      ∙ given_root pool limits marks grown r.0 r.1 top (ap (λ (k : ℕ). is_some (buffers_of marks k)) (eqb-true r.0.collection c r.3)
+      ∙ given)
 
   -- a strong node or a strong handle keeps such a collection as long as a node of it is not gone
   kept : (b : Birth) → In b (births marks) → gone marks b.node ≡ false → is_some (buffers_of marks b.collection) ≡ true →
@@ -187,8 +199,10 @@ module _ (pool : ℕ) (limits : Bound) (marks : Timeline) (grown : Grows pool li
         | inl e ↦ both_ways (is_some (root_left (members marks b.collection))) (root_is_left b on here) (ap is_some e)
         | inr found ↦
             let none : abandoned s ≡ None = (at_rest pool s (rest b.collection)).none_abandoned in
-            let left : when (found.0.allocated && (not (some_strong_live s.members) && not s.strong_open)) (Loss found.0.key Cause.NoStrong) ≡ None = rw found.1 at none in
-            kept_by found.0.allocated (some_strong_live s.members) s.strong_open (Loss found.0.key Cause.NoStrong) (root_allocated b.collection found.0 given found.1) left
+            let left : when (found.0.allocated && (not (some_strong_live s.members) && not s.strong_open))
+            (Loss found.0.key Cause.NoStrong) ≡ None = rw found.1 at none in
+            kept_by found.0.allocated (some_strong_live s.members) s.strong_open (Loss found.0.key Cause.NoStrong)
+            (root_allocated b.collection found.0 given found.1) left
       ]
 
   -- so one of its buffers is not doomed
@@ -200,19 +214,24 @@ module _ (pool : ℕ) (limits : Bound) (marks : Timeline) (grown : Grows pool li
         | inr handle ↦ with_handle handle
       ]
     where
-      with_handle : (standing pool marks b.collection).strong_open ≡ true → (i : ℕ) × (nat_lt i w.count ≡ true) × (doomed marks (record { collection = b.collection; index = i }) ≡ false)
+      with_handle : (standing pool marks b.collection).strong_open ≡ true → (i : ℕ) × (nat_lt i w.count ≡ true) ×
+          (doomed marks (record { collection = b.collection; index = i }) ≡ false)
       with_handle some =
-          let named : list_any (λ (x : BufferName). nat_lt 0 (open_total marks x Strength.Strong)) (names b.collection w.count) ≡ true = rw given at some in
+          let named : list_any (λ (x : BufferName). nat_lt 0 (open_total marks x Strength.Strong)) (names b.collection w.count) ≡ true =
+          rw given at some in
           let t = In-list_any (λ (x : BufferName). nat_lt 0 (open_total marks x Strength.Strong)) (names b.collection w.count) named in
           let m = In-map (λ i. record { collection = b.collection; index = i }) (range_with_len 0 w.count) t.0 t.1 in
-          let it : list_any (λ x. same_buffer x t.0) (names b.collection w.count) ≡ true = In-any (λ x. same_buffer x t.0) (names b.collection w.count) t.0 t.1 (same_itself t.0) in
-          let low : nat_lt t.0.index w.count ≡ true = and_right (b.collection == t.0.collection) _ (sym (named_below b.collection w.count t.0) ∙ it) in
+          let it : list_any (λ x. same_buffer x t.0) (names b.collection w.count) ≡ true =
+          In-any (λ x. same_buffer x t.0) (names b.collection w.count) t.0 t.1 (same_itself t.0) in
+          let low : nat_lt t.0.index w.count ≡ true =
+          and_right (b.collection == t.0.collection) _ (sym (named_below b.collection w.count t.0) ∙ it) in
           let stays : doomed marks t.0 ≡ false = by_handle _ _ (open_total marks t.0 Strength.Strong) t.2 in
           (m.0, ap (λ (x : BufferName). nat_lt x.index w.count) (sym m.2) ∙ low, ap (doomed marks) (sym m.2) ∙ stays)
 
   -- ---- what a Take answers
 
-  module _ (bound : Bound) (client collection : ℕ) (taken : Strength) (set : ℕ) (key : NodeKey) (answer : IsAnswer bound (readings marks) client (Call.Take key) (Reply.Taken collection taken set)) where
+  module _ (bound : Bound) (client collection : ℕ) (taken : Strength) (set : ℕ) (key : NodeKey) (answer : IsAnswer bound (readings marks)
+      client (Call.Take key) (Reply.Taken collection taken set)) where
     abbrev call : Call
     call = Call.Take key
 
@@ -220,7 +239,8 @@ module _ (pool : ℕ) (limits : Bound) (marks : Timeline) (grown : Grows pool li
     reply = Reply.Taken collection taken set
 
     -- the node's unit was given buffers
-    given_some : (b : Birth) (strength : Strength) (other : ℕ) (a : Bool) (o : Option Buffers) → reply ≡ option_map_or (λ x. Reply.Taken b.collection strength other) (cond a o None) Reply.Pending →
+    given_some : (b : Birth) (strength : Strength) (other : ℕ) (a : Bool) (o : Option Buffers) →
+        reply ≡ option_map_or (λ x. Reply.Taken b.collection strength other) (cond a o None) Reply.Pending →
         ((w : Buffers) × (o ≡ Some w)) × (collection ≡ b.collection)
     given_some b strength other true None e = cc
     given_some b strength other true (Some w) e = let same : collection ≡ b.collection = cc in ((w, refl), same)
@@ -233,13 +253,17 @@ module _ (pool : ℕ) (limits : Bound) (marks : Timeline) (grown : Grows pool li
         let t = took_effect_all bound (readings marks) client none_key call reply refl refl answer.told in
         let n = named bound marks client none_key call reply key t refl in
         let b : Birth = n.birth in
-        let told : reply ≡ option_map_or (λ x. Reply.Taken b.collection (strength_of (weak marks b.node)) (set_of (open_end marks b).to_open)) (open_end marks b).buffers Reply.Pending =
+        let told : reply ≡ option_map_or (λ x.
+        Reply.Taken b.collection (strength_of (weak marks b.node)) (set_of (open_end marks b).to_open)) (open_end marks b).buffers
+        Reply.Pending =
         rw (n.unspent, n.found) at t.answered in
         let g = given_some b _ _ (allocated marks b.node) (buffers_of marks b.collection) told in
         let here : gone marks b.node ≡ false = false_if (gone marks b.node) (λ h.
         both_ways (spent marks key) (ord_spent (subst (λ (k : NodeKey). gone marks k ≡ true) n.is h) n.unfailed) n.unspent) in
         let o = one_kept b n.there here g.0.0 g.0.1 in
-        let set_is : set ≡ set_of (filter passes (buffer_names marks b.collection)) = (took bound marks client collection taken set call answer).set_is ∙ ap (λ c. set_of (filter passes (buffer_names marks c))) g.1 in
+        let set_is : set ≡ set_of (filter passes (buffer_names marks b.collection)) =
+        (took bound marks client collection taken set call answer).set_is
+        ∙ ap (λ c. set_of (filter passes (buffer_names marks c))) g.1 in
         (o.0, ap (λ m. bit_at m o.0) set_is ∙ in_set b.collection g.0.0 g.0.1 o.0 o.1 o.2)
       where
         passes : BufferName → Bool
@@ -248,7 +272,8 @@ module _ (pool : ℕ) (limits : Bound) (marks : Timeline) (grown : Grows pool li
         ord_spent : gone marks key ≡ true → fault marks key ≡ None → spent marks key ≡ true
         ord_spent = (ordered pool limits marks grown).ended_spent key
 
-        in_set : (c : ℕ) (w : Buffers) → buffers_of marks c ≡ Some w → (i : ℕ) → nat_lt i w.count ≡ true → doomed marks (record { collection = c; index = i }) ≡ false →
+        in_set : (c : ℕ) (w : Buffers) → buffers_of marks c ≡ Some w → (i : ℕ) → nat_lt i w.count ≡ true →
+            doomed marks (record { collection = c; index = i }) ≡ false →
             bit_at (set_of (filter (λ name. not (doomed marks name)) (buffer_names marks c))) i ≡ 1
         in_set c w given i low stays =
             rw given (bit_of_set (λ name. not (doomed marks name)) c w.count i ∙ ap one (λ j. low j && not (stays j)))
@@ -278,7 +303,8 @@ pub record Stood (pool : ℕ) (limits : Bound) (history : List Entry) (entry : E
   pub answer : IsAnswer limits (readings (timeline pool history)) entry.0 entry.1 entry.2
 
 -- so it stood before each event of a legal history
-pub stood : (pool : ℕ) (limits : Bound) (before more : List Entry) (entry : Entry) → AreAnswers pool limits [] (before ++ entry ∷ more) → Stood pool limits before entry
+pub stood : (pool : ℕ) (limits : Bound) (before more : List Entry) (entry : Entry) → AreAnswers pool limits [] (before ++ entry ∷ more) →
+    Stood pool limits before entry
 stood pool limits before more entry answers =
     let r = AreAnswers-append pool limits [] before (entry ∷ more) answers in
     record { grown = grows_history pool limits [] [] before Stays r.0; rest = every_rests pool limits before r.0; answer = r.1.0 }

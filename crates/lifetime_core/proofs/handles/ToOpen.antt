@@ -34,10 +34,13 @@ kept_from s id strong_live i n =
     filter (is_kept s strong_live) (map (λ i. record { collection = id; index = i }) (range_with_len i (n - i)))
 
 -- all that are not doomed are opened
-pub all_to_open : (s : State) (id : ℕ) (given : Buffers) → buffers_in s id ≡ Some given → kept_from s id (strong_live_in s id) 0 given.count ≡ to_open_in s id
-all_to_open s id given there = by (collection_at s.forest id) (λ c is. eqb-true c.id id (In-find (λ (x : Collection). x.id == id) s.forest.collections c is).1) there
+pub all_to_open : (s : State) (id : ℕ) (given : Buffers) → buffers_in s id ≡ Some given →
+    kept_from s id (strong_live_in s id) 0 given.count ≡ to_open_in s id
+all_to_open s id given there =
+    by (collection_at s.forest id) (λ c is. eqb-true c.id id (In-find (λ (x : Collection). x.id == id) s.forest.collections c is).1) there
   where
-    by : (o : Option Collection) → ((c : Collection) → o ≡ Some c → c.id ≡ id) → option_map_or (λ (c : Collection). c.buffers) o None ≡ Some given →
+    by : (o : Option Collection) → ((c : Collection) → o ≡ Some c → c.id ≡ id) →
+        option_map_or (λ (c : Collection). c.buffers) o None ≡ Some given →
         kept_from s id (option_map_or (λ (c : Collection). some_strong_live (members_of c.nodes)) o false) 0 given.count
         ≡ option_map_or (λ (c : Collection). filter (is_kept s (some_strong_live (members_of c.nodes))) (buffer_names c)) o []
     by None found is = absurd (cc)
@@ -55,11 +58,13 @@ next_kept s id strong_live i n more =
 -- one passes the test exactly if the next one does, or one of those after it
 pub next_passes : (test : BufferName → Bool) (s : State) (id : ℕ) (strong_live : Bool) (i n : ℕ) → i < n →
     let name : BufferName = record { collection = id; index = i } in
-    list_any test (kept_from s id strong_live i n) ≡ ((is_kept s strong_live name && test name) || list_any test (kept_from s id strong_live (i + 1) n))
+    list_any test (kept_from s id strong_live i n) ≡ ((is_kept s strong_live name && test name) || list_any test
+    (kept_from s id strong_live (i + 1) n))
 next_passes test s id strong_live i n more =
     ap (list_any test) (next_kept s id strong_live i n more) ∙ by (is_kept s strong_live (record { collection = id; index = i }))
   where
-    by : (b : Bool) → let name : BufferName = record { collection = id; index = i } in let on : List BufferName = kept_from s id strong_live (i + 1) n in
+    by : (b : Bool) → let name : BufferName =
+        record { collection = id; index = i } in let on : List BufferName = kept_from s id strong_live (i + 1) n in
         list_any test (cond b (name ∷ on) on) ≡ ((b && test name) || list_any test on)
     by true = refl
     by false = refl
@@ -71,7 +76,8 @@ pub next_bit : (s : State) (id : ℕ) (strong_live : Bool) (i n : ℕ) → i < n
 next_bit s id strong_live i n more =
     ap set_of (next_kept s id strong_live i n more) ∙ by (is_kept s strong_live (record { collection = id; index = i }))
   where
-    by : (b : Bool) → let name : BufferName = record { collection = id; index = i } in let on : List BufferName = kept_from s id strong_live (i + 1) n in
+    by : (b : Bool) → let name : BufferName =
+        record { collection = id; index = i } in let on : List BufferName = kept_from s id strong_live (i + 1) n in
         set_of (cond b (name ∷ on) on) ≡ cond b (2 ^ i) 0 + set_of on
     by true = sum_by-cons (λ (b : BufferName). 2 ^ b.index) (record { collection = id; index = i }) (kept_from s id strong_live (i + 1) n)
     by false = omega arith

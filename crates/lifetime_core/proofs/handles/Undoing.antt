@@ -62,7 +62,8 @@ unmoved none neither goes = let same = goes.adds_up in let n = ap one_if none in
 -- a number of 64 bits has no bit but those below the 64th
 all_below : (collection : ℕ) (strength : Strength) (set : ℕ) → set < 2 ^ 64 → (b : BufferName) (s : Strength) →
     (collection == b.collection && (same_strength strength s && bit_at set b.index == 1)) ≡ is_below collection strength set 64 b s
-all_below collection strength set fits b s = ap (λ t. collection == b.collection && (same_strength strength s && t)) (by (cases_lt b.index 64))
+all_below collection strength set fits b s =
+    ap (λ t. collection == b.collection && (same_strength strength s && t)) (by (cases_lt b.index 64))
   where
     by : (b.index < 64) ⊎ (64 ≤ b.index) → (bit_at set b.index == 1) ≡ (bit_at set b.index == 1 && nat_lt b.index 64)
     by (inl below) = grind (arith, common_steps)
@@ -70,17 +71,21 @@ all_below collection strength set fits b s = ap (λ t. collection == b.collectio
 
 module _ (client : ℕ) (key : NodeKey) (collection : ℕ) (strength : Strength) (set : ℕ) (fits : set < 2 ^ 64) where
   -- a Take opens one on each buffer of its set
-  pub moves_taken : (old new : Counts) → Opens old new client (is_below collection strength set 64) → Moves old new (Called client (Reply.Taken collection strength set) (Call.Take key))
+  pub moves_taken : (old new : Counts) → Opens old new client (is_below collection strength set 64) →
+      Moves old new (Called client (Reply.Taken collection strength set) (Call.Take key))
   moves_taken old new opened = record {
-    each = λ c b s. goes_up (client == c && is_below collection strength set 64 b s) _ (or_false _ ∙ ap (λ t. client == c && t) (all_below collection strength set fits b s)) (opened.counts c b s);
+    each = λ c b s. goes_up (client == c && is_below collection strength set 64 b s) _ (or_false _
+        ∙ ap (λ t. client == c && t) (all_below collection strength set fits b s)) (opened.counts c b s);
     in_parcels = λ b s. goes_not (opened.parcels b s);
     in_all = λ b s. goes_up (is_below collection strength set 64 b s) _ (all_below collection strength set fits b s) (opened.totals b s);
   }
 
   -- and no other
-  pub taken_opens : (old new : Counts) → Moves old new (Called client (Reply.Taken collection strength set) (Call.Take key)) → Opens old new client (is_below collection strength set 64)
+  pub taken_opens : (old new : Counts) → Moves old new (Called client (Reply.Taken collection strength set) (Call.Take key)) →
+      Opens old new client (is_below collection strength set 64)
   taken_opens old new moves = record {
-    counts = λ c b s. gained (client == c && is_below collection strength set 64 b s) _ (or_false _ ∙ ap (λ t. client == c && t) (all_below collection strength set fits b s)) (moves.each c b s);
+    counts = λ c b s. gained (client == c && is_below collection strength set 64 b s) _ (or_false _
+        ∙ ap (λ t. client == c && t) (all_below collection strength set fits b s)) (moves.each c b s);
     parcels = λ b s. neither (moves.in_parcels b s);
     totals = λ b s. gained (is_below collection strength set 64 b s) _ (all_below collection strength set fits b s) (moves.in_all b s);
   }
@@ -93,7 +98,8 @@ module _ (client : ℕ) (buffer : BufferName) (strength : Strength) where
   is_its c b s = client == c && is_the buffer strength b s
 
   -- a DupHandle opens one
-  pub moves_doubled : (old new : Counts) → Opens old new client (is_the buffer strength) → Moves old new (Called client Reply.Done (Call.DupHandle buffer strength))
+  pub moves_doubled : (old new : Counts) → Opens old new client (is_the buffer strength) →
+      Moves old new (Called client Reply.Done (Call.DupHandle buffer strength))
   moves_doubled old new opened = record {
     each = λ c b s. goes_up (is_its c b s) _ (or_false _) (opened.counts c b s);
     in_parcels = λ b s. goes_not (opened.parcels b s);
@@ -101,7 +107,8 @@ module _ (client : ℕ) (buffer : BufferName) (strength : Strength) where
   }
 
   -- and no other
-  pub doubled_opens : (old new : Counts) → Moves old new (Called client Reply.Done (Call.DupHandle buffer strength)) → Opens old new client (is_the buffer strength)
+  pub doubled_opens : (old new : Counts) → Moves old new (Called client Reply.Done (Call.DupHandle buffer strength)) →
+      Opens old new client (is_the buffer strength)
   doubled_opens old new moves = record {
     counts = λ c b s. gained (is_its c b s) _ (or_false _) (moves.each c b s);
     parcels = λ b s. neither (moves.in_parcels b s);
@@ -110,66 +117,88 @@ module _ (client : ℕ) (buffer : BufferName) (strength : Strength) where
 
   -- a DropHandle drops one
   pub moves_dropped : (old new : Counts) → 0 < of old client buffer strength →
-      Sets old new client buffer strength (of old client buffer strength - 1) (moving old buffer strength) (total old buffer strength - 1) → Moves old new (Called client Reply.Done (Call.DropHandle buffer strength))
+      Sets old new client buffer strength (of old client buffer strength - 1) (moving old buffer strength) (total old buffer strength - 1) →
+      Moves old new (Called client Reply.Done (Call.DropHandle buffer strength))
   moves_dropped old new some sets = record {
-    each = λ c b s. goes_down (is_its c b s) _ (or_false _) (down (is_its c b s) some (sets.counts c b s) (one_hold client buffer strength (of old) c b s));
+    each = λ c b s. goes_down (is_its c b s) _ (or_false _) (down (is_its c b s) some (sets.counts c b s) (one_hold client buffer strength
+        (of old) c b s));
     in_parcels = λ b s. goes_not (still (is_the buffer strength b s) (sets.parcels b s) (one_kind client buffer strength (moving old) b s));
     in_all = λ b s. goes_down (is_the buffer strength b s) _ refl
-        (down (is_the buffer strength b s) (omega (arith, of-le-total old client buffer strength)) (sets.totals b s) (one_kind client buffer strength (total old) b s));
+        (down (is_the buffer strength b s) (omega (arith, of-le-total old client buffer strength)) (sets.totals b s)
+        (one_kind client buffer strength (total old) b s));
   }
 
   -- and is undone by one more
   pub undrops : (before old new : Counts) → Moves before old (Called client Reply.Done (Call.DropHandle buffer strength)) →
-      Sets old new client buffer strength (of old client buffer strength + 1) (moving old buffer strength) (total old buffer strength + 1) → counts_of new ≡ counts_of before
+      Sets old new client buffer strength (of old client buffer strength + 1) (moving old buffer strength) (total old buffer strength + 1) →
+      counts_of new ≡ counts_of before
   undrops before old new moves sets = same_counts before new
-      (λ c b s. up (is_its c b s) (sets.counts c b s) (one_hold client buffer strength (of old) c b s) ∙ sym (lost (is_its c b s) _ (or_false _) (moves.each c b s)))
-      (λ b s. still (is_the buffer strength b s) (sets.parcels b s) (one_kind client buffer strength (moving old) b s) ∙ neither (moves.in_parcels b s))
-      (λ b s. up (is_the buffer strength b s) (sets.totals b s) (one_kind client buffer strength (total old) b s) ∙ sym (lost (is_the buffer strength b s) _ refl (moves.in_all b s)))
+      (λ c b s. up (is_its c b s) (sets.counts c b s) (one_hold client buffer strength (of old) c b s)
+      ∙ sym (lost (is_its c b s) _ (or_false _) (moves.each c b s)))
+      (λ b s. still (is_the buffer strength b s) (sets.parcels b s) (one_kind client buffer strength (moving old) b s)
+      ∙ neither (moves.in_parcels b s))
+      (λ b s. up (is_the buffer strength b s) (sets.totals b s) (one_kind client buffer strength (total old) b s)
+      ∙ sym (lost (is_the buffer strength b s) _ refl (moves.in_all b s)))
 
   -- a GiveHandle puts one into a parcel
   pub moves_given : (to : ℕ) (old new : Counts) → 0 < of old client buffer strength →
-      Sets old new client buffer strength (of old client buffer strength - 1) (moving old buffer strength + 1) (total old buffer strength) → Moves old new (Called client Reply.Done (Call.GiveHandle buffer strength to))
+      Sets old new client buffer strength (of old client buffer strength - 1) (moving old buffer strength + 1) (total old buffer strength) →
+      Moves old new (Called client Reply.Done (Call.GiveHandle buffer strength to))
   moves_given to old new some sets = record {
-    each = λ c b s. goes_down (is_its c b s) _ refl (down (is_its c b s) some (sets.counts c b s) (one_hold client buffer strength (of old) c b s));
-    in_parcels = λ b s. goes_up (is_the buffer strength b s) _ refl (up (is_the buffer strength b s) (sets.parcels b s) (one_kind client buffer strength (moving old) b s));
+    each = λ c b s. goes_down (is_its c b s) _ refl (down (is_its c b s) some (sets.counts c b s) (one_hold client buffer strength (of old)
+        c b s));
+    in_parcels =
+        λ b s. goes_up (is_the buffer strength b s) _ refl (up (is_the buffer strength b s) (sets.parcels b s)
+        (one_kind client buffer strength (moving old) b s));
     in_all = λ b s. goes_not (still (is_the buffer strength b s) (sets.totals b s) (one_kind client buffer strength (total old) b s));
   }
 
   -- and is undone by taking one out
-  pub ungives : (to : ℕ) (before old new : Counts) → 0 < moving old buffer strength → Moves before old (Called client Reply.Done (Call.GiveHandle buffer strength to)) →
-      Sets old new client buffer strength (of old client buffer strength + 1) (moving old buffer strength - 1) (total old buffer strength) → counts_of new ≡ counts_of before
+  pub ungives : (to : ℕ) (before old new : Counts) → 0 < moving old buffer strength →
+      Moves before old (Called client Reply.Done (Call.GiveHandle buffer strength to)) →
+      Sets old new client buffer strength (of old client buffer strength + 1) (moving old buffer strength - 1) (total old buffer strength) →
+      counts_of new ≡ counts_of before
   ungives to before old new some moves sets = same_counts before new
-      (λ c b s. up (is_its c b s) (sets.counts c b s) (one_hold client buffer strength (of old) c b s) ∙ sym (lost (is_its c b s) _ refl (moves.each c b s)))
+      (λ c b s. up (is_its c b s) (sets.counts c b s) (one_hold client buffer strength (of old) c b s)
+      ∙ sym (lost (is_its c b s) _ refl (moves.each c b s)))
       (λ b s. let e = down (is_the buffer strength b s) some (sets.parcels b s) (one_kind client buffer strength (moving old) b s) in
       let g = gained (is_the buffer strength b s) _ refl (moves.in_parcels b s) in
       omega arith)
-      (λ b s. still (is_the buffer strength b s) (sets.totals b s) (one_kind client buffer strength (total old) b s) ∙ neither (moves.in_all b s))
+      (λ b s. still (is_the buffer strength b s) (sets.totals b s) (one_kind client buffer strength (total old) b s)
+      ∙ neither (moves.in_all b s))
 
   -- a Collect takes one out of a parcel
   pub moves_collected : (old new : Counts) → 0 < moving old buffer strength →
-      Sets old new client buffer strength (of old client buffer strength + 1) (moving old buffer strength - 1) (total old buffer strength) → Moves old new (Called client (Reply.CollectedHandle buffer strength) Call.Collect)
+      Sets old new client buffer strength (of old client buffer strength + 1) (moving old buffer strength - 1) (total old buffer strength) →
+      Moves old new (Called client (Reply.CollectedHandle buffer strength) Call.Collect)
   moves_collected old new some sets = record {
     each = λ c b s. goes_up (is_its c b s) _ refl (up (is_its c b s) (sets.counts c b s) (one_hold client buffer strength (of old) c b s));
-    in_parcels = λ b s. goes_down (is_the buffer strength b s) _ refl (down (is_the buffer strength b s) some (sets.parcels b s) (one_kind client buffer strength (moving old) b s));
+    in_parcels = λ b s. goes_down (is_the buffer strength b s) _ refl (down (is_the buffer strength b s) some (sets.parcels b s)
+        (one_kind client buffer strength (moving old) b s));
     in_all = λ b s. goes_not (still (is_the buffer strength b s) (sets.totals b s) (one_kind client buffer strength (total old) b s));
   }
 
   -- the client has it then
-  pub got_one : (old new : Counts) → Moves old new (Called client (Reply.CollectedHandle buffer strength) Call.Collect) → 0 < of new client buffer strength
+  pub got_one : (old new : Counts) → Moves old new (Called client (Reply.CollectedHandle buffer strength) Call.Collect) →
+      0 < of new client buffer strength
   got_one old new moves =
       let it : one_if (is_its client buffer strength) ≡ 1 = ap one_if (same_hold-refl (hold_of client buffer strength)) in
       omega (arith, it, gained (is_its client buffer strength) _ refl (moves.each client buffer strength))
 
   -- and is undone by putting it back
-  pub uncollects : (before old mid new : Counts) → 0 < of old client buffer strength → Moves before old (Called client (Reply.CollectedHandle buffer strength) Call.Collect) →
-      Sets old mid client buffer strength (of old client buffer strength - 1) (moving old buffer strength + 1) (total old buffer strength) → Tidies mid new client buffer strength → counts_of new ≡ counts_of before
+  pub uncollects : (before old mid new : Counts) → 0 < of old client buffer strength →
+      Moves before old (Called client (Reply.CollectedHandle buffer strength) Call.Collect) →
+      Sets old mid client buffer strength (of old client buffer strength - 1) (moving old buffer strength + 1) (total old buffer strength) →
+      Tidies mid new client buffer strength → counts_of new ≡ counts_of before
   uncollects before old mid new some moves sets tidies = same_counts before new
       (λ c b s. let e = down (is_its c b s) some (sets.counts c b s) (one_hold client buffer strength (of old) c b s) in
       let g = gained (is_its c b s) _ refl (moves.each c b s) in
       let t = tidies.counts c b s in
       omega arith)
-      (λ b s. tidies.parcels b s ∙ (up (is_the buffer strength b s) (sets.parcels b s) (one_kind client buffer strength (moving old) b s) ∙ sym (lost (is_the buffer strength b s) _ refl (moves.in_parcels b s))))
-      (λ b s. tidies.totals b s ∙ (still (is_the buffer strength b s) (sets.totals b s) (one_kind client buffer strength (total old) b s) ∙ neither (moves.in_all b s)))
+      (λ b s. tidies.parcels b s ∙ (up (is_the buffer strength b s) (sets.parcels b s) (one_kind client buffer strength (moving old) b s)
+      ∙ sym (lost (is_the buffer strength b s) _ refl (moves.in_parcels b s))))
+      (λ b s. tidies.totals b s ∙ (still (is_the buffer strength b s) (sets.totals b s) (one_kind client buffer strength (total old) b s)
+      ∙ neither (moves.in_all b s)))
 
 -- ---- an event that is about no handles
 
@@ -193,15 +222,18 @@ module _ (mark : Mark) (idle : is_about_handles mark ≡ false) where
 
 module _ (client : ℕ) (reply : Reply) where
   -- a Take that was answered otherwise
-  pub not_taken : (key : NodeKey) → ((collection : ℕ) (strength : Strength) (set : ℕ) → reply ≡ Reply.Taken collection strength set → ⊥) → is_about_handles (Called client reply (Call.Take key)) ≡ false
+  pub not_taken : (key : NodeKey) → ((collection : ℕ) (strength : Strength) (set : ℕ) → reply ≡ Reply.Taken collection strength set → ⊥) →
+      is_about_handles (Called client reply (Call.Take key)) ≡ false
   not_taken key no_set = by reply no_set
     where
-      by : (reply : Reply) → ((collection : ℕ) (strength : Strength) (set : ℕ) → reply ≡ Reply.Taken collection strength set → ⊥) → is_about_handles (Called client reply (Call.Take key)) ≡ false
+      by : (reply : Reply) → ((collection : ℕ) (strength : Strength) (set : ℕ) → reply ≡ Reply.Taken collection strength set → ⊥) →
+          is_about_handles (Called client reply (Call.Take key)) ≡ false
       by (Reply.Taken collection strength set) no_set = absurd (no_set collection strength set refl)
       by _ no_set = refl
 
   -- a DupHandle that opened none
-  pub not_doubled : (buffer : BufferName) (strength : Strength) → (reply ≡ Reply.Done → ⊥) → is_about_handles (Called client reply (Call.DupHandle buffer strength)) ≡ false
+  pub not_doubled : (buffer : BufferName) (strength : Strength) → (reply ≡ Reply.Done → ⊥) →
+      is_about_handles (Called client reply (Call.DupHandle buffer strength)) ≡ false
   not_doubled buffer strength undone = by reply undone
     where
       by : (reply : Reply) → (reply ≡ Reply.Done → ⊥) → is_about_handles (Called client reply (Call.DupHandle buffer strength)) ≡ false
@@ -209,7 +241,8 @@ module _ (client : ℕ) (reply : Reply) where
       by _ undone = refl
 
   -- a DropHandle that dropped none
-  pub not_dropped : (buffer : BufferName) (strength : Strength) → (reply ≡ Reply.Done → ⊥) → is_about_handles (Called client reply (Call.DropHandle buffer strength)) ≡ false
+  pub not_dropped : (buffer : BufferName) (strength : Strength) → (reply ≡ Reply.Done → ⊥) →
+      is_about_handles (Called client reply (Call.DropHandle buffer strength)) ≡ false
   not_dropped buffer strength undone = by reply undone
     where
       by : (reply : Reply) → (reply ≡ Reply.Done → ⊥) → is_about_handles (Called client reply (Call.DropHandle buffer strength)) ≡ false
@@ -217,7 +250,8 @@ module _ (client : ℕ) (reply : Reply) where
       by _ undone = refl
 
   -- a GiveHandle that gave none
-  pub not_handed : (buffer : BufferName) (strength : Strength) (to : ℕ) → (reply ≡ Reply.Done → ⊥) → is_about_handles (Called client reply (Call.GiveHandle buffer strength to)) ≡ false
+  pub not_handed : (buffer : BufferName) (strength : Strength) (to : ℕ) → (reply ≡ Reply.Done → ⊥) →
+      is_about_handles (Called client reply (Call.GiveHandle buffer strength to)) ≡ false
   not_handed buffer strength to undone = by reply undone
     where
       by : (reply : Reply) → (reply ≡ Reply.Done → ⊥) → is_about_handles (Called client reply (Call.GiveHandle buffer strength to)) ≡ false
@@ -225,31 +259,39 @@ module _ (client : ℕ) (reply : Reply) where
       by _ undone = refl
 
   -- a Collect that got no handle
-  pub not_landed : ((buffer : BufferName) (strength : Strength) → reply ≡ Reply.CollectedHandle buffer strength → ⊥) → is_about_handles (Called client reply Call.Collect) ≡ false
+  pub not_landed : ((buffer : BufferName) (strength : Strength) → reply ≡ Reply.CollectedHandle buffer strength → ⊥) →
+      is_about_handles (Called client reply Call.Collect) ≡ false
   not_landed no_handle = by reply no_handle
     where
-      by : (reply : Reply) → ((buffer : BufferName) (strength : Strength) → reply ≡ Reply.CollectedHandle buffer strength → ⊥) → is_about_handles (Called client reply Call.Collect) ≡ false
+      by : (reply : Reply) → ((buffer : BufferName) (strength : Strength) → reply ≡ Reply.CollectedHandle buffer strength → ⊥) →
+          is_about_handles (Called client reply Call.Collect) ≡ false
       by (Reply.CollectedHandle buffer strength) no_handle = absurd (no_handle buffer strength refl)
       by _ no_handle = refl
 
   -- any other call
-  pub not_handles : (call : Call) → ((key : NodeKey) → call ≡ Call.Take key → ⊥) → ((buffer : BufferName) (strength : Strength) → call ≡ Call.DupHandle buffer strength → ⊥) →
-      ((buffer : BufferName) (strength : Strength) → call ≡ Call.DropHandle buffer strength → ⊥) → ((buffer : BufferName) (strength : Strength) (to : ℕ) → call ≡ Call.GiveHandle buffer strength to → ⊥) →
+  pub not_handles : (call : Call) → ((key : NodeKey) → call ≡ Call.Take key → ⊥) → ((buffer : BufferName) (strength : Strength) →
+      call ≡ Call.DupHandle buffer strength → ⊥) →
+      ((buffer : BufferName) (strength : Strength) → call ≡ Call.DropHandle buffer strength → ⊥) →
+      ((buffer : BufferName) (strength : Strength) (to : ℕ) → call ≡ Call.GiveHandle buffer strength to → ⊥) →
       (call ≡ Call.Collect → ⊥) → is_about_handles (Called client reply call) ≡ false
   not_handles call no_take no_dup no_drop no_give no_collect = by reply call no_take no_dup no_drop no_give no_collect
     where
-      by : (reply : Reply) (call : Call) → ((key : NodeKey) → call ≡ Call.Take key → ⊥) → ((buffer : BufferName) (strength : Strength) → call ≡ Call.DupHandle buffer strength → ⊥) →
-          ((buffer : BufferName) (strength : Strength) → call ≡ Call.DropHandle buffer strength → ⊥) → ((buffer : BufferName) (strength : Strength) (to : ℕ) → call ≡ Call.GiveHandle buffer strength to → ⊥) →
+      by : (reply : Reply) (call : Call) → ((key : NodeKey) → call ≡ Call.Take key → ⊥) → ((buffer : BufferName) (strength : Strength) →
+          call ≡ Call.DupHandle buffer strength → ⊥) →
+          ((buffer : BufferName) (strength : Strength) → call ≡ Call.DropHandle buffer strength → ⊥) →
+          ((buffer : BufferName) (strength : Strength) (to : ℕ) → call ≡ Call.GiveHandle buffer strength to → ⊥) →
           (call ≡ Call.Collect → ⊥) → is_about_handles (Called client reply call) ≡ false
       by (Reply.Taken collection strength set) (Call.Take key) no_take no_dup no_drop no_give no_collect = absurd (no_take key refl)
       by Reply.Done (Call.DupHandle buffer strength) no_take no_dup no_drop no_give no_collect = absurd (no_dup buffer strength refl)
       by Reply.Done (Call.DropHandle buffer strength) no_take no_dup no_drop no_give no_collect = absurd (no_drop buffer strength refl)
-      by Reply.Done (Call.GiveHandle buffer strength to) no_take no_dup no_drop no_give no_collect = absurd (no_give buffer strength to refl)
+      by Reply.Done (Call.GiveHandle buffer strength to) no_take no_dup no_drop no_give no_collect =
+          absurd (no_give buffer strength to refl)
       by (Reply.CollectedHandle buffer strength) Call.Collect no_take no_dup no_drop no_give no_collect = absurd (no_collect refl)
       by _ _ no_take no_dup no_drop no_give no_collect = refl
 
 -- with room for it, and below the limit, a handle is opened
-pub opened : {P : Type 0} (result : Result (Unit {0}) HoldFault) (now limit : ℕ) → IsErrOf result HoldFault.TooMany ↔ (now ≡ limit) → now < limit → IsOkUnless result HoldFault.TooMany → OnOk result P → P
+pub opened : {P : Type 0} (result : Result (Unit {0}) HoldFault) (now limit : ℕ) → IsErrOf result HoldFault.TooMany ↔ (now ≡ limit) →
+    now < limit → IsOkUnless result HoldFault.TooMany → OnOk result P → P
 opened (Ok done) now limit full fewer room gives = gives
 opened (Err HoldFault.NoMemory) now limit full fewer room gives = absurd cc
 opened (Err HoldFault.TooMany) now limit full fewer room gives = let same : now ≡ limit = full.0 refl in absurd (omega arith)

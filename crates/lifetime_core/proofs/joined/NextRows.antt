@@ -22,7 +22,8 @@ changes_clients Call.Collect (Reply.CollectedHandle buffer strength) = true
 changes_clients _ _ = false
 
 -- no other event changes any
-unchanged : (client : ℕ) (reply : Reply) (call : Call) (rows : List Client) → changes_clients call reply ≡ false → rows ≡ clients_by (Called client reply call) rows
+unchanged : (client : ℕ) (reply : Reply) (call : Call) (rows : List Client) → changes_clients call reply ≡ false →
+    rows ≡ clients_by (Called client reply call) rows
 unchanged client (Reply.Joined made) Call.Join rows none = cc
 unchanged client (Reply.Shut waiting) Call.Shut rows none = cc
 unchanged client Reply.Done (Call.Give key to) rows none = cc
@@ -61,7 +62,8 @@ module _ (client : ℕ) (reply : Reply) (rows : List Client) where
       by _ not = refl
 
   -- a GiveHandle that put no handle into a parcel
-  pub not_handed : (buffer : BufferName) (strength : Strength) (to : ℕ) → (reply ≡ Reply.Done → ⊥) → rows ≡ clients_by (Called client reply (Call.GiveHandle buffer strength to)) rows
+  pub not_handed : (buffer : BufferName) (strength : Strength) (to : ℕ) → (reply ≡ Reply.Done → ⊥) →
+      rows ≡ clients_by (Called client reply (Call.GiveHandle buffer strength to)) rows
   not_handed buffer strength to not = unchanged client reply (Call.GiveHandle buffer strength to) rows (by reply not)
     where
       by : (reply : Reply) → (reply ≡ Reply.Done → ⊥) → changes_clients (Call.GiveHandle buffer strength to) reply ≡ false
@@ -70,22 +72,28 @@ module _ (client : ℕ) (reply : Reply) (rows : List Client) where
 
   -- a Collect that got no parcel
   pub not_collected : ((key : NodeKey) (kind : Kind) (collection : ℕ) → reply ≡ Reply.Collected key kind collection → ⊥) →
-      ((buffer : BufferName) (strength : Strength) → reply ≡ Reply.CollectedHandle buffer strength → ⊥) → rows ≡ clients_by (Called client reply Call.Collect) rows
+      ((buffer : BufferName) (strength : Strength) → reply ≡ Reply.CollectedHandle buffer strength → ⊥) →
+      rows ≡ clients_by (Called client reply Call.Collect) rows
   not_collected no_end no_handle = unchanged client reply Call.Collect rows (by reply no_end no_handle)
     where
       by : (reply : Reply) → ((key : NodeKey) (kind : Kind) (collection : ℕ) → reply ≡ Reply.Collected key kind collection → ⊥) →
-          ((buffer : BufferName) (strength : Strength) → reply ≡ Reply.CollectedHandle buffer strength → ⊥) → changes_clients Call.Collect reply ≡ false
+          ((buffer : BufferName) (strength : Strength) → reply ≡ Reply.CollectedHandle buffer strength → ⊥) →
+          changes_clients Call.Collect reply ≡ false
       by (Reply.Collected key kind collection) no_end no_handle = absurd (no_end key kind collection refl)
       by (Reply.CollectedHandle buffer strength) no_end no_handle = absurd (no_handle buffer strength refl)
       by _ no_end no_handle = refl
 
   -- any other call
-  pub not_theirs : (call : Call) → (call ≡ Call.Join → ⊥) → (call ≡ Call.Shut → ⊥) → ((key : NodeKey) (to : ℕ) → call ≡ Call.Give key to → ⊥) →
-      ((buffer : BufferName) (strength : Strength) (to : ℕ) → call ≡ Call.GiveHandle buffer strength to → ⊥) → (call ≡ Call.Collect → ⊥) → rows ≡ clients_by (Called client reply call) rows
-  not_theirs call no_join no_shut no_give no_hand no_collect = unchanged client reply call rows (by call no_join no_shut no_give no_hand no_collect)
+  pub not_theirs : (call : Call) → (call ≡ Call.Join → ⊥) → (call ≡ Call.Shut → ⊥) → ((key : NodeKey) (to : ℕ) → call ≡ Call.Give key to →
+      ⊥) →
+      ((buffer : BufferName) (strength : Strength) (to : ℕ) → call ≡ Call.GiveHandle buffer strength to → ⊥) → (call ≡ Call.Collect → ⊥) →
+      rows ≡ clients_by (Called client reply call) rows
+  not_theirs call no_join no_shut no_give no_hand no_collect =
+      unchanged client reply call rows (by call no_join no_shut no_give no_hand no_collect)
     where
       by : (call : Call) → (call ≡ Call.Join → ⊥) → (call ≡ Call.Shut → ⊥) → ((key : NodeKey) (to : ℕ) → call ≡ Call.Give key to → ⊥) →
-          ((buffer : BufferName) (strength : Strength) (to : ℕ) → call ≡ Call.GiveHandle buffer strength to → ⊥) → (call ≡ Call.Collect → ⊥) → changes_clients call reply ≡ false
+          ((buffer : BufferName) (strength : Strength) (to : ℕ) → call ≡ Call.GiveHandle buffer strength to → ⊥) →
+          (call ≡ Call.Collect → ⊥) → changes_clients call reply ≡ false
       by Call.Join no_join no_shut no_give no_hand no_collect = absurd (no_join refl)
       by Call.Shut no_join no_shut no_give no_hand no_collect = absurd (no_shut refl)
       by (Call.Give key to) no_join no_shut no_give no_hand no_collect = absurd (no_give key to refl)
@@ -94,6 +102,7 @@ module _ (client : ℕ) (reply : Reply) (rows : List Client) where
       by _ no_join no_shut no_give no_hand no_collect = refl
 
 -- a Join that made a client
-pub by_join : (client made : ℕ) (rows : List Client) → clients_by (Called client (Reply.Joined made) Call.Join) rows ≡ rows ++ new_client made ∷ []
+pub by_join : (client made : ℕ) (rows : List Client) → clients_by (Called client (Reply.Joined made) Call.Join) rows ≡ rows ++ new_client
+    made ∷ []
 by_join client made [] = refl
 by_join client made (c ∷ rows) = λ i. record c { waiting = append-nil c.waiting i } ∷ by_join client made rows i

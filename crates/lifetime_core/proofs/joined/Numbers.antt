@@ -14,7 +14,8 @@ use Rattle.lifetime_core.proofs.answers.Passed.{passed}
 use Rattle.lifetime_core.proofs.answers.Kinds.{reply-fits}
 
 -- a call that took effect is answered so, or as a Close is
-answered : (limits : Bound) (r : Readings) (client : ℕ) (new : NodeKey) (call : Call) (reply : Reply) → took_effect reply ≡ true → reply ≡ answer limits r client new call →
+answered : (limits : Bound) (r : Readings) (client : ℕ) (new : NodeKey) (call : Call) (reply : Reply) → took_effect reply ≡ true →
+    reply ≡ answer limits r client new call →
     (reply ≡ effect r client new call) ⊎ (reply ≡ Reply.Done)
 answered limits r client new (Call.Close key) reply effective told =
     inr ((passed limits r client new (Call.Close key) reply key told (stands reply effective) refl).closed Reply.Done refl)
@@ -25,9 +26,12 @@ answered limits r client new (Call.Close key) reply effective told =
 answered limits r client new call reply effective told = inl (took_effect_all limits r client new call reply effective refl told).answered
 
 -- a client that is told of is numbered by the event
-pub joined_number : (limits : Bound) (r : Readings) (client : ℕ) (new : NodeKey) (call : Call) (made : ℕ) → Reply.Joined made ≡ answer limits r client new call → made ≡ r.events + 1
-joined_number limits r client new Call.Join made told = number (took_effect_all limits r client new Call.Join (Reply.Joined made) refl refl told).answered
+pub joined_number : (limits : Bound) (r : Readings) (client : ℕ) (new : NodeKey) (call : Call) (made : ℕ) →
+    Reply.Joined made ≡ answer limits r client new call → made ≡ r.events + 1
+joined_number limits r client new Call.Join made told =
+    number (took_effect_all limits r client new Call.Join (Reply.Joined made) refl refl told).answered
   where
     number : Reply.Joined made ≡ Reply.Joined (r.events + 1) → made ≡ r.events + 1
     number is = cc
-joined_number limits r client new call made told = both_ways (is_join call) (reply-fits limits r client new call (Reply.Joined made) told) refl
+joined_number limits r client new call made told =
+    both_ways (is_join call) (reply-fits limits r client new call (Reply.Joined made) told) refl

@@ -27,21 +27,24 @@ abbrev pub AreRising : List Client → Type 0
 AreRising rows = Rise (map (λ (c : Client). c.id) rows)
 
 -- each of the rows has an id above this one
-above_at : (n : ℕ) (rows : List Client) (i : ℕ) (d : Client) → AllByRecursion (λ m. n < m) (map (λ (c : Client). c.id) rows) → i < length rows →
+above_at : (n : ℕ) (rows : List Client) (i : ℕ) (d : Client) → AllByRecursion (λ m. n < m) (map (λ (c : Client). c.id) rows) →
+    i < length rows →
     n < (get_or rows i d).id
 above_at n [] i d all less = absurd (omega arith)
 above_at n (c ∷ rows) zero d all less = all.0
 above_at n (c ∷ rows) (suc i) d all less = above_at n rows i d all.1 (omega arith)
 
 -- an earlier row has a lower id than a later one
-rises : (rows : List Client) → AreRising rows → (i j : ℕ) (d : Client) → i < j → j < length rows → (get_or rows i d).id < (get_or rows j d).id
+rises : (rows : List Client) → AreRising rows → (i j : ℕ) (d : Client) → i < j → j < length rows →
+    (get_or rows i d).id < (get_or rows j d).id
 rises [] rise i j d order less = absurd (omega arith)
 rises (c ∷ rows) rise i zero d order less = absurd (omega arith)
 rises (c ∷ rows) rise zero (suc j) d order less = above_at c.id rows j d rise.0 (omega arith)
 rises (c ∷ rows) rise (suc i) (suc j) d order less = rises rows rise.1 i j d (omega arith) (omega arith)
 
 -- an earlier row has no greater id than a later one
-rises_or_stays : (rows : List Client) → AreRising rows → (i j : ℕ) (d : Client) → i ≤ j → j < length rows → (get_or rows i d).id ≤ (get_or rows j d).id
+rises_or_stays : (rows : List Client) → AreRising rows → (i j : ℕ) (d : Client) → i ≤ j → j < length rows →
+    (get_or rows i d).id ≤ (get_or rows j d).id
 rises_or_stays rows rise i j d order less = elim (cases_lt i j) [
   | inl before ↦ let up = rises rows rise i j d before less in omega arith
   | inr behind ↦ let same : i ≡ j = omega arith in rw same (omega arith)
@@ -66,7 +69,8 @@ module _ (client : ℕ) where
       grind (arith, nat_tests)
 
   -- a place that passes is the first one
-  first_place : (rows : List Client) (at : ℕ) (d : Client) → AreRising rows → at < length rows → (get_or rows at d).id ≡ client → position_or_len is_its rows ≡ at
+  first_place : (rows : List Client) (at : ℕ) (d : Client) → AreRising rows → at < length rows → (get_or rows at d).id ≡ client →
+      position_or_len is_its rows ≡ at
   first_place rows at d rise less here = position_or_len_is is_its rows at d (omega arith)
       (λ k before. false_if (is_its (get_or rows k d)) (λ yes.
       let is : (get_or rows k d).id ≡ client = eqb-true (get_or rows k d).id client yes in
@@ -75,7 +79,8 @@ module _ (client : ℕ) where
       (λ _. eq-eqb (get_or rows at d).id client here)
 
   -- no row of the client stands where a search for it ends elsewhere
-  not_apart : (rows : List Client) (k at : ℕ) (d : Client) → k < length rows → (get_or rows k d).id ≡ client → IsPartitionPoint (λ (c : Client). nat_cmp c.id client ≡ Less) (λ c. nat_cmp c.id client ≡ Greater) rows at → ⊥
+  not_apart : (rows : List Client) (k at : ℕ) (d : Client) → k < length rows → (get_or rows k d).id ≡ client →
+      IsPartitionPoint (λ (c : Client). nat_cmp c.id client ≡ Less) (λ c. nat_cmp c.id client ≡ Greater) rows at → ⊥
   not_apart rows k at d less here sides =
       let before : k < at → (get_or rows k d).id < client = λ lt. ranked _ client _ (sym (sides.0 k d (omega arith) lt)) in
       let behind : at ≤ k → client < (get_or rows k d).id = λ le. ranked _ client _ (sym (sides.1 k d le less)) in
@@ -88,20 +93,23 @@ module _ (client : ℕ) where
   pub search_places : (rows : List Client) (r : Result ℕ ℕ) → AreRising rows → IsSearchInRange r (length rows) →
       IsBinarySearchResult (λ (c : Client). nat_cmp c.id client) rows r → result_ok r ≡ position is_its rows
   search_places rows (Ok at) rise within found =
-      let first : position_or_len is_its rows ≡ at = first_place rows at (new_client 0) rise within (ranked _ client _ (sym (found (new_client 0)))) in
+      let first : position_or_len is_its rows ≡ at =
+      first_place rows at (new_client 0) rise within (ranked _ client _ (sym (found (new_client 0)))) in
       sym (rw first (grind (arith, common_steps)))
   search_places rows (Err at) rise within found =
       let sides = found (comparisons_rise rows rise) in
       let past : length rows ≤ position_or_len is_its rows = elim (cases_lt (position_or_len is_its rows) (length rows)) [
         | inl before ↦
-            let here : (get_or rows (position_or_len is_its rows) (new_client 0)).id ≡ client = eqb-true _ client (passes_at_first is_its rows (new_client 0) before) in
+            let here : (get_or rows (position_or_len is_its rows) (new_client 0)).id ≡ client =
+            eqb-true _ client (passes_at_first is_its rows (new_client 0) before) in
             absurd (not_apart rows (position_or_len is_its rows) at (new_client 0) before here sides)
         | inr behind ↦ behind
       ] in
       grind (arith, common_steps)
 
   -- what is found at the place of the client
-  pub finds : (rows : List Client) (at : ℕ) (row : Client) → position is_its rows ≡ Some at → row ≡ get_or rows at row → find is_its rows ≡ Some row
+  pub finds : (rows : List Client) (at : ℕ) (row : Client) → position is_its rows ≡ Some at → row ≡ get_or rows at row →
+      find is_its rows ≡ Some row
   finds rows at row is here =
       let first : position_or_len is_its rows ≡ at = grind (arith, common_steps) in
       find_at is_its rows ∙ rw first (slice_get_read rows (length rows) at row refl (position-Some is_its rows at row is).0 here)
@@ -115,9 +123,11 @@ module _ (client : ℕ) where
   -- whether the client has a place
   pub place_tells : (rows : List Client) → is_some (position is_its rows) ≡ list_any is_its rows
   place_tells rows =
-      let found : is_some (position is_its rows) ≡ is_some (find is_its rows) = elim (position is_its rows) as (λ place. position is_its rows ≡ place → is_some place ≡ is_some (find is_its rows)) [
+      let found : is_some (position is_its rows) ≡ is_some (find is_its rows) =
+      elim (position is_its rows) as (λ place. position is_its rows ≡ place → is_some place ≡ is_some (find is_its rows)) [
         | None ↦ λ is. sym (ap is_some (finds_none rows is))
-        | Some at ↦ λ is. sym (ap is_some (finds rows at (get_or rows at (new_client 0)) is (get_or_default rows at (new_client 0) (get_or rows at (new_client 0)) (position-Some is_its rows at (new_client 0) is).0)))
+        | Some at ↦ λ is. sym (ap is_some (finds rows at (get_or rows at (new_client 0)) is (get_or_default rows at (new_client 0)
+            (get_or rows at (new_client 0)) (position-Some is_its rows at (new_client 0) is).0)))
       ] refl in
       found ∙ tells rows
     where
@@ -137,7 +147,8 @@ module _ (client : ℕ) where
   ]
 
   -- above the id of the client none is changed
-  above_changed : (change : Client → Client) (n : ℕ) (rows : List Client) → client ≤ n → AllByRecursion (λ m. n < m) (map (λ (c : Client). c.id) rows) →
+  above_changed : (change : Client → Client) (n : ℕ) (rows : List Client) → client ≤ n →
+      AllByRecursion (λ m. n < m) (map (λ (c : Client). c.id) rows) →
       with_client client change rows ≡ rows
   above_changed change n [] order all = refl
   above_changed change n (c ∷ rows) order all =
@@ -145,13 +156,15 @@ module _ (client : ℕ) where
       rw other (ap (λ rest. c ∷ rest) (above_changed change n rows order all.1))
 
   -- the row of the client is changed where it stands
-  pub one_changed : (change : Client → Client) (rows : List Client) (at : ℕ) (row : Client) → AreRising rows → position is_its rows ≡ Some at → row ≡ get_or rows at row →
+  pub one_changed : (change : Client → Client) (rows : List Client) (at : ℕ) (row : Client) → AreRising rows →
+      position is_its rows ≡ Some at → row ≡ get_or rows at row →
       set rows at (change row) ≡ with_client client change rows
   one_changed change rows at row rise is here =
       let some = position-Some is_its rows at row is in
       changed rows at rise some.0 here (rw (← here) at some.1)
     where
-      changed : (rows : List Client) (at : ℕ) → AreRising rows → at < length rows → row ≡ get_or rows at row → is_its row ≡ true → set rows at (change row) ≡ with_client client change rows
+      changed : (rows : List Client) (at : ℕ) → AreRising rows → at < length rows → row ≡ get_or rows at row → is_its row ≡ true →
+          set rows at (change row) ≡ with_client client change rows
       changed [] at rise less here its = absurd (omega arith)
       changed (c ∷ rows) zero rise less here its =
           let is : c.id ≡ client = ap (λ (r : Client). r.id) (sym here) ∙ eqb-true row.id client its in

@@ -24,14 +24,17 @@ module _ {A : Type 0} (number : A → ℕ) where
 
   -- of two numbers that differ the one that is not greater is less
   close : (m n : ℕ) → m ≤ n → (m ≡ n → ⊥) → m < n
-  close m n le differ = elim (either_way (nat_lt m n)) [ inl e ↦ ltb-true m n e | inr e ↦ let ge : n ≤ m = ltb-false m n e in absurd (differ (omega arith)) ]
+  close m n le differ =
+      elim (either_way (nat_lt m n)) [ inl e ↦ ltb-true m n e | inr e ↦ let ge : n ≤ m = ltb-false m n e in absurd (differ (omega arith)) ]
 
   -- two elements are put in place in either order
-  insert_swap : (x y : A) (xs : List A) → (number x ≡ number y → ⊥) → insert_by number x (insert_by number y xs) ≡ insert_by number y (insert_by number x xs)
+  insert_swap : (x y : A) (xs : List A) → (number x ≡ number y → ⊥) →
+      insert_by number x (insert_by number y xs) ≡ insert_by number y (insert_by number x xs)
   insert_swap x y [] differ =
       elim (either_way (nat_lt (number y) (number x))) [
         | inl e ↦
-            let other : nat_lt (number x) (number y) ≡ false = not_less (number x) (number y) (λ l. let k = ltb-true (number y) (number x) e in omega arith) in
+            let other : nat_lt (number x) (number y) ≡ false =
+            not_less (number x) (number y) (λ l. let k = ltb-true (number y) (number x) e in omega arith) in
             rw (e, other) refl
         | inr e ↦
             let far : number x ≤ number y = ltb-false (number y) (number x) e in
@@ -106,7 +109,8 @@ module _ {A : Type 0} (number : A → ℕ) where
   -- an element with the greatest number comes last
   insert_last : (x : A) (xs : List A) → ((y : A) → In y xs → number y < number x) → insert_by number x xs ≡ xs ++ x ∷ []
   insert_last x [] great = refl
-  insert_last x (y ∷ ys) great = rw (lt-ltb (number y) (number x) (great y (inl refl))) (ap (λ (l : List A). y ∷ l) (insert_last x ys (λ z on. great z (inr on))))
+  insert_last x (y ∷ ys) great =
+      rw (lt-ltb (number y) (number x) (great y (inl refl))) (ap (λ (l : List A). y ∷ l) (insert_last x ys (λ z on. great z (inr on))))
 
   -- such elements are sorted by turning them round
   pub sorted_falling : (xs : List A) → AreFalling xs → sorted_by number xs ≡ reverse xs
@@ -120,14 +124,16 @@ module _ {A : Type 0} (number : A → ℕ) where
   -- an element is put in somewhere
   insert-adds : (x : A) (xs : List A) → Adds x xs (insert_by number x xs)
   insert-adds x [] = First []
-  insert-adds x (y ∷ ys) = elim (nat_lt (number y) (number x)) as (λ (b : Bool). Adds x (y ∷ ys) (cond b (y ∷ insert_by number x ys) (x ∷ y ∷ ys))) [
-    | true ↦ Later y ys (insert_by number x ys) (insert-adds x ys)
-    | false ↦ First (y ∷ ys)
-  ]
+  insert-adds x (y ∷ ys) =
+      elim (nat_lt (number y) (number x)) as (λ (b : Bool). Adds x (y ∷ ys) (cond b (y ∷ insert_by number x ys) (x ∷ y ∷ ys))) [
+        | true ↦ Later y ys (insert_by number x ys) (insert-adds x ys)
+        | false ↦ First (y ∷ ys)
+      ]
 
   -- so a sort keeps the elements
   pub mixed_sorted : (xs : List A) → Mixed xs (sorted_by number xs)
   mixed_sorted [] = Nothing
-  mixed_sorted (x ∷ xs) = Puts x xs (sorted_by number xs) (insert_by number x (sorted_by number xs)) (mixed_sorted xs) (insert-adds x (sorted_by number xs))
+  mixed_sorted (x ∷ xs) =
+      Puts x xs (sorted_by number xs) (insert_by number x (sorted_by number xs)) (mixed_sorted xs) (insert-adds x (sorted_by number xs))
 
 -- ---- elements that are made of others

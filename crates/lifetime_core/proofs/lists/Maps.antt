@@ -26,10 +26,11 @@ pub filter-filter : {A : Type 0} (p q : A → Bool) (xs : List A) → filter p (
 filter-filter p q [] = refl
 filter-filter {A = A} p q (x ∷ xs) =
     elim (either_way (q x)) [
-      | inl e ↦ rw e (elim (p x) as (λ (b : Bool). cond b (x ∷ filter p (filter q xs)) (filter p (filter q xs)) ≡ cond b (x ∷ filter (λ x. q x && p x) xs) (filter (λ x. q x && p x) xs)) [
-        | true ↦ ap (λ (ys : List A). x ∷ ys) (filter-filter p q xs)
-        | false ↦ filter-filter p q xs
-      ])
+      | inl e ↦ rw e (elim (p x) as (λ (b : Bool). cond b (x ∷ filter p (filter q xs)) (filter p (filter q xs)) ≡ cond b (x ∷ filter (λ x.
+          q x && p x) xs) (filter (λ x. q x && p x) xs)) [
+            | true ↦ ap (λ (ys : List A). x ∷ ys) (filter-filter p q xs)
+            | false ↦ filter-filter p q xs
+          ])
       | inr e ↦ rw e (filter-filter p q xs)
     ]
 
@@ -56,7 +57,8 @@ filter-all {A = A} test (x ∷ xs) all =
 -- ---- maps and finds
 
 -- two maps in turn, where each element of the list comes out alike
-pub map-map_In : {A B C : Type 0} (f : A → B) (g : A → C) (h : B → C) (xs : List A) → ((x : A) → In x xs → g x ≡ h (f x)) → map g xs ≡ map h (map f xs)
+pub map-map_In : {A B C : Type 0} (f : A → B) (g : A → C) (h : B → C) (xs : List A) → ((x : A) → In x xs → g x ≡ h (f x)) →
+    map g xs ≡ map h (map f xs)
 map-map_In f g h [] same = refl
 map-map_In f g h (x ∷ xs) same = λ i. same x (inl refl) i ∷ map-map_In f g h xs (λ y on. same y (inr on)) i
 
@@ -67,11 +69,13 @@ pub map-reverse : {A B : Type 0} (f : A → B) (xs : List A) → map f (reverse 
 map-reverse f xs = map-reverse_aux f xs []
 
 -- what is kept of a list that is turned round onto another
-filter-reverse_aux : {A : Type 0} (test : A → Bool) (xs ys : List A) → filter test (reverse_aux xs ys) ≡ reverse_aux (filter test xs) (filter test ys)
+filter-reverse_aux : {A : Type 0} (test : A → Bool) (xs ys : List A) →
+    filter test (reverse_aux xs ys) ≡ reverse_aux (filter test xs) (filter test ys)
 filter-reverse_aux test [] ys = refl
 filter-reverse_aux {A = A} test (x ∷ xs) ys =
     filter-reverse_aux test xs (x ∷ ys)
-    ∙ elim (test x) as (λ (b : Bool). reverse_aux (filter test xs) (cond b (x ∷ filter test ys) (filter test ys)) ≡ reverse_aux (cond b (x ∷ filter test xs) (filter test xs)) (filter test ys)) [ true ↦ refl | false ↦ refl ]
+    ∙ elim (test x) as (λ (b : Bool). reverse_aux (filter test xs) (cond b (x ∷ filter test ys) (filter test ys)) ≡ reverse_aux
+    (cond b (x ∷ filter test xs) (filter test xs)) (filter test ys)) [ true ↦ refl | false ↦ refl ]
 
 -- what is kept may be turned round before or after
 pub filter-reverse : {A : Type 0} (test : A → Bool) (xs : List A) → filter test (reverse xs) ≡ reverse (filter test xs)
@@ -95,7 +99,8 @@ list_any-map p f [] = refl
 list_any-map p f (x ∷ xs) = ap (λ (b : Bool). p (f x) || b) (list_any-map p f xs)
 
 -- a map of parts is put together of maps
-pub map-flat_map : {A B : Type 0} (f : A → B) (part : ℕ → List A) (ks : List ℕ) → map f (flat_map part ks) ≡ flat_map (λ k. map f (part k)) ks
+pub map-flat_map : {A B : Type 0} (f : A → B) (part : ℕ → List A) (ks : List ℕ) →
+    map f (flat_map part ks) ≡ flat_map (λ k. map f (part k)) ks
 map-flat_map f part [] = refl
 map-flat_map f part (k ∷ ks) = map-append f (part k) (flat_map part ks) ∙ ap (λ (l : List _). map f (part k) ++ l) (map-flat_map f part ks)
 
@@ -104,7 +109,8 @@ pub flat_map-same : {B : Type 0} (f g : ℕ → List B) (ks : List ℕ) → ((k 
 flat_map-same f g ks same = λ i. flat_map (λ k. same k i) ks
 
 -- where only one element passes, it is found
-pub find_only : {A : Type 0} (p : A → Bool) (xs : List A) (x : A) → In x xs → p x ≡ true → ((y : A) → In y xs → p y ≡ true → y ≡ x) → find p xs ≡ Some x
+pub find_only : {A : Type 0} (p : A → Bool) (xs : List A) (x : A) → In x xs → p x ≡ true → ((y : A) → In y xs → p y ≡ true → y ≡ x) →
+    find p xs ≡ Some x
 find_only p [] x on is only = absurd on
 find_only p (y ∷ ys) x on is only =
     elim (either_way (p y)) [

@@ -45,17 +45,20 @@ module _ {A : Type 0} (part_of : A → ℕ) (pick : ℕ → List A → List A) (
             let some : times (λ k. k == part_of x) ks + 1 ≡ 1 = rw e at once in
             let none : times (λ k. k == part_of x) ks ≡ 0 = omega arith in
             let is : k ≡ part_of x = eqb-true k (part_of x) e in
-            rw (gathered_absent x xs ks none, is) (adds_before x (pick (part_of x) xs) (pick (part_of x) (x ∷ xs)) (gathered xs ks) (ours x xs))
+            rw (gathered_absent x xs ks none, is) (adds_before x (pick (part_of x) xs) (pick (part_of x) (x ∷ xs)) (gathered xs ks)
+            (ours x xs))
         | inr e ↦
             let other : (part_of x == k) ≡ false = turned (part_of x) k e in
-            rw (theirs k x xs other) (adds_behind x (gathered xs ks) (gathered (x ∷ xs) ks) (pick k xs) (gathered_once x xs ks (rw e at once)))
+            rw (theirs k x xs other) (adds_behind x (gathered xs ks) (gathered (x ∷ xs) ks) (pick k xs)
+            (gathered_once x xs ks (rw e at once)))
       ]
 
   -- so where the part of each element is asked for once, all are gathered
   pub mixed_gathered : (xs : List A) (ks : List ℕ) → ((x : A) → In x xs → times (λ k. k == part_of x) ks ≡ 1) → Mixed xs (gathered xs ks)
   mixed_gathered [] ks once = rw (gathered_nothing ks) Nothing
   mixed_gathered (x ∷ xs) ks once =
-      Puts x xs (gathered xs ks) (gathered (x ∷ xs) ks) (mixed_gathered xs ks (λ y on. once y (inr on))) (gathered_once x xs ks (once x (inl refl)))
+      Puts x xs (gathered xs ks) (gathered (x ∷ xs) ks) (mixed_gathered xs ks (λ y on. once y (inr on)))
+      (gathered_once x xs ks (once x (inl refl)))
 
 -- ---- the two ways to pick
 
@@ -65,23 +68,28 @@ module _ {A : Type 0} (part_of : A → ℕ) where
   in_part k xs = filter (λ x. part_of x == k) xs
 
   -- a list is mixed into its parts
-  pub mixed_parts : (xs : List A) (ks : List ℕ) → ((x : A) → In x xs → times (λ k. k == part_of x) ks ≡ 1) → Mixed xs (flat_map (λ k. filter (λ x. part_of x == k) xs) ks)
+  pub mixed_parts : (xs : List A) (ks : List ℕ) → ((x : A) → In x xs → times (λ k. k == part_of x) ks ≡ 1) →
+      Mixed xs (flat_map (λ k. filter (λ x. part_of x == k) xs) ks)
   mixed_parts = mixed_gathered part_of in_part (λ k. refl) here other
     where
       here : (x : A) (xs : List A) → Adds x (filter (λ y. part_of y == part_of x) xs) (filter (λ y. part_of y == part_of x) (x ∷ xs))
       here x xs = rw (eq-eqb (part_of x) (part_of x) refl) (First (filter (λ y. part_of y == part_of x) xs))
 
-      other : (k : ℕ) (x : A) (xs : List A) → (part_of x == k) ≡ false → filter (λ y. part_of y == k) (x ∷ xs) ≡ filter (λ y. part_of y == k) xs
+      other : (k : ℕ) (x : A) (xs : List A) → (part_of x == k) ≡ false → filter (λ y. part_of y == k) (x ∷ xs) ≡ filter (λ y.
+          part_of y == k) xs
       other k x xs e = rw e refl
 
   -- and into its parts, each turned round
-  pub mixed_turned : (xs : List A) (ks : List ℕ) → ((x : A) → In x xs → times (λ k. k == part_of x) ks ≡ 1) → Mixed xs (flat_map (λ k. reverse (filter (λ x. part_of x == k) xs)) ks)
+  pub mixed_turned : (xs : List A) (ks : List ℕ) → ((x : A) → In x xs → times (λ k. k == part_of x) ks ≡ 1) →
+      Mixed xs (flat_map (λ k. reverse (filter (λ x. part_of x == k) xs)) ks)
   mixed_turned = mixed_gathered part_of (λ k xs. reverse (in_part k xs)) (λ k. refl) here other
     where
-      here : (x : A) (xs : List A) → Adds x (reverse (filter (λ y. part_of y == part_of x) xs)) (reverse (filter (λ y. part_of y == part_of x) (x ∷ xs)))
+      here : (x : A) (xs : List A) → Adds x (reverse (filter (λ y. part_of y == part_of x) xs))
+          (reverse (filter (λ y. part_of y == part_of x) (x ∷ xs)))
       here x xs =
           let part : List A = filter (λ y. part_of y == part_of x) xs in
           rw (eq-eqb (part_of x) (part_of x) refl, reverse-append (x ∷ []) part) (adds_last x (reverse part))
 
-      other : (k : ℕ) (x : A) (xs : List A) → (part_of x == k) ≡ false → reverse (filter (λ y. part_of y == k) (x ∷ xs)) ≡ reverse (filter (λ y. part_of y == k) xs)
+      other : (k : ℕ) (x : A) (xs : List A) → (part_of x == k) ≡ false →
+          reverse (filter (λ y. part_of y == k) (x ∷ xs)) ≡ reverse (filter (λ y. part_of y == k) xs)
       other k x xs e = rw e refl

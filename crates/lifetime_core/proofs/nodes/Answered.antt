@@ -33,7 +33,8 @@ no_birth here there _ h = refl
 -- ---- a node that the call does not name
 
 -- what the call sets is not set there, whatever the answer
-pub said_other : (reply : Reply) (call : Call) (n : Node) → ((key : NodeKey) → key_of call ≡ Some key → same_key key n.key ≡ false) → said call reply n ≡ n
+pub said_other : (reply : Reply) (call : Call) (n : Node) → ((key : NodeKey) → key_of call ≡ Some key → same_key key n.key ≡ false) →
+    said call reply n ≡ n
 said_other Reply.Done (Call.Bind key) n other = alone_affected key Effect.Bound n (other key refl)
 said_other Reply.Done (Call.SetDispensable key) n other = alone_affected key Effect.Dispensable n (other key refl)
 said_other Reply.Done (Call.SetWeak key) n other = alone_affected key Effect.Weak n (other key refl)
@@ -48,12 +49,14 @@ said_other (Reply.Tracker id) call n other = refl
 said_other reply call n other = refl
 
 -- nor is its end moved, where none is or that of another
-pub placed_other : (o : Option Place) (n : Node) → ((p : Place) → o ≡ Some p → same_key p.key n.key ≡ false) → placed_node (place_of o) n ≡ n
+pub placed_other : (o : Option Place) (n : Node) → ((p : Place) → o ≡ Some p → same_key p.key n.key ≡ false) →
+    placed_node (place_of o) n ≡ n
 placed_other None n other = refl
 placed_other (Some p) n other = let e : same_key p.key n.key ≡ false = other p refl in rw e refl
 
 -- so the node stays as it was
-pub answered_other : (client : ℕ) (call : Call) (reply : Reply) (n : Node) → ((key : NodeKey) → key_of call ≡ Some key → same_key key n.key ≡ false) →
+pub answered_other : (client : ℕ) (call : Call) (reply : Reply) (n : Node) → ((key : NodeKey) → key_of call ≡ Some key →
+    same_key key n.key ≡ false) →
     ((p : Place) → end_by client call reply ≡ Some p → same_key p.key n.key ≡ false) → answered client call reply n ≡ n
 answered_other client call reply n other apart =
     ap (placed_node (place_of (end_by client call reply))) (said_other reply call n other) ∙ placed_other (end_by client call reply) n apart
@@ -76,11 +79,15 @@ answered_key client call reply n = said_key_by reply call n
 
 -- ---- the nodes of collections
 
-module _ (pool : ℕ) (limits : Bound) (marks : Timeline) (grown : Grows pool limits [] marks) (client : ℕ) (reply : Reply) (call : Call) (answer : IsAnswer limits (readings marks) client call reply)
+module _ (pool : ℕ) (limits : Bound) (marks : Timeline) (grown : Grows pool limits [] marks) (client : ℕ) (reply : Reply) (call : Call)
+    (answer : IsAnswer limits (readings marks) client call reply)
     (none : birth_at 0 (Called client reply call) ≡ None) where
   -- each node is as the event makes it
-  pub nodes-answered : (collection : ℕ) → nodes_after (Called client reply call ∷ marks) collection ≡ map (answered client call reply) (nodes_after marks collection)
+  pub nodes-answered : (collection : ℕ) → nodes_after (Called client reply call ∷ marks) collection ≡ map (answered client call reply)
+      (nodes_after marks collection)
   nodes-answered collection =
-      ap (map (node_after (Called client reply call ∷ marks))) (births-none marks (Called client reply call) collection (no_birth 0 (events marks + 1) (Called client reply call) none))
-      ∙ map-map_In (node_after marks) (node_after (Called client reply call ∷ marks)) (answered client call reply) (births_in marks collection)
+      ap (map (node_after (Called client reply call ∷ marks))) (births-none marks (Called client reply call) collection
+      (no_birth 0 (events marks + 1) (Called client reply call) none))
+      ∙ map-map_In (node_after marks) (node_after (Called client reply call ∷ marks)) (answered client call reply)
+      (births_in marks collection)
       (λ b on. node_called pool limits marks grown client reply call answer none b)

@@ -68,19 +68,23 @@ module _ (marks : Timeline) (client : ℕ) (b : Birth) where
 
   -- what the call says of the node is all that changes, wherever its end is then
   pub rest_called : (place : NodeKey → End → End) (reply : Reply) (call : Call) → birth_at 0 (Called client reply call) ≡ None →
-      record (node_after (Called client reply call ∷ marks) b) { end = place b.node (end_after marks b.node) } ≡ placed_node place (said call reply (node_after marks b))
+      record (node_after (Called client reply call ∷ marks) b) { end = place b.node (end_after marks b.node) } ≡ placed_node place
+      (said call reply (node_after marks b))
   rest_called place Reply.Done (Call.SetWeak key) none =
       λ i. record (placed_node place (said (Call.SetWeak key) Reply.Done (node_after marks b))) {
-        weak_ok = or_assoc (same_key key b.node) (list_any (sets_weak b.node) marks) (list_any (sets_weak_ok b.node) marks || covered marks b.node) i;
+        weak_ok = or_assoc (same_key key b.node) (list_any (sets_weak b.node) marks) (list_any (sets_weak_ok b.node) marks || covered marks
+            b.node) i;
       }
   rest_called place Reply.Done (Call.SetWeakOk key true) none =
       λ i. record (placed_node place (said (Call.SetWeakOk key true) Reply.Done (node_after marks b))) {
-        weak_ok = or_middle (same_key key b.node) (list_any (sets_weak b.node) marks) (list_any (sets_weak_ok b.node) marks) (covered marks b.node) i;
+        weak_ok = or_middle (same_key key b.node) (list_any (sets_weak b.node) marks) (list_any (sets_weak_ok b.node) marks)
+            (covered marks b.node) i;
         covers = or_assoc (same_key key b.node) (list_any (covers_children b.node) marks) (covered marks b.node) i;
       }
   rest_called place Reply.Done (Call.SetWeakOk key false) none =
       λ i. record (placed_node place (said (Call.SetWeakOk key false) Reply.Done (node_after marks b))) {
-        weak_ok = or_middle (same_key key b.node) (list_any (sets_weak b.node) marks) (list_any (sets_weak_ok b.node) marks) (covered marks b.node) i;
+        weak_ok = or_middle (same_key key b.node) (list_any (sets_weak b.node) marks) (list_any (sets_weak_ok b.node) marks)
+            (covered marks b.node) i;
       }
   rest_called place Reply.Done (Call.SetConstraints key demand) none = ap (placed_node place) (constrained key demand (same_key key b.node))
   rest_called place Reply.Done call none = refl
@@ -101,7 +105,8 @@ abbrev end_so : Bool → Bool → ℕ → End
 end_so over under_way client = cond over End.Spent (cond under_way (End.InTransit client) (End.Held client))
 
 -- an end that is spent now, or was before
-spent_end : (now over under_way : Bool) (holder : ℕ) → end_so (now || over) (under_way && true) holder ≡ cond now End.Spent (end_so over under_way holder)
+spent_end : (now over under_way : Bool) (holder : ℕ) →
+    end_so (now || over) (under_way && true) holder ≡ cond now End.Spent (end_so over under_way holder)
 spent_end true over under_way holder = refl
 spent_end false over under_way holder = ap (λ (t : Bool). end_so over t holder) (and-true under_way)
 
@@ -113,10 +118,12 @@ given_end false over under_way giver holder was = ap (λ (t : Bool). end_so over
 
 -- one that its collector gets now
 collected_end : (now over under_way : Bool) (caller first : ℕ) (last : Option ℕ) → (now ≡ true → over ≡ false) →
-    end_so over (under_way && not (is_some (cond now (Some caller) None))) (option_map_or (λ c. c) (option_map_or Some (cond now (Some caller) None) last) first)
+    end_so over (under_way && not (is_some (cond now (Some caller) None))) (option_map_or (λ c.
+    c) (option_map_or Some (cond now (Some caller) None) last) first)
     ≡ cond now (End.Held caller) (end_so over under_way (option_map_or (λ c. c) last first))
 collected_end true over under_way caller first last was = λ i. end_so (was refl i) (and-false under_way i) caller
-collected_end false over under_way caller first last was = ap (λ (t : Bool). end_so over t (option_map_or (λ c. c) last first)) (and-true under_way)
+collected_end false over under_way caller first last was =
+    ap (λ (t : Bool). end_so over t (option_map_or (λ c. c) last first)) (and-true under_way)
 
 -- only these replies tell of an end that is put elsewhere
 abbrev moves_ends : Reply → Bool
@@ -141,11 +148,13 @@ module _ (pool : ℕ) (limits : Bound) (marks : Timeline) (grown : Grows pool li
 
   -- whether it is in a parcel now
   goes : (reply : Reply) (call : Call) → IsAnswer limits (readings marks) client call reply →
-      in_transit (Called client reply call ∷ marks) node ≡ (sends node (Called client reply call) || (in_transit marks node && not (delivers node (Called client reply call))))
+      in_transit (Called client reply call ∷ marks) node ≡ (sends node (Called client reply call) || (in_transit marks node && not
+      (delivers node (Called client reply call))))
   goes reply call answer = transit_mark limits marks client reply call answer (counted pool limits marks grown).drawn node was_at
 
   -- the end is where the event puts it
-  end_called : (reply : Reply) (call : Call) → IsAnswer limits (readings marks) client call reply → birth_at 0 (Called client reply call) ≡ None →
+  end_called : (reply : Reply) (call : Call) → IsAnswer limits (readings marks) client call reply →
+      birth_at 0 (Called client reply call) ≡ None →
       end_after (Called client reply call ∷ marks) node ≡ place_of (end_by client call reply) node (end_after marks node)
   end_called Reply.Done (Call.Close key) answer none =
       ap (λ (t : Bool). end_so (same_key key node || spent marks node) t (holder marks node)) (goes Reply.Done (Call.Close key) answer)
@@ -154,23 +163,30 @@ module _ (pool : ℕ) (limits : Bound) (marks : Timeline) (grown : Grows pool li
       ap (λ (t : Bool). end_so (same_key key node || spent marks node) t (holder marks node)) (goes Reply.Done (Call.Release key) answer)
       ∙ spent_end (same_key key node) (spent marks node) (in_transit marks node) (holder marks node)
   end_called (Reply.PeerClosed cause origin) (Call.Release key) answer none =
-      ap (λ (t : Bool). end_so (same_key key node || spent marks node) t (holder marks node)) (goes (Reply.PeerClosed cause origin) (Call.Release key) answer)
+      ap (λ (t : Bool). end_so (same_key key node || spent marks node) t (holder marks node)) (goes (Reply.PeerClosed cause origin)
+      (Call.Release key) answer)
       ∙ spent_end (same_key key node) (spent marks node) (in_transit marks node) (holder marks node)
   end_called Reply.Done (Call.Give key to) answer none =
       ap (λ (t : Bool). end_so (spent marks node) t (holder marks node)) (goes Reply.Done (Call.Give key to) answer)
       ∙ given_end (same_key key node) (spent marks node) (in_transit marks node) client (holder marks node)
-      (λ e. let f : FreeEnd marks client node = sends_free limits marks client Reply.Done (Call.Give key to) node answer e in (f.unspent, f.held))
+      (λ e. let f : FreeEnd marks client node = sends_free limits marks client Reply.Done (Call.Give key to) node answer e in
+      (f.unspent, f.held))
   end_called (Reply.Collected key kind collection) Call.Collect answer none =
       let got : Timeline = Called client (Reply.Collected key kind collection) Call.Collect ∷ marks in
       ap (λ (t : Bool). end_so (spent marks node) t (holder got node)) (goes (Reply.Collected key kind collection) Call.Collect answer)
-      ∙ collected_end (same_key key node) (spent marks node) (in_transit marks node) client (option_map_or (λ (b : Birth). b.client) (birth_of marks node) 0) (collector marks node)
-      (λ e. was_at.unspent (delivers_waited limits marks client (Reply.Collected key kind collection) Call.Collect answer (counted pool limits marks grown).drawn node was_at
+      ∙ collected_end (same_key key node) (spent marks node) (in_transit marks node) client (option_map_or (λ (b : Birth).
+      b.client) (birth_of marks node) 0) (collector marks node)
+      (λ e. was_at.unspent (delivers_waited limits marks client (Reply.Collected key kind collection) Call.Collect answer
+      (counted pool limits marks grown).drawn node was_at
       (ap (λ (t : Bool). is_some (cond t (Some client) None)) e)).1)
-  end_called Reply.Done call answer none = ap (λ (t : Bool). end_so (spent marks node) t (holder marks node)) (goes Reply.Done call answer ∙ and-true (in_transit marks node))
+  end_called Reply.Done call answer none =
+      ap (λ (t : Bool). end_so (spent marks node) t (holder marks node)) (goes Reply.Done call answer ∙ and-true (in_transit marks node))
   end_called (Reply.PeerClosed cause origin) call answer none =
-      ap (λ (t : Bool). end_so (spent marks node) t (holder marks node)) (goes (Reply.PeerClosed cause origin) call answer ∙ and-true (in_transit marks node))
+      ap (λ (t : Bool). end_so (spent marks node) t (holder marks node)) (goes (Reply.PeerClosed cause origin) call answer
+      ∙ and-true (in_transit marks node))
   end_called (Reply.Collected key kind collection) call answer none =
-      ap (λ (t : Bool). end_so (spent marks node) t (holder marks node)) (goes (Reply.Collected key kind collection) call answer ∙ and-true (in_transit marks node))
+      ap (λ (t : Bool). end_so (spent marks node) t (holder marks node)) (goes (Reply.Collected key kind collection) call answer
+      ∙ and-true (in_transit marks node))
   end_called (Reply.Token key collection) Call.OpenRoot answer none = cc
   end_called (Reply.Token key collection) (Call.Duplicate above) answer none = cc
   end_called (Reply.Token key collection) (Call.AttachToken above) answer none = cc
@@ -178,9 +194,12 @@ module _ (pool : ℕ) (limits : Bound) (marks : Timeline) (grown : Grows pool li
       ap (λ (t : Bool). end_so (spent marks node) t (holder marks node)) (goes reply call answer ∙ and-true (in_transit marks node))
       ∙ ap (λ (o : Option Place). place_of o node (end_after marks node)) (sym (unplaced client call reply refl))
 
-module _ (pool : ℕ) (limits : Bound) (marks : Timeline) (grown : Grows pool limits [] marks) (client : ℕ) (reply : Reply) (call : Call) (answer : IsAnswer limits (readings marks) client call reply) where
+module _ (pool : ℕ) (limits : Bound) (marks : Timeline) (grown : Grows pool limits [] marks) (client : ℕ) (reply : Reply) (call : Call)
+    (answer : IsAnswer limits (readings marks) client call reply) where
   -- what an event makes of a node that was there: it bears none
-  pub node_called : birth_at 0 (Called client reply call) ≡ None → (b : Birth) → node_after (Called client reply call ∷ marks) b ≡ answered client call reply (node_after marks b)
+  pub node_called : birth_at 0 (Called client reply call) ≡ None → (b : Birth) →
+      node_after (Called client reply call ∷ marks) b ≡ answered client call reply (node_after marks b)
   node_called none b =
-      ap (λ (e : End). record (node_after (Called client reply call ∷ marks) b) { end = e }) (end_called pool limits marks grown client b.node reply call answer none)
+      ap (λ (e : End). record (node_after (Called client reply call ∷ marks) b) { end = e }) (end_called pool limits marks grown client
+      b.node reply call answer none)
       ∙ rest_called marks client b (place_of (end_by client call reply)) reply call none

@@ -27,16 +27,20 @@ use Rattle.lifetime_core.proofs.lists.Maps.{filter-map, filter-wider, map-map_In
 -- two births of one node are one
 pub one_birth : (bs : List Birth) → AreSound bs → (b c : Birth) → In b bs → In c bs → b.node ≡ c.node → b ≡ c
 one_birth bs sound b c on there same =
-    let both : Some b ≡ Some c = sym (find_birth bs b sound on) ∙ (ap (λ (k : NodeKey). find (λ (x : Birth). same_key x.node k) bs) same ∙ find_birth bs c sound there) in
+    let both : Some b ≡ Some c = sym (find_birth bs b sound on) ∙ (ap (λ (k : NodeKey). find (λ (x : Birth). same_key x.node k) bs) same
+    ∙ find_birth bs c sound there) in
     cc
 
 -- a birth of the collection is in order among those of it
-pub in_order : (marks : Timeline) (collection : ℕ) (b : Birth) → In b (births marks) → b.collection ≡ collection → In b (births_in marks collection)
+pub in_order : (marks : Timeline) (collection : ℕ) (b : Birth) → In b (births marks) → b.collection ≡ collection →
+    In b (births_in marks collection)
 in_order marks collection b on ours =
-    In-reverse-back _ b (In-filter-back (λ (x : Birth). x.collection == collection) (births marks) b on (eq-eqb b.collection collection ours))
+    In-reverse-back _ b (In-filter-back (λ (x : Birth). x.collection == collection) (births marks) b on (eq-eqb b.collection collection
+    ours))
 
 -- one that tells of its collection
-pub of_collection : (marks : Timeline) (collection : ℕ) (b : Birth) → In b (births_in marks collection) → In b (births marks) × (b.collection ≡ collection)
+pub of_collection : (marks : Timeline) (collection : ℕ) (b : Birth) → In b (births_in marks collection) → In b (births marks) ×
+    (b.collection ≡ collection)
 of_collection marks collection b on =
     let t = birth_of_collection marks collection b on in
     (t.0, eqb-true b.collection collection t.1)
@@ -47,7 +51,8 @@ module _ (keep : NodeKey → Bool) (marks : Timeline) (collection : ℕ) (w : Is
   kept = nodes_kept keep marks collection
 
   -- a kept node that is not gone is read as it stands
-  pub member_kept : (b : Birth) → In b (births marks) → b.collection ≡ collection → gone marks b.node ≡ false → member_of kept (node_after marks b) ≡ member marks b
+  pub member_kept : (b : Birth) → In b (births marks) → b.collection ≡ collection → gone marks b.node ≡ false →
+      member_of kept (node_after marks b) ≡ member marks b
   member_kept b on ours here = λ i. record (member marks b) { above = above_kept keep marks collection w keeps b on ours here i }
 
   -- the nodes that are not gone are read as they stand
@@ -57,7 +62,8 @@ module _ (keep : NodeKey → Bool) (marks : Timeline) (collection : ℕ) (w : Is
       let left : filter (λ (n : Node). not n.gone) kept ≡ map (node_after marks) (filter free (births_in marks collection)) =
       ap (filter (λ (n : Node). not n.gone)) (kept_births keep marks collection)
       ∙ (filter-map (λ (n : Node). not n.gone) (node_after marks) (kept_in keep marks collection)
-      ∙ ap (map (node_after marks)) (sym (filter-wider free (λ (b : Birth). keep b.node) (births_in marks collection) (λ b e. keeps b.node (not_back (gone marks b.node) e))))) in
+      ∙ ap (map (node_after marks)) (sym (filter-wider free (λ (b : Birth). keep b.node) (births_in marks collection) (λ b e.
+      keeps b.node (not_back (gone marks b.node) e))))) in
       ap (map (member_of kept)) left
       ∙ (sym (map-map_In (node_after marks) (member marks) (member_of kept) (filter free (births_in marks collection)) (λ b on.
       let f = In-filter free (births_in marks collection) b on in
@@ -66,11 +72,13 @@ module _ (keep : NodeKey → Bool) (marks : Timeline) (collection : ℕ) (w : Is
       ∙ sym (filter-map is_left (member marks) (births_in marks collection)))
 
   -- a kept node is found under its key
-  pub node_found : (b : Birth) → In b (births marks) → b.collection ≡ collection → keep b.node ≡ true → node_of kept b.node ≡ Some (node_after marks b)
+  pub node_found : (b : Birth) → In b (births marks) → b.collection ≡ collection → keep b.node ≡ true →
+      node_of kept b.node ≡ Some (node_after marks b)
   node_found b on ours is =
       ap (λ (ns : List Node). node_of ns b.node) (kept_births keep marks collection)
       ∙ find_only (is_of b.node) (map (node_after marks) (kept_in keep marks collection)) (node_after marks b)
-      (In-map-back (node_after marks) (kept_in keep marks collection) b (In-filter-back (λ (x : Birth). keep x.node) (births_in marks collection) b (in_order marks collection b on ours) is))
+      (In-map-back (node_after marks) (kept_in keep marks collection) b (In-filter-back (λ (x : Birth).
+      keep x.node) (births_in marks collection) b (in_order marks collection b on ours) is))
       (same_key-refl b.node) one
     where
       one : (y : Node) → In y (map (node_after marks) (kept_in keep marks collection)) → is_of b.node y ≡ true → y ≡ node_after marks b
@@ -88,9 +96,11 @@ highest-left : (marks : Timeline) (collection : ℕ) → IsWhole marks → (b : 
     highest (left_of (members marks collection)) (member marks b) ≡ highest (members marks collection) (member marks b)
 highest-left marks collection w b here =
     top-same _ _ b.node (ancestors (births marks) b.node)
-    (λ k on. any-left (λ (n : Member). same_key n.key k && blocks n) is_left (members marks collection) (λ n there lost. never k on n there lost))
+    (λ k on. any-left (λ (n : Member). same_key n.key k && blocks n) is_left (members marks collection) (λ n there lost.
+    never k on n there lost))
   where
-    never : (k : NodeKey) → In k (b.node ∷ ancestors (births marks) b.node) → (n : Member) → In n (members marks collection) → is_left n ≡ false → (same_key n.key k && blocks n) ≡ false
+    never : (k : NodeKey) → In k (b.node ∷ ancestors (births marks) b.node) → (n : Member) → In n (members marks collection) →
+        is_left n ≡ false → (same_key n.key k && blocks n) ≡ false
     never k on n there lost =
         let r = member_birth marks collection n there in
         elim (either_way (same_key n.key k)) [
@@ -109,7 +119,8 @@ pub taken_kept : (keep : NodeKey → Bool) (marks : Timeline) (collection : ℕ)
 taken_kept keep marks collection w keeps b on ours here c there too free =
     let kept : List Node = nodes_kept keep marks collection in
     let found : node_of kept b.node ≡ Some (node_after marks b) = node_found keep marks collection w keeps b on ours (keeps b.node here) in
-    let high : highest (members_of kept) (member_of kept (node_after marks b)) ≡ top (blocked marks) b.node (ancestors (births marks) b.node) =
+    let high : highest (members_of kept) (member_of kept (node_after marks b)) ≡ top (blocked marks) b.node
+    (ancestors (births marks) b.node) =
     (λ i. highest (members_kept keep marks collection w keeps i) (member_kept keep marks collection w keeps b on ours here i))
     ∙ (highest-left marks collection w b here
     ∙ (ap (λ (k : ℕ). highest (members marks k) (member marks b)) (sym ours)

@@ -24,29 +24,35 @@ use Rattle.sm_names.proofs.TakeLaws.{from_closing}
 -- ---- a misuse
 
 -- closing is no misuse
-closes_none : (call : Call) (rest : List (Option Reply)) (e : Reply) (m : Misuse) → Reply.Misused m ≡ unwrap_or (first_some (closing call ∷ rest)) e → Reply.Misused m ≡ unwrap_or (first_some rest) e
+closes_none : (call : Call) (rest : List (Option Reply)) (e : Reply) (m : Misuse) →
+    Reply.Misused m ≡ unwrap_or (first_some (closing call ∷ rest)) e → Reply.Misused m ≡ unwrap_or (first_some rest) e
 closes_none (Call.Close key) rest e m h = cc
 closes_none _ rest e m h = h
 
 -- nor is what is told of a node that is gone
 none_closed : (o : Option Fault) (rest : List (Option Reply)) (e : Reply) (m : Misuse) →
-    Reply.Misused m ≡ unwrap_or (first_some (option_map (λ (f : Fault). Reply.PeerClosed f.cause f.origin) o ∷ rest)) e → option_map (λ (f : Fault). Reply.PeerClosed f.cause f.origin) o ≡ None
+    Reply.Misused m ≡ unwrap_or (first_some (option_map (λ (f : Fault). Reply.PeerClosed f.cause f.origin) o ∷ rest)) e →
+    option_map (λ (f : Fault). Reply.PeerClosed f.cause f.origin) o ≡ None
 none_closed None rest e m h = refl
 none_closed (Some f) rest e m h = cc
 
 -- so a node that is misused has not failed
-not_closed : (r : Readings) (call : Call) (rest : List (Option Reply)) (e : Reply) (m : Misuse) → Reply.Misused m ≡ unwrap_or (first_some (peer_closed r call ∷ rest)) e → peer_closed r call ≡ None
+not_closed : (r : Readings) (call : Call) (rest : List (Option Reply)) (e : Reply) (m : Misuse) →
+    Reply.Misused m ≡ unwrap_or (first_some (peer_closed r call ∷ rest)) e → peer_closed r call ≡ None
 not_closed r call rest e m h = from (end_named r call) h
   where
-    from : (o : Option OpenEnd) → Reply.Misused m ≡ unwrap_or (first_some (option_and_then (λ (x : OpenEnd). option_map (λ (f : Fault). Reply.PeerClosed f.cause f.origin) x.fault) o ∷ rest)) e →
+    from : (o : Option OpenEnd) → Reply.Misused m ≡ unwrap_or (first_some (option_and_then (λ (x : OpenEnd).
+        option_map (λ (f : Fault). Reply.PeerClosed f.cause f.origin) x.fault) o ∷ rest)) e →
         option_and_then (λ (x : OpenEnd). option_map (λ (f : Fault). Reply.PeerClosed f.cause f.origin) x.fault) o ≡ None
     from None h = refl
     from (Some x) h = none_closed x.fault rest e m h
 
 -- a node of which PeerClosed is not answered has no fault
-unfailed : (marks : Timeline) (call : Call) (key : NodeKey) → HasEnd marks key → key_of call ≡ Some key → peer_closed (readings marks) call ≡ None → fault marks key ≡ None
+unfailed : (marks : Timeline) (call : Call) (key : NodeKey) → HasEnd marks key → key_of call ≡ Some key →
+    peer_closed (readings marks) call ≡ None → fault marks key ≡ None
 unfailed marks call key e is h =
-    let told : option_map (λ (f : Fault). Reply.PeerClosed f.cause f.origin) (fault marks e.birth.node) ≡ None = rw (is, e.unspent, e.is) at h in
+    let told : option_map (λ (f : Fault). Reply.PeerClosed f.cause f.origin) (fault marks e.birth.node) ≡ None =
+    rw (is, e.unspent, e.is) at h in
     ap (fault marks) (sym (birth_is marks key e.birth e.is).1) ∙ none_of (fault marks e.birth.node) told
   where
     none_of : (o : Option Fault) → option_map (λ (f : Fault). Reply.PeerClosed f.cause f.origin) o ≡ None → o ≡ None
@@ -54,7 +60,8 @@ unfailed marks call key e is h =
     none_of (Some f) h = cc
 
 -- a node that is misused is not gone
-pub misused_here : (pool : ℕ) (limits : Bound) (marks : Timeline) → Grows pool limits [] marks → (client : ℕ) (call : Call) (m : Misuse) (key : NodeKey) →
+pub misused_here : (pool : ℕ) (limits : Bound) (marks : Timeline) → Grows pool limits [] marks →
+    (client : ℕ) (call : Call) (m : Misuse) (key : NodeKey) →
     IsAnswer limits (readings marks) client call (Reply.Misused m) → key_of call ≡ Some key → gone marks key ≡ false
 misused_here pool limits marks g client call m key answer is =
     let r : Readings = readings marks in

@@ -31,43 +31,51 @@ abbrev Names : Call → Reply → NodeKey → Type 0
 Names call reply node = (key_of call ≡ Some node) × (is_refusal reply ≡ false)
 
 -- a call that releases a node
-releases_it : (node : NodeKey) (client : ℕ) (reply : Reply) (call : Call) → is_release node (Called client reply call) ≡ true → Names call reply node
+releases_it : (node : NodeKey) (client : ℕ) (reply : Reply) (call : Call) → is_release node (Called client reply call) ≡ true →
+    Names call reply node
 releases_it node client Reply.Done (Call.Release key) h = (ap Some (same_key-true key node h), refl)
 releases_it node client _ _ h = cc
 
 -- one that makes it dispensable
-dispenses_it : (node : NodeKey) (client : ℕ) (reply : Reply) (call : Call) → is_dispensable node (Called client reply call) ≡ true → Names call reply node
+dispenses_it : (node : NodeKey) (client : ℕ) (reply : Reply) (call : Call) → is_dispensable node (Called client reply call) ≡ true →
+    Names call reply node
 dispenses_it node client Reply.Done (Call.SetDispensable key) h = (ap Some (same_key-true key node h), refl)
 dispenses_it node client _ _ h = cc
 
 -- weak
-weakens_it : (node : NodeKey) (client : ℕ) (reply : Reply) (call : Call) → sets_weak node (Called client reply call) ≡ true → Names call reply node
+weakens_it : (node : NodeKey) (client : ℕ) (reply : Reply) (call : Call) → sets_weak node (Called client reply call) ≡ true →
+    Names call reply node
 weakens_it node client Reply.Done (Call.SetWeak key) h = (ap Some (same_key-true key node h), refl)
 weakens_it node client _ _ h = cc
 
 -- weak_ok
-allows_it : (node : NodeKey) (client : ℕ) (reply : Reply) (call : Call) → sets_weak_ok node (Called client reply call) ≡ true → Names call reply node
+allows_it : (node : NodeKey) (client : ℕ) (reply : Reply) (call : Call) → sets_weak_ok node (Called client reply call) ≡ true →
+    Names call reply node
 allows_it node client Reply.Done (Call.SetWeakOk key children) h = (ap Some (same_key-true key node h), refl)
 allows_it node client _ _ h = cc
 
 -- with children
-covers_it : (node : NodeKey) (client : ℕ) (reply : Reply) (call : Call) → covers_children node (Called client reply call) ≡ true → Names call reply node
+covers_it : (node : NodeKey) (client : ℕ) (reply : Reply) (call : Call) → covers_children node (Called client reply call) ≡ true →
+    Names call reply node
 covers_it node client Reply.Done (Call.SetWeakOk key true) h = (ap Some (same_key-true key node h), refl)
 covers_it node client Reply.Done (Call.SetWeakOk key false) h = cc
 covers_it node client _ _ h = cc
 
 -- takes handles through it
-takes_it : (node : NodeKey) (client : ℕ) (reply : Reply) (call : Call) → is_taking node (Called client reply call) ≡ true → Names call reply node
+takes_it : (node : NodeKey) (client : ℕ) (reply : Reply) (call : Call) → is_taking node (Called client reply call) ≡ true →
+    Names call reply node
 takes_it node client (Reply.Taken collection strength set) (Call.Take key) h = (ap Some (same_key-true key node h), refl)
 takes_it node client _ _ h = cc
 
 -- tracks it
-tracks_it : (node : NodeKey) (client : ℕ) (reply : Reply) (call : Call) → is_tracking node (Called client reply call) ≡ true → Names call reply node
+tracks_it : (node : NodeKey) (client : ℕ) (reply : Reply) (call : Call) → is_tracking node (Called client reply call) ≡ true →
+    Names call reply node
 tracks_it node client (Reply.Tracker id) (Call.TrackNode key) h = (ap Some (same_key-true key node h), refl)
 tracks_it node client _ _ h = cc
 
 -- or sets its constraints
-constrains_it : (node : NodeKey) (client : ℕ) (reply : Reply) (call : Call) → is_some (constraints_at node (Called client reply call)) ≡ true → Names call reply node
+constrains_it : (node : NodeKey) (client : ℕ) (reply : Reply) (call : Call) →
+    is_some (constraints_at node (Called client reply call)) ≡ true → Names call reply node
 constrains_it node client Reply.Done (Call.SetConstraints key demand) h =
     elim (either_way (same_key key node)) [
       | inl e ↦ (ap Some (same_key-true key node e), refl)
@@ -76,14 +84,19 @@ constrains_it node client Reply.Done (Call.SetConstraints key demand) h =
 constrains_it node client _ _ h = cc
 
 -- a mark that is not the node's birth tells no parent of it
-not_born_to : (older : List Birth) (event : ℕ) (mark : Mark) (node : NodeKey) → was_born (cons_option (birth_at event mark) older) node ≡ false → born_to node mark ≡ None
-not_born_to older event (Called client (Reply.Token key collection) Call.OpenRoot) node h = let e : same_key key node ≡ false = or_none_left _ _ h in rw e refl
-not_born_to older event (Called client (Reply.Token key collection) (Call.Duplicate parent)) node h = let e : same_key key node ≡ false = or_none_left _ _ h in rw e refl
-not_born_to older event (Called client (Reply.Token key collection) (Call.AttachToken parent)) node h = let e : same_key key node ≡ false = or_none_left _ _ h in rw e refl
+not_born_to : (older : List Birth) (event : ℕ) (mark : Mark) (node : NodeKey) →
+    was_born (cons_option (birth_at event mark) older) node ≡ false → born_to node mark ≡ None
+not_born_to older event (Called client (Reply.Token key collection) Call.OpenRoot) node h =
+    let e : same_key key node ≡ false = or_none_left _ _ h in rw e refl
+not_born_to older event (Called client (Reply.Token key collection) (Call.Duplicate parent)) node h =
+    let e : same_key key node ≡ false = or_none_left _ _ h in rw e refl
+not_born_to older event (Called client (Reply.Token key collection) (Call.AttachToken parent)) node h =
+    let e : same_key key node ≡ false = or_none_left _ _ h in rw e refl
 not_born_to older event _ node h = refl
 
 -- a node that is not among more births is not among fewer
-not_older : (o : Option Birth) (older : List Birth) (node : NodeKey) → was_born (cons_option o older) node ≡ false → was_born older node ≡ false
+not_older : (o : Option Birth) (older : List Birth) (node : NodeKey) → was_born (cons_option o older) node ≡ false →
+    was_born older node ≡ false
 not_older None older node h = h
 not_older (Some b) older node h = or_none_right (same_key b.node node) _ h
 
@@ -106,13 +119,16 @@ pub record IsUnsaid (marks : Timeline) (node : NodeKey) : Type 0 where
   pub not_tracked : times (is_tracking node) marks ≡ 0
 
 -- a unit that is allocated has a head that was born
-allocated_born : (pool collection : ℕ) (marks : Timeline) (head : NodeKey) → Why pool collection marks (Allocated head) → was_born (births marks) head ≡ true
+allocated_born : (pool collection : ℕ) (marks : Timeline) (head : NodeKey) → Why pool collection marks (Allocated head) →
+    was_born (births marks) head ≡ true
 allocated_born pool collection marks _ (Initial b on ours root free waits found fits) = In-was_born (births marks) b on
 allocated_born pool collection marks _ (Logical b on ours child free waits attached) = In-was_born (births marks) b on
 
 -- nor of one that a call does not bear
-unsaid_called : (limits : Bound) (before : Timeline) (client : ℕ) (reply : Reply) (call : Call) → IsAnswer limits (readings before) client call reply → (node : NodeKey) →
-    was_born (births (Called client reply call ∷ before)) node ≡ false → IsUnsaid before node → IsUnsaid (Called client reply call ∷ before) node
+unsaid_called : (limits : Bound) (before : Timeline) (client : ℕ) (reply : Reply) (call : Call) →
+    IsAnswer limits (readings before) client call reply → (node : NodeKey) →
+    was_born (births (Called client reply call ∷ before)) node ≡ false → IsUnsaid before node →
+    IsUnsaid (Called client reply call ∷ before) node
 unsaid_called limits before client reply call answer node h u =
     let mark : Mark = Called client reply call in
     let unborn : was_born (births before) node ≡ false = not_older (birth_at (events before + 1) mark) (births before) node h in
@@ -123,18 +139,21 @@ unsaid_called limits before client reply call answer node h u =
     both_ways (was_born (births before) node) (birth_was_born before node there.birth there.is) unborn) in
     let born : born_to node mark ≡ None = not_born_to (births before) (events before + 1) mark node h in
     let weakens : sets_weak node mark ≡ false = never (sets_weak node mark) (weakens_it node client reply call) in
-    let constrains : constraints_at node mark ≡ None = is_none_if (constraints_at node mark) (never (is_some (constraints_at node mark)) (constrains_it node client reply call)) in
+    let constrains : constraints_at node mark ≡ None =
+    is_none_if (constraints_at node mark) (never (is_some (constraints_at node mark)) (constrains_it node client reply call)) in
     let tracks : is_tracking node mark ≡ false = never (is_tracking node mark) (tracks_it node client reply call) in
     record {
       heads_none = u.heads_none;
       not_gone = u.not_gone;
       no_fault = u.no_fault;
       not_released = or_both (is_release node mark) _ (never (is_release node mark) (releases_it node client reply call)) u.not_released;
-      not_dispensable = or_both (is_dispensable node mark) _ (never (is_dispensable node mark) (dispenses_it node client reply call)) u.not_dispensable;
+      not_dispensable = or_both (is_dispensable node mark) _ (never (is_dispensable node mark) (dispenses_it node client reply call))
+          u.not_dispensable;
       not_weak = rw (weakens, born) u.not_weak;
       not_set_weak = rw weakens u.not_set_weak;
       not_weak_ok = or_both (sets_weak_ok node mark) _ (never (sets_weak_ok node mark) (allows_it node client reply call)) u.not_weak_ok;
-      not_covering = or_both (covers_children node mark) _ (never (covers_children node mark) (covers_it node client reply call)) u.not_covering;
+      not_covering = or_both (covers_children node mark) _ (never (covers_children node mark) (covers_it node client reply call))
+          u.not_covering;
       not_covered = rw born u.not_covered;
       not_constrained = rw constrains u.not_constrained;
       not_taken = or_both (is_taking node mark) _ (never (is_taking node mark) (takes_it node client reply call)) u.not_taken;
@@ -149,7 +168,8 @@ no_fault_if marks node h = elim (none_or_some (fault marks node)) [
 ]
 
 -- nor of one that another mark does not speak of
-unsaid_mark : (before : Timeline) (mark : Mark) (node : NodeKey) → is_event mark ≡ false → is_allocation node mark ≡ false → gone (mark ∷ before) node ≡ false → IsUnsaid before node → IsUnsaid (mark ∷ before) node
+unsaid_mark : (before : Timeline) (mark : Mark) (node : NodeKey) → is_event mark ≡ false → is_allocation node mark ≡ false →
+    gone (mark ∷ before) node ≡ false → IsUnsaid before node → IsUnsaid (mark ∷ before) node
 unsaid_mark before (Called client reply call) node h other here u = cc
 unsaid_mark before (Loss origin cause) node h other here u = record {
   heads_none = or_both _ _ other u.heads_none;
@@ -198,12 +218,14 @@ unsaid_mark before (Ended top) node h other here u = record {
 }
 
 -- a node that was not born is not gone
-gone_no_more : (pool : ℕ) (limits : Bound) (marks : Timeline) (node : NodeKey) → Grows pool limits [] marks → was_born (births marks) node ≡ false → gone marks node ≡ false
+gone_no_more : (pool : ℕ) (limits : Bound) (marks : Timeline) (node : NodeKey) → Grows pool limits [] marks →
+    was_born (births marks) node ≡ false → gone marks node ≡ false
 gone_no_more pool limits marks node g h =
     false_if (gone marks node) (λ e. both_ways (was_born (births marks) node) ((ordered pool limits marks g).gone_born node e) h)
 
 -- so it is in each timeline that grows from nothing
-pub unsaid : (pool : ℕ) (limits : Bound) (marks : Timeline) → Grows pool limits [] marks → (node : NodeKey) → was_born (births marks) node ≡ false → IsUnsaid marks node
+pub unsaid : (pool : ℕ) (limits : Bound) (marks : Timeline) → Grows pool limits [] marks → (node : NodeKey) →
+    was_born (births marks) node ≡ false → IsUnsaid marks node
 unsaid pool limits _ Stays node h = record {
   heads_none = refl;
   not_gone = refl;
@@ -220,16 +242,21 @@ unsaid pool limits _ Stays node h = record {
   not_tracked = refl;
 }
 unsaid pool limits _ (Answers before client reply call g answer) node h =
-    unsaid_called limits before client reply call answer node h (unsaid pool limits before g node (not_older (birth_at (events before + 1) (Called client reply call)) (births before) node h))
+    unsaid_called limits before client reply call answer node h (unsaid pool limits before g node
+    (not_older (birth_at (events before + 1) (Called client reply call)) (births before) node h))
 unsaid pool limits _ (Loses before origin cause g born) node h =
     let there : Grows pool limits [] (Loss origin cause ∷ before) = Loses before origin cause g born in
-    unsaid_mark before (Loss origin cause) node refl refl (gone_no_more pool limits (Loss origin cause ∷ before) node there h) (unsaid pool limits before g node h)
+    unsaid_mark before (Loss origin cause) node refl refl (gone_no_more pool limits (Loss origin cause ∷ before) node there h)
+    (unsaid pool limits before g node h)
 unsaid pool limits _ (Allocates before collection head g e) node h =
     let there : Grows pool limits [] (Allocated head ∷ before) = Allocates before collection head g e in
     let other : same_key head node ≡ false = false_if (same_key head node) (λ s.
-    let was : was_born (births before) head ≡ true = allocated_born pool collection before head (forced_why pool collection before (Allocated head) e) in
+    let was : was_born (births before) head ≡ true =
+    allocated_born pool collection before head (forced_why pool collection before (Allocated head) e) in
     both_ways (was_born (births before) node) (ap (was_born (births before)) (sym (same_key-true head node s)) ∙ was) h) in
-    unsaid_mark before (Allocated head) node refl other (gone_no_more pool limits (Allocated head ∷ before) node there h) (unsaid pool limits before g node h)
+    unsaid_mark before (Allocated head) node refl other (gone_no_more pool limits (Allocated head ∷ before) node there h)
+    (unsaid pool limits before g node h)
 unsaid pool limits _ (Ends before collection top g e) node h =
     let there : Grows pool limits [] (Ended top ∷ before) = Ends before collection top g e in
-    unsaid_mark before (Ended top) node refl refl (gone_no_more pool limits (Ended top ∷ before) node there h) (unsaid pool limits before g node h)
+    unsaid_mark before (Ended top) node refl refl (gone_no_more pool limits (Ended top ∷ before) node there h)
+    (unsaid pool limits before g node h)

@@ -10,7 +10,8 @@ use Rattle.sm_names.proofs.ForgetLaws.{is_left, left_of}
 use Rattle.sm_names.proofs.SamenessLaws.{either_way, and_right}
 
 -- where all that pass are kept, the first of those kept is the first of all
-find-kept : {A : Type 0} (test kept : A → Bool) (xs : List A) → ((x : A) → test x ≡ true → kept x ≡ true) → find test (filter kept xs) ≡ find test xs
+find-kept : {A : Type 0} (test kept : A → Bool) (xs : List A) → ((x : A) → test x ≡ true → kept x ≡ true) →
+    find test (filter kept xs) ≡ find test xs
 find-kept test kept [] whole = refl
 find-kept test kept (x ∷ xs) whole =
     let on : find test (filter kept xs) ≡ find test xs = find-kept test kept xs whole in
@@ -20,7 +21,8 @@ find-kept test kept (x ∷ xs) whole =
     ]
 
 -- where those left out give nothing, those that pass give the same without them
-gives-kept : {A B : Type 0} (f : A → Option B) (test kept : A → Bool) (xs : List A) → ((x : A) → kept x ≡ false → f x ≡ None) → filter_map f (filter test (filter kept xs)) ≡ filter_map f (filter test xs)
+gives-kept : {A B : Type 0} (f : A → Option B) (test kept : A → Bool) (xs : List A) → ((x : A) → kept x ≡ false → f x ≡ None) →
+    filter_map f (filter test (filter kept xs)) ≡ filter_map f (filter test xs)
 gives-kept f test kept [] less = refl
 gives-kept f test kept (x ∷ xs) less =
     let on : filter_map f (filter test (filter kept xs)) ≡ filter_map f (filter test xs) = gives-kept f test kept xs less in
@@ -40,13 +42,15 @@ gone_asks m h = from m.gone h
 -- the nodes that are not gone tell what the collection asks for
 pub asked_left : (ms : List Member) → asked (left_of ms) ≡ asked ms
 asked_left ms =
-    let root : root_left (left_of ms) ≡ root_left ms = find-kept (λ m. is_root m && not m.gone) is_left ms (λ m e. and_right (is_root m) (not m.gone) e) in
+    let root : root_left (left_of ms) ≡ root_left ms =
+    find-kept (λ m. is_root m && not m.gone) is_left ms (λ m e. and_right (is_root m) (not m.gone) e) in
     ap (λ (o : Option Member). wanted (option_map_or (λ (root : Member). unit root.key (left_of ms)) o [])) root ∙ of_root (root_left ms)
   where
     same : (key : NodeKey) → demands (unit key (left_of ms)) ≡ demands (unit key ms)
     same key = gives-kept (λ (m : Member). cond m.gone None m.constraints) (λ (m : Member). same_key m.head key) is_left ms gone_asks
 
-    of_root : (o : Option Member) → wanted (option_map_or (λ (root : Member). unit root.key (left_of ms)) o []) ≡ wanted (option_map_or (λ (root : Member). unit root.key ms) o [])
+    of_root : (o : Option Member) → wanted (option_map_or (λ (root : Member). unit root.key (left_of ms)) o []) ≡ wanted
+        (option_map_or (λ (root : Member). unit root.key ms) o [])
     of_root None = refl
     of_root (Some root) = λ i. record {
       count = max (sum_by (λ (d : Demand). d.camping) (same root.key i)) (greatest (λ d. d.at_least) (same root.key i));

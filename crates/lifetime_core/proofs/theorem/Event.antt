@@ -24,8 +24,10 @@ use Rattle.lifetime_core.proofs.answers.Kinds.{reply-fits}
 -- ---- the task
 
 -- the task may be done
-pub may_do : (limits : Bound) (s : State) (client : ℕ) (call : Call) (asked : Reply) (task : Option Task) → Known limits s client call asked →
-    work_in task ≡ work_of s client call asked → spent_in task ≡ spent_by call asked → IfSome task (SpendsThere s.forest) → IfSome task (MayDo s.forest)
+pub may_do : (limits : Bound) (s : State) (client : ℕ) (call : Call) (asked : Reply) (task : Option Task) →
+    Known limits s client call asked →
+    work_in task ≡ work_of s client call asked → spent_in task ≡ spent_by call asked → IfSome task (SpendsThere s.forest) →
+    IfSome task (MayDo s.forest)
 may_do limits s client call asked None known work spends there = tt
 may_do limits s client call asked (Some t) known work spends there = record {
   change = may t.change refl;
@@ -34,7 +36,8 @@ may_do limits s client call asked (Some t) known work spends there = record {
 }
   where
     at : (change : Change) → t.change ≡ Some change → Well s call asked (record { collection = t.collection; change = change })
-    at change is = well limits s client call asked known (record { collection = t.collection; change = change }) (sym work ∙ ap (work_on t.collection) is)
+    at change is = well limits s client call asked known (record { collection = t.collection; change = change }) (sym work
+        ∙ ap (work_on t.collection) is)
 
     may : (o : Option Change) → t.change ≡ o → IfSome o (MayChange s.forest t.collection)
     may None is = tt
@@ -49,7 +52,8 @@ may_do limits s client call asked (Some t) known work spends there = record {
     releases (Some change) is = each (released_by change) change is refl
 
 -- its collection is a new one, or was there
-pub within : (limits : Bound) (s : State) (client : ℕ) (call : Call) (asked : Reply) (task : Option Task) → Known limits s client call asked →
+pub within : (limits : Bound) (s : State) (client : ℕ) (call : Call) (asked : Reply) (task : Option Task) →
+    Known limits s client call asked →
     work_in task ≡ work_of s client call asked → IfSome (work_in task) (λ w. w.collection ≤ s.events + 1)
 within limits s client call asked task known work = by (work_in task) refl
   where
@@ -60,37 +64,46 @@ within limits s client call asked task known work = by (work_in task) refl
 -- ---- the reply
 
 -- a call that makes no node is not answered with a token
-no_token : (limits : Bound) (s : State) (client : ℕ) (call : Call) (key : NodeKey) (c : ℕ) → Known limits s client call (Reply.Token key c) → makes_node call ≡ false → ⊥
-no_token limits s client call key c known makes = both_ways (makes_node call) (reply-fits limits (readings_of s) client no_key call (Reply.Token key c) known.told) makes
+no_token : (limits : Bound) (s : State) (client : ℕ) (call : Call) (key : NodeKey) (c : ℕ) →
+    Known limits s client call (Reply.Token key c) → makes_node call ≡ false → ⊥
+no_token limits s client call key c known makes =
+    both_ways (makes_node call) (reply-fits limits (readings_of s) client no_key call (Reply.Token key c) known.told) makes
 
 -- where the call took effect, the answer is that of the effect, whatever the key
-passes : (limits : Bound) (r : Readings) (client : ℕ) (new key : NodeKey) (call : Call) (reply : Reply) → TookEffect limits r client new call reply → closing call ≡ None →
+passes : (limits : Bound) (r : Readings) (client : ℕ) (new key : NodeKey) (call : Call) (reply : Reply) →
+    TookEffect limits r client new call reply → closing call ≡ None →
     answer limits r client key call ≡ effect r client key call
 passes limits r client new key call reply all going =
     rw (all.known, all.not_shut, all.has_end, all.not_in_transit, going, all.not_gone, all.right_kind, all.no_misuse, all.has_handle, all.nodes_fit, all.collections_fit, all.trackers_fit, all.handles_fit) refl
 
 -- a token with its key
-token_told : (limits : Bound) (s : State) (client : ℕ) (call : Call) (first key : NodeKey) (c : ℕ) → Known limits s client call (Reply.Token first c) →
+token_told : (limits : Bound) (s : State) (client : ℕ) (call : Call) (first key : NodeKey) (c : ℕ) →
+    Known limits s client call (Reply.Token first c) →
     Reply.Token key c ≡ answer limits (readings_of s) client key call
 token_told limits s client Call.OpenRoot first key c known =
     let all = took_effect_all limits (readings_of s) client no_key Call.OpenRoot (Reply.Token first c) refl refl known.told in
-    ap (Reply.Token key) (number first no_key c (s.events + 1) all.answered) ∙ sym (passes limits (readings_of s) client no_key key Call.OpenRoot (Reply.Token first c) all refl)
+    ap (Reply.Token key) (number first no_key c (s.events + 1) all.answered)
+    ∙ sym (passes limits (readings_of s) client no_key key Call.OpenRoot (Reply.Token first c) all refl)
   where
     number : (a b : NodeKey) (x y : ℕ) → Reply.Token a x ≡ Reply.Token b y → x ≡ y
     number a b x y is = cc
 token_told limits s client (Call.Duplicate above) first key c known =
     let all = took_effect_all limits (readings_of s) client no_key (Call.Duplicate above) (Reply.Token first c) refl refl known.told in
-    child ((readings_of s).end_of above) all.answered ∙ sym (passes limits (readings_of s) client no_key key (Call.Duplicate above) (Reply.Token first c) all refl)
+    child ((readings_of s).end_of above) all.answered
+    ∙ sym (passes limits (readings_of s) client no_key key (Call.Duplicate above) (Reply.Token first c) all refl)
   where
-    child : (o : Option OpenEnd) → Reply.Token first c ≡ option_map_or (λ (e : OpenEnd). Reply.Token no_key e.collection) o (Reply.Refused Refusal.NoSuchEnd) →
+    child : (o : Option OpenEnd) → Reply.Token first c ≡ option_map_or (λ (e : OpenEnd). Reply.Token no_key e.collection) o
+        (Reply.Refused Refusal.NoSuchEnd) →
         Reply.Token key c ≡ option_map_or (λ (e : OpenEnd). Reply.Token key e.collection) o (Reply.Refused Refusal.NoSuchEnd)
     child None is = cc
     child (Some e) is = cc
 token_told limits s client (Call.AttachToken above) first key c known =
     let all = took_effect_all limits (readings_of s) client no_key (Call.AttachToken above) (Reply.Token first c) refl refl known.told in
-    child ((readings_of s).end_of above) all.answered ∙ sym (passes limits (readings_of s) client no_key key (Call.AttachToken above) (Reply.Token first c) all refl)
+    child ((readings_of s).end_of above) all.answered
+    ∙ sym (passes limits (readings_of s) client no_key key (Call.AttachToken above) (Reply.Token first c) all refl)
   where
-    child : (o : Option OpenEnd) → Reply.Token first c ≡ option_map_or (λ (e : OpenEnd). Reply.Token no_key e.collection) o (Reply.Refused Refusal.NoSuchEnd) →
+    child : (o : Option OpenEnd) → Reply.Token first c ≡ option_map_or (λ (e : OpenEnd). Reply.Token no_key e.collection) o
+        (Reply.Refused Refusal.NoSuchEnd) →
         Reply.Token key c ≡ option_map_or (λ (e : OpenEnd). Reply.Token key e.collection) o (Reply.Refused Refusal.NoSuchEnd)
     child None is = cc
     child (Some e) is = cc
@@ -102,7 +115,8 @@ pub record IsKeyed (s : State) (asked : Reply) (key : Option NodeKey) : Type 0 w
   pub fresh : IfSome key (λ k. given s.forest k ≡ false)
 
 -- where nothing is done, the answer tells of no key
-untold : (limits : Bound) (s : State) (client : ℕ) (call : Call) (asked : Reply) → Known limits s client call asked → work_of s client call asked ≡ None → is_some (new_key asked) ≡ false
+untold : (limits : Bound) (s : State) (client : ℕ) (call : Call) (asked : Reply) → Known limits s client call asked →
+    work_of s client call asked ≡ None → is_some (new_key asked) ≡ false
 untold limits s client Call.OpenRoot (Reply.Token key c) known none = cc
 untold limits s client (Call.Duplicate above) (Reply.Token key c) known none = cc
 untold limits s client (Call.AttachToken above) (Reply.Token key c) known none = cc
@@ -110,7 +124,8 @@ untold limits s client call (Reply.Token key c) known none = absurd (no_token li
 untold limits s client call _ known none = refl
 
 -- the key is as the answer wants it
-pub is_keyed : (limits : Bound) (handles : Handles) (s : State) (client : ℕ) (call : Call) (asked : Reply) (task : Option Task) (key : Option NodeKey) (worked : Forest) → Known limits s client call asked →
+pub is_keyed : (limits : Bound) (handles : Handles) (s : State) (client : ℕ) (call : Call) (asked : Reply) (task : Option Task)
+    (key : Option NodeKey) (worked : Forest) → Known limits s client call asked →
     work_in task ≡ work_of s client call asked → Reworked s.pool handles s.forest (work_in task) key worked → IsKeyed s asked key
 is_keyed limits handles s client call asked task key worked known work done = by (work_in task) refl done
   where
@@ -125,7 +140,8 @@ is_keyed limits handles s client call asked task key worked known work done = by
     }
 
 -- the reply is the answer
-pub is_answer : (limits : Bound) (s : State) (client : ℕ) (call : Call) (asked : Reply) (key : Option NodeKey) → Known limits s client call asked → IsKeyed s asked key →
+pub is_answer : (limits : Bound) (s : State) (client : ℕ) (call : Call) (asked : Reply) (key : Option NodeKey) →
+    Known limits s client call asked → IsKeyed s asked key →
     IsAnswer limits (readings_of s) client call (keyed asked key)
 is_answer limits s client call (Reply.Token first c) None known made = both_ways false made.both refl
 is_answer limits s client call (Reply.Token first c) (Some key) known made = record {
@@ -142,7 +158,8 @@ new_is s _ None made = refl
 new_is s _ (Some key) made = both_ways true refl made.both
 
 -- what is done depends on no new key
-same_work : (s : State) (client : ℕ) (call : Call) (asked : Reply) (key : Option NodeKey) → work_of s client call (keyed asked key) ≡ work_of s client call asked
+same_work : (s : State) (client : ℕ) (call : Call) (asked : Reply) (key : Option NodeKey) →
+    work_of s client call (keyed asked key) ≡ work_of s client call asked
 same_work s client call (Reply.Token first c) None = refl
 same_work s client Call.OpenRoot (Reply.Token first c) (Some key) = refl
 same_work s client (Call.Duplicate above) (Reply.Token first c) (Some key) = refl
@@ -151,7 +168,8 @@ same_work s client _ (Reply.Token first c) (Some key) = refl
 same_work s client call _ key = refl
 
 -- the work is done
-pub worked_is : (handles : Handles) (s : State) (client : ℕ) (call : Call) (asked : Reply) (task : Option Task) (key : Option NodeKey) (worked : Forest) →
+pub worked_is : (handles : Handles) (s : State) (client : ℕ) (call : Call) (asked : Reply) (task : Option Task) (key : Option NodeKey)
+    (worked : Forest) →
     work_in task ≡ work_of s client call asked → IsKeyed s asked key → Reworked s.pool handles s.forest (work_in task) key worked →
     Worked s handles (work_of s client call (keyed asked key)) (new_key (keyed asked key)) worked
 worked_is handles s client call asked task key worked work made done =
@@ -162,7 +180,8 @@ worked_is handles s client call asked task key worked work made done =
     by (Some w) settled = settled
 
 -- nor where an end goes
-pub same_end : (client : ℕ) (call : Call) (asked : Reply) (key : Option NodeKey) → end_by client call (keyed asked key) ≡ end_by client call asked
+pub same_end : (client : ℕ) (call : Call) (asked : Reply) (key : Option NodeKey) →
+    end_by client call (keyed asked key) ≡ end_by client call asked
 same_end client call (Reply.Token first c) None = refl
 same_end client (Call.Close node) (Reply.Token first c) (Some key) = refl
 same_end client (Call.Release node) (Reply.Token first c) (Some key) = refl
@@ -186,7 +205,8 @@ same_handles client call (Reply.Token first c) (Some key) handles = refl
 same_handles client call _ key handles = refl
 
 -- nor which tracker is made
-pub same_tracker : (f : Forest) (call : Call) (asked : Reply) (key : Option NodeKey) → tracker_by f call (keyed asked key) ≡ tracker_by f call asked
+pub same_tracker : (f : Forest) (call : Call) (asked : Reply) (key : Option NodeKey) →
+    tracker_by f call (keyed asked key) ≡ tracker_by f call asked
 same_tracker f call (Reply.Token first c) None = refl
 same_tracker f (Call.TrackNode node) (Reply.Token first c) (Some key) = refl
 same_tracker f (Call.TrackLifetime node most) (Reply.Token first c) (Some key) = refl

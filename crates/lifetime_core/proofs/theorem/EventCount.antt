@@ -13,7 +13,8 @@ events-after pool marks entry = kept-after (λ (m : Timeline). events m ≡ even
     same m mark forced e = rw forced e
 
 -- so they are counted on
-events-fold : (pool : ℕ) (marks : Timeline) (history : List Entry) → events (fold (after pool) marks history) ≡ events marks + length history
+events-fold : (pool : ℕ) (marks : Timeline) (history : List Entry) →
+    events (fold (after pool) marks history) ≡ events marks + length history
 events-fold pool marks [] = omega arith
 events-fold pool marks (entry ∷ more) = omega (arith, events-fold pool (after pool marks entry) more, events-after pool marks entry)
 

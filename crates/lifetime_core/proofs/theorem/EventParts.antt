@@ -38,7 +38,8 @@ pub no_task : (task : Option Task) → IfSome task DoesSome → work_in task ≡
 no_task None some work spends = refl
 no_task (Some t) some work spends = by t.change t.spends some work spends
   where
-    by : (change : Option Change) (spends : Option NodeKey) → (is_some change || is_some spends) ≡ true → work_on t.collection change ≡ None → spends ≡ None → Some t ≡ None
+    by : (change : Option Change) (spends : Option NodeKey) → (is_some change || is_some spends) ≡ true →
+        work_on t.collection change ≡ None → spends ≡ None → Some t ≡ None
     by (Some x) key some work spends = cc
     by None (Some key) some work spends = cc
     by None None some work spends = cc
@@ -49,14 +50,16 @@ pub record HasNoTask (s : State) (client : ℕ) (call : Call) (asked : Reply) : 
   pub spends : spent_by call asked ≡ None
 
 -- where room is taken, there is neither a task nor a tracker
-room_idle : (s : State) (client : ℕ) (call : Call) (asked : Reply) → takes_room call asked ≡ true → HasNoTask s client call asked × (tracker_by s.forest call asked ≡ None)
+room_idle : (s : State) (client : ℕ) (call : Call) (asked : Reply) → takes_room call asked ≡ true → HasNoTask s client call asked ×
+    (tracker_by s.forest call asked ≡ None)
 room_idle s client Call.Join (Reply.Joined made) takes = (record { work = refl; spends = refl }, refl)
 room_idle s client (Call.Give key to) Reply.Done takes = (record { work = refl; spends = refl }, refl)
 room_idle s client (Call.GiveHandle buffer strength to) Reply.Done takes = (record { work = refl; spends = refl }, refl)
 room_idle s client _ _ takes = cc
 
 -- nor is there a task where an end is carried
-carried_idle : (s : State) (client : ℕ) (call : Call) (asked : Reply) (place : Place) → carried_by client call asked ≡ Some place → HasNoTask s client call asked
+carried_idle : (s : State) (client : ℕ) (call : Call) (asked : Reply) (place : Place) → carried_by client call asked ≡ Some place →
+    HasNoTask s client call asked
 carried_idle s client (Call.Give key to) Reply.Done place is = record { work = refl; spends = refl }
 carried_idle s client Call.Collect (Reply.Collected key kind collection) place is = record { work = refl; spends = refl }
 carried_idle s client _ _ place is = cc
@@ -67,7 +70,8 @@ none_from f None is = refl
 none_from f (Some x) is = cc
 
 -- an end is put somewhere by the task or by what is carried
-end_split : (client : ℕ) (call : Call) (asked : Reply) → end_by client call asked ≡ option_or (spent_place (spent_by call asked)) (carried_by client call asked)
+end_split : (client : ℕ) (call : Call) (asked : Reply) →
+    end_by client call asked ≡ option_or (spent_place (spent_by call asked)) (carried_by client call asked)
 end_split client (Call.Close key) Reply.Done = refl
 end_split client (Call.Release key) Reply.Done = refl
 end_split client (Call.Release key) (Reply.PeerClosed cause origin) = refl
@@ -78,16 +82,19 @@ end_split client _ _ = refl
 -- ---- what is carried
 
 -- the end that is collected is there
-collected_end : (s : State) (key : NodeKey) (e : OpenEnd) → (readings_of s).end_of key ≡ Some e → (n : Node) × (node_at s.forest key ≡ Some n) × (is_spent n.end ≡ false)
+collected_end : (s : State) (key : NodeKey) (e : OpenEnd) → (readings_of s).end_of key ≡ Some e →
+    (n : Node) × (node_at s.forest key ≡ Some n) × (is_spent n.end ≡ false)
 collected_end s key e is =
     let found = and_then-Some (λ (n : Node). if is_spent n.end then None else Some (open_end_of s n)) (node_at s.forest key) e is in
     (found.0, found.1, (end_at s found.0 e found.2).0)
 
 -- the end that an answered call carries is there
-carried_there : (s : State) (client : ℕ) (call : Call) (asked : Reply) (place : Place) → Known s.limits s client call asked → carried_by client call asked ≡ Some place →
+carried_there : (s : State) (client : ℕ) (call : Call) (asked : Reply) (place : Place) → Known s.limits s client call asked →
+    carried_by client call asked ≡ Some place →
     ((n : Node) × (node_at s.forest place.key ≡ Some n) × (is_spent n.end ≡ false)) × (is_spent place.end ≡ false)
 carried_there s client (Call.Give key to) Reply.Done place known is =
-    let named_so : Named s (Call.Give key to) Reply.Done key = named s.limits s client no_key (Call.Give key to) Reply.Done key known.told refl refl in
+    let named_so : Named s (Call.Give key to) Reply.Done key =
+    named s.limits s client no_key (Call.Give key to) Reply.Done key known.told refl refl in
     let same : record { key = key; end = End.InTransit client } ≡ place = cc in
     subst (λ (p : Place). ((n : Node) × (node_at s.forest p.key ≡ Some n) × (is_spent n.end ≡ false)) × (is_spent p.end ≡ false)) same
     ((named_so.node, named_so.at, named_so.unspent), refl)
@@ -102,7 +109,8 @@ carried_there s client Call.Collect (Reply.Collected key kind collection) place 
     of k None there told = cc
     of k (Some e) there told = let same : k ≡ key = cc in collected_end s key e (ap (readings_of s).end_of (sym same) ∙ there)
 
-    by : (parcels : List Parcel) → Reply.Collected key kind collection ≡ collected (readings_of s) parcels → (n : Node) × (node_at s.forest key ≡ Some n) × (is_spent n.end ≡ false)
+    by : (parcels : List Parcel) → Reply.Collected key kind collection ≡ collected (readings_of s) parcels →
+        (n : Node) × (node_at s.forest key ≡ Some n) × (is_spent n.end ≡ false)
     by [] told = cc
     by (Parcel.Handle buffer strength ∷ more) told = cc
     by (Parcel.End k ∷ more) told = of k ((readings_of s).end_of k) refl told
@@ -120,9 +128,11 @@ pub record Begins (s : State) (client : ℕ) (call : Call) (asked : Reply) (task
   pub tracks : option_map waiting_as tracking ≡ tracker_by s.forest call asked
 
 -- a core tells it of itself
-pub begins : (pool : Holdings) (s now : State) (client : ℕ) (call : Call) (asked : Reply) (task : Option Task) (tracking : Option Tracking) → s ≡ now →
+pub begins : (pool : Holdings) (s now : State) (client : ℕ) (call : Call) (asked : Reply) (task : Option Task)
+    (tracking : Option Tracking) → s ≡ now →
     IsWhole pool s.limits s.events s.clients s.forest s.holds s.trackers → asked ≡ answer now.limits (readings_of now) client no_key call →
-    work_in task ≡ work_of now client call asked → spent_in task ≡ spent_by call asked → IfSome task (SpendsThere now.forest) → IfSome task DoesSome →
+    work_in task ≡ work_of now client call asked → spent_in task ≡ spent_by call asked → IfSome task (SpendsThere now.forest) →
+    IfSome task DoesSome →
     option_map waiting_as tracking ≡ tracker_by now.forest call asked → Begins s client call asked task tracking
 begins pool s now client call asked task tracking same whole told work spends there some tracks =
     let known : Known s.limits s client call asked = record {
@@ -130,17 +140,20 @@ begins pool s now client call asked task tracking same whole told work spends th
       whole = whole;
       told = subst (λ (x : State). asked ≡ answer x.limits (readings_of x) client no_key call) (sym same) told;
     } in
-    let work_here : work_in task ≡ work_of s client call asked = subst (λ (x : State). work_in task ≡ work_of x client call asked) (sym same) work in
+    let work_here : work_in task ≡ work_of s client call asked =
+    subst (λ (x : State). work_in task ≡ work_of x client call asked) (sym same) work in
     record {
       known = known;
       work = work_here;
       spends = spends;
-      may = may_do s.limits s client call asked task known work_here spends (subst (λ (x : State). IfSome task (SpendsThere x.forest)) (sym same) there);
+      may = may_do s.limits s client call asked task known work_here spends (subst (λ (x : State). IfSome task (SpendsThere x.forest))
+          (sym same) there);
       some = some;
       tracks = subst (λ (x : State). option_map waiting_as tracking ≡ tracker_by x.forest call asked) (sym same) tracks;
     }
 
-module _ (s : State) (client : ℕ) (call : Call) (asked reply : Reply) (task : Option Task) (tracking : Option Tracking) (b : Begins s client call asked task tracking) where
+module _ (s : State) (client : ℕ) (call : Call) (asked reply : Reply) (task : Option Task) (tracking : Option Tracking)
+    (b : Begins s client call asked task tracking) where
   -- there is no task, if there is none for the call
   idle : HasNoTask s client call asked → task ≡ None
   idle none = no_task task b.some (b.work ∙ none.work) (b.spends ∙ none.spends)
@@ -151,7 +164,9 @@ module _ (s : State) (client : ℕ) (call : Call) (asked reply : Reply) (task : 
       let none = room_idle s client call asked takes in
       (idle none.0, none_from waiting_as tracking (b.tracks ∙ none.1))
 
-  module _ (parts : Parts) (takes : TakesEffect s.pool (record { clients = s.clients; forest = s.forest; holds = s.holds; trackers = s.trackers }) parts client call asked task tracking reply) where
+  module _ (parts : Parts) (takes : TakesEffect s.pool
+      (record { clients = s.clients; forest = s.forest; holds = s.holds; trackers = s.trackers }) parts client call asked task tracking
+      reply) where
     -- the key is as the answer wants it
     made : IsKeyed s asked takes.key
     made = is_keyed s.limits (total parts.holds) s client call asked task takes.key parts.forest b.known b.work takes.work
@@ -187,10 +202,12 @@ module _ (s : State) (client : ℕ) (call : Call) (asked reply : Reply) (task : 
               let there = carried_there s client call asked c b.known carries_it in
               let none : task ≡ None = idle (carried_idle s client call asked c carries_it) in
               let same : parts.forest ≡ s.forest =
-              (subst (λ (o : Option Task). Reworked s.pool (total parts.holds) s.forest (work_in o) takes.key parts.forest) none takes.work).0 in
+              (subst (λ (o : Option Task). Reworked s.pool (total parts.holds) s.forest (work_in o) takes.key parts.forest) none
+              takes.work).0 in
               (there.0.0, rw same there.0.1, there.0.2, there.1)
 
-      module _ (forest : Forest) (trackers : Table) (collections : forest.collections ≡ without_over (with_place (placed task carried) parts.forest).collections) (keys : SameKeys parts.forest forest)
+      module _ (forest : Forest) (trackers : Table) (collections : forest.collections ≡ without_over (with_place (placed task carried)
+          parts.forest).collections) (keys : SameKeys parts.forest forest)
           (sweeps : trackers ≡ swept (world_in parts.forest (total parts.holds)) (s.events + 1) parts.trackers) where
         -- the state after the event
         abbrev pub after : State
@@ -199,7 +216,8 @@ module _ (s : State) (client : ℕ) (call : Call) (asked reply : Reply) (task : 
         -- the end is where the event puts it
         placed_is : placed task carried ≡ end_by client call (keyed asked takes.key)
         placed_is =
-            (λ i. option_or (spent_place (b.spends i)) (carries i)) ∙ (sym (end_split client call asked) ∙ sym (same_end client call asked takes.key))
+            (λ i. option_or (spent_place (b.spends i)) (carries i)) ∙ (sym (end_split client call asked)
+            ∙ sym (same_end client call asked takes.key))
 
         -- it follows
         pub step_follows : Follows s after client call reply
@@ -208,12 +226,14 @@ module _ (s : State) (client : ℕ) (call : Call) (asked reply : Reply) (task : 
           limits = refl;
           events = refl;
           clients = takes.clients ∙ sym (same_clients client call asked takes.key s.clients);
-          handles = moved s.holds parts.holds (Called client asked call) takes.handles ∙ sym (same_handles client call asked takes.key (counts_of s.holds));
+          handles = moved s.holds parts.holds (Called client asked call) takes.handles
+              ∙ sym (same_handles client call asked takes.key (counts_of s.holds));
           worked = parts.forest;
           work = worked_is (total parts.holds) s client call asked task takes.key parts.forest b.work made takes.work;
           collections = collections ∙ ap (λ (o : Option Place). without_over (with_place o parts.forest).collections) placed_is;
           keys = keys;
           attached = parts.trackers;
-          gains = subst (λ (o : Option Waiting). Gains s.trackers o parts.trackers) (b.tracks ∙ sym (same_tracker s.forest call asked takes.key)) takes.trackers;
+          gains = subst (λ (o : Option Waiting). Gains s.trackers o parts.trackers) (b.tracks
+              ∙ sym (same_tracker s.forest call asked takes.key)) takes.trackers;
           trackers = sweeps;
         })

@@ -41,10 +41,13 @@ use Rattle.lifetime_core.proofs.joined.Numbers.{joined_number}
 -- ---- nothing changed
 
 -- fields that stayed are still whole
-pub whole_same : (pool now : Holdings) (limits : Bound) (events : ℕ) (clients clients_now : List Client) (forest forest_now : Forest) (holds holds_now : Counts) (trackers trackers_now : Table) →
-    clients_now ≡ clients → forest_now ≡ forest → now ≡ pool → counts_of holds_now ≡ counts_of holds → trackers_now ≡ trackers → holds_now.limit ≡ holds.limit →
+pub whole_same : (pool now : Holdings) (limits : Bound) (events : ℕ) (clients clients_now : List Client) (forest forest_now : Forest)
+    (holds holds_now : Counts) (trackers trackers_now : Table) →
+    clients_now ≡ clients → forest_now ≡ forest → now ≡ pool → counts_of holds_now ≡ counts_of holds → trackers_now ≡ trackers →
+    holds_now.limit ≡ holds.limit →
     IsWhole pool limits events clients forest holds trackers → IsWhole now limits events clients_now forest_now holds_now trackers_now
-whole_same pool now limits events clients clients_now forest forest_now holds holds_now trackers trackers_now same_clients same_forest same_pool same_counts same_trackers same_limit whole =
+whole_same pool now limits events clients clients_now forest forest_now holds holds_now trackers trackers_now same_clients same_forest
+    same_pool same_counts same_trackers same_limit whole =
     let totals : total holds ≡ total holds_now = ap (λ (h : HandleCounts). h.total) (sym same_counts) in
     rw (same_clients, same_forest, same_pool, same_trackers) (record {
       sized = whole.sized;
@@ -94,36 +97,44 @@ from_ids P [] all = tt
 from_ids P (c ∷ clients) all = (all.0, from_ids P clients all.1)
 
 -- a client that joins is told of
-joined_told : (client : ℕ) (call : Call) (asked : Reply) (made : ℕ) → joined_at (Called client asked call) ≡ Some made → asked ≡ Reply.Joined made
+joined_told : (client : ℕ) (call : Call) (asked : Reply) (made : ℕ) → joined_at (Called client asked call) ≡ Some made →
+    asked ≡ Reply.Joined made
 joined_told client Call.Join (Reply.Joined other) made is = cc
 joined_told client _ (Reply.Joined other) made is = cc
 joined_told client call _ made is = cc
 
 -- the clients still stand by their numbers, none of which is above that of the event
-clients_rise : (limits : Bound) (s : State) (client : ℕ) (call : Call) (asked : Reply) → asked ≡ answer limits (readings_of s) client no_key call → Rise (ids s.clients) →
+clients_rise : (limits : Bound) (s : State) (client : ℕ) (call : Call) (asked : Reply) →
+    asked ≡ answer limits (readings_of s) client no_key call → Rise (ids s.clients) →
     AllByRecursion (λ (c : Client). c.id ≤ s.events) s.clients → let now : List Client = clients_by (Called client asked call) s.clients in
     Rise (ids now) × AllByRecursion (λ (c : Client). c.id ≤ s.events + 1) now
 clients_rise limits s client call asked told rise all =
     let now : List Client = clients_by (Called client asked call) s.clients in
     let both = by (joined_at (Called client asked call)) refl in
-    let is : ids now ≡ ids s.clients ++ cons_option (joined_at (Called client asked call)) [] = ids_by (Called client asked call) s.clients in
+    let is : ids now ≡ ids s.clients ++ cons_option (joined_at (Called client asked call)) [] =
+    ids_by (Called client asked call) s.clients in
     (rw is both.0, from_ids (λ n. n ≤ s.events + 1) now (rw is both.1))
   where
     each : AllByRecursion (λ (n : ℕ). n ≤ s.events) (ids s.clients)
     each = of_ids (λ n. n ≤ s.events) s.clients all
 
-    by : (o : Option ℕ) → joined_at (Called client asked call) ≡ o → Rise (ids s.clients ++ cons_option o []) × AllByRecursion (λ (n : ℕ). n ≤ s.events + 1) (ids s.clients ++ cons_option o [])
-    by None is = rw (append-nil (ids s.clients)) (rise, weaken (λ n. n ≤ s.events) (λ n. n ≤ s.events + 1) (λ n less. omega arith) (ids s.clients) each)
+    by : (o : Option ℕ) → joined_at (Called client asked call) ≡ o → Rise (ids s.clients ++ cons_option o []) ×
+        AllByRecursion (λ (n : ℕ). n ≤ s.events + 1) (ids s.clients ++ cons_option o [])
+    by None is =
+        rw (append-nil (ids s.clients)) (rise, weaken (λ n. n ≤ s.events) (λ n. n ≤ s.events + 1) (λ n less. omega arith) (ids s.clients) each)
     by (Some made) is =
-        let number : made ≡ s.events + 1 = joined_number limits (readings_of s) client no_key call made (sym (joined_told client call asked made is) ∙ told) in (
+        let number : made ≡ s.events + 1 =
+        joined_number limits (readings_of s) client no_key call made (sym (joined_told client call asked made is) ∙ told) in (
           Rise-push (ids s.clients) made rise (weaken (λ n. n ≤ s.events) (λ n. n < made) (λ n less. omega arith) (ids s.clients) each),
-          push_more (λ n. n ≤ s.events + 1) (ids s.clients) made (weaken (λ n. n ≤ s.events) (λ n. n ≤ s.events + 1) (λ n less. omega arith) (ids s.clients) each) (omega arith),
+          push_more (λ n. n ≤ s.events + 1) (ids s.clients) made (weaken (λ n. n ≤ s.events) (λ n. n ≤ s.events + 1) (λ n less.
+              omega arith) (ids s.clients) each) (omega arith),
         )
 
 -- ---- limits
 
 -- the limit of nodes stays
-same_limit : (pool : ℕ) (handles : Handles) (f worked : Forest) (task : Option Task) (key : Option NodeKey) → Reworked pool handles f (work_in task) key worked → worked.limit ≡ f.limit
+same_limit : (pool : ℕ) (handles : Handles) (f worked : Forest) (task : Option Task) (key : Option NodeKey) →
+    Reworked pool handles f (work_in task) key worked → worked.limit ≡ f.limit
 same_limit pool handles f worked task key done = by (work_in task) done
   where
     by : (o : Option Work) → Reworked pool handles f o key worked → worked.limit ≡ f.limit
@@ -137,7 +148,8 @@ attached_limit old new (Some t) gains = ap (λ (x : Table). x.limit) gains.next
 
 -- ---- the event
 
-module _ (s : State) (client : ℕ) (call : Call) (asked reply : Reply) (task : Option Task) (tracking : Option Tracking) (b : Begins s client call asked task tracking) where
+module _ (s : State) (client : ℕ) (call : Call) (asked reply : Reply) (task : Option Task) (tracking : Option Tracking)
+    (b : Begins s client call asked task tracking) where
   -- the handles may be moved
   pub moves : MayMove s.holds client call asked
   moves = may_move s.limits s client b.known.whole.sent b.known.whole.handle_limit call asked b.known.told
@@ -160,36 +172,50 @@ module _ (s : State) (client : ℕ) (call : Call) (asked reply : Reply) (task : 
     tracks = b.tracks;
   }
 
-  module _ (parts : Parts) (takes : TakesEffect s.pool (record { clients = s.clients; forest = s.forest; holds = s.holds; trackers = s.trackers }) parts client call asked task tracking reply) where
+  module _ (parts : Parts) (takes : TakesEffect s.pool
+      (record { clients = s.clients; forest = s.forest; holds = s.holds; trackers = s.trackers }) parts client call asked task tracking
+      reply) where
     -- no tracker elsewhere is due
-    pub none_elsewhere : All (λ (t : Waiting). (looked_in (world_in parts.forest (total parts.holds)) (changed_by task) tracking ≡ Some t.place → ⊥) → is_due (world_in parts.forest (total parts.holds)) t ≡ false) parts.trackers.unfired
+    pub none_elsewhere : All (λ (t : Waiting).
+        (looked_in (world_in parts.forest (total parts.holds)) (changed_by task) tracking ≡ Some t.place → ⊥) →
+        is_due (world_in parts.forest (total parts.holds)) t ≡ false) parts.trackers.unfired
     none_elsewhere = elsewhere s client call asked task tracking starts parts.holds takes.handles parts.forest takes.key takes.work
         (finishes s client call asked reply task tracking b parts takes) parts.trackers takes.trackers
 
     -- the fields are whole again
-    pub whole_then : (before pool : Holdings) (g : Forest) (place : Option Place) (trackers : Table) → IsWhole before s.limits s.events s.clients s.forest s.holds s.trackers → pool.size ≡ before.size →
-        IsPoolOf pool parts.forest → all_held g ≡ all_held parts.forest → parts.holds.limit ≡ s.holds.limit → s.events < s.limits.events → s.events + 1 < 2 ^ 32 →
-        g.collections ≡ without_over (with_place place parts.forest).collections → SameKeys parts.forest g → IsSound g → ((most : ℕ) → AreUpTo most parts.forest → AreUpTo most g) →
+    pub whole_then : (before pool : Holdings) (g : Forest) (place : Option Place) (trackers : Table) →
+        IsWhole before s.limits s.events s.clients s.forest s.holds s.trackers → pool.size ≡ before.size →
+        IsPoolOf pool parts.forest → all_held g ≡ all_held parts.forest → parts.holds.limit ≡ s.holds.limit → s.events < s.limits.events →
+        s.events + 1 < 2 ^ 32 →
+        g.collections ≡ without_over (with_place place parts.forest).collections → SameKeys parts.forest g → IsSound g →
+        ((most : ℕ) → AreUpTo most parts.forest → AreUpTo most g) →
         trackers ≡ swept (world_in parts.forest (total parts.holds)) (s.events + 1) parts.trackers →
         IsWhole pool s.limits (s.events + 1) parts.clients g parts.holds trackers
     whole_then before pool g place trackers whole size pages held limit room short left keys sound up sweeps =
         let risen = clients_rise s.limits s client call asked b.known.told whole.rising whole.joined in
-        let counts : counts_of parts.holds ≡ handles_by (Called client asked call) (counts_of s.holds) = moved s.holds parts.holds (Called client asked call) takes.handles in
+        let counts : counts_of parts.holds ≡ handles_by (Called client asked call) (counts_of s.holds) =
+        moved s.holds parts.holds (Called client asked call) takes.handles in
         let amid = finishes s client call asked reply task tracking b parts takes in
         rw (takes.clients, sweeps) (record {
           sized = rw size whole.sized;
-          pages = pages ∙ ap (λ (hs : List HeldPages). sorted_by (λ (i : Interval). i.start) (map (λ (h : HeldPages). h.pages) hs)) (sym held);
+          pages = pages ∙ ap (λ (hs : List HeldPages). sorted_by (λ (i : Interval). i.start) (map (λ (h : HeldPages). h.pages) hs))
+              (sym held);
           in_time = omega arith;
           few = short;
           rising = risen.0;
           joined = risen.1;
           limit = keys.limit ∙ (same_limit s.pool (total parts.holds) s.forest parts.forest task takes.key takes.work ∙ whole.limit);
-          opened = up (s.events + 1) (up_to_worked s.pool (total parts.holds) s.forest parts.forest task takes.key (s.events + 1) whole.sound b.may takes.work
-              (λ c on. let less : c.id ≤ s.events = whole.opened c on in omega arith) (within s.limits s client call asked task b.known b.work));
+          opened = up (s.events + 1) (up_to_worked s.pool (total parts.holds) s.forest parts.forest task takes.key (s.events + 1)
+              whole.sound b.may takes.work
+              (λ c on. let less : c.id ≤ s.events = whole.opened c on in
+              omega arith) (within s.limits s client call asked task b.known b.work));
           sound = sound;
           handle_limit = limit ∙ whole.handle_limit;
-          sent = subst (AreSent (clients_by (Called client asked call) s.clients)) (sym counts) (still_sent s.limits s client whole.sent whole.rising asked call b.known.told);
+          sent = subst (AreSent (clients_by (Called client asked call) s.clients)) (sym counts) (still_sent s.limits s client whole.sent
+              whole.rising asked call b.known.told);
           tracker_limit = attached_limit s.trackers parts.trackers (option_map waiting_as tracking) takes.trackers ∙ whole.tracker_limit;
-          numbered = still_numbered s call asked s.limits client tracking parts.trackers b.known.told b.tracks takes.trackers whole.numbered;
-          waiting = waiting_after s client call asked task tracking starts parts.holds takes.handles parts.forest takes.key takes.work amid parts.trackers takes.trackers place g left keys sound;
+          numbered = still_numbered s call asked s.limits client tracking parts.trackers b.known.told b.tracks takes.trackers
+              whole.numbered;
+          waiting = waiting_after s client call asked task tracking starts parts.holds takes.handles parts.forest takes.key takes.work amid
+              parts.trackers takes.trackers place g left keys sound;
         })

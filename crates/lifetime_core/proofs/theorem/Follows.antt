@@ -68,15 +68,18 @@ module _ (pool : ℕ) (s : Standing) (other : List Interval) where
   initial_held same given = from s.buffers refl
     where
       at_root : (o : Option Member) → root_left s.members ≡ o → is_some s.buffers ≡ true →
-          option_and_then (λ root. when (not root.allocated && is_ready root.key s.members) (outcome root.key (initial_failure pool s (asked s.members)))) o
-          ≡ option_and_then (λ root. when (not root.allocated && is_ready root.key s.members) (outcome root.key (initial_failure pool (record s { held = other }) (asked s.members)))) o
+          option_and_then (λ root. when (not root.allocated && is_ready root.key s.members)
+          (outcome root.key (initial_failure pool s (asked s.members)))) o
+          ≡ option_and_then (λ root. when (not root.allocated && is_ready root.key s.members)
+          (outcome root.key (initial_failure pool (record s { held = other }) (asked s.members)))) o
       at_root None e there = refl
       at_root (Some root) e there = rw (given there root e) refl
 
       from : (o : Option Buffers) → s.buffers ≡ o → initial_allocation pool s ≡ initial_allocation pool (record s { held = other })
       from None e =
           let want : Buffers = asked s.members in
-          let room : places pool (pages_of want.size) want.count s.held ≡ places pool (pages_of want.size) want.count other = places_same pool (pages_of want.size) want.count s.held other (same e) in
+          let room : places pool (pages_of want.size) want.count s.held ≡ places pool (pages_of want.size) want.count other =
+          places_same pool (pages_of want.size) want.count s.held other (same e) in
           λ i. option_and_then (λ root. when (not root.allocated && is_ready root.key s.members) (outcome root.key (first_some (
           when (not (some_strong_live s.members)) Failure.NoStrong
           ∷ when (want.count == 0) Failure.NoBuffers
@@ -93,7 +96,8 @@ module _ (pool : ℕ) (s : Standing) (other : List Interval) where
 
 -- ---- the same mark is forced
 
-module _ (pool : ℕ) (limits : Bound) (keep : NodeKey → Bool) (marks : Timeline) (others : List Interval) (c : Collection) (grown : Grows pool limits [] marks)
+module _ (pool : ℕ) (limits : Bound) (keep : NodeKey → Bool) (marks : Timeline) (others : List Interval) (c : Collection)
+    (grown : Grows pool limits [] marks)
     (m : Matches pool keep marks others c) where
   -- the history's collection without the nodes that are gone
   abbrev before : Standing
@@ -104,7 +108,8 @@ module _ (pool : ℕ) (limits : Bound) (keep : NodeKey → Bool) (marks : Timeli
   members_match = ap members_of m.nodes ∙ members_kept keep marks c.id (whole pool limits marks grown) m.keeps
 
   -- without buffers all pages are those of the others
-  pub pages_match : buffers_of marks c.id ≡ None → (test : Interval → Bool) → list_any test (map (λ (h : HeldPages). h.pages) (held pool marks)) ≡ list_any test (pages_in c ++ others)
+  pub pages_match : buffers_of marks c.id ≡ None → (test : Interval → Bool) →
+      list_any test (map (λ (h : HeldPages). h.pages) (held pool marks)) ≡ list_any test (pages_in c ++ others)
   pages_match none test =
       let all : filter (is_beside c.id) (held pool marks) ≡ held pool marks = filter-all (is_beside c.id) (held pool marks) away in
       let empty : c.held ≡ [] = m.none (m.buffers ∙ none) in
@@ -128,7 +133,9 @@ module _ (pool : ℕ) (limits : Bound) (keep : NodeKey → Bool) (marks : Timeli
       let r = member_birth marks c.id root (In-filter is_left (members marks c.id) root f.0).0 in
       let b : Birth = r.0 in
       let top : b.parent ≡ None = none_if b.parent (ap is_root (sym r.2) ∙ and_left (is_root root) (not root.gone) f.1) in
-      ap (λ (m : Member). m.allocated) r.2 ∙ given_root pool limits marks grown b r.1 top (ap (λ (k : ℕ). is_some (buffers_of marks k)) (eqb-true b.collection c.id r.3) ∙ there)
+      ap (λ (m : Member). m.allocated) r.2
+      ∙ given_root pool limits marks grown b r.1 top (ap (λ (k : ℕ). is_some (buffers_of marks k)) (eqb-true b.collection c.id r.3)
+      ∙ there)
 
   module _ (handles : Handles) (counts : Counts handles marks) where
     -- the collections stand alike but for the pages
@@ -136,7 +143,8 @@ module _ (pool : ℕ) (limits : Bound) (keep : NodeKey → Bool) (marks : Timeli
     stands = λ i. record {
       members = members_match i;
       buffers = m.buffers i;
-      strong_open = list_any (λ b. nat_lt 0 (counts b Strength.Strong i)) (option_map_or (λ (b : Buffers). names c.id b.count) (m.buffers i) []);
+      strong_open = list_any (λ b. nat_lt 0 (counts b Strength.Strong i)) (option_map_or (λ (b : Buffers). names c.id b.count) (m.buffers i)
+          []);
       held = pages_in c ++ others;
     }
 

@@ -47,9 +47,12 @@ module _ (mark : Mark) (unseen : IsUnseen mark) where
   no_moves : (holds : Counts) → Moves holds holds mark
   no_moves holds = record {
     each = λ client b s. stays (of holds client b s) (gains (only client) b s mark) (loses (only client) b s mark)
-        (rw (unseen.opened (only client) b s, unseen.landed (only client) b s) refl) (rw (unseen.dropped (only client) b s, unseen.lifted (only client) b s) refl);
-    in_parcels = λ b s. stays (moving holds b s) (lifts anyone b s mark) (lands anyone b s mark) (unseen.lifted anyone b s) (unseen.landed anyone b s);
-    in_all = λ b s. stays (total holds b s) (opens anyone b s mark) (drops anyone b s mark) (unseen.opened anyone b s) (unseen.dropped anyone b s);
+        (rw (unseen.opened (only client) b s, unseen.landed (only client) b s) refl)
+        (rw (unseen.dropped (only client) b s, unseen.lifted (only client) b s) refl);
+    in_parcels = λ b s. stays (moving holds b s) (lifts anyone b s mark) (lands anyone b s mark) (unseen.lifted anyone b s)
+        (unseen.landed anyone b s);
+    in_all = λ b s. stays (total holds b s) (opens anyone b s mark) (drops anyone b s mark) (unseen.opened anyone b s)
+        (unseen.dropped anyone b s);
   }
 
   -- a client stays
@@ -107,13 +110,19 @@ no_key_told call (Reply.Token key collection) idle = cc
 no_key_told call _ idle = refl
 
 none_sees : (client : ℕ) (call : Call) (asked : Reply) → changes_nothing call asked ≡ true → IsUnseen (Called client asked call)
-none_sees client (Call.Sync key) Reply.Done idle = record { opened = λ who b s. refl; dropped = λ who b s. refl; lifted = λ who b s. refl; landed = λ who b s. refl; joined = refl; shut = λ c. refl; collected = λ c. refl; given = λ c. refl }
+none_sees client (Call.Sync key) Reply.Done idle =
+    record { opened = λ who b s. refl; dropped = λ who b s. refl; lifted = λ who b s. refl; landed = λ who b s. refl; joined = refl; shut = λ c. refl; collected = λ c. refl; given = λ c. refl }
 none_sees client _ Reply.Done idle = cc
-none_sees client call Reply.Empty idle = record { opened = λ who b s. refl; dropped = λ who b s. refl; lifted = λ who b s. refl; landed = λ who b s. refl; joined = refl; shut = λ c. refl; collected = λ c. refl; given = λ c. refl }
-none_sees client call Reply.Pending idle = record { opened = λ who b s. refl; dropped = λ who b s. refl; lifted = λ who b s. refl; landed = λ who b s. refl; joined = refl; shut = λ c. refl; collected = λ c. refl; given = λ c. refl }
-none_sees client call (Reply.Allocated count size) idle = record { opened = λ who b s. refl; dropped = λ who b s. refl; lifted = λ who b s. refl; landed = λ who b s. refl; joined = refl; shut = λ c. refl; collected = λ c. refl; given = λ c. refl }
-none_sees client call (Reply.Refused refusal) idle = record { opened = λ who b s. refl; dropped = λ who b s. refl; lifted = λ who b s. refl; landed = λ who b s. refl; joined = refl; shut = λ c. refl; collected = λ c. refl; given = λ c. refl }
-none_sees client call (Reply.PeerClosed cause origin) idle = record { opened = λ who b s. refl; dropped = λ who b s. refl; lifted = λ who b s. refl; landed = λ who b s. refl; joined = refl; shut = λ c. refl; collected = λ c. refl; given = λ c. refl }
+none_sees client call Reply.Empty idle =
+    record { opened = λ who b s. refl; dropped = λ who b s. refl; lifted = λ who b s. refl; landed = λ who b s. refl; joined = refl; shut = λ c. refl; collected = λ c. refl; given = λ c. refl }
+none_sees client call Reply.Pending idle =
+    record { opened = λ who b s. refl; dropped = λ who b s. refl; lifted = λ who b s. refl; landed = λ who b s. refl; joined = refl; shut = λ c. refl; collected = λ c. refl; given = λ c. refl }
+none_sees client call (Reply.Allocated count size) idle =
+    record { opened = λ who b s. refl; dropped = λ who b s. refl; lifted = λ who b s. refl; landed = λ who b s. refl; joined = refl; shut = λ c. refl; collected = λ c. refl; given = λ c. refl }
+none_sees client call (Reply.Refused refusal) idle =
+    record { opened = λ who b s. refl; dropped = λ who b s. refl; lifted = λ who b s. refl; landed = λ who b s. refl; joined = refl; shut = λ c. refl; collected = λ c. refl; given = λ c. refl }
+none_sees client call (Reply.PeerClosed cause origin) idle =
+    record { opened = λ who b s. refl; dropped = λ who b s. refl; lifted = λ who b s. refl; landed = λ who b s. refl; joined = refl; shut = λ c. refl; collected = λ c. refl; given = λ c. refl }
 none_sees client call _ idle = cc
 
 -- ---- the event
@@ -130,10 +139,12 @@ pub record Idles (s : State) (client : ℕ) (call : Call) (asked : Reply) : Type
   pub tidy : s.forest.collections ≡ without_over s.forest.collections
   pub still : s.trackers ≡ swept (world_in s.forest (total s.holds)) (s.events + 1) s.trackers
 
-pub idles : (pool : Holdings) (s now : State) (client : ℕ) (call : Call) (asked : Reply) → s ≡ now → IsWhole pool s.limits s.events s.clients s.forest s.holds s.trackers →
+pub idles : (pool : Holdings) (s now : State) (client : ℕ) (call : Call) (asked : Reply) → s ≡ now →
+    IsWhole pool s.limits s.events s.clients s.forest s.holds s.trackers →
     asked ≡ answer now.limits (readings_of now) client no_key call → changes_nothing call asked ≡ true → Idles s client call asked
 idles pool s now client call asked same whole told idle = record {
-  begins = begins pool s now client call asked None None same whole told (no_work now client call asked idle) (no_spend call asked idle) tt tt (no_track now.forest call asked idle);
+  begins = begins pool s now client call asked None None same whole told (no_work now client call asked idle) (no_spend call asked idle) tt
+      tt (no_track now.forest call asked idle);
   takes = record {
     key = None;
     told = no_key_told call asked idle;
@@ -144,7 +155,8 @@ idles pool s now client call asked same whole told idle = record {
   };
   carries = no_carry client call asked idle;
   tidy = sym (all_tidy s.forest.collections whole.sound.tidy);
-  still = sym (none_swept (world_in s.forest (total s.holds)) (s.events + 1) s.trackers (λ t on. (In-all (StillWaits s.forest (total s.holds)) s.trackers.unfired whole.waiting t on).undue));
+  still = sym (none_swept (world_in s.forest (total s.holds)) (s.events + 1) s.trackers (λ t on.
+      (In-all (StillWaits s.forest (total s.holds)) s.trackers.unfired whole.waiting t on).undue));
 }
 
 module _ (s : State) (client : ℕ) (call : Call) (asked : Reply) (i : Idles s client call asked) where
@@ -154,11 +166,14 @@ module _ (s : State) (client : ℕ) (call : Call) (asked : Reply) (i : Idles s c
 
   -- it follows
   pub idle_follows : Follows s further client call asked
-  idle_follows = step_follows s client call asked asked None None i.begins (parts_of s) i.takes None i.carries s.forest s.trackers i.tidy (record { limit = refl; keys = λ key. refl }) i.still
+  idle_follows = step_follows s client call asked asked None None i.begins (parts_of s) i.takes None i.carries s.forest s.trackers i.tidy
+      (record { limit = refl; keys = λ key. refl }) i.still
 
   -- and the fields are whole
-  pub idle_whole : (pool : Holdings) → IsWhole pool s.limits s.events s.clients s.forest s.holds s.trackers → s.events < s.limits.events → s.events + 1 < 2 ^ 32 →
+  pub idle_whole : (pool : Holdings) → IsWhole pool s.limits s.events s.clients s.forest s.holds s.trackers → s.events < s.limits.events →
+      s.events + 1 < 2 ^ 32 →
       IsWhole pool s.limits (s.events + 1) s.clients s.forest s.holds s.trackers
   idle_whole pool whole room short =
-      whole_then s client call asked asked None None i.begins (parts_of s) i.takes pool pool s.forest None s.trackers whole refl whole.pages refl refl room short i.tidy
+      whole_then s client call asked asked None None i.begins (parts_of s) i.takes pool pool s.forest None s.trackers whole refl whole.pages
+      refl refl room short i.tidy
       (record { limit = refl; keys = λ key. refl }) whole.sound (λ most up. up) i.still

@@ -24,13 +24,16 @@ use Rattle.lifetime_core.proofs.forced.Whole.{Named, named}
 -- ---- one event
 
 -- the tracker that is attached is the one that the reply tells of
-tracker_id : (limits : Bound) (s : State) (client : ℕ) (call : Call) (reply : Reply) → IsAnswer limits (readings_of s) client call reply → fits_call call reply ≡ true →
+tracker_id : (limits : Bound) (s : State) (client : ℕ) (call : Call) (reply : Reply) → IsAnswer limits (readings_of s) client call reply →
+    fits_call call reply ≡ true →
     option_map (λ (w : Waiting). w.id) (tracker_by s.forest call reply) ≡ tracker_told reply
 tracker_id limits s client (Call.TrackNode key) (Reply.Tracker id) answer fits =
-    let n : Named s (Call.TrackNode key) (Reply.Tracker id) key = named limits s client no_key (Call.TrackNode key) (Reply.Tracker id) key answer.told refl refl in
+    let n : Named s (Call.TrackNode key) (Reply.Tracker id) key =
+    named limits s client no_key (Call.TrackNode key) (Reply.Tracker id) key answer.told refl refl in
     rw n.at refl
 tracker_id limits s client (Call.TrackLifetime key most) (Reply.Tracker id) answer fits =
-    let n : Named s (Call.TrackLifetime key most) (Reply.Tracker id) key = named limits s client no_key (Call.TrackLifetime key most) (Reply.Tracker id) key answer.told refl refl in
+    let n : Named s (Call.TrackLifetime key most) (Reply.Tracker id) key =
+    named limits s client no_key (Call.TrackLifetime key most) (Reply.Tracker id) key answer.told refl refl in
     rw n.at refl
 tracker_id limits s client (Call.TrackWeak buffer) (Reply.Tracker id) answer fits = refl
 tracker_id limits s client (Call.TrackNode key) reply answer fits = refl
@@ -40,12 +43,14 @@ tracker_id limits s client call (Reply.Tracker id) answer fits = cc
 tracker_id limits s client call reply answer fits = refl
 
 -- what is gained is to be taken
-gained : (old new : Table) (o : Option Waiting) → Gains old o new → new.untaken ≡ old.untaken ++ cons_option (option_map (λ (w : Waiting). w.id) o) []
+gained : (old new : Table) (o : Option Waiting) → Gains old o new →
+    new.untaken ≡ old.untaken ++ cons_option (option_map (λ (w : Waiting). w.id) o) []
 gained old new None same = ap (λ (t : Table). t.untaken) same ∙ sym (append-nil old.untaken)
 gained old new (Some tracker) gains = ap (λ (t : Table). t.untaken) gains.next
 
 -- the readers that are to be taken after an event are those before, and that of the tracker that its reply tells of
-pub untaken_after : (old new : State) (client : ℕ) (call : Call) (reply : Reply) → IsAnswer old.limits (readings_of old) client call reply → Follows old new client call reply →
+pub untaken_after : (old new : State) (client : ℕ) (call : Call) (reply : Reply) → IsAnswer old.limits (readings_of old) client call reply →
+    Follows old new client call reply →
     new.trackers.untaken ≡ old.trackers.untaken ++ cons_option (tracker_told reply) []
 untaken_after old new client call reply answer f =
     let fits : fits_call call reply ≡ true = reply-fits old.limits (readings_of old) client (key_told reply) call reply answer.told in
@@ -56,7 +61,8 @@ untaken_after old new client call reply answer f =
 -- ---- several events
 
 -- one more event leads on
-pub leads_on : (old mid new : State) (made : List Entry) (entry : Entry) → Leads old made mid → Makes mid new entry → Leads old (made ++ entry ∷ []) new
+pub leads_on : (old mid new : State) (made : List Entry) (entry : Entry) → Leads old made mid → Makes mid new entry →
+    Leads old (made ++ entry ∷ []) new
 leads_on old mid new [] entry same makes = (new, subst (λ (s : State). Makes s new entry) same makes, refl)
 leads_on old mid new (first ∷ more) entry leads makes = (leads.0, leads.1, leads_on leads.0 mid new more entry leads.2 makes)
 
@@ -70,7 +76,8 @@ leads_limits old new [] same = ap (λ (s : State). s.limits) same
 leads_limits old new (first ∷ more) leads = leads_limits leads.0 new more leads.2 ∙ leads.1.after.limits
 
 -- and the readers that are to be taken are those before, and those that their replies tell of
-pub leads_untaken : (old new : State) (made : List Entry) → Leads old made new → new.trackers.untaken ≡ old.trackers.untaken ++ trackers_told made
+pub leads_untaken : (old new : State) (made : List Entry) → Leads old made new →
+    new.trackers.untaken ≡ old.trackers.untaken ++ trackers_told made
 leads_untaken old new [] same = ap (λ (s : State). s.trackers.untaken) same ∙ sym (append-nil old.trackers.untaken)
 leads_untaken old new (first ∷ more) leads =
     leads_untaken leads.0 new more leads.2
@@ -89,12 +96,15 @@ pub leads_none : (s : State) (calls : List (ℕ × Call)) (replies : List Reply)
 leads_none s calls replies none = subst (λ (es : List Entry). Leads s es s) (sym (ap (entries calls) none ∙ entries-none calls)) refl
 
 -- and after one more
-pub leads_more : (old mid new : State) (calls : List (ℕ × Call)) (replies : List Reply) (reply : Reply) (d : ℕ × Call) → length replies < length calls →
-    Leads old (entries calls replies) mid → Makes mid new ((get_or calls (length replies) d).0, (get_or calls (length replies) d).1, reply) →
+pub leads_more : (old mid new : State) (calls : List (ℕ × Call)) (replies : List Reply) (reply : Reply) (d : ℕ × Call) →
+    length replies < length calls →
+    Leads old (entries calls replies) mid →
+    Makes mid new ((get_or calls (length replies) d).0, (get_or calls (length replies) d).1, reply) →
     Leads old (entries calls (replies ++ reply ∷ [])) new
 leads_more old mid new calls replies reply d less before next =
     subst (λ (es : List Entry). Leads old es new) (sym (entries-push calls replies reply d less))
-    (leads_on old mid new (entries calls replies) ((get_or calls (length replies) d).0, (get_or calls (length replies) d).1, reply) before next)
+    (leads_on old mid new (entries calls replies) ((get_or calls (length replies) d).0, (get_or calls (length replies) d).1, reply) before
+    next)
 
 -- ---- one step of a run
 
@@ -131,19 +141,22 @@ pub stopped_limits : (old new : State) (made : List Entry) (fault : StepFault) �
 stopped_limits old new made fault stops = ap (λ (s : State). s.limits) stops.kept.rest ∙ leads_limits old stops.last made stops.made
 
 -- the readers that are to be taken are those before, and those that the replies tell of
-pub stopped_untaken : (old new : State) (made : List Entry) (fault : StepFault) → Stops old made fault new → new.trackers.untaken ≡ old.trackers.untaken ++ trackers_told made
+pub stopped_untaken : (old new : State) (made : List Entry) (fault : StepFault) → Stops old made fault new →
+    new.trackers.untaken ≡ old.trackers.untaken ++ trackers_told made
 stopped_untaken old new made fault stops = same_untaken stops.last new stops.kept ∙ leads_untaken old stops.last made stops.made
 
 -- it says that the history is full exactly where it is
 pub stopped_full : (last new : State) (fault : StepFault) (result : Result Reply StepFault) → result ≡ Err fault → IsSame last new →
-    ((result ≡ Err StepFault.HistoryFull) ↔ (last.limits.events ≤ last.events)) → (fault ≡ StepFault.HistoryFull) ↔ (new.limits.events ≤ new.events)
+    ((result ≡ Err StepFault.HistoryFull) ↔ (last.limits.events ≤ last.events)) →
+    (fault ≡ StepFault.HistoryFull) ↔ (new.limits.events ≤ new.events)
 stopped_full last new fault result is same full = (
   (λ e. rw same.rest (full.0 (is ∙ ap (λ (f : StepFault). Err f) e))),
   (λ h. let told : result ≡ Err StepFault.HistoryFull = full.1 (rw same.rest at h) in cc),
 )
 
 -- a run that stops at its first call
-pub stops_at_once : (s : State) (calls : List (ℕ × Call)) (replies : List Reply) (fault : StepFault) → replies ≡ [] → Stops s (entries calls replies) fault s
+pub stops_at_once : (s : State) (calls : List (ℕ × Call)) (replies : List Reply) (fault : StepFault) → replies ≡ [] →
+    Stops s (entries calls replies) fault s
 stops_at_once s calls replies fault none = record {
   last = s;
   made = leads_none s calls replies none;
@@ -152,7 +165,8 @@ stops_at_once s calls replies fault none = record {
 }
 
 -- a run that stops behind its first calls
-pub stops_there : (old last new : State) (made : List Entry) (fault : StepFault) (result : Result Reply StepFault) → result ≡ Err fault → Leads old made last → IsSame last new →
+pub stops_there : (old last new : State) (made : List Entry) (fault : StepFault) (result : Result Reply StepFault) → result ≡ Err fault →
+    Leads old made last → IsSame last new →
     (result ≡ Err StepFault.HistoryFull → new ≡ last) → Stops old made fault new
 stops_there old last new made fault result is leads same equal = record {
   last = last;

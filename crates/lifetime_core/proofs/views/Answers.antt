@@ -62,7 +62,8 @@ module _ (s : State) (marks : Timeline) (shown : IsAfter s marks) where
   joined_is : (client : ℕ) → list_any (λ (c : Client). c.id == client) s.clients ≡ has_joined marks client
   joined_is client =
       ap (list_any (λ (c : Client). c.id == client)) shown.clients
-      ∙ (list_any-map (λ (c : Client). c.id == client) (client_after marks) (reverse (clients marks)) ∙ any-reverse (λ c. c == client) (clients marks))
+      ∙ (list_any-map (λ (c : Client). c.id == client) (client_after marks) (reverse (clients marks))
+      ∙ any-reverse (λ c. c == client) (clients marks))
 
   -- who joined is as the marks make it, and is found
   client_is : (client : ℕ) → client_in s client ≡ cond (has_joined marks client) (Some (client_after marks client)) None
@@ -70,7 +71,8 @@ module _ (s : State) (marks : Timeline) (shown : IsAfter s marks) where
       ap (find (λ (c : Client). c.id == client)) shown.clients
       ∙ (find-map (λ (c : Client). c.id == client) (client_after marks) (reverse (clients marks))
       ∙ (ap (option_map (client_after marks))
-      (find_number client (reverse (clients marks)) ∙ ap (λ (b : Bool). cond b (Some client) None) (any-reverse (λ c. c == client) (clients marks)))
+      (find_number client (reverse (clients marks))
+      ∙ ap (λ (b : Bool). cond b (Some client) None) (any-reverse (λ c. c == client) (clients marks)))
       ∙ inside (has_joined marks client)))
     where
       inside : (b : Bool) → option_map (client_after marks) (cond b (Some client) None) ≡ cond b (Some (client_after marks client)) None
@@ -106,17 +108,21 @@ module _ (s : State) (marks : Timeline) (shown : IsAfter s marks) where
 
     -- who was shut
     shut_is : (client : ℕ) → (readings_of s).is_shut client ≡ is_shut marks client
-    shut_is client = ap (λ (o : Option Client). option_map_or (λ (c : Client). c.shut) o false) (client_is client) ∙ from (has_joined marks client) refl
+    shut_is client = ap (λ (o : Option Client). option_map_or (λ (c : Client). c.shut) o false) (client_is client)
+        ∙ from (has_joined marks client) refl
       where
-        from : (b : Bool) → has_joined marks client ≡ b → option_map_or (λ (c : Client). c.shut) (cond b (Some (client_after marks client)) None) false ≡ is_shut marks client
+        from : (b : Bool) → has_joined marks client ≡ b →
+            option_map_or (λ (c : Client). c.shut) (cond b (Some (client_after marks client)) None) false ≡ is_shut marks client
         from true h = refl
         from false h = sym (stranger_not_shut s.pool limits marks grown client h)
 
     -- and what waits for whom
     waiting_is : (client : ℕ) → (readings_of s).waiting client ≡ parcels marks client
-    waiting_is client = ap (λ (o : Option Client). option_map_or (λ (c : Client). c.waiting) o []) (client_is client) ∙ from (has_joined marks client) refl
+    waiting_is client = ap (λ (o : Option Client). option_map_or (λ (c : Client). c.waiting) o []) (client_is client)
+        ∙ from (has_joined marks client) refl
       where
-        from : (b : Bool) → has_joined marks client ≡ b → option_map_or (λ (c : Client). c.waiting) (cond b (Some (client_after marks client)) None) [] ≡ parcels marks client
+        from : (b : Bool) → has_joined marks client ≡ b →
+            option_map_or (λ (c : Client). c.waiting) (cond b (Some (client_after marks client)) None) [] ≡ parcels marks client
         from true h = refl
         from false h = sym (stranger_waits_for_none s.pool limits marks grown client h)
 
@@ -139,7 +145,8 @@ module _ (s : State) (marks : Timeline) (shown : IsAfter s marks) where
 -- ---- the answers
 
 -- no answer reads which keys were given
-answer-given : (limits : Bound) (r : Readings) (told : NodeKey → Bool) (client : ℕ) (new : NodeKey) (call : Call) → answer limits r client new call ≡ answer limits (record r { was_given = told }) client new call
+answer-given : (limits : Bound) (r : Readings) (told : NodeKey → Bool) (client : ℕ) (new : NodeKey) (call : Call) →
+    answer limits r client new call ≡ answer limits (record r { was_given = told }) client new call
 answer-given limits r told client new Call.Join = refl
 answer-given limits r told client new Call.Shut = refl
 answer-given limits r told client new Call.OpenRoot = refl
@@ -166,19 +173,22 @@ answer-given limits r told client new (Call.TrackWeak buffer) = refl
 
 module _ (s : State) (marks : Timeline) (shown : IsAfter s marks) (bounds : Bound) (grown : Grows s.pool bounds [] marks) where
   -- so the state and the marks answer alike
-  pub answers_are : (limits : Bound) (client : ℕ) (new : NodeKey) (call : Call) → answer limits (readings_of s) client new call ≡ answer limits (readings marks) client new call
+  pub answers_are : (limits : Bound) (client : ℕ) (new : NodeKey) (call : Call) →
+      answer limits (readings_of s) client new call ≡ answer limits (readings marks) client new call
   answers_are limits client new call =
       answer-given limits (readings_of s) (readings marks).was_given client new call
       ∙ ap (λ (r : Readings). answer limits r client new call) (readings_are s marks shown bounds grown)
 
   -- and an answer to the state is one to the marks
-  pub answer_is : (limits : Bound) (client : ℕ) (call : Call) (reply : Reply) → IsAnswer limits (readings_of s) client call reply → IsAnswer limits (readings marks) client call reply
+  pub answer_is : (limits : Bound) (client : ℕ) (call : Call) (reply : Reply) → IsAnswer limits (readings_of s) client call reply →
+      IsAnswer limits (readings marks) client call reply
   answer_is limits client call reply is = record {
     told = is.told ∙ answers_are limits client (key_told reply) call;
     is_new = new (new_key reply) is.is_new;
   }
     where
-      new : (o : Option NodeKey) → option_map_or (readings_of s).was_given o false ≡ false → option_map_or (readings marks).was_given o false ≡ false
+      new : (o : Option NodeKey) → option_map_or (readings_of s).was_given o false ≡ false →
+          option_map_or (readings marks).was_given o false ≡ false
       new None h = refl
       new (Some key) h = elim (either_way ((readings marks).was_given key)) [
         | inl e ↦ both_ways ((readings_of s).was_given key) (was_given s marks shown key e) h

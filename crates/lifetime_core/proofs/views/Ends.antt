@@ -55,7 +55,8 @@ strong_kept nodes = any-left is_strong_live (λ n. not (is_over n)) nodes (λ n 
     dead false r w s over = cc
 
 -- the kept nodes of a collection tell whether some node of it is live and strong
-pub strong_live_is : (pool : ℕ) (marks : Timeline) (collection : ℕ) → some_strong_live (members_of (collection_after pool marks collection).nodes) ≡ some_strong_live (members marks collection)
+pub strong_live_is : (pool : ℕ) (marks : Timeline) (collection : ℕ) →
+    some_strong_live (members_of (collection_after pool marks collection).nodes) ≡ some_strong_live (members marks collection)
 strong_live_is pool marks collection =
     strong_members (collection_after pool marks collection).nodes
     ∙ (strong_kept (nodes_after marks collection)
@@ -66,21 +67,28 @@ strong_live_is pool marks collection =
 
 -- who holds it
 holder_is : (marks : Timeline) (node : NodeKey) → spent marks node ≡ false → holder_of (end_after marks node) ≡ holder marks node
-holder_is marks node e = rw e (elim (in_transit marks node) as (λ (b : Bool). holder_of (cond b (End.InTransit (holder marks node)) (End.Held (holder marks node))) ≡ holder marks node) [ true ↦ refl | false ↦ refl ])
+holder_is marks node e =
+    rw e (elim (in_transit marks node) as (λ (b : Bool).
+    holder_of (cond b (End.InTransit (holder marks node)) (End.Held (holder marks node))) ≡ holder marks node)
+    [ true ↦ refl | false ↦ refl ])
 
 -- whether it is in a parcel
 moving_is : (marks : Timeline) (node : NodeKey) → spent marks node ≡ false → is_moving (end_after marks node) ≡ in_transit marks node
-moving_is marks node e = rw e (elim (in_transit marks node) as (λ (b : Bool). is_moving (cond b (End.InTransit (holder marks node)) (End.Held (holder marks node))) ≡ b) [ true ↦ refl | false ↦ refl ])
+moving_is marks node e =
+    rw e (elim (in_transit marks node) as (λ (b : Bool).
+    is_moving (cond b (End.InTransit (holder marks node)) (End.Held (holder marks node))) ≡ b) [ true ↦ refl | false ↦ refl ])
 
 -- ---- what can be opened
 
 -- of a collection that was given buffers, those are doomed that neither a strong handle nor a strong live node keeps
 doomed_is : (marks : Timeline) (collection : ℕ) (given : Buffers) → buffers_of marks collection ≡ Some given →
-    (name : BufferName) → In name (names collection given.count) → doomed marks name ≡ is_doomed (open_total marks name Strength.Strong) (some_strong_live (members marks collection))
+    (name : BufferName) → In name (names collection given.count) →
+    doomed marks name ≡ is_doomed (open_total marks name Strength.Strong) (some_strong_live (members marks collection))
 doomed_is marks collection given e name on =
     let r = In-map (λ i. record { collection = collection; index = i }) (range_with_len 0 given.count) name on in
     let is : name.collection ≡ collection = ap (λ (x : BufferName). x.collection) r.2 in
-    λ i. is_some ((ap (buffers_of marks) is ∙ e) i) && is_doomed (open_total marks name Strength.Strong) (some_strong_live (members marks (is i)))
+    λ i. is_some ((ap (buffers_of marks) is ∙ e) i) && is_doomed (open_total marks name Strength.Strong)
+    (some_strong_live (members marks (is i)))
 
 module _ (s : State) (marks : Timeline) (shown : IsAfter s marks) (limits : Bound) (grown : Grows s.pool limits [] marks) where
   -- the buffers of a kept collection
@@ -92,15 +100,19 @@ module _ (s : State) (marks : Timeline) (shown : IsAfter s marks) (limits : Boun
   totals_are = ap (λ (h : HandleCounts). h.total) shown.handles
 
   -- and those of them that can be opened
-  to_open_is : (collection : ℕ) → is_kept_collection marks collection ≡ true → to_open_in s collection ≡ filter (λ name. not (doomed marks name)) (buffer_names marks collection)
+  to_open_is : (collection : ℕ) → is_kept_collection marks collection ≡ true →
+      to_open_in s collection ≡ filter (λ name. not (doomed marks name)) (buffer_names marks collection)
   to_open_is collection kept = rw (collection_kept s marks shown limits grown collection kept) (by (buffers_of marks collection) refl)
     where
       by : (o : Option Buffers) → buffers_of marks collection ≡ o →
-          filter (λ b. not (is_doomed (total s.holds b Strength.Strong) (some_strong_live (members_of (collection_after s.pool marks collection).nodes)))) (option_map_or (λ (b : Buffers). names collection b.count) o [])
+          filter (λ b. not (is_doomed (total s.holds b Strength.Strong)
+          (some_strong_live (members_of (collection_after s.pool marks collection).nodes)))) (option_map_or (λ (b : Buffers).
+          names collection b.count) o [])
           ≡ filter (λ name. not (doomed marks name)) (option_map_or (λ (b : Buffers). names collection b.count) o [])
       by None e = refl
       by (Some given) e =
-          filter-In (λ b. not (is_doomed (total s.holds b Strength.Strong) (some_strong_live (members_of (collection_after s.pool marks collection).nodes)))) (λ name. not (doomed marks name))
+          filter-In (λ b. not (is_doomed (total s.holds b Strength.Strong)
+          (some_strong_live (members_of (collection_after s.pool marks collection).nodes)))) (λ name. not (doomed marks name))
           (names collection given.count)
           (λ name on.
           (λ i. not (is_doomed (totals_are i name Strength.Strong) (strong_live_is s.pool marks collection i)))
@@ -140,7 +152,8 @@ module _ (s : State) (marks : Timeline) (shown : IsAfter s marks) (limits : Boun
   end_is key = from (birth_of marks key) (spent marks key) refl refl
     where
       from : (o : Option Birth) (b : Bool) → birth_of marks key ≡ o → spent marks key ≡ b →
-          option_and_then (λ (n : Node). cond (is_spent n.end) None (Some (open_end_of s n))) (node_at s.forest key) ≡ cond (spent marks key) None (option_map (open_end marks) (birth_of marks key))
+          option_and_then (λ (n : Node). cond (is_spent n.end) None (Some (open_end_of s n))) (node_at s.forest key) ≡ cond
+          (spent marks key) None (option_map (open_end marks) (birth_of marks key))
       from None b e h = rw (node_unknown s marks shown limits grown key e, e) (nothing (spent marks key))
         where
           nothing : (b : Bool) → ◌≡◌ {A = Option OpenEnd} None (cond b None None)

@@ -83,13 +83,16 @@ none_strong : (marks : Timeline) (id : ℕ) → is_kept_collection marks id ≡ 
 none_strong marks id lost = false_if (some_strong_live (members marks id)) (λ h.
     let s : StrongLive marks id = strong_live marks id h in
     let kept : is_kept marks s.birth.node ≡ true = or_left _ _ (ap not s.here) in
-    both_ways (is_kept_collection marks id) (ap (is_kept_collection marks) (sym (eqb-true s.birth.collection id s.ours)) ∙ collection_of_kept marks s.birth s.there kept) lost)
+    both_ways (is_kept_collection marks id) (ap (is_kept_collection marks) (sym (eqb-true s.birth.collection id s.ours))
+    ∙ collection_of_kept marks s.birth s.there kept) lost)
 
 -- so each that it was given is home
-all_home : (pool : ℕ) (limits : Bound) (marks : Timeline) → Grows pool limits [] marks → (buffer : BufferName) → is_kept_collection marks buffer.collection ≡ false → is_some (buffers_of marks buffer.collection) ≡ true →
+all_home : (pool : ℕ) (limits : Bound) (marks : Timeline) → Grows pool limits [] marks → (buffer : BufferName) →
+    is_kept_collection marks buffer.collection ≡ false → is_some (buffers_of marks buffer.collection) ≡ true →
     home marks buffer ≡ true
 all_home pool limits marks grown buffer lost given =
-    and_both _ _ (doomed_whole marks buffer (record { given = given; none_open = unopened Strength.Strong; none_strong = none_strong marks buffer.collection lost }))
+    and_both _ _ (doomed_whole marks buffer
+    (record { given = given; none_open = unopened Strength.Strong; none_strong = none_strong marks buffer.collection lost }))
     (eq-eqb (open_total marks buffer Strength.Weak) 0 (unopened Strength.Weak))
   where
     unopened : (strength : Strength) → open_total marks buffer strength ≡ 0
@@ -102,7 +105,8 @@ all_home pool limits marks grown buffer lost given =
 
 -- ---- what trackers look at
 
-module _ (pool : ℕ) (limits : Bound) (marks : Timeline) (grown : Grows pool limits [] marks) (entry : Entry) (worked : Forest) (handles : Handles) (seen : IsSeen worked handles marks (after pool marks entry)) where
+module _ (pool : ℕ) (limits : Bound) (marks : Timeline) (grown : Grows pool limits [] marks) (entry : Entry) (worked : Forest)
+    (handles : Handles) (seen : IsSeen worked handles marks (after pool marks entry)) where
   -- the marks after the event
   abbrev later : Timeline
   later = after pool marks entry
@@ -113,7 +117,8 @@ module _ (pool : ℕ) (limits : Bound) (marks : Timeline) (grown : Grows pool li
 
   -- what is gone stays so
   still_gone : (key : NodeKey) → gone marks key ≡ true → gone (after pool marks entry) key ≡ true
-  still_gone key h = kept-after (λ m. gone m key ≡ true) (λ m mark quiet g. gone_stays mark m key g) pool marks entry (gone_stays (Called entry.0 entry.2 entry.1) marks key h)
+  still_gone key h = kept-after (λ m. gone m key ≡ true) (λ m mark quiet g. gone_stays mark m key g) pool marks entry
+      (gone_stays (Called entry.0 entry.2 entry.1) marks key h)
 
   -- which nodes are gone
   nodes_recalled : (key : NodeKey) → was_born (births marks) key ≡ true → w.gone key ≡ gone later key
@@ -124,10 +129,12 @@ module _ (pool : ℕ) (limits : Bound) (marks : Timeline) (grown : Grows pool li
       from (Some n) is = is.0
 
   -- which units are allocated
-  units_recalled : (key : NodeKey) → was_born (births marks) key ≡ true → (w.allocated key ≡ allocated later key) ⊎ ((gone marks key ≡ true) × (w.allocated key ≡ true))
+  units_recalled : (key : NodeKey) → was_born (births marks) key ≡ true → (w.allocated key ≡ allocated later key) ⊎
+      ((gone marks key ≡ true) × (w.allocated key ≡ true))
   units_recalled key born = from (node_at worked key) (seen.nodes key born)
     where
-      from : (o : Option Node) → SeesNode marks later key o → (option_map_or (λ (n : Node). n.allocated) o true ≡ allocated later key) ⊎ ((gone marks key ≡ true) × (option_map_or (λ (n : Node). n.allocated) o true ≡ true))
+      from : (o : Option Node) → SeesNode marks later key o → (option_map_or (λ (n : Node). n.allocated) o true ≡ allocated later key) ⊎
+          ((gone marks key ≡ true) × (option_map_or (λ (n : Node). n.allocated) o true ≡ true))
       from None over = inr (over_gone marks key over, refl)
       from (Some n) is = inl is.1
 
@@ -135,7 +142,8 @@ module _ (pool : ℕ) (limits : Bound) (marks : Timeline) (grown : Grows pool li
   counts_recalled : (id : ℕ) → w.left id ≡ left later id
   counts_recalled id = from (collection_at worked id) (seen.collections id)
     where
-      from : (o : Option Collection) → SeesCollection marks later id o → option_map_or (λ (c : Collection). length c.held) o 0 ≡ left later id
+      from : (o : Option Collection) → SeesCollection marks later id o →
+          option_map_or (λ (c : Collection). length c.held) o 0 ≡ left later id
       from None over = sym (none_left later id over.now)
       from (Some c) there = there.held
 
@@ -144,9 +152,11 @@ module _ (pool : ℕ) (limits : Bound) (marks : Timeline) (grown : Grows pool li
   dooms_recalled buffer out = from (collection_at worked buffer.collection) (seen.collections buffer.collection)
     where
       from : (o : Option Collection) → SeesCollection marks later buffer.collection o →
-          option_map_or (λ (c : Collection). is_some c.buffers && is_doomed (handles buffer Strength.Strong) (some_strong_live (members_of c.nodes))) o false ≡ doomed later buffer
+          option_map_or (λ (c : Collection). is_some c.buffers && is_doomed (handles buffer Strength.Strong)
+          (some_strong_live (members_of c.nodes))) o false ≡ doomed later buffer
       from None over = sym (false_if (doomed later buffer) (λ h.
-          let given : is_some (buffers_of marks buffer.collection) ≡ true = ap is_some (sym over.given) ∙ and_left (is_some (buffers_of later buffer.collection)) _ h in
+          let given : is_some (buffers_of marks buffer.collection) ≡ true =
+          ap is_some (sym over.given) ∙ and_left (is_some (buffers_of later buffer.collection)) _ h in
           both_ways _ (all_home pool limits marks grown buffer over.before given) out))
       from (Some c) there = λ i. is_some (there.buffers i) && is_doomed (seen.counts buffer Strength.Strong i) (there.strong i)
 

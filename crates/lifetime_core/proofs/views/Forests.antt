@@ -29,7 +29,8 @@ module _ (marks later : Timeline) where
   pub record Stands (id : ℕ) (c : Collection) : Type 0 where
     pub there : IsThere later id c
     pub told : (n : Node) → In n c.nodes → (n.gone ≡ gone later n.key) × (n.allocated ≡ allocated later n.key)
-    pub found : (b : Birth) → In b (births marks) → b.collection ≡ id → is_kept marks b.node ≡ true → (n : Node) × In n c.nodes × (n.key ≡ b.node)
+    pub found : (b : Birth) → In b (births marks) → b.collection ≡ id → is_kept marks b.node ≡ true → (n : Node) × In n c.nodes ×
+        (n.key ≡ b.node)
 
   -- the forest has a collection for each of these ids that it has at all; each stands, and every other is over
   pub record AreStanding (worked : Forest) : Type 0 where
@@ -50,7 +51,8 @@ module _ (marks later : Timeline) where
 
     -- each that stands is one of the forest
     among : (id : ℕ) → s.has id ≡ true → In (s.at id) worked.collections
-    among id has = subst (In (s.at id)) (sym s.are) (In-map-back s.at (filter s.has s.ids) id (In-filter-back s.has s.ids id (s.listed id has) has))
+    among id has =
+        subst (In (s.at id)) (sym s.are) (In-map-back s.at (filter s.has s.ids) id (In-filter-back s.has s.ids id (s.listed id has) has))
 
     -- so each collection is seen
     sees_collection : (id : ℕ) → SeesCollection marks later id (collection_at worked id)
@@ -63,7 +65,8 @@ module _ (marks later : Timeline) where
             let there : IsThere later o.0 c = subst (IsThere later o.0) (sym o.2) (s.stands o.0 o.1).there in
             subst (λ (k : ℕ). IsThere later k c) (sym there.same_id ∙ eqb-true c.id id f.1) there
         from None e = elim (either_way (s.has id)) [
-          | inl has ↦ find_misses (λ (d : Collection). d.id == id) worked.collections (s.at id) e (among id has) (eq-eqb (s.at id).id id (s.stands id has).there.same_id)
+          | inl has ↦ find_misses (λ (d : Collection). d.id == id) worked.collections (s.at id) e (among id has)
+              (eq-eqb (s.at id).id id (s.stands id has).there.same_id)
           | inr other ↦ s.over id other
         ]
 
@@ -71,12 +74,14 @@ module _ (marks later : Timeline) where
     sees_node : (key : NodeKey) → was_born (births marks) key ≡ true → SeesNode marks later key (node_at worked key)
     sees_node key born = from (node_at worked key) refl
       where
-        kept_found : (b : Birth) → In b (births marks) → is_kept marks b.node ≡ true → (n : Node) × In n (all_nodes worked) × (n.key ≡ b.node)
+        kept_found : (b : Birth) → In b (births marks) → is_kept marks b.node ≡ true → (n : Node) × In n (all_nodes worked) ×
+            (n.key ≡ b.node)
         kept_found b on kept = elim (either_way (s.has b.collection)) [
           | inl has ↦
               let n = (s.stands b.collection has).found b on refl kept in
               (n.0, in_all_nodes worked.collections (s.at b.collection) n.0 (among b.collection has) n.1, n.2)
-          | inr other ↦ both_ways (is_kept_collection marks b.collection) (collection_of_kept marks b on kept) (s.over b.collection other).before
+          | inr other ↦ both_ways (is_kept_collection marks b.collection) (collection_of_kept marks b on kept)
+              (s.over b.collection other).before
         ]
 
         from : (o : Option Node) → node_at worked key ≡ o → SeesNode marks later key o

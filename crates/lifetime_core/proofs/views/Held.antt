@@ -36,11 +36,15 @@ use Rattle.lifetime_core.proofs.lists.ByNumber.{AreNumbered, sorted-mixed, mixed
 
 module _ (pool : ℕ) (limits : Bound) (marks : Timeline) (grown : Grows pool limits [] marks) where
   -- a held buffer is one of its collection's, and not home
-  held_named : (h : HeldPages) → In h (held pool marks) → In h.buffer (buffer_names marks h.buffer.collection) × (not (home marks h.buffer) ≡ true)
+  held_named : (h : HeldPages) → In h (held pool marks) → In h.buffer (buffer_names marks h.buffer.collection) ×
+      (not (home marks h.buffer) ≡ true)
   held_named h on =
-      let there : list_any (λ (k : HeldPages). same_buffer k.buffer h.buffer) (held pool marks) ≡ true = any_of (λ (k : HeldPages). same_buffer k.buffer h.buffer) (held pool marks) h on (itself h.buffer) in
-      let both : (list_any (λ b. same_buffer b h.buffer) (buffer_names marks h.buffer.collection) && not (home marks h.buffer)) ≡ true = sym (stands_held pool limits marks grown h.buffer) ∙ there in
-      let named = In-list_any (λ b. same_buffer b h.buffer) (buffer_names marks h.buffer.collection) (and_left (list_any (λ b. same_buffer b h.buffer) (buffer_names marks h.buffer.collection)) (not (home marks h.buffer)) both) in
+      let there : list_any (λ (k : HeldPages). same_buffer k.buffer h.buffer) (held pool marks) ≡ true =
+      any_of (λ (k : HeldPages). same_buffer k.buffer h.buffer) (held pool marks) h on (itself h.buffer) in
+      let both : (list_any (λ b. same_buffer b h.buffer) (buffer_names marks h.buffer.collection) && not (home marks h.buffer)) ≡ true =
+      sym (stands_held pool limits marks grown h.buffer) ∙ there in
+      let named = In-list_any (λ b. same_buffer b h.buffer) (buffer_names marks h.buffer.collection)
+      (and_left (list_any (λ b. same_buffer b h.buffer) (buffer_names marks h.buffer.collection)) (not (home marks h.buffer)) both) in
       let is : named.0 ≡ h.buffer = same_buffer-true named.0 h.buffer named.2 in
       let here : In named.0 (buffer_names marks h.buffer.collection) = named.1 in (
         subst (λ (b : BufferName). In b (buffer_names marks h.buffer.collection)) is here,
@@ -48,15 +52,18 @@ module _ (pool : ℕ) (limits : Bound) (marks : Timeline) (grown : Grows pool li
       )
     where
       itself : (b : BufferName) → same_buffer b b ≡ true
-      itself b = and_both (b.collection == b.collection) (b.index == b.index) (eq-eqb b.collection b.collection refl) (eq-eqb b.index b.index refl)
+      itself b = and_both (b.collection == b.collection) (b.index == b.index) (eq-eqb b.collection b.collection refl)
+          (eq-eqb b.index b.index refl)
 
   -- so its collection is kept
   pub held_kept : (h : HeldPages) → In h (held pool marks) → is_kept_collection marks h.buffer.collection ≡ true
   held_kept h on =
       let n = held_named h on in
-      let some : one (not (home marks h.buffer)) ≤ left marks h.buffer.collection = In-le-sum_by (λ (b : BufferName). one (not (home marks b))) (buffer_names marks h.buffer.collection) h.buffer n.0 in
+      let some : one (not (home marks h.buffer)) ≤ left marks h.buffer.collection =
+      In-le-sum_by (λ (b : BufferName). one (not (home marks b))) (buffer_names marks h.buffer.collection) h.buffer n.0 in
       let more : 1 ≤ left marks h.buffer.collection = omega (arith, some, ap one n.1) in
-      let not_none : (left marks h.buffer.collection == 0) ≡ false = false_if (left marks h.buffer.collection == 0) (λ e. let none : left marks h.buffer.collection ≡ 0 = eqb-true (left marks h.buffer.collection) 0 e in omega arith) in
+      let not_none : (left marks h.buffer.collection == 0) ≡ false = false_if (left marks h.buffer.collection == 0) (λ e.
+      let none : left marks h.buffer.collection ≡ 0 = eqb-true (left marks h.buffer.collection) 0 e in omega arith) in
       or_right _ (not (left marks h.buffer.collection == 0)) (ap not not_none)
 
 -- ---- each has a page
@@ -80,13 +87,15 @@ pub have_pages : (pool : Holdings) (f : Forest) → IsPoolOf pool f → IsSound 
 have_pages pool f is sound h on =
     let pages : List Interval = map (λ (k : HeldPages). k.pages) (all_held f) in
     let there : In h.pages (sorted_by (λ (i : Interval). i.start) pages) =
-    In-mixed_back pages (sorted_by (λ (i : Interval). i.start) pages) h.pages (mixed_sorted (λ (i : Interval). i.start) pages) (In-map-back (λ (k : HeldPages). k.pages) (all_held f) h on) in
+    In-mixed_back pages (sorted_by (λ (i : Interval). i.start) pages) h.pages (mixed_sorted (λ (i : Interval). i.start) pages)
+    (In-map-back (λ (k : HeldPages). k.pages) (all_held f) h on) in
     ordered_pages 0 pool.size pool.held sound.in_order h.pages (rw is there)
 
 -- ---- the held buffers of a state
 
 -- buffers that lie apart, each with a page, start at different ones
-apart_numbered : (hs : List HeldPages) → AreApart (map (λ (h : HeldPages). h.pages) hs) → ((h : HeldPages) → In h hs → 0 < h.pages.pages) → AreNumbered (λ (h : HeldPages). h.pages.start) hs
+apart_numbered : (hs : List HeldPages) → AreApart (map (λ (h : HeldPages). h.pages) hs) → ((h : HeldPages) → In h hs → 0 < h.pages.pages) →
+    AreNumbered (λ (h : HeldPages). h.pages.start) hs
 apart_numbered [] apart paged = tt
 apart_numbered (h ∷ hs) apart paged = ((λ k on same. meet k on same), apart_numbered hs apart.1 (λ k on. paged k (inr on)))
   where
@@ -95,7 +104,8 @@ apart_numbered (h ∷ hs) apart paged = ((λ k on same. meet k on same), apart_n
         let here : 0 < h.pages.pages = paged h (inl refl) in
         let there : 0 < k.pages.pages = paged k (inr on) in
         let both : meets h.pages k.pages ≡ true =
-        and_both (nat_lt h.pages.start (k.pages.start + k.pages.pages)) (nat_lt k.pages.start (h.pages.start + h.pages.pages)) (lt-ltb _ _ (omega arith)) (lt-ltb _ _ (omega arith)) in
+        and_both (nat_lt h.pages.start (k.pages.start + k.pages.pages)) (nat_lt k.pages.start (h.pages.start + h.pages.pages))
+        (lt-ltb _ _ (omega arith)) (lt-ltb _ _ (omega arith)) in
         let some : list_any (meets h.pages) (map (λ (x : HeldPages). x.pages) hs) ≡ true =
         any_of (meets h.pages) (map (λ (x : HeldPages). x.pages) hs) k.pages (In-map-back (λ (x : HeldPages). x.pages) hs k on) both in
         both_ways (list_any (meets h.pages) (map (λ (x : HeldPages). x.pages) hs)) some apart.0
@@ -114,7 +124,8 @@ module _ (s : State) (marks : Timeline) (shown : IsAfter s marks) (limits : Boun
       (λ h on. listed_once s.pool limits marks grown h.buffer.collection ∙ ap one (held_kept s.pool limits marks grown h on)))
 
   -- with as many pages
-  pub held_pages_are : sum_by (λ (h : HeldPages). h.pages.pages) (all_held s.forest) ≡ sum_by (λ (h : HeldPages). h.pages.pages) (held s.pool marks)
+  pub held_pages_are : sum_by (λ (h : HeldPages). h.pages.pages) (all_held s.forest) ≡ sum_by (λ (h : HeldPages).
+      h.pages.pages) (held s.pool marks)
   held_pages_are = sum_by-mixed (λ (h : HeldPages). h.pages.pages) (held s.pool marks) (all_held s.forest) mixed_held
 
   -- where each has a page, no two start at the same one
@@ -125,4 +136,5 @@ module _ (s : State) (marks : Timeline) (shown : IsAfter s marks) (limits : Boun
 
   -- so by page they are the same
   pub held_by_page_is : HavePages s.forest → held_in s.forest ≡ held_by_page s.pool marks
-  held_by_page_is paged = sorted-mixed (λ (h : HeldPages). h.pages.start) (held s.pool marks) (all_held s.forest) mixed_held (starts_differ paged)
+  held_by_page_is paged =
+      sorted-mixed (λ (h : HeldPages). h.pages.start) (held s.pool marks) (all_held s.forest) mixed_held (starts_differ paged)

@@ -39,7 +39,8 @@ meets-comm a b = turned (nat_lt a.start (b.start + b.pages)) (nat_lt b.start (a.
     turned false false = refl
 
 -- what misses the new one and the old ones misses all
-misses-adds : (i x : Interval) (xs ys : List Interval) → Adds x xs ys → meets i x ≡ false → list_any (meets i) xs ≡ false → list_any (meets i) ys ≡ false
+misses-adds : (i x : Interval) (xs ys : List Interval) → Adds x xs ys → meets i x ≡ false → list_any (meets i) xs ≡ false →
+    list_any (meets i) ys ≡ false
 misses-adds i x _ _ (First xs) new old = or_both (meets i x) (list_any (meets i) xs) new old
 misses-adds i x _ _ (Later y xs ys a) new old =
     let r = or_parts (meets i y) (list_any (meets i) xs) old in
@@ -79,7 +80,8 @@ abbrev pub EndsBefore : HeldBuffer → HeldBuffer → Type 0
 EndsBefore a b = a.start + a.pages ≤ b.start
 
 -- what misses all misses each
-all_miss : (i : Interval) (hs : List HeldPages) → list_any (meets i) (map (λ (h : HeldPages). h.pages) hs) ≡ false → All (λ (b : HeldBuffer). meets i (pages_of_buffer b) ≡ false) (map held_buffer hs)
+all_miss : (i : Interval) (hs : List HeldPages) → list_any (meets i) (map (λ (h : HeldPages). h.pages) hs) ≡ false →
+    All (λ (b : HeldBuffer). meets i (pages_of_buffer b) ≡ false) (map held_buffer hs)
 all_miss i [] misses = λ k d lt. absurd (omega arith)
 all_miss i (h ∷ hs) misses =
     let r = or_parts (meets i h.pages) (list_any (meets i) (map (λ (h : HeldPages). h.pages) hs)) misses in
@@ -88,37 +90,48 @@ all_miss i (h ∷ hs) misses =
 -- buffers whose pages lie apart miss each other
 pairs_miss : (hs : List HeldPages) → AreApart (map (λ (h : HeldPages). h.pages) hs) → AllPairs MissesBuffer (map held_buffer hs)
 pairs_miss [] apart = λ j k d less lt. absurd (omega arith)
-pairs_miss (h ∷ hs) apart = AllPairs-cons MissesBuffer (held_buffer h) (map held_buffer hs) (all_miss h.pages hs apart.0) (pairs_miss hs apart.1)
+pairs_miss (h ∷ hs) apart =
+    AllPairs-cons MissesBuffer (held_buffer h) (map held_buffer hs) (all_miss h.pages hs apart.0) (pairs_miss hs apart.1)
 
 -- no two held buffers of a state that shows a legal history have a page in common
-pub held_miss : (s : State) (marks : Timeline) → IsAfter s marks → (limits : Bound) → Grows s.pool limits [] marks → AllPairs MissesBuffer (map held_buffer (held_by_page s.forest))
+pub held_miss : (s : State) (marks : Timeline) → IsAfter s marks → (limits : Bound) → Grows s.pool limits [] marks →
+    AllPairs MissesBuffer (map held_buffer (held_by_page s.forest))
 held_miss s marks shown limits grown =
     let pages : HeldPages → Interval = λ (h : HeldPages). h.pages in
     let start : HeldPages → ℕ = λ (h : HeldPages). h.pages.start in
     let gathered : AreApart (map pages (all_held s.forest)) =
-    apart-mixed (map pages (held s.pool marks)) (map pages (all_held s.forest)) (mixed_map pages (held s.pool marks) (all_held s.forest) (mixed_held s marks shown limits grown)) (are_held s.pool limits marks grown).apart in
+    apart-mixed (map pages (held s.pool marks)) (map pages (all_held s.forest)) (mixed_map pages (held s.pool marks) (all_held s.forest)
+    (mixed_held s marks shown limits grown)) (are_held s.pool limits marks grown).apart in
     pairs_miss (sorted_by start (all_held s.forest))
-    (apart-mixed (map pages (all_held s.forest)) (map pages (sorted_by start (all_held s.forest))) (mixed_map pages (all_held s.forest) (sorted_by start (all_held s.forest)) (mixed_sorted start (all_held s.forest))) gathered)
+    (apart-mixed (map pages (all_held s.forest)) (map pages (sorted_by start (all_held s.forest))) (mixed_map pages (all_held s.forest)
+    (sorted_by start (all_held s.forest)) (mixed_sorted start (all_held s.forest))) gathered)
 
 -- ---- in order of page
 
 -- buffers in order from a page on begin there or later
-all_after : (low low' high : ℕ) (hs : List HeldPages) → low' ≤ low → in_order low high (map (λ (h : HeldPages). h.pages) hs) ≡ true → All (λ (b : HeldBuffer). low' ≤ b.start) (map held_buffer hs)
+all_after : (low low' high : ℕ) (hs : List HeldPages) → low' ≤ low → in_order low high (map (λ (h : HeldPages). h.pages) hs) ≡ true →
+    All (λ (b : HeldBuffer). low' ≤ b.start) (map held_buffer hs)
 all_after low low' high [] le h = λ k d lt. absurd (omega arith)
 all_after low low' high (x ∷ xs) le h =
     let from : low ≤ x.pages.start = leb-true low x.pages.start (and_left (nat_le low x.pages.start) _ h) in
-    let rest : in_order (end_of x.pages) high (map (λ (h : HeldPages). h.pages) xs) ≡ true = and_right (nat_lt 0 x.pages.pages) _ (and_right (nat_le low x.pages.start) _ h) in
-    All-cons (λ (b : HeldBuffer). low' ≤ b.start) (held_buffer x) (map held_buffer xs) (omega arith) (all_after (end_of x.pages) low' high xs (omega arith) rest)
+    let rest : in_order (end_of x.pages) high (map (λ (h : HeldPages). h.pages) xs) ≡ true =
+    and_right (nat_lt 0 x.pages.pages) _ (and_right (nat_le low x.pages.start) _ h) in
+    All-cons (λ (b : HeldBuffer). low' ≤ b.start) (held_buffer x) (map held_buffer xs) (omega arith) (all_after (end_of x.pages) low' high
+    xs (omega arith) rest)
 
 -- each of them ends before the next ones begin
-pairs_in_order : (low high : ℕ) (hs : List HeldPages) → in_order low high (map (λ (h : HeldPages). h.pages) hs) ≡ true → AllPairs EndsBefore (map held_buffer hs)
+pairs_in_order : (low high : ℕ) (hs : List HeldPages) → in_order low high (map (λ (h : HeldPages). h.pages) hs) ≡ true →
+    AllPairs EndsBefore (map held_buffer hs)
 pairs_in_order low high [] h = λ j k d less lt. absurd (omega arith)
 pairs_in_order low high (x ∷ xs) h =
-    let rest : in_order (end_of x.pages) high (map (λ (h : HeldPages). h.pages) xs) ≡ true = and_right (nat_lt 0 x.pages.pages) _ (and_right (nat_le low x.pages.start) _ h) in
-    AllPairs-cons EndsBefore (held_buffer x) (map held_buffer xs) (all_after (end_of x.pages) (end_of x.pages) high xs (omega arith) rest) (pairs_in_order (end_of x.pages) high xs rest)
+    let rest : in_order (end_of x.pages) high (map (λ (h : HeldPages). h.pages) xs) ≡ true =
+    and_right (nat_lt 0 x.pages.pages) _ (and_right (nat_le low x.pages.start) _ h) in
+    AllPairs-cons EndsBefore (held_buffer x) (map held_buffer xs) (all_after (end_of x.pages) (end_of x.pages) high xs (omega arith) rest)
+    (pairs_in_order (end_of x.pages) high xs rest)
 
 -- so do the held buffers of a forest whose pages lie in a pool
 pub held_in_order : (pool : Holdings) (f : Forest) → IsPoolOf pool f → IsSound pool → AllPairs EndsBefore (map held_buffer (held_by_page f))
 held_in_order pool f is sound =
-    let same : pool.held ≡ map (λ (h : HeldPages). h.pages) (held_by_page f) = is ∙ sorted_by-map (λ (i : Interval). i.start) (λ (h : HeldPages). h.pages) (all_held f) in
+    let same : pool.held ≡ map (λ (h : HeldPages). h.pages) (held_by_page f) =
+    is ∙ sorted_by-map (λ (i : Interval). i.start) (λ (h : HeldPages). h.pages) (all_held f) in
     pairs_in_order 0 pool.size (held_by_page f) (subst (λ (is : List Interval). in_order 0 pool.size is ≡ true) same sound.in_order)

@@ -36,9 +36,12 @@ use Rattle.lifetime_core.proofs.lists.ByNumber.{AreFalling, falling_filter, fall
 
 -- the birth at a mark is of the event that it is given
 event_of_birth : (event : ℕ) (mark : Mark) (b : Birth) → birth_at event mark ≡ Some b → (b.event ≡ event) × (is_event mark ≡ true)
-event_of_birth event (Called client (Reply.Token key collection) Call.OpenRoot) b e = (ap (λ (o : Option Birth). option_map_or (λ (x : Birth). x.event) o event) (sym e), refl)
-event_of_birth event (Called client (Reply.Token key collection) (Call.Duplicate parent)) b e = (ap (λ (o : Option Birth). option_map_or (λ (x : Birth). x.event) o event) (sym e), refl)
-event_of_birth event (Called client (Reply.Token key collection) (Call.AttachToken parent)) b e = (ap (λ (o : Option Birth). option_map_or (λ (x : Birth). x.event) o event) (sym e), refl)
+event_of_birth event (Called client (Reply.Token key collection) Call.OpenRoot) b e =
+    (ap (λ (o : Option Birth). option_map_or (λ (x : Birth). x.event) o event) (sym e), refl)
+event_of_birth event (Called client (Reply.Token key collection) (Call.Duplicate parent)) b e =
+    (ap (λ (o : Option Birth). option_map_or (λ (x : Birth). x.event) o event) (sym e), refl)
+event_of_birth event (Called client (Reply.Token key collection) (Call.AttachToken parent)) b e =
+    (ap (λ (o : Option Birth). option_map_or (λ (x : Birth). x.event) o event) (sym e), refl)
 event_of_birth event _ b e = cc
 
 -- no birth is of an event to come
@@ -49,7 +52,8 @@ birth_early (mark ∷ before) b on =
       | inl e ↦ let r = event_of_birth (events before + 1) mark b e in rw r.1 (omega (arith, r.0))
       | inr there ↦
           let early : b.event ≤ events before = birth_early before b there in
-          elim (is_event mark) as (λ (is : Bool). b.event ≤ cond is (events before + 1) (events before)) [ true ↦ omega arith | false ↦ early ]
+          elim (is_event mark) as (λ (is : Bool). b.event ≤ cond is (events before + 1) (events before))
+          [ true ↦ omega arith | false ↦ early ]
     ]
 
 -- so the events of births fall, from the newest on
@@ -57,7 +61,8 @@ pub births_fall : (marks : Timeline) → AreFalling (λ (b : Birth). b.event) (b
 births_fall [] = tt
 births_fall (mark ∷ before) = from (births_fall before) (birth_at (events before + 1) mark) refl
   where
-    from : AreFalling (λ (b : Birth). b.event) (births before) → (o : Option Birth) → birth_at (events before + 1) mark ≡ o → AreFalling (λ (b : Birth). b.event) (cons_option o (births before))
+    from : AreFalling (λ (b : Birth). b.event) (births before) → (o : Option Birth) → birth_at (events before + 1) mark ≡ o →
+        AreFalling (λ (b : Birth). b.event) (cons_option o (births before))
     from old None e = old
     from old (Some b) e =
         let is : b.event ≡ events before + 1 = (event_of_birth (events before + 1) mark b e).0 in
@@ -80,7 +85,8 @@ module _ (s : State) (marks : Timeline) (shown : IsAfter s marks) (limits : Boun
       from (Some b) true e h =
           let here = birth_is marks key b e in
           rw (node_kept s marks shown limits grown key b e h, here.1, e) refl
-      from (Some b) false e h = rw (node_forgotten s marks shown limits grown key h) (sym (not_live marks key (gone_of (gone marks key) (spent marks key) h)))
+      from (Some b) false e h =
+          rw (node_forgotten s marks shown limits grown key h) (sym (not_live marks key (gone_of (gone marks key) (spent marks key) h)))
         where
           gone_of : (g s : Bool) → (not g || not s) ≡ false → g ≡ true
           gone_of true s h = refl
@@ -94,8 +100,10 @@ module _ (s : State) (marks : Timeline) (shown : IsAfter s marks) (limits : Boun
       unborn e = elim (none_or_some (fault marks key)) [
         | inl none ↦ none
         | inr some ↦
-            let born : was_born (births marks) key ≡ true = (ordered s.pool limits marks grown).gone_born key (fault_gone marks key some.0 some.1) in
-            let not_born : was_born (births marks) key ≡ false = sym (is_some-find (λ (b : Birth). same_key b.node key) (births marks)) ∙ ap is_some e in
+            let born : was_born (births marks) key ≡ true =
+            (ordered s.pool limits marks grown).gone_born key (fault_gone marks key some.0 some.1) in
+            let not_born : was_born (births marks) key ≡ false =
+            sym (is_some-find (λ (b : Birth). same_key b.node key) (births marks)) ∙ ap is_some e in
             both_ways (was_born (births marks) key) born not_born
       ]
 
@@ -112,7 +120,8 @@ module _ (s : State) (marks : Timeline) (shown : IsAfter s marks) (limits : Boun
   live_kept : filter (is_here marks) (kept_births marks) ≡ filter (is_here marks) (births marks)
   live_kept =
       filter-filter (is_here marks) (λ (b : Birth). is_kept marks b.node) (births marks)
-      ∙ filter-In (λ (b : Birth). is_kept marks b.node && is_here marks b) (is_here marks) (births marks) (λ b on. both (gone marks b.node) (spent marks b.node) (released marks b.node))
+      ∙ filter-In (λ (b : Birth). is_kept marks b.node && is_here marks b) (is_here marks) (births marks) (λ b on.
+      both (gone marks b.node) (spent marks b.node) (released marks b.node))
     where
       both : (g s r : Bool) → ((not g || not s) && (not g && not r)) ≡ (not g && not r)
       both true true r = refl
@@ -125,13 +134,16 @@ module _ (s : State) (marks : Timeline) (shown : IsAfter s marks) (limits : Boun
       (λ b on. sym (live_born marks b.node (In-was_born (births marks) b (In-reverse (births marks) b on))))
 
   -- sorted by event they stand in the order of birth
-  sorted_births : sorted_by (λ (b : Birth). b.event) (filter (is_here marks) (kept_by_collection marks)) ≡ filter (λ (b : Birth). live marks b.node) (reverse (births marks))
+  sorted_births : sorted_by (λ (b : Birth). b.event) (filter (is_here marks) (kept_by_collection marks)) ≡ filter (λ (b : Birth).
+      live marks b.node) (reverse (births marks))
   sorted_births =
       let here : List Birth = filter (is_here marks) (births marks) in
-      let falls : AreFalling (λ (b : Birth). b.event) here = falling_filter (λ (b : Birth). b.event) (is_here marks) (births marks) (births_fall marks) in
+      let falls : AreFalling (λ (b : Birth). b.event) here =
+      falling_filter (λ (b : Birth). b.event) (is_here marks) (births marks) (births_fall marks) in
       let numbered = falling_numbered (λ (b : Birth). b.event) here falls in
       let mixed : Mixed here (filter (is_here marks) (kept_by_collection marks)) =
-      rw (← live_kept) (mixed_filter (is_here marks) (kept_births marks) (kept_by_collection marks) (mixed_births s marks shown limits grown)) in
+      rw (← live_kept) (mixed_filter (is_here marks) (kept_births marks) (kept_by_collection marks) (mixed_births s marks shown limits
+      grown)) in
       sorted-mixed (λ (b : Birth). b.event) here (filter (is_here marks) (kept_by_collection marks)) mixed numbered
       ∙ (sorted_falling (λ (b : Birth). b.event) here falls ∙ (sym (filter-reverse (is_here marks) (births marks)) ∙ live_births))
 
@@ -139,8 +151,12 @@ module _ (s : State) (marks : Timeline) (shown : IsAfter s marks) (limits : Boun
   pub live_keys_are : live_keys s.forest ≡ live_nodes marks
   live_keys_are =
       let of_live : Node → Bool = λ (n : Node). not n.gone && not n.released in
-      ap (λ (nodes : List Node). map (λ (n : Node). n.key) (sorted_by (λ (n : Node). n.event) (filter of_live nodes))) (all_nodes_are s marks shown)
-      ∙ (ap (λ (nodes : List Node). map (λ (n : Node). n.key) (sorted_by (λ (n : Node). n.event) nodes)) (filter-map of_live (node_after marks) (kept_by_collection marks))
-      ∙ (ap (map (λ (n : Node). n.key)) (sorted_by-map (λ (n : Node). n.event) (node_after marks) (filter (is_here marks) (kept_by_collection marks)))
-      ∙ (map-map (λ (n : Node). n.key) (node_after marks) (sorted_by (λ (b : Birth). b.event) (filter (is_here marks) (kept_by_collection marks)))
+      ap (λ (nodes : List Node). map (λ (n : Node). n.key) (sorted_by (λ (n : Node). n.event) (filter of_live nodes)))
+      (all_nodes_are s marks shown)
+      ∙ (ap (λ (nodes : List Node). map (λ (n : Node). n.key) (sorted_by (λ (n : Node). n.event) nodes))
+      (filter-map of_live (node_after marks) (kept_by_collection marks))
+      ∙ (ap (map (λ (n : Node). n.key)) (sorted_by-map (λ (n : Node).
+      n.event) (node_after marks) (filter (is_here marks) (kept_by_collection marks)))
+      ∙ (map-map (λ (n : Node). n.key) (node_after marks) (sorted_by (λ (b : Birth).
+      b.event) (filter (is_here marks) (kept_by_collection marks)))
       ∙ ap (map (λ (b : Birth). b.node)) sorted_births)))

@@ -34,14 +34,18 @@ use Rattle.lifetime_core.proofs.collections.Roots.{listed_once, listed_kept}
 
 -- the end reads as spent if it was spent
 pub spent_end : (marks : Timeline) (node : NodeKey) → is_spent (end_after marks node) ≡ spent marks node
-spent_end marks node = elim (spent marks node) as (λ (b : Bool). is_spent (cond b End.Spent (cond (in_transit marks node) (End.InTransit (holder marks node)) (End.Held (holder marks node)))) ≡ b) [
-  | true ↦ refl
-  | false ↦ elim (in_transit marks node) as (λ (b : Bool). is_spent (cond b (End.InTransit (holder marks node)) (End.Held (holder marks node))) ≡ false) [ true ↦ refl | false ↦ refl ]
-]
+spent_end marks node =
+    elim (spent marks node) as (λ (b : Bool).
+    is_spent (cond b End.Spent (cond (in_transit marks node) (End.InTransit (holder marks node)) (End.Held (holder marks node)))) ≡ b) [
+      | true ↦ refl
+      | false ↦ elim (in_transit marks node) as (λ (b : Bool).
+          is_spent (cond b (End.InTransit (holder marks node)) (End.Held (holder marks node))) ≡ false) [ true ↦ refl | false ↦ refl ]
+    ]
 
 -- a node is over if it is not kept
 pub not_over : (marks : Timeline) (b : Birth) → not (is_over (node_after marks b)) ≡ is_kept marks b.node
-not_over marks b = ap (λ (s : Bool). not (gone marks b.node && s)) (spent_end marks b.node) ∙ either (gone marks b.node) (spent marks b.node)
+not_over marks b = ap (λ (s : Bool). not (gone marks b.node && s)) (spent_end marks b.node)
+    ∙ either (gone marks b.node) (spent marks b.node)
   where
     either : (g s : Bool) → not (g && s) ≡ (not g || not s)
     either true s = refl
@@ -62,7 +66,8 @@ abbrev pub kept_by_collection : Timeline → List Birth
 kept_by_collection marks = flat_map (kept_in marks) (kept_ids marks)
 
 -- the nodes of a collection that are kept
-pub nodes_of_collection : (pool : ℕ) (marks : Timeline) (collection : ℕ) → (collection_after pool marks collection).nodes ≡ map (node_after marks) (kept_in marks collection)
+pub nodes_of_collection : (pool : ℕ) (marks : Timeline) (collection : ℕ) →
+    (collection_after pool marks collection).nodes ≡ map (node_after marks) (kept_in marks collection)
 nodes_of_collection pool marks collection =
     let ours : Birth → Bool = λ (b : Birth). b.collection == collection in
     filter-map (λ n. not (is_over n)) (node_after marks) (births_in marks collection)
@@ -76,65 +81,81 @@ module _ (s : State) (marks : Timeline) (shown : IsAfter s marks) where
   all_nodes_are =
       ap (flat_map (λ (c : Collection). c.nodes)) shown.collections
       ∙ (flat_map-map (λ (c : Collection). c.nodes) (collection_after s.pool marks) (kept_ids marks)
-      ∙ (flat_map-same (λ k. (collection_after s.pool marks k).nodes) (λ k. map (node_after marks) (kept_in marks k)) (kept_ids marks) (nodes_of_collection s.pool marks)
+      ∙ (flat_map-same (λ k. (collection_after s.pool marks k).nodes) (λ k. map (node_after marks) (kept_in marks k)) (kept_ids marks)
+      (nodes_of_collection s.pool marks)
       ∙ sym (map-flat_map (node_after marks) (kept_in marks) (kept_ids marks))))
 
   module _ (limits : Bound) (grown : Grows s.pool limits [] marks) where
     -- the births of the kept nodes, collection by collection, are those births in another order
     pub mixed_births : Mixed (kept_births marks) (kept_by_collection marks)
     mixed_births = mixed_turned (λ (b : Birth). b.collection) (kept_births marks) (kept_ids marks)
-        (λ b on. let f = In-filter (λ (c : Birth). is_kept marks c.node) (births marks) b on in listed_kept s.pool limits marks grown b f.0 f.1)
+        (λ b on. let f = In-filter (λ (c : Birth). is_kept marks c.node) (births marks) b on in
+        listed_kept s.pool limits marks grown b f.0 f.1)
 
     -- ---- nodes by key
 
     -- a birth that is kept is that of a kept node
     kept_birth : (b : Birth) → In b (kept_by_collection marks) → In b (births marks) × (is_kept marks b.node ≡ true)
-    kept_birth b on = In-filter (λ (c : Birth). is_kept marks c.node) (births marks) b (In-mixed (kept_births marks) (kept_by_collection marks) b mixed_births on)
+    kept_birth b on =
+        In-filter (λ (c : Birth). is_kept marks c.node) (births marks) b (In-mixed (kept_births marks) (kept_by_collection marks) b
+        mixed_births on)
 
     -- the birth of a kept node is found among them
-    found : (key : NodeKey) (o : Option Birth) (k : Bool) → birth_of marks key ≡ o → is_kept marks key ≡ k → find (λ (b : Birth). same_key b.node key) (kept_by_collection marks) ≡ cond k o None
+    found : (key : NodeKey) (o : Option Birth) (k : Bool) → birth_of marks key ≡ o → is_kept marks key ≡ k →
+        find (λ (b : Birth). same_key b.node key) (kept_by_collection marks) ≡ cond k o None
     found key None k e kept =
-        find_none (λ (b : Birth). same_key b.node key) (kept_by_collection marks) (λ b on. none b on (either_way (same_key b.node key))) ∙ nothing k
+        find_none (λ (b : Birth). same_key b.node key) (kept_by_collection marks) (λ b on. none b on (either_way (same_key b.node key)))
+        ∙ nothing k
       where
         nothing : (k : Bool) → ◌≡◌ {A = Option Birth} None (cond k None None)
         nothing true = refl
         nothing false = refl
 
-        none : (b : Birth) → In b (kept_by_collection marks) → (same_key b.node key ≡ true) ⊎ (same_key b.node key ≡ false) → same_key b.node key ≡ false
+        none : (b : Birth) → In b (kept_by_collection marks) → (same_key b.node key ≡ true) ⊎ (same_key b.node key ≡ false) →
+            same_key b.node key ≡ false
         none b on (inr h) = h
         none b on (inl h) =
-            let there : birth_of marks b.node ≡ Some b = find_birth (births marks) b (ordered s.pool limits marks grown).sound (kept_birth b on).0 in
+            let there : birth_of marks b.node ≡ Some b =
+            find_birth (births marks) b (ordered s.pool limits marks grown).sound (kept_birth b on).0 in
             let clash : Some b ≡ None = sym there ∙ (ap (birth_of marks) (same_key-true b.node key h) ∙ e) in
             cc
     found key (Some b) true e kept =
         let here = birth_is marks key b e in
         let kept_b : is_kept marks b.node ≡ true = ap (is_kept marks) here.1 ∙ kept in
-        let on : In b (kept_by_collection marks) = In-mixed_back (kept_births marks) (kept_by_collection marks) b mixed_births (In-filter-back (λ (c : Birth). is_kept marks c.node) (births marks) b here.0 kept_b) in
-        find_only (λ (c : Birth). same_key c.node key) (kept_by_collection marks) b on (ap (λ (k : NodeKey). same_key k key) here.1 ∙ same_key-refl key)
+        let on : In b (kept_by_collection marks) =
+        In-mixed_back (kept_births marks) (kept_by_collection marks) b mixed_births (In-filter-back (λ (c : Birth).
+        is_kept marks c.node) (births marks) b here.0 kept_b) in
+        find_only (λ (c : Birth). same_key c.node key) (kept_by_collection marks) b on (ap (λ (k : NodeKey). same_key k key) here.1
+        ∙ same_key-refl key)
         (λ c there h.
-        let same : birth_of marks c.node ≡ Some c = find_birth (births marks) c (ordered s.pool limits marks grown).sound (kept_birth c there).0 in
+        let same : birth_of marks c.node ≡ Some c =
+        find_birth (births marks) c (ordered s.pool limits marks grown).sound (kept_birth c there).0 in
         let both : Some c ≡ Some b = sym same ∙ (ap (birth_of marks) (same_key-true c.node key h) ∙ e) in
         cc)
     found key (Some b) false e lost =
         find_none (λ (c : Birth). same_key c.node key) (kept_by_collection marks) (λ c on. none c on (either_way (same_key c.node key)))
       where
-        none : (c : Birth) → In c (kept_by_collection marks) → (same_key c.node key ≡ true) ⊎ (same_key c.node key ≡ false) → same_key c.node key ≡ false
+        none : (c : Birth) → In c (kept_by_collection marks) → (same_key c.node key ≡ true) ⊎ (same_key c.node key ≡ false) →
+            same_key c.node key ≡ false
         none c on (inr h) = h
         none c on (inl h) = both_ways (is_kept marks key) (ap (is_kept marks) (sym (same_key-true c.node key h)) ∙ (kept_birth c on).1) lost
 
     -- the node with a key is the one that was born with it, if it is kept
-    pub node_is : (key : NodeKey) → node_at s.forest key ≡ cond (is_kept marks key) (option_map (node_after marks) (birth_of marks key)) None
+    pub node_is : (key : NodeKey) → node_at s.forest key ≡ cond (is_kept marks key) (option_map (node_after marks) (birth_of marks key))
+        None
     node_is key =
         ap (find (is_of key)) all_nodes_are
         ∙ (find-map (is_of key) (node_after marks) (kept_by_collection marks)
         ∙ (ap (option_map (node_after marks)) (found key (birth_of marks key) (is_kept marks key) refl refl) ∙ inside (is_kept marks key)))
       where
-        inside : (k : Bool) → option_map (node_after marks) (cond k (birth_of marks key) None) ≡ cond k (option_map (node_after marks) (birth_of marks key)) None
+        inside : (k : Bool) → option_map (node_after marks) (cond k (birth_of marks key) None) ≡ cond k (option_map (node_after marks)
+            (birth_of marks key)) None
         inside true = refl
         inside false = refl
 
     -- a kept node is found
-    pub node_kept : (key : NodeKey) (b : Birth) → birth_of marks key ≡ Some b → is_kept marks key ≡ true → node_at s.forest key ≡ Some (node_after marks b)
+    pub node_kept : (key : NodeKey) (b : Birth) → birth_of marks key ≡ Some b → is_kept marks key ≡ true →
+        node_at s.forest key ≡ Some (node_after marks b)
     node_kept key b e kept = node_is key ∙ rw (kept, e) refl
 
     -- no other is: one that is not kept
@@ -150,10 +171,12 @@ module _ (s : State) (marks : Timeline) (shown : IsAfter s marks) where
         nothing false = refl
 
     -- what is known of a node that is found
-    pub node_there : (key : NodeKey) (n : Node) → node_at s.forest key ≡ Some n → (b : Birth) × (birth_of marks key ≡ Some b) × (b.node ≡ key) × (is_kept marks key ≡ true) × (n ≡ node_after marks b)
+    pub node_there : (key : NodeKey) (n : Node) → node_at s.forest key ≡ Some n → (b : Birth) × (birth_of marks key ≡ Some b) ×
+        (b.node ≡ key) × (is_kept marks key ≡ true) × (n ≡ node_after marks b)
     node_there key n e = from (birth_of marks key) (is_kept marks key) refl refl
       where
-        from : (o : Option Birth) (k : Bool) → birth_of marks key ≡ o → is_kept marks key ≡ k → (b : Birth) × (birth_of marks key ≡ Some b) × (b.node ≡ key) × (is_kept marks key ≡ true) × (n ≡ node_after marks b)
+        from : (o : Option Birth) (k : Bool) → birth_of marks key ≡ o → is_kept marks key ≡ k →
+            (b : Birth) × (birth_of marks key ≡ Some b) × (b.node ≡ key) × (is_kept marks key ≡ true) × (n ≡ node_after marks b)
         from None k o h = let clash : None ≡ Some n = sym (node_unknown key o) ∙ e in cc
         from (Some b) false o h = let clash : None ≡ Some n = sym (node_forgotten key h) ∙ e in cc
         from (Some b) true o h =
@@ -166,21 +189,25 @@ module _ (s : State) (marks : Timeline) (shown : IsAfter s marks) where
     found_id : (id : ℕ) → find (λ n. n == id) (kept_ids marks) ≡ cond (is_kept_collection marks id) (Some id) None
     found_id id =
         find_number id (kept_ids marks)
-        ∙ ap (λ (b : Bool). cond b (Some id) None) (any_one (λ n. n == id) (kept_ids marks) (is_kept_collection marks id) (listed_once s.pool limits marks grown id))
+        ∙ ap (λ (b : Bool). cond b (Some id) None) (any_one (λ n. n == id) (kept_ids marks) (is_kept_collection marks id)
+        (listed_once s.pool limits marks grown id))
 
     -- the collection with an id is as the marks make it, if it is kept
-    pub collection_is : (id : ℕ) → collection_at s.forest id ≡ cond (is_kept_collection marks id) (Some (collection_after s.pool marks id)) None
+    pub collection_is : (id : ℕ) → collection_at s.forest id ≡ cond (is_kept_collection marks id) (Some (collection_after s.pool marks id))
+        None
     collection_is id =
         ap (find (λ (c : Collection). c.id == id)) shown.collections
         ∙ (find-map (λ (c : Collection). c.id == id) (collection_after s.pool marks) (kept_ids marks)
         ∙ (ap (option_map (collection_after s.pool marks)) (found_id id) ∙ inside (is_kept_collection marks id)))
       where
-        inside : (k : Bool) → option_map (collection_after s.pool marks) (cond k (Some id) None) ≡ cond k (Some (collection_after s.pool marks id)) None
+        inside : (k : Bool) → option_map (collection_after s.pool marks) (cond k (Some id) None) ≡ cond k
+            (Some (collection_after s.pool marks id)) None
         inside true = refl
         inside false = refl
 
     -- a kept collection is found
-    pub collection_kept : (id : ℕ) → is_kept_collection marks id ≡ true → collection_at s.forest id ≡ Some (collection_after s.pool marks id)
+    pub collection_kept : (id : ℕ) → is_kept_collection marks id ≡ true →
+        collection_at s.forest id ≡ Some (collection_after s.pool marks id)
     collection_kept id kept = collection_is id ∙ rw kept refl
 
     -- and no other is
@@ -188,7 +215,8 @@ module _ (s : State) (marks : Timeline) (shown : IsAfter s marks) where
     collection_forgotten id lost = collection_is id ∙ rw lost refl
 
     -- what is known of a collection that is found
-    pub collection_there : (id : ℕ) (c : Collection) → collection_at s.forest id ≡ Some c → (is_kept_collection marks id ≡ true) × (c ≡ collection_after s.pool marks id)
+    pub collection_there : (id : ℕ) (c : Collection) → collection_at s.forest id ≡ Some c → (is_kept_collection marks id ≡ true) ×
+        (c ≡ collection_after s.pool marks id)
     collection_there id c e = from (is_kept_collection marks id) refl
       where
         from : (k : Bool) → is_kept_collection marks id ≡ k → (is_kept_collection marks id ≡ true) × (c ≡ collection_after s.pool marks id)

@@ -40,7 +40,8 @@ module _ (s : State) (history : List Entry) (shows : Shows s history) where
   events_shown = shows.shown.events ∙ events-timeline s.pool history
 
   -- an answer to the state is one to the history
-  pub answer_shown : (client : ℕ) (call : Call) (reply : Reply) → IsAnswer s.limits (readings_of s) client call reply → IsAnswer s.limits (readings (timeline s.pool history)) client call reply
+  pub answer_shown : (client : ℕ) (call : Call) (reply : Reply) → IsAnswer s.limits (readings_of s) client call reply →
+      IsAnswer s.limits (readings (timeline s.pool history)) client call reply
   answer_shown = answer_is s (timeline s.pool history) shows.shown s.limits grown s.limits
 
   -- which nodes are live

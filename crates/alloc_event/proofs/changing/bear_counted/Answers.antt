@@ -7,7 +7,10 @@ use Rattle.alloc_event.proofs.changing.bear_counted.Goals as goal
 pub returns-clause-units : goal.returns-clause-units
 returns-clause-units c =
     let ss = shelves_of c.args.entries.now.items in
-    let at = above_is c.args.table.now ss c.requires.kept c.args.id c.args.parent c.args.attached c.args.client c.args.event c.requires.change in
+    let at = above_is c.args.table.now ss c.requires.kept c.args.id c.args.parent c.args.attached c.args.client c.args.event
+    c.requires.change in
     rw (c.count_at.ensures, c.start.ensures)
-    (newborn_units c.args.table.now c.bear_still.new.table ss c.requires.kept c.args.id c.args.parent c.args.attached c.args.client c.args.event _ at c.in_ok-key.key c.in_ok-key.ensures.bears
-    c.requires.still.0 c.requires.still.1 (shelves_of c.bear_still.new.entries.items) c.in_ok-key.ensures.entries c.args.units.now.items c.requires.units c.bound.ensures)
+    (newborn_units c.args.table.now c.bear_still.new.table ss c.requires.kept c.args.id c.args.parent c.args.attached c.args.client
+    c.args.event _ at c.in_ok-key.key c.in_ok-key.ensures.bears
+    c.requires.still.0 c.requires.still.1 (shelves_of c.bear_still.new.entries.items) c.in_ok-key.ensures.entries c.args.units.now.items
+    c.requires.units c.bound.ensures)

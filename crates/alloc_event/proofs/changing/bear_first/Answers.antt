@@ -9,7 +9,8 @@ use Rattle.alloc_event.proofs.changing.bear_first.Goals as goal
 
 pub returns-clause-entries : goal.returns-clause-entries
 returns-clause-entries c =
-    let new : Entry = record { id = c.args.id; keys = c.push.new.self; buffers = None; held = c.new.result; strong = c.strong_below-strong.result; tidy = true; one = None } in
+    let new : Entry =
+    record { id = c.args.id; keys = c.push.new.self; buffers = None; held = c.new.result; strong = c.strong_below-strong.result; tidy = true; one = None } in
     let items : c.push.new.self.items ≡ c.in_ok-key.key ∷ [] = search rules in
     let held : c.new.result.items ≡ [] = c.new.ensures.items in
     let shelf : shelf_of new ≡ shelf_with (no_shelf c.args.id) c.in_ok-key.key =

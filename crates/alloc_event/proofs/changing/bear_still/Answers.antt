@@ -16,26 +16,31 @@ use Rattle.alloc_event.proofs.changing.bear_still.Goals as goal
 
 pub index_mut-requires : goal.index_mut-requires
 index_mut-requires c =
-    let told : place_in c.args.id c.args.entries.now.items ≡ Some c.in-Some.at = sym (rw c.deref.ensures.value at c.place_of.ensures) ∙ c.in-Some.is in
+    let told : place_in c.args.id c.args.entries.now.items ≡ Some c.in-Some.at =
+    sym (rw c.deref.ensures.value at c.place_of.ensures) ∙ c.in-Some.is in
     omega (arith, (place_is c.args.id c.args.entries.now.items c.in-Some.at told).within)
 
 pub bear_among-requires-clause-parent : goal.bear_among-requires-clause-parent
 bear_among-requires-clause-parent c =
     above_there c.args.table.now (shelves_of c.args.entries.now.items) c.args.id c.args.parent _
-    (above_is c.args.table.now (shelves_of c.args.entries.now.items) c.requires.kept c.args.id c.args.parent c.args.attached c.args.client c.args.event c.requires.change)
+    (above_is c.args.table.now (shelves_of c.args.entries.now.items) c.requires.kept c.args.id c.args.parent c.args.attached c.args.client
+    c.args.event c.requires.change)
 
 pub bear_among-requires-clause-above : goal.bear_among-requires-clause-above
 bear_among-requires-clause-above c =
     ap (option_map (λ (n : Node). n.key)) (c.as_ref.ensures.value ∙ c.copied-above.ensures ∙ c.above_in.ensures)
     ∙ above_key c.args.table.now (shelves_of c.args.entries.now.items) c.requires.kept c.args.id c.args.parent _
-    (above_is c.args.table.now (shelves_of c.args.entries.now.items) c.requires.kept c.args.id c.args.parent c.args.attached c.args.client c.args.event c.requires.change)
+    (above_is c.args.table.now (shelves_of c.args.entries.now.items) c.requires.kept c.args.id c.args.parent c.args.attached c.args.client
+    c.args.event c.requires.change)
 
 pub bear_among-requires-clause-few : goal.bear_among-requires-clause-few
 bear_among-requires-clause-few c =
-    let told : place_in c.args.id c.args.entries.now.items ≡ Some c.in-Some.at = sym (rw c.deref.ensures.value at c.place_of.ensures) ∙ c.in-Some.is in
+    let told : place_in c.args.id c.args.entries.now.items ≡ Some c.in-Some.at =
+    sym (rw c.deref.ensures.value at c.place_of.ensures) ∙ c.in-Some.is in
     let place : IsPlace c.args.id c.args.entries.now.items c.in-Some.at = place_is c.args.id c.args.entries.now.items c.in-Some.at told in
     let old : Entry = c.index_mut.result.now in
-    let found : find (λ (e : Entry). e.id == c.args.id) c.args.entries.now.items ≡ Some old = place.found old ∙ ap Some (sym c.index_mut.ensures.value) in
+    let found : find (λ (e : Entry). e.id == c.args.id) c.args.entries.now.items ≡ Some old =
+    place.found old ∙ ap Some (sym c.index_mut.ensures.value) in
     count_few c.args.table.now old
     (filed_found c.args.table.now c.args.id (shelves_of c.args.entries.now.items) c.requires.kept.filed (shelf_of old)
     (shelf_found c.args.id c.args.entries.now.items ∙ ap (option_map shelf_of) found))
@@ -44,62 +49,83 @@ bear_among-requires-clause-few c =
 pub bear_first-requires-clause-parent : goal.bear_first-requires-clause-parent
 bear_first-requires-clause-parent c =
     above_there c.args.table.now (shelves_of c.args.entries.now.items) c.args.id c.args.parent _
-    (above_is c.args.table.now (shelves_of c.args.entries.now.items) c.requires.kept c.args.id c.args.parent c.args.attached c.args.client c.args.event c.requires.change)
+    (above_is c.args.table.now (shelves_of c.args.entries.now.items) c.requires.kept c.args.id c.args.parent c.args.attached c.args.client
+    c.args.event c.requires.change)
 
 pub bear_first-requires-clause-above : goal.bear_first-requires-clause-above
 bear_first-requires-clause-above c =
     ap (option_map (λ (n : Node). n.key)) (c.as_ref-in-None.ensures.value ∙ c.copied-above.ensures ∙ c.above_in.ensures)
     ∙ above_key c.args.table.now (shelves_of c.args.entries.now.items) c.requires.kept c.args.id c.args.parent _
-    (above_is c.args.table.now (shelves_of c.args.entries.now.items) c.requires.kept c.args.id c.args.parent c.args.attached c.args.client c.args.event c.requires.change)
+    (above_is c.args.table.now (shelves_of c.args.entries.now.items) c.requires.kept c.args.id c.args.parent c.args.attached c.args.client
+    c.args.event c.requires.change)
 
 -- the node is born as the contract says it
 pub returns-in-Some-clause-bears : goal.returns-in-Some-clause-bears
 returns-in-Some-clause-bears c =
-    let told : place_in c.args.id c.args.entries.now.items ≡ Some c.in-Some.at = sym (rw c.deref.ensures.value at c.place_of.ensures) ∙ c.in-Some.is in
+    let told : place_in c.args.id c.args.entries.now.items ≡ Some c.in-Some.at =
+    sym (rw c.deref.ensures.value at c.place_of.ensures) ∙ c.in-Some.is in
     let old : Entry = c.index_mut.result.now in
-    let own : old.id ≡ c.args.id = ap (λ (e : Entry). e.id) c.index_mut.ensures.value ∙ (place_is c.args.id c.args.entries.now.items c.in-Some.at told).id_is old in
-    let above : option_copied c.as_ref.result ≡ option_and_then (node_at c.args.table.now) c.args.parent = c.as_ref.ensures.value ∙ c.copied-above.ensures ∙ c.above_in.ensures in
-    subst (λ (o : Option Node). IfOk c.bear_among.result (λ key. Bears c.args.table.now c.bear_among.new.table (born o c.args.attached c.args.id c.args.event c.args.client key))) above
-    (subst (λ (i : ℕ). IfOk c.bear_among.result (λ key. Bears c.args.table.now c.bear_among.new.table (born (option_copied c.as_ref.result) c.args.attached i c.args.event c.args.client key))) own
+    let own : old.id ≡ c.args.id =
+    ap (λ (e : Entry). e.id) c.index_mut.ensures.value ∙ (place_is c.args.id c.args.entries.now.items c.in-Some.at told).id_is old in
+    let above : option_copied c.as_ref.result ≡ option_and_then (node_at c.args.table.now) c.args.parent =
+    c.as_ref.ensures.value ∙ c.copied-above.ensures ∙ c.above_in.ensures in
+    subst (λ (o : Option Node). IfOk c.bear_among.result (λ key.
+    Bears c.args.table.now c.bear_among.new.table (born o c.args.attached c.args.id c.args.event c.args.client key))) above
+    (subst (λ (i : ℕ). IfOk c.bear_among.result (λ key.
+    Bears c.args.table.now c.bear_among.new.table (born (option_copied c.as_ref.result) c.args.attached i c.args.event c.args.client
+    key))) own
     c.bear_among.ensures.ok)
 
 pub returns-in-Some-clause-entries : goal.returns-in-Some-clause-entries
 returns-in-Some-clause-entries c =
-    let told : place_in c.args.id c.args.entries.now.items ≡ Some c.in-Some.at = sym (rw c.deref.ensures.value at c.place_of.ensures) ∙ c.in-Some.is in
+    let told : place_in c.args.id c.args.entries.now.items ≡ Some c.in-Some.at =
+    sym (rw c.deref.ensures.value at c.place_of.ensures) ∙ c.in-Some.is in
     by_two c.bear_among.result c.bear_among.ensures.shelf (λ key shelf.
     among_shelves c.args.table.now c.args.entries.now.items c.requires.kept c.requires.counted c.args.id c.in-Some.at told
-    (place_is c.args.id c.args.entries.now.items c.in-Some.at told) c.index_mut.result.now c.index_mut.ensures.value key c.bear_among.new.entry shelf)
+    (place_is c.args.id c.args.entries.now.items c.in-Some.at told) c.index_mut.result.now c.index_mut.ensures.value key
+    c.bear_among.new.entry shelf)
 
 pub returns-in-Some-clause-counted : goal.returns-in-Some-clause-counted
 returns-in-Some-clause-counted c =
-    let told : place_in c.args.id c.args.entries.now.items ≡ Some c.in-Some.at = sym (rw c.deref.ensures.value at c.place_of.ensures) ∙ c.in-Some.is in
-    let above : option_copied c.as_ref.result ≡ option_and_then (node_at c.args.table.now) c.args.parent = c.as_ref.ensures.value ∙ c.copied-above.ensures ∙ c.above_in.ensures in
-    on_three c.bear_among.result (returns-in-Some-clause-bears c) c.bear_among.ensures.shelf c.bear_among.ensures.strong (λ key bears shelf strong.
+    let told : place_in c.args.id c.args.entries.now.items ≡ Some c.in-Some.at =
+    sym (rw c.deref.ensures.value at c.place_of.ensures) ∙ c.in-Some.is in
+    let above : option_copied c.as_ref.result ≡ option_and_then (node_at c.args.table.now) c.args.parent =
+    c.as_ref.ensures.value ∙ c.copied-above.ensures ∙ c.above_in.ensures in
+    on_three c.bear_among.result (returns-in-Some-clause-bears c) c.bear_among.ensures.shelf c.bear_among.ensures.strong
+    (λ key bears shelf strong.
     among_counted c.args.table.now c.args.entries.now.items c.requires.kept c.requires.counted c.args.id c.in-Some.at told
-    (place_is c.args.id c.args.entries.now.items c.in-Some.at told) c.index_mut.result.now c.index_mut.ensures.value key c.bear_among.new.entry shelf
+    (place_is c.args.id c.args.entries.now.items c.in-Some.at told) c.index_mut.result.now c.index_mut.ensures.value key
+    c.bear_among.new.entry shelf
     c.bear_among.new.table c.args.parent c.args.attached c.args.client c.args.event _
-    (above_is c.args.table.now (shelves_of c.args.entries.now.items) c.requires.kept c.args.id c.args.parent c.args.attached c.args.client c.args.event c.requires.change)
+    (above_is c.args.table.now (shelves_of c.args.entries.now.items) c.requires.kept c.args.id c.args.parent c.args.attached c.args.client
+    c.args.event c.requires.change)
     bears c.requires.still.0 c.requires.still.1 (rw above at strong) c.bear_among.ensures.tidy c.bear_among.ensures.one)
 
 pub returns-in-Some-clause-err_entries : goal.returns-in-Some-clause-err_entries
 returns-in-Some-clause-err_entries c =
-    let told : place_in c.args.id c.args.entries.now.items ≡ Some c.in-Some.at = sym (rw c.deref.ensures.value at c.place_of.ensures) ∙ c.in-Some.is in
+    let told : place_in c.args.id c.args.entries.now.items ≡ Some c.in-Some.at =
+    sym (rw c.deref.ensures.value at c.place_of.ensures) ∙ c.in-Some.is in
     refused_two c.bear_among.result c.bear_among.ensures.err_shelf c.bear_among.ensures.err_strong (λ shelf strong.
     refused_shelves c.args.table.now c.args.entries.now.items c.requires.kept c.requires.counted c.args.id c.in-Some.at told
-    (place_is c.args.id c.args.entries.now.items c.in-Some.at told) c.index_mut.result.now c.index_mut.ensures.value c.bear_among.new.entry shelf strong c.bear_among.ensures.tidy c.bear_among.ensures.one)
+    (place_is c.args.id c.args.entries.now.items c.in-Some.at told) c.index_mut.result.now c.index_mut.ensures.value c.bear_among.new.entry
+    shelf strong c.bear_among.ensures.tidy c.bear_among.ensures.one)
 
 pub returns-in-Some-clause-err_counted : goal.returns-in-Some-clause-err_counted
 returns-in-Some-clause-err_counted c =
-    let told : place_in c.args.id c.args.entries.now.items ≡ Some c.in-Some.at = sym (rw c.deref.ensures.value at c.place_of.ensures) ∙ c.in-Some.is in
+    let told : place_in c.args.id c.args.entries.now.items ≡ Some c.in-Some.at =
+    sym (rw c.deref.ensures.value at c.place_of.ensures) ∙ c.in-Some.is in
     refused_two c.bear_among.result c.bear_among.ensures.err_shelf c.bear_among.ensures.err_strong (λ shelf strong.
     refused_counted c.args.table.now c.args.entries.now.items c.requires.kept c.requires.counted c.args.id c.in-Some.at told
-    (place_is c.args.id c.args.entries.now.items c.in-Some.at told) c.index_mut.result.now c.index_mut.ensures.value c.bear_among.new.entry shelf strong c.bear_among.ensures.tidy c.bear_among.ensures.one)
+    (place_is c.args.id c.args.entries.now.items c.in-Some.at told) c.index_mut.result.now c.index_mut.ensures.value c.bear_among.new.entry
+    shelf strong c.bear_among.ensures.tidy c.bear_among.ensures.one)
 
 -- so where it is the first
 pub returns-in-None-clause-bears : goal.returns-in-None-clause-bears
 returns-in-None-clause-bears c =
-    let above : option_copied c.as_ref-in-None.result ≡ option_and_then (node_at c.args.table.now) c.args.parent = c.as_ref-in-None.ensures.value ∙ c.copied-above.ensures ∙ c.above_in.ensures in
-    subst (λ (o : Option Node). IfOk c.bear_first.result (λ key. Bears c.args.table.now c.bear_first.new.table (born o c.args.attached c.args.id c.args.event c.args.client key))) above
+    let above : option_copied c.as_ref-in-None.result ≡ option_and_then (node_at c.args.table.now) c.args.parent =
+    c.as_ref-in-None.ensures.value ∙ c.copied-above.ensures ∙ c.above_in.ensures in
+    subst (λ (o : Option Node). IfOk c.bear_first.result (λ key.
+    Bears c.args.table.now c.bear_first.new.table (born o c.args.attached c.args.id c.args.event c.args.client key))) above
     c.bear_first.ensures.ok
 
 pub returns-in-None-clause-entries : goal.returns-in-None-clause-entries
@@ -112,10 +138,12 @@ returns-in-None-clause-entries c =
 pub returns-in-None-clause-counted : goal.returns-in-None-clause-counted
 returns-in-None-clause-counted c =
     let told : place_in c.args.id c.args.entries.now.items ≡ None = sym (rw c.deref.ensures.value at c.place_of.ensures) ∙ c.in-None.is in
-    let above : option_copied c.as_ref-in-None.result ≡ option_and_then (node_at c.args.table.now) c.args.parent = c.as_ref-in-None.ensures.value ∙ c.copied-above.ensures ∙ c.above_in.ensures in
+    let above : option_copied c.as_ref-in-None.result ≡ option_and_then (node_at c.args.table.now) c.args.parent =
+    c.as_ref-in-None.ensures.value ∙ c.copied-above.ensures ∙ c.above_in.ensures in
     on_two c.bear_first.result (returns-in-None-clause-bears c) c.bear_first.ensures.entries (λ key bears e.
     rw e.1 (first_counted c.args.table.now c.args.entries.now.items c.requires.kept c.requires.counted c.args.id
     (none_in c.args.id c.args.entries.now.items told) key e.0 e.2
     c.bear_first.new.table c.args.parent c.args.attached c.args.client c.args.event _
-    (above_is c.args.table.now (shelves_of c.args.entries.now.items) c.requires.kept c.args.id c.args.parent c.args.attached c.args.client c.args.event c.requires.change)
+    (above_is c.args.table.now (shelves_of c.args.entries.now.items) c.requires.kept c.args.id c.args.parent c.args.attached c.args.client
+    c.args.event c.requires.change)
     bears c.requires.still.0 c.requires.still.1 (rw above at e.3)))

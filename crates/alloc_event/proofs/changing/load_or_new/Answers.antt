@@ -8,7 +8,8 @@ use Rattle.alloc_event.proofs.changing.load_or_new.Goals as goal
 pub returns-in-Some : goal.returns-in-Some
 returns-in-Some c =
     let found = shelf_found c.args.id c.args.entries.now ∙ ap (option_map shelf_of) (sym c.in-Some.ensures) in
-    let is = collection_is c.args.table.now c.args.id (shelves_of c.args.entries.now) ∙ ap (option_map (collection_in c.args.table.now)) found in
+    let is = collection_is c.args.table.now c.args.id (shelves_of c.args.entries.now)
+    ∙ ap (option_map (collection_in c.args.table.now)) found in
     rw is c.load.ensures
 
 pub returns-in-None : goal.returns-in-None

@@ -27,29 +27,38 @@ bear_counted-requires-clause-still c =
 pub returns-then-is_watched-clause-ok : goal.returns-then-is_watched-clause-ok
 returns-then-is_watched-clause-ok c =
     let watched = rw c.deref.ensures.value at c.is_watched.ensures in
-    let still = watched_still c.args.table.now c.args.entries.now.items c.args.id c.requires.counted (sym watched ∙ c.if-is_watched.true) (total c.args.holds.now) in
-    let at = above_is c.args.table.now (shelves_of c.args.entries.now.items) c.requires.kept c.args.id c.args.parent c.args.attached c.args.client c.args.event c.requires.change in
+    let still = watched_still c.args.table.now c.args.entries.now.items c.args.id c.requires.counted (sym watched
+    ∙ c.if-is_watched.true) (total c.args.holds.now) in
+    let at = above_is c.args.table.now (shelves_of c.args.entries.now.items) c.requires.kept c.args.id c.args.parent c.args.attached
+    c.args.client c.args.event c.requires.change in
     by_both c.bear_counted.result c.bear_counted.ensures.bears c.bear_counted.ensures.entries (λ key bears placed.
-    quiet_ok c.args.table.now c.bear_counted.new.table (shelves_of c.args.entries.now.items) c.requires.kept c.args.id c.args.parent c.args.attached c.args.client c.args.event _ at key bears
+    quiet_ok c.args.table.now c.bear_counted.new.table (shelves_of c.args.entries.now.items) c.requires.kept c.args.id c.args.parent
+    c.args.attached c.args.client c.args.event _ at key bears
     (total c.args.holds.now) still (shelves_of c.bear_counted.new.entries.items) placed c.args.pool.now.size)
 
 pub returns-then-is_watched-clause-kept : goal.returns-then-is_watched-clause-kept
 returns-then-is_watched-clause-kept c =
     let watched = rw c.deref.ensures.value at c.is_watched.ensures in
-    let still = watched_still c.args.table.now c.args.entries.now.items c.args.id c.requires.counted (sym watched ∙ c.if-is_watched.true) (total c.args.holds.now) in
-    let at = above_is c.args.table.now (shelves_of c.args.entries.now.items) c.requires.kept c.args.id c.args.parent c.args.attached c.args.client c.args.event c.requires.change in
+    let still = watched_still c.args.table.now c.args.entries.now.items c.args.id c.requires.counted (sym watched
+    ∙ c.if-is_watched.true) (total c.args.holds.now) in
+    let at = above_is c.args.table.now (shelves_of c.args.entries.now.items) c.requires.kept c.args.id c.args.parent c.args.attached
+    c.args.client c.args.event c.requires.change in
     on_two c.bear_counted.result c.bear_counted.ensures.bears c.bear_counted.ensures.entries (λ key bears placed.
-    quiet_kept c.args.table.now c.bear_counted.new.table (shelves_of c.args.entries.now.items) c.requires.kept c.args.id c.args.parent c.args.attached c.args.client c.args.event _ at key bears
+    quiet_kept c.args.table.now c.bear_counted.new.table (shelves_of c.args.entries.now.items) c.requires.kept c.args.id c.args.parent
+    c.args.attached c.args.client c.args.event _ at key bears
     (total c.args.holds.now) still (shelves_of c.bear_counted.new.entries.items) placed)
 
 pub returns-then-is_watched-clause-pool : goal.returns-then-is_watched-clause-pool
 returns-then-is_watched-clause-pool c =
     let watched = rw c.deref.ensures.value at c.is_watched.ensures in
-    let still = watched_still c.args.table.now c.args.entries.now.items c.args.id c.requires.counted (sym watched ∙ c.if-is_watched.true) (total c.args.holds.now) in
-    let at = above_is c.args.table.now (shelves_of c.args.entries.now.items) c.requires.kept c.args.id c.args.parent c.args.attached c.args.client c.args.event c.requires.change in
+    let still = watched_still c.args.table.now c.args.entries.now.items c.args.id c.requires.counted (sym watched
+    ∙ c.if-is_watched.true) (total c.args.holds.now) in
+    let at = above_is c.args.table.now (shelves_of c.args.entries.now.items) c.requires.kept c.args.id c.args.parent c.args.attached
+    c.args.client c.args.event c.requires.change in
     on_two c.bear_counted.result c.bear_counted.ensures.bears c.bear_counted.ensures.entries (λ key bears placed.
     c.requires.pool ∙ ap (λ (hs : List HeldPages). sorted_by start_of (map (λ (h : HeldPages). h.pages) hs))
-    (sym (quiet_held c.args.table.now c.bear_counted.new.table (shelves_of c.args.entries.now.items) c.requires.kept c.args.id c.args.parent c.args.attached c.args.client c.args.event _ at key bears
+    (sym (quiet_held c.args.table.now c.bear_counted.new.table (shelves_of c.args.entries.now.items) c.requires.kept c.args.id c.args.parent
+    c.args.attached c.args.client c.args.event _ at key bears
     (total c.args.holds.now) still (shelves_of c.bear_counted.new.entries.items) placed)))
 
 -- the others have their counts where the slot of the new key is started
@@ -57,6 +66,9 @@ pub recount-requires-clause-others : goal.recount-requires-clause-others
 recount-requires-clause-others c =
     let f = forest_of c.args.table.now (shelves_of c.args.entries.now.items) in
     rw (c.deref-2.ensures.value, c.start.ensures, c.reserve.ensures.items)
-    (but_started _ _ c.args.table.now (shelves_of c.args.entries.now.items) c.settle_unwatched.new.table (shelves_of c.settle_unwatched.new.entries.items) _ c.args.id
-    (birth_id c.args.parent c.args.attached c.args.client c.args.event c.in_ok-key.key (collection_or_new f c.args.id) ∙ or_new_id f c.args.id)
-    c.requires.kept c.in_ok-key.ensures.kept c.in_ok-key.key c.in_ok-key.ensures.keys c.in_ok-key.ensures.ok c.args.units.now.items c.requires.units)
+    (but_started _ _ c.args.table.now (shelves_of c.args.entries.now.items) c.settle_unwatched.new.table
+    (shelves_of c.settle_unwatched.new.entries.items) _ c.args.id
+    (birth_id c.args.parent c.args.attached c.args.client c.args.event c.in_ok-key.key (collection_or_new f c.args.id)
+    ∙ or_new_id f c.args.id)
+    c.requires.kept c.in_ok-key.ensures.kept c.in_ok-key.key c.in_ok-key.ensures.keys c.in_ok-key.ensures.ok c.args.units.now.items
+    c.requires.units)

@@ -21,6 +21,8 @@ pub recount-requires-clause-others : goal.recount-requires-clause-others
 recount-requires-clause-others c =
     let t = c.settle_counted.new.table in
     let ss = shelves_of c.settle_counted.new.entries.items in
-    rw c.deref.ensures.value (but_finished _ _ t ss c.settle_scene_change.new.table (shelves_of c.settle_scene_change.new.entries.items) _ c.args.id
-    (changed_id c.args.change.now no_key (collection_or_new (forest_of t ss) c.args.id) c.requires.birth ∙ or_new_id (forest_of t ss) c.args.id)
+    rw c.deref.ensures.value (but_finished _ _ t ss c.settle_scene_change.new.table (shelves_of c.settle_scene_change.new.entries.items) _
+    c.args.id
+    (changed_id c.args.change.now no_key (collection_or_new (forest_of t ss) c.args.id) c.requires.birth
+    ∙ or_new_id (forest_of t ss) c.args.id)
     c.in_ok-settle_scene_change.ensures.ok c.settle_counted.new.units.items c.settle_counted.ensures.units)

@@ -21,79 +21,108 @@ pub bear-requires-clause-parent : goal.bear-requires-clause-parent
 bear-requires-clause-parent c =
     subst (λ (t : Table Node). IfSome c.args.parent (λ p. IsSome (row_at t p))) (sym c.in-Ok.ensures)
     (above_there c.args.table.now (shelves_of c.args.entries.now.items) c.args.id c.args.parent _
-    (above_is c.args.table.now (shelves_of c.args.entries.now.items) c.requires.kept c.args.id c.args.parent c.args.attached c.args.client c.args.event c.requires.change))
+    (above_is c.args.table.now (shelves_of c.args.entries.now.items) c.requires.kept c.args.id c.args.parent c.args.attached c.args.client
+    c.args.event c.requires.change))
 
 pub bear-requires-clause-above : goal.bear-requires-clause-above
 bear-requires-clause-above c =
     ap (option_map (λ (n : Node). n.key)) c.above_in-above.ensures
     ∙ above_key c.args.table.now (shelves_of c.args.entries.now.items) c.requires.kept c.args.id c.args.parent _
-    (above_is c.args.table.now (shelves_of c.args.entries.now.items) c.requires.kept c.args.id c.args.parent c.args.attached c.args.client c.args.event c.requires.change)
+    (above_is c.args.table.now (shelves_of c.args.entries.now.items) c.requires.kept c.args.id c.args.parent c.args.attached c.args.client
+    c.args.event c.requires.change)
 
 pub finish-requires-clause-kept : goal.finish-requires-clause-kept
 finish-requires-clause-kept c =
     let bears = rw (c.in-Ok.ensures, c.above_in-above.ensures) at c.in_ok-key.ensures.ok in
     let newborn_is = rw c.above_in-above.ensures at c.newborn-node.ensures in
-    let at = above_is c.args.table.now (shelves_of c.args.entries.now.items) c.requires.kept c.args.id c.args.parent c.args.attached c.args.client c.args.event c.requires.change in
-    let made = grown_scene _ c.args.scene.id c.add.new.nodes.items c.args.scene.nodes.items c.args.scene.buffers (map held_pages c.args.scene.held.items) c.newborn-node.result _ c.requires.scene c.in-Ok-add.ensures newborn_is in
+    let at = above_is c.args.table.now (shelves_of c.args.entries.now.items) c.requires.kept c.args.id c.args.parent c.args.attached
+    c.args.client c.args.event c.requires.change in
+    let made = grown_scene _ c.args.scene.id c.add.new.nodes.items c.args.scene.nodes.items c.args.scene.buffers
+    (map held_pages c.args.scene.held.items) c.newborn-node.result _ c.requires.scene c.in-Ok-add.ensures newborn_is in
     subst (λ (d : Collection). IsKept c.bear.new.table (put_shelf (shelf_by d) (shelves_of c.args.entries.now.items))) (sym made)
-    (born_kept c.args.table.now c.bear.new.table (shelves_of c.args.entries.now.items) c.requires.kept c.args.id c.args.parent c.args.attached c.args.client c.args.event _ at c.in_ok-key.key bears)
+    (born_kept c.args.table.now c.bear.new.table (shelves_of c.args.entries.now.items) c.requires.kept c.args.id c.args.parent
+    c.args.attached c.args.client c.args.event _ at c.in_ok-key.key bears)
 
 pub finish-requires-clause-sound : goal.finish-requires-clause-sound
 finish-requires-clause-sound c =
     let bears = rw (c.in-Ok.ensures, c.above_in-above.ensures) at c.in_ok-key.ensures.ok in
     let newborn_is = rw c.above_in-above.ensures at c.newborn-node.ensures in
-    let at = above_is c.args.table.now (shelves_of c.args.entries.now.items) c.requires.kept c.args.id c.args.parent c.args.attached c.args.client c.args.event c.requires.change in
-    let made = grown_scene _ c.args.scene.id c.add.new.nodes.items c.args.scene.nodes.items c.args.scene.buffers (map held_pages c.args.scene.held.items) c.newborn-node.result _ c.requires.scene c.in-Ok-add.ensures newborn_is in
-    subst IsSound (sym made) (born_sound c.args.table.now c.bear.new.table (shelves_of c.args.entries.now.items) c.requires.kept c.args.id c.args.parent c.args.attached c.args.client c.args.event _ at c.in_ok-key.key bears)
+    let at = above_is c.args.table.now (shelves_of c.args.entries.now.items) c.requires.kept c.args.id c.args.parent c.args.attached
+    c.args.client c.args.event c.requires.change in
+    let made = grown_scene _ c.args.scene.id c.add.new.nodes.items c.args.scene.nodes.items c.args.scene.buffers
+    (map held_pages c.args.scene.held.items) c.newborn-node.result _ c.requires.scene c.in-Ok-add.ensures newborn_is in
+    subst IsSound (sym made) (born_sound c.args.table.now c.bear.new.table (shelves_of c.args.entries.now.items) c.requires.kept c.args.id
+    c.args.parent c.args.attached c.args.client c.args.event _ at c.in_ok-key.key bears)
 
 pub finish-requires-clause-hung : goal.finish-requires-clause-hung
 finish-requires-clause-hung c =
     let bears = rw (c.in-Ok.ensures, c.above_in-above.ensures) at c.in_ok-key.ensures.ok in
     let newborn_is = rw c.above_in-above.ensures at c.newborn-node.ensures in
-    let at = above_is c.args.table.now (shelves_of c.args.entries.now.items) c.requires.kept c.args.id c.args.parent c.args.attached c.args.client c.args.event c.requires.change in
-    let made = grown_scene _ c.args.scene.id c.add.new.nodes.items c.args.scene.nodes.items c.args.scene.buffers (map held_pages c.args.scene.held.items) c.newborn-node.result _ c.requires.scene c.in-Ok-add.ensures newborn_is in
-    subst (λ (d : Collection). IsHung c.bear.new.table d.nodes) (sym made) (born_hung c.args.table.now c.bear.new.table (shelves_of c.args.entries.now.items) c.requires.kept c.args.id c.args.parent c.args.attached c.args.client c.args.event _ at c.in_ok-key.key bears)
+    let at = above_is c.args.table.now (shelves_of c.args.entries.now.items) c.requires.kept c.args.id c.args.parent c.args.attached
+    c.args.client c.args.event c.requires.change in
+    let made = grown_scene _ c.args.scene.id c.add.new.nodes.items c.args.scene.nodes.items c.args.scene.buffers
+    (map held_pages c.args.scene.held.items) c.newborn-node.result _ c.requires.scene c.in-Ok-add.ensures newborn_is in
+    subst (λ (d : Collection). IsHung c.bear.new.table d.nodes) (sym made) (born_hung c.args.table.now c.bear.new.table
+    (shelves_of c.args.entries.now.items) c.requires.kept c.args.id c.args.parent c.args.attached c.args.client c.args.event _ at
+    c.in_ok-key.key bears)
 
 pub finish-requires-clause-united : goal.finish-requires-clause-united
 finish-requires-clause-united c =
     let bears = rw (c.in-Ok.ensures, c.above_in-above.ensures) at c.in_ok-key.ensures.ok in
     let newborn_is = rw c.above_in-above.ensures at c.newborn-node.ensures in
-    let at = above_is c.args.table.now (shelves_of c.args.entries.now.items) c.requires.kept c.args.id c.args.parent c.args.attached c.args.client c.args.event c.requires.change in
-    let made = grown_scene _ c.args.scene.id c.add.new.nodes.items c.args.scene.nodes.items c.args.scene.buffers (map held_pages c.args.scene.held.items) c.newborn-node.result _ c.requires.scene c.in-Ok-add.ensures newborn_is in
-    subst (λ (d : Collection). are_united (reverse d.nodes) ≡ true) (sym made) (born_united c.args.table.now c.bear.new.table (shelves_of c.args.entries.now.items) c.requires.kept c.args.id c.args.parent c.args.attached c.args.client c.args.event _ at c.in_ok-key.key bears)
+    let at = above_is c.args.table.now (shelves_of c.args.entries.now.items) c.requires.kept c.args.id c.args.parent c.args.attached
+    c.args.client c.args.event c.requires.change in
+    let made = grown_scene _ c.args.scene.id c.add.new.nodes.items c.args.scene.nodes.items c.args.scene.buffers
+    (map held_pages c.args.scene.held.items) c.newborn-node.result _ c.requires.scene c.in-Ok-add.ensures newborn_is in
+    subst (λ (d : Collection). are_united (reverse d.nodes) ≡ true) (sym made) (born_united c.args.table.now c.bear.new.table
+    (shelves_of c.args.entries.now.items) c.requires.kept c.args.id c.args.parent c.args.attached c.args.client c.args.event _ at
+    c.in_ok-key.key bears)
 
 pub finish-requires-clause-own : goal.finish-requires-clause-own
 finish-requires-clause-own c =
     let bears = rw (c.in-Ok.ensures, c.above_in-above.ensures) at c.in_ok-key.ensures.ok in
     let newborn_is = rw c.above_in-above.ensures at c.newborn-node.ensures in
-    let at = above_is c.args.table.now (shelves_of c.args.entries.now.items) c.requires.kept c.args.id c.args.parent c.args.attached c.args.client c.args.event c.requires.change in
-    let made = grown_scene _ c.args.scene.id c.add.new.nodes.items c.args.scene.nodes.items c.args.scene.buffers (map held_pages c.args.scene.held.items) c.newborn-node.result _ c.requires.scene c.in-Ok-add.ensures newborn_is in
-    subst (λ (d : Collection). all_of d.id d.nodes ≡ true) (sym made) (born_all_of c.args.table.now c.bear.new.table (shelves_of c.args.entries.now.items) c.requires.kept c.args.id c.args.parent c.args.attached c.args.client c.args.event _ at c.in_ok-key.key bears)
+    let at = above_is c.args.table.now (shelves_of c.args.entries.now.items) c.requires.kept c.args.id c.args.parent c.args.attached
+    c.args.client c.args.event c.requires.change in
+    let made = grown_scene _ c.args.scene.id c.add.new.nodes.items c.args.scene.nodes.items c.args.scene.buffers
+    (map held_pages c.args.scene.held.items) c.newborn-node.result _ c.requires.scene c.in-Ok-add.ensures newborn_is in
+    subst (λ (d : Collection). all_of d.id d.nodes ≡ true) (sym made) (born_all_of c.args.table.now c.bear.new.table
+    (shelves_of c.args.entries.now.items) c.requires.kept c.args.id c.args.parent c.args.attached c.args.client c.args.event _ at
+    c.in_ok-key.key bears)
 
 pub finish-requires-clause-pool : goal.finish-requires-clause-pool
 finish-requires-clause-pool c =
     let bears = rw (c.in-Ok.ensures, c.above_in-above.ensures) at c.in_ok-key.ensures.ok in
     let newborn_is = rw c.above_in-above.ensures at c.newborn-node.ensures in
-    let at = above_is c.args.table.now (shelves_of c.args.entries.now.items) c.requires.kept c.args.id c.args.parent c.args.attached c.args.client c.args.event c.requires.change in
-    let made = grown_scene _ c.args.scene.id c.add.new.nodes.items c.args.scene.nodes.items c.args.scene.buffers (map held_pages c.args.scene.held.items) c.newborn-node.result _ c.requires.scene c.in-Ok-add.ensures newborn_is in
-    let held = ap (λ (d : Collection). all_held (forest_of c.bear.new.table (put_shelf (shelf_by d) (shelves_of c.args.entries.now.items)))) made ∙ born_held c.args.table.now c.bear.new.table (shelves_of c.args.entries.now.items) c.requires.kept c.args.id c.args.parent c.args.attached c.args.client c.args.event _ at c.in_ok-key.key bears in
+    let at = above_is c.args.table.now (shelves_of c.args.entries.now.items) c.requires.kept c.args.id c.args.parent c.args.attached
+    c.args.client c.args.event c.requires.change in
+    let made = grown_scene _ c.args.scene.id c.add.new.nodes.items c.args.scene.nodes.items c.args.scene.buffers
+    (map held_pages c.args.scene.held.items) c.newborn-node.result _ c.requires.scene c.in-Ok-add.ensures newborn_is in
+    let held = ap (λ (d : Collection). all_held (forest_of c.bear.new.table (put_shelf (shelf_by d) (shelves_of c.args.entries.now.items))))
+    made ∙ born_held c.args.table.now c.bear.new.table (shelves_of c.args.entries.now.items) c.requires.kept c.args.id c.args.parent
+    c.args.attached c.args.client c.args.event _ at c.in_ok-key.key bears in
     c.requires.pool ∙ ap (λ (hs : List HeldPages). sorted_by start_of (map (λ (h : HeldPages). h.pages) hs)) (sym held)
 
 pub returns-clause-ok : goal.returns-clause-ok
 returns-clause-ok c =
     let bears = rw (c.in-Ok.ensures, c.above_in-above.ensures) at c.in_ok-key.ensures.ok in
     let newborn_is = rw c.above_in-above.ensures at c.newborn-node.ensures in
-    let at = above_is c.args.table.now (shelves_of c.args.entries.now.items) c.requires.kept c.args.id c.args.parent c.args.attached c.args.client c.args.event c.requires.change in
-    let made = grown_scene _ c.args.scene.id c.add.new.nodes.items c.args.scene.nodes.items c.args.scene.buffers (map held_pages c.args.scene.held.items) c.newborn-node.result _ c.requires.scene c.in-Ok-add.ensures newborn_is in
-    let is = born_is c.args.table.now c.bear.new.table (shelves_of c.args.entries.now.items) c.requires.kept c.args.id c.args.parent c.args.attached c.args.client c.args.event _ at c.in_ok-key.key bears ∙ sym made in
+    let at = above_is c.args.table.now (shelves_of c.args.entries.now.items) c.requires.kept c.args.id c.args.parent c.args.attached
+    c.args.client c.args.event c.requires.change in
+    let made = grown_scene _ c.args.scene.id c.add.new.nodes.items c.args.scene.nodes.items c.args.scene.buffers
+    (map held_pages c.args.scene.held.items) c.newborn-node.result _ c.requires.scene c.in-Ok-add.ensures newborn_is in
+    let is = born_is c.args.table.now c.bear.new.table (shelves_of c.args.entries.now.items) c.requires.kept c.args.id c.args.parent
+    c.args.attached c.args.client c.args.event _ at c.in_ok-key.key bears ∙ sym made in
     let still = still_collections c.args.table.now c.bear.new.table _ bears (shelves_of c.args.entries.now.items) c.requires.kept.filed in
-    rw is (Finishes-before c.args.pool.now.size (total c.args.holds.now) c.args.table.now c.bear.new.table c.finish.new.table (shelves_of c.args.entries.now.items) (shelves_of c.finish.new.entries.items) _ still c.in_ok-finish.ensures.ok)
+    rw is (Finishes-before c.args.pool.now.size (total c.args.holds.now) c.args.table.now c.bear.new.table c.finish.new.table
+    (shelves_of c.args.entries.now.items) (shelves_of c.finish.new.entries.items) _ still c.in_ok-finish.ensures.ok)
 
 pub returns-clause-keys : goal.returns-clause-keys
 returns-clause-keys c =
     let bears = rw (c.in-Ok.ensures, c.above_in-above.ensures) at c.in_ok-key.ensures.ok in
     Gives-same c.args.table.now c.bear.new.table c.finish.new.table c.in_ok-key.key
-    (subst (Gives c.args.table.now c.bear.new.table) (born_key _ c.args.attached c.args.id c.args.event c.args.client c.in_ok-key.key) bears.gives) c.in_ok-finish.ensures.same
+    (subst (Gives c.args.table.now c.bear.new.table) (born_key _ c.args.attached c.args.id c.args.event c.args.client c.in_ok-key.key)
+    bears.gives) c.in_ok-finish.ensures.same
 
 -- the other collections stay, and so do their counts
 pub finish-requires-clause-counted : goal.finish-requires-clause-counted

@@ -12,14 +12,18 @@ use Rattle.alloc_event.proofs.changing.settle_scene_change.Goals as goal
 
 pub unreachable-requires : goal.unreachable-requires
 unreachable-requires c =
-    let none = shelf_found c.args.id c.args.entries.now.items ∙ ap (option_map shelf_of) (sym (rw c.deref.ensures.value at c.in_default.ensures)) in
-    let some = change_kept c.args.table.now (shelves_of c.args.entries.now.items) c.requires.kept c.args.id c.args.change.now c.requires.birth c.requires.change.named in
+    let none = shelf_found c.args.id c.args.entries.now.items
+    ∙ ap (option_map shelf_of) (sym (rw c.deref.ensures.value at c.in_default.ensures)) in
+    let some = change_kept c.args.table.now (shelves_of c.args.entries.now.items) c.requires.kept c.args.id c.args.change.now
+    c.requires.birth c.requires.change.named in
     false≢true (ap is_some (sym none) ∙ some)
 
 pub change_scene-requires-clause-room : goal.change_scene-requires-clause-room
 change_scene-requires-clause-room c =
-    let nodes : c.in-Ok.scene.nodes.items ≡ nodes_with c.args.table.now c.in-Some.entry.now.keys.items = ap (λ (d : Collection). d.nodes) c.in-Ok.ensures in
-    rw nodes (change_room c.args.table.now (shelves_of c.args.entries.now.items) c.requires.kept c.args.id c.args.change.now c.requires.change c.in-Some.entry.now.keys.items)
+    let nodes : c.in-Ok.scene.nodes.items ≡ nodes_with c.args.table.now c.in-Some.entry.now.keys.items =
+    ap (λ (d : Collection). d.nodes) c.in-Ok.ensures in
+    rw nodes (change_room c.args.table.now (shelves_of c.args.entries.now.items) c.requires.kept c.args.id c.args.change.now
+    c.requires.change c.in-Some.entry.now.keys.items)
 
 pub change_scene-requires-clause-tied : goal.change_scene-requires-clause-tied
 change_scene-requires-clause-tied c =
@@ -29,52 +33,62 @@ change_scene-requires-clause-tied c =
 
 pub change_scene-requires-clause-left : goal.change_scene-requires-clause-left
 change_scene-requires-clause-left c =
-    let nodes : c.in-Ok.scene.nodes.items ≡ nodes_with c.args.table.now c.in-Some.entry.now.keys.items = ap (λ (d : Collection). d.nodes) c.in-Ok.ensures in
-    rw nodes (loss_left c.args.table.now (shelves_of c.args.entries.now.items) c.requires.kept c.args.id c.args.change.now c.requires.change (shelf_of c.in-Some.entry.now)
+    let nodes : c.in-Ok.scene.nodes.items ≡ nodes_with c.args.table.now c.in-Some.entry.now.keys.items =
+    ap (λ (d : Collection). d.nodes) c.in-Ok.ensures in
+    rw nodes (loss_left c.args.table.now (shelves_of c.args.entries.now.items) c.requires.kept c.args.id c.args.change.now c.requires.change
+    (shelf_of c.in-Some.entry.now)
     (shelf_found c.args.id c.args.entries.now.items ∙ ap (option_map shelf_of) (sym (rw c.deref.ensures.value at c.in-Some.ensures))))
 
 pub finish-requires-clause-kept : goal.finish-requires-clause-kept
 finish-requires-clause-kept c =
     altered-kept c.args.table.now (shelves_of c.args.entries.now.items) c.requires.kept c.args.id (shelf_of c.in-Some.entry.now)
     (shelf_found c.args.id c.args.entries.now.items ∙ ap (option_map shelf_of) (sym (rw c.deref.ensures.value at c.in-Some.ensures)))
-    c.args.change.now c.requires.birth (collection_of c.in-Ok.scene) (collection_of c.change_scene.new.scene) c.in-Ok.ensures c.in_ok-change_scene.ensures
+    c.args.change.now c.requires.birth (collection_of c.in-Ok.scene) (collection_of c.change_scene.new.scene) c.in-Ok.ensures
+    c.in_ok-change_scene.ensures
 
 pub finish-requires-clause-sound : goal.finish-requires-clause-sound
 finish-requires-clause-sound c =
     altered-sound c.args.table.now (shelves_of c.args.entries.now.items) c.requires.kept c.args.id (shelf_of c.in-Some.entry.now)
     (shelf_found c.args.id c.args.entries.now.items ∙ ap (option_map shelf_of) (sym (rw c.deref.ensures.value at c.in-Some.ensures)))
-    c.args.change.now c.requires.birth (collection_of c.in-Ok.scene) (collection_of c.change_scene.new.scene) c.in-Ok.ensures c.in_ok-change_scene.ensures
+    c.args.change.now c.requires.birth (collection_of c.in-Ok.scene) (collection_of c.change_scene.new.scene) c.in-Ok.ensures
+    c.in_ok-change_scene.ensures
 
 pub finish-requires-clause-own : goal.finish-requires-clause-own
 finish-requires-clause-own c =
     altered-of c.args.table.now (shelves_of c.args.entries.now.items) c.requires.kept c.args.id (shelf_of c.in-Some.entry.now)
     (shelf_found c.args.id c.args.entries.now.items ∙ ap (option_map shelf_of) (sym (rw c.deref.ensures.value at c.in-Some.ensures)))
-    c.args.change.now c.requires.birth (collection_of c.in-Ok.scene) (collection_of c.change_scene.new.scene) c.in-Ok.ensures c.in_ok-change_scene.ensures
+    c.args.change.now c.requires.birth (collection_of c.in-Ok.scene) (collection_of c.change_scene.new.scene) c.in-Ok.ensures
+    c.in_ok-change_scene.ensures
 
 pub finish-requires-clause-hung : goal.finish-requires-clause-hung
 finish-requires-clause-hung c =
     altered-hung c.args.table.now (shelves_of c.args.entries.now.items) c.requires.kept c.args.id (shelf_of c.in-Some.entry.now)
     (shelf_found c.args.id c.args.entries.now.items ∙ ap (option_map shelf_of) (sym (rw c.deref.ensures.value at c.in-Some.ensures)))
-    c.args.change.now c.requires.birth (collection_of c.in-Ok.scene) (collection_of c.change_scene.new.scene) c.in-Ok.ensures c.in_ok-change_scene.ensures
+    c.args.change.now c.requires.birth (collection_of c.in-Ok.scene) (collection_of c.change_scene.new.scene) c.in-Ok.ensures
+    c.in_ok-change_scene.ensures
 
 pub finish-requires-clause-united : goal.finish-requires-clause-united
 finish-requires-clause-united c =
     altered-united c.args.table.now (shelves_of c.args.entries.now.items) c.requires.kept c.args.id (shelf_of c.in-Some.entry.now)
     (shelf_found c.args.id c.args.entries.now.items ∙ ap (option_map shelf_of) (sym (rw c.deref.ensures.value at c.in-Some.ensures)))
-    c.args.change.now c.requires.birth (collection_of c.in-Ok.scene) (collection_of c.change_scene.new.scene) c.in-Ok.ensures c.in_ok-change_scene.ensures
+    c.args.change.now c.requires.birth (collection_of c.in-Ok.scene) (collection_of c.change_scene.new.scene) c.in-Ok.ensures
+    c.in_ok-change_scene.ensures
 
 pub finish-requires-clause-pool : goal.finish-requires-clause-pool
 finish-requires-clause-pool c =
-    let same = altered-forest c.args.table.now (shelves_of c.args.entries.now.items) c.requires.kept c.args.id (shelf_of c.in-Some.entry.now)
+    let same = altered-forest c.args.table.now (shelves_of c.args.entries.now.items) c.requires.kept c.args.id
+    (shelf_of c.in-Some.entry.now)
     (shelf_found c.args.id c.args.entries.now.items ∙ ap (option_map shelf_of) (sym (rw c.deref.ensures.value at c.in-Some.ensures)))
-    c.args.change.now c.requires.birth (collection_of c.in-Ok.scene) (collection_of c.change_scene.new.scene) c.in-Ok.ensures c.in_ok-change_scene.ensures in
+    c.args.change.now c.requires.birth (collection_of c.in-Ok.scene) (collection_of c.change_scene.new.scene) c.in-Ok.ensures
+    c.in_ok-change_scene.ensures in
     subst (IsPoolOf c.args.pool.now) (sym same) c.requires.pool
 
 pub returns-clause-ok : goal.returns-clause-ok
 returns-clause-ok c =
     let is = altered-is c.args.table.now (shelves_of c.args.entries.now.items) c.requires.kept c.args.id (shelf_of c.in-Some.entry.now)
     (shelf_found c.args.id c.args.entries.now.items ∙ ap (option_map shelf_of) (sym (rw c.deref.ensures.value at c.in-Some.ensures)))
-    c.args.change.now c.requires.birth (collection_of c.in-Ok.scene) (collection_of c.change_scene.new.scene) c.in-Ok.ensures c.in_ok-change_scene.ensures in
+    c.args.change.now c.requires.birth (collection_of c.in-Ok.scene) (collection_of c.change_scene.new.scene) c.in-Ok.ensures
+    c.in_ok-change_scene.ensures in
     rw is c.finish.ensures.ok
 
 pub finish-requires-clause-counted : goal.finish-requires-clause-counted

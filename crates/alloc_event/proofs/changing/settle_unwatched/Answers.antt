@@ -31,26 +31,32 @@ pub returns-then-is_still-clause-ok : goal.returns-then-is_still-clause-ok
 returns-then-is_still-clause-ok c =
     let loaded = rw c.deref.ensures.value at c.in-Ok.ensures in
     let still = subst (IsStill (total c.args.holds.now)) loaded (c.is_still.ensures c.if-is_still.true) in
-    let at = above_is c.args.table.now (shelves_of c.args.entries.now.items) c.requires.kept c.args.id c.args.parent c.args.attached c.args.client c.args.event c.requires.change in
+    let at = above_is c.args.table.now (shelves_of c.args.entries.now.items) c.requires.kept c.args.id c.args.parent c.args.attached
+    c.args.client c.args.event c.requires.change in
     by_both c.bear_still.result c.bear_still.ensures.bears c.bear_still.ensures.entries (λ key bears placed.
-    quiet_ok c.args.table.now c.bear_still.new.table (shelves_of c.args.entries.now.items) c.requires.kept c.args.id c.args.parent c.args.attached c.args.client c.args.event _ at key bears
+    quiet_ok c.args.table.now c.bear_still.new.table (shelves_of c.args.entries.now.items) c.requires.kept c.args.id c.args.parent
+    c.args.attached c.args.client c.args.event _ at key bears
     (total c.args.holds.now) still (shelves_of c.bear_still.new.entries.items) placed c.args.pool.now.size)
 
 pub returns-then-is_still-clause-kept : goal.returns-then-is_still-clause-kept
 returns-then-is_still-clause-kept c =
     let loaded = rw c.deref.ensures.value at c.in-Ok.ensures in
     let still = subst (IsStill (total c.args.holds.now)) loaded (c.is_still.ensures c.if-is_still.true) in
-    let at = above_is c.args.table.now (shelves_of c.args.entries.now.items) c.requires.kept c.args.id c.args.parent c.args.attached c.args.client c.args.event c.requires.change in
+    let at = above_is c.args.table.now (shelves_of c.args.entries.now.items) c.requires.kept c.args.id c.args.parent c.args.attached
+    c.args.client c.args.event c.requires.change in
     on_two c.bear_still.result c.bear_still.ensures.bears c.bear_still.ensures.entries (λ key bears placed.
-    quiet_kept c.args.table.now c.bear_still.new.table (shelves_of c.args.entries.now.items) c.requires.kept c.args.id c.args.parent c.args.attached c.args.client c.args.event _ at key bears
+    quiet_kept c.args.table.now c.bear_still.new.table (shelves_of c.args.entries.now.items) c.requires.kept c.args.id c.args.parent
+    c.args.attached c.args.client c.args.event _ at key bears
     (total c.args.holds.now) still (shelves_of c.bear_still.new.entries.items) placed)
 
 pub returns-then-is_still-clause-pool : goal.returns-then-is_still-clause-pool
 returns-then-is_still-clause-pool c =
     let loaded = rw c.deref.ensures.value at c.in-Ok.ensures in
     let still = subst (IsStill (total c.args.holds.now)) loaded (c.is_still.ensures c.if-is_still.true) in
-    let at = above_is c.args.table.now (shelves_of c.args.entries.now.items) c.requires.kept c.args.id c.args.parent c.args.attached c.args.client c.args.event c.requires.change in
+    let at = above_is c.args.table.now (shelves_of c.args.entries.now.items) c.requires.kept c.args.id c.args.parent c.args.attached
+    c.args.client c.args.event c.requires.change in
     on_two c.bear_still.result c.bear_still.ensures.bears c.bear_still.ensures.entries (λ key bears placed.
     c.requires.pool ∙ ap (λ (hs : List HeldPages). sorted_by start_of (map (λ (h : HeldPages). h.pages) hs))
-    (sym (quiet_held c.args.table.now c.bear_still.new.table (shelves_of c.args.entries.now.items) c.requires.kept c.args.id c.args.parent c.args.attached c.args.client c.args.event _ at key bears
+    (sym (quiet_held c.args.table.now c.bear_still.new.table (shelves_of c.args.entries.now.items) c.requires.kept c.args.id c.args.parent
+    c.args.attached c.args.client c.args.event _ at key bears
     (total c.args.holds.now) still (shelves_of c.bear_still.new.entries.items) placed)))

@@ -50,16 +50,23 @@ returns-clause-some c ss s opens id =
     let stores : Stores t c.store.new.table (map (gone_by c.args.going.now) (nodes_with t keys)) =
     subst (Stores t c.store.new.table) nodes c.store.ensures in
     let inside : c.in-Some.head.slot < length us = omega (arith, c.if-head-len.false, c.len.ensures) in
-    let kept_up : is_kept_up t (unit_at us c.in-Some.head.slot) (unit_at (untallied (nodes_with t keys) us) c.in-Some.head.slot) c.in-Some.head c.in-Some.attached ≡ true =
-    subst (λ (l : List Unit). is_kept_up t (unit_at us c.in-Some.head.slot) (unit_at l c.in-Some.head.slot) c.in-Some.head c.in-Some.attached ≡ true) units
+    let kept_up : is_kept_up t (unit_at us c.in-Some.head.slot) (unit_at (untallied (nodes_with t keys) us) c.in-Some.head.slot)
+    c.in-Some.head c.in-Some.attached ≡ true =
+    subst (λ (l : List Unit). is_kept_up t (unit_at us c.in-Some.head.slot) (unit_at l c.in-Some.head.slot) c.in-Some.head
+    c.in-Some.attached ≡ true) units
     (sym c.lower.ensures.value ∙ c.if-not-lower.false) in
     let may : may_go c.args.going.now c.args.origin c.in-Some.attached keys (nodes_with t keys) ≡ true =
-    ap (may_go c.args.going.now c.args.origin c.in-Some.attached keys) (sym c.requires.nodes) ∙ (sym c.may_go.ensures ∙ c.if-not-may_go.false) in
-    let lost : c.count_strong-lost.result ≡ strong_count (nodes_with t keys) = c.count_strong-lost.ensures ∙ ap strong_count c.requires.nodes in
+    ap (may_go c.args.going.now c.args.origin c.in-Some.attached keys) (sym c.requires.nodes)
+    ∙ (sym c.may_go.ensures ∙ c.if-not-may_go.false) in
+    let lost : c.count_strong-lost.result ≡ strong_count (nodes_with t keys) =
+    c.count_strong-lost.ensures ∙ ap strong_count c.requires.nodes in
     let some : 0 < c.args.strong - c.count_strong-lost.result = omega (arith, c.if-strong-lost.false) in
-    let count : (c.args.strong - c.count_strong-lost.result) + strong_count (nodes_with t keys) ≡ c.args.strong = omega (arith, c.if-strong-lost.false, lost) in
-    subst (λ (ns : List Node). IsLost t c.store.new.table c.lower.new.units.items ss s (change_of c.args.going.now) (c.args.strong - c.count_strong-lost.result) ns) (sym nodes)
-    (subst (λ (l : List Unit). IsLost t c.store.new.table l ss s (change_of c.args.going.now) (c.args.strong - c.count_strong-lost.result) (map (gone_by c.args.going.now) (nodes_with t keys))) (sym units)
+    let count : (c.args.strong - c.count_strong-lost.result) + strong_count (nodes_with t keys) ≡ c.args.strong =
+    omega (arith, c.if-strong-lost.false, lost) in
+    subst (λ (ns : List Node). IsLost t c.store.new.table c.lower.new.units.items ss s (change_of c.args.going.now)
+    (c.args.strong - c.count_strong-lost.result) ns) (sym nodes)
+    (subst (λ (l : List Unit). IsLost t c.store.new.table l ss s (change_of c.args.going.now) (c.args.strong - c.count_strong-lost.result)
+    (map (gone_by c.args.going.now) (nodes_with t keys))) (sym units)
     (lost_made t us ss s c.args.going.now c.args.strong opens c.args.origin keys c.requires.taken own
     c.in-Some.head c.in-Some.attached c.in-Some.ensures inside kept_up may c.requires.failing c.store.new.table stores
     (c.args.strong - c.count_strong-lost.result) (lt-ltb 0 (c.args.strong - c.count_strong-lost.result) some) count))

@@ -19,22 +19,26 @@ use Rattle.alloc_event.proofs.falling.lose_nodes.Goals as goal
 
 pub index-requires : goal.index-requires
 index-requires c =
-    let told : place_in c.args.id c.args.entries.now.items ≡ Some c.in-Some.at = sym (rw c.deref.ensures.value at c.place_of.ensures) ∙ c.in-Some.is in
+    let told : place_in c.args.id c.args.entries.now.items ≡ Some c.in-Some.at =
+    sym (rw c.deref.ensures.value at c.place_of.ensures) ∙ c.in-Some.is in
     omega (arith, (place_is c.args.id c.args.entries.now.items c.in-Some.at told).within)
 
 pub index-requires-2 : goal.index-requires-2
 index-requires-2 c =
-    let told : place_in c.args.id c.args.entries.now.items ≡ Some c.in-Some.at = sym (rw c.deref.ensures.value at c.place_of.ensures) ∙ c.in-Some.is in
+    let told : place_in c.args.id c.args.entries.now.items ≡ Some c.in-Some.at =
+    sym (rw c.deref.ensures.value at c.place_of.ensures) ∙ c.in-Some.is in
     omega (arith, (place_is c.args.id c.args.entries.now.items c.in-Some.at told).within)
 
 pub index-requires-3 : goal.index-requires-3
 index-requires-3 c =
-    let told : place_in c.args.id c.args.entries.now.items ≡ Some c.in-Some.at = sym (rw c.deref.ensures.value at c.place_of.ensures) ∙ c.in-Some.is in
+    let told : place_in c.args.id c.args.entries.now.items ≡ Some c.in-Some.at =
+    sym (rw c.deref.ensures.value at c.place_of.ensures) ∙ c.in-Some.is in
     omega (arith, (place_is c.args.id c.args.entries.now.items c.in-Some.at told).within)
 
 pub index_mut-entry-requires : goal.index_mut-entry-requires
 index_mut-entry-requires c =
-    let told : place_in c.args.id c.args.entries.now.items ≡ Some c.in-Some.at = sym (rw c.deref.ensures.value at c.place_of.ensures) ∙ c.in-Some.is in
+    let told : place_in c.args.id c.args.entries.now.items ≡ Some c.in-Some.at =
+    sym (rw c.deref.ensures.value at c.place_of.ensures) ∙ c.in-Some.is in
     omega (arith, (place_is c.args.id c.args.entries.now.items c.in-Some.at told).within)
 
 pub recount-requires-clause-others : goal.recount-requires-clause-others
@@ -46,9 +50,11 @@ recount-requires-clause-others c =
     let told : place_in c.args.id es ≡ Some c.in-Some.at = sym (rw c.deref.ensures.value at c.place_of.ensures) ∙ c.in-Some.is in
     let place : IsPlace c.args.id es c.in-Some.at = place_is c.args.id es c.in-Some.at told in
     let opens : IsOpen c.args.table.now us (shelves_of es) (shelf_of old) loss old.strong =
-    opens_at c.args.table.now es c.args.id c.in-Some.at old place c.index.ensures c.requires.kept c.requires.counted us c.requires.units loss c.requires.change in
+    opens_at c.args.table.now es c.args.id c.in-Some.at old place c.index.ensures c.requires.kept c.requires.counted us c.requires.units
+    loss c.requires.change in
     let own : old.id ≡ c.args.id =
-    own_id c.args.table.now es c.args.id c.in-Some.at old place c.index.ensures c.requires.kept c.requires.counted us c.requires.units loss c.requires.change in
+    own_id c.args.table.now es c.args.id c.in-Some.at old place c.index.ensures c.requires.kept c.requires.counted us c.requires.units loss
+    c.requires.change in
     rw (c.deref-in_default-fell.ensures.value, c.fell.ensures.none c.in_default-fell.is)
     (rw own at (c.fell.ensures.none_units c.in_default-fell.is (shelves_of es) (shelf_of old) opens own))
 
@@ -96,28 +102,35 @@ module _ (c : goal.After-entries-1) where
   thrice = c.index-3.ensures ∙ get_or_default es c.in-Some.at c.index-3.result.now old place.within ∙ sym is
 
   opens : IsOpen c.args.table.now us (shelves_of es) (shelf_of old) loss old.strong
-  opens = opens_at c.args.table.now es c.args.id c.in-Some.at old place is c.requires.kept c.requires.counted us c.requires.units loss c.requires.change
+  opens = opens_at c.args.table.now es c.args.id c.in-Some.at old place is c.requires.kept c.requires.counted us c.requires.units loss
+      c.requires.change
 
   own : old.id ≡ c.args.id
-  own = own_id c.args.table.now es c.args.id c.in-Some.at old place is c.requires.kept c.requires.counted us c.requires.units loss c.requires.change
+  own = own_id c.args.table.now es c.args.id c.in-Some.at old place is c.requires.kept c.requires.counted us c.requires.units loss
+      c.requires.change
 
-  lost : IsLost c.args.table.now c.fell.new.table c.fell.new.units.items (shelves_of es) (shelf_of old) loss c.in-Some-fell.left c.fell.new.nodes
+  lost : IsLost c.args.table.now c.fell.new.table c.fell.new.units.items (shelves_of es) (shelf_of old) loss c.in-Some-fell.left
+      c.fell.new.nodes
   lost = c.in-Some-fell.ensures.some (shelves_of es) (shelf_of old) opens own
 
   tidies : new.tidy ≡ true → list_any (over_but new.one) (nodes_with c.fell.new.table old.keys.items) ≡ false
   tidies h =
       let was : list_any (over_but old.one) (nodes_with c.args.table.now old.keys.items) ≡ false =
-      tidy_at c.args.table.now es c.args.id c.in-Some.at old place is c.requires.kept c.requires.counted us c.requires.units loss c.requires.change
+      tidy_at c.args.table.now es c.args.id c.in-Some.at old place is c.requires.kept c.requires.counted us c.requires.units loss
+      c.requires.change
       (ap (λ (x : Entry). x.tidy) (sym twice) ∙ c.note_gone-tidy.ensures.tidy h) in
       lost.over (over_but new.one) (c.note_gone-tidy.ensures.over h) (elim (c.note_gone-tidy.ensures.one h) [
-        | inl same ↦ ap (λ (o : Option NodeKey). list_any (over_but o) (nodes_with c.args.table.now old.keys.items)) (same ∙ ap (λ (x : Entry). x.one) thrice) ∙ was
+        | inl same ↦ ap (λ (o : Option NodeKey). list_any (over_but o) (nodes_with c.args.table.now old.keys.items)) (same
+            ∙ ap (λ (x : Entry). x.one) thrice) ∙ was
         | inr none ↦
             fewer_over new.one (nodes_with c.args.table.now old.keys.items)
-            (ap (λ (o : Option NodeKey). list_any (over_but o) (nodes_with c.args.table.now old.keys.items)) (sym (sym (ap (λ (x : Entry). x.one) thrice) ∙ none)) ∙ was)
+            (ap (λ (o : Option NodeKey). list_any (over_but o) (nodes_with c.args.table.now old.keys.items))
+            (sym (sym (ap (λ (x : Entry). x.one) thrice) ∙ none)) ∙ was)
       ])
 
   same_shelves : shelves_of (set es c.in-Some.at new) ≡ shelves_of es
-  same_shelves = shelves_at c.args.table.now es c.args.id c.in-Some.at old place is c.requires.kept c.requires.counted us c.requires.units loss c.requires.change
+  same_shelves = shelves_at c.args.table.now es c.args.id c.in-Some.at old place is c.requires.kept c.requires.counted us c.requires.units
+      loss c.requires.change
       c.fell.new.table c.fell.new.units.items c.in-Some-fell.left lost.done new (ap shelf_of again) refl tidies
 
 pub returns-clause-ok : goal.returns-clause-ok
@@ -125,7 +138,8 @@ returns-clause-ok c h pool handles =
     subst (λ (ss : List Shelf). Finishes pool handles c.args.table.now (shelves_of c.args.entries.now.items) c.fell.new.table ss
     (changed (loss c) no_key (collection_or_new (forest_of c.args.table.now (shelves_of c.args.entries.now.items)) c.args.id)))
     (sym (same_shelves c))
-    (finishes_at c.args.table.now c.args.entries.now.items c.args.id c.in-Some.at (old c) (place c) (is c) c.requires.kept c.requires.counted (us c) c.requires.units (loss c) c.requires.change
+    (finishes_at c.args.table.now c.args.entries.now.items c.args.id c.in-Some.at (old c) (place c) (is c) c.requires.kept
+    c.requires.counted (us c) c.requires.units (loss c) c.requires.change
     c.fell.new.table c.fell.new.units.items c.in-Some-fell.left (lost c).done (new c) (ap shelf_of (again c)) refl (tidies c) pool handles)
 
 pub returns-clause-shelves : goal.returns-clause-shelves
@@ -136,11 +150,13 @@ returns-clause-kept c h = (lost c).done.kept
 
 pub returns-clause-counted : goal.returns-clause-counted
 returns-clause-counted c h =
-    counted_at c.args.table.now c.args.entries.now.items c.args.id c.in-Some.at (old c) (place c) (is c) c.requires.kept c.requires.counted (us c) c.requires.units (loss c) c.requires.change
+    counted_at c.args.table.now c.args.entries.now.items c.args.id c.in-Some.at (old c) (place c) (is c) c.requires.kept c.requires.counted
+    (us c) c.requires.units (loss c) c.requires.change
     c.fell.new.table c.fell.new.units.items c.in-Some-fell.left (lost c).done (new c) (ap shelf_of (again c)) refl (tidies c) (told c)
 
 pub returns-clause-same : goal.returns-clause-same
 returns-clause-same c = (lost c).done.same
 
 pub returns-clause-units : goal.returns-clause-units
-returns-clause-units c = subst (λ (ss : List Shelf). AreUnits c.fell.new.units.items (map (collection_in c.fell.new.table) ss)) (sym (same_shelves c)) (lost c).done.units
+returns-clause-units c = subst (λ (ss : List Shelf). AreUnits c.fell.new.units.items (map (collection_in c.fell.new.table) ss))
+    (sym (same_shelves c)) (lost c).done.units

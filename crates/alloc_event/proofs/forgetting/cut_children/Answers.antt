@@ -7,5 +7,6 @@ cutting-smaller c = cut_fewer c.cutting.table c.cut.new.self c.args.key c.in-Som
 
 pub cutting-preserved : goal.cutting-preserved
 cutting-preserved c = record {
-  off = CutsOff-more c.args.table.now c.cutting.table c.cut.new.self c.args.key c.in-Some.child c.cutting.invariant.off c.in-Some.ensures c.cut.ensures;
+  off = CutsOff-more c.args.table.now c.cutting.table c.cut.new.self c.args.key c.in-Some.child c.cutting.invariant.off c.in-Some.ensures
+      c.cut.ensures;
 }

@@ -13,7 +13,8 @@ drop_bare-requires c =
 
 pub returns-clause-collections : goal.returns-clause-collections
 returns-clause-collections c =
-    ap (map (collection_in c.forget_nodes.new.table)) (c.drop_bare.ensures.shelves ∙ ap (without_bare c.args.id) c.forget_nodes.ensures.shelves)
+    ap (map (collection_in c.forget_nodes.new.table)) (c.drop_bare.ensures.shelves
+    ∙ ap (without_bare c.args.id) c.forget_nodes.ensures.shelves)
     ∙ forgotten_collections c.args.table.now c.forget_nodes.new.table c.args.id (shelves_of c.args.entries.now.items) c.requires.kept
     c.forget_nodes.ensures.look c.forget_nodes.ensures.none
 

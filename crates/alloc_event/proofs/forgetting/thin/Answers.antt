@@ -15,7 +15,8 @@ use Rattle.alloc_event.proofs.forgetting.thin.Goals as goal
 
 pub index_mut-entry-requires : goal.index_mut-entry-requires
 index_mut-entry-requires c =
-    let told : place_in c.args.id c.args.entries.now.items ≡ Some c.in-Some.at = sym (rw c.deref.ensures.value at c.place_of.ensures) ∙ c.in-Some.is in
+    let told : place_in c.args.id c.args.entries.now.items ≡ Some c.in-Some.at =
+    sym (rw c.deref.ensures.value at c.place_of.ensures) ∙ c.in-Some.is in
     omega (arith, (place_is c.args.id c.args.entries.now.items c.in-Some.at told).within)
 
 -- what holds of each entry holds of this one
@@ -36,7 +37,8 @@ keep-requires c = from c.args.one c.requires.one
         IfSome o (λ (one : NodeKey × ℕ). IsMissing c.args.table.now old.keys.items one.1)
     from None h = tt
     from (Some one) h =
-        let told : place_in c.args.id c.args.entries.now.items ≡ Some c.in-Some.at = sym (rw c.deref.ensures.value at c.place_of.ensures) ∙ c.in-Some.is in
+        let told : place_in c.args.id c.args.entries.now.items ≡ Some c.in-Some.at =
+        sym (rw c.deref.ensures.value at c.place_of.ensures) ∙ c.in-Some.is in
         let place = place_is c.args.id c.args.entries.now.items c.in-Some.at told in
         let at = each_at (λ (e : Entry). e.id ≡ c.args.id → IsMissing c.args.table.now e.keys.items one.1)
         c.args.entries.now.items c.in-Some.at old h place.within in
@@ -45,7 +47,8 @@ keep-requires c = from c.args.one c.requires.one
 
 pub returns-in-Some-clause-shelves : goal.returns-in-Some-clause-shelves
 returns-in-Some-clause-shelves c =
-    let told : place_in c.args.id c.args.entries.now.items ≡ Some c.in-Some.at = sym (rw c.deref.ensures.value at c.place_of.ensures) ∙ c.in-Some.is in
+    let told : place_in c.args.id c.args.entries.now.items ≡ Some c.in-Some.at =
+    sym (rw c.deref.ensures.value at c.place_of.ensures) ∙ c.in-Some.is in
     let e : Entry = record {
       id = c.index_mut-entry.result.now.id;
       keys = c.keep.new.keys;
@@ -65,22 +68,27 @@ returns-in-Some-clause-shelves c =
 
 pub returns-in-Some-clause-counted : goal.returns-in-Some-clause-counted
 returns-in-Some-clause-counted c all tidy =
-    let told : place_in c.args.id c.args.entries.now.items ≡ Some c.in-Some.at = sym (rw c.deref.ensures.value at c.place_of.ensures) ∙ c.in-Some.is in
+    let told : place_in c.args.id c.args.entries.now.items ≡ Some c.in-Some.at =
+    sym (rw c.deref.ensures.value at c.place_of.ensures) ∙ c.in-Some.is in
     let old : Entry = c.index_mut-entry.result.now in
-    let e : Entry = record { id = old.id; keys = c.keep.new.keys; buffers = old.buffers; held = old.held; strong = old.strong; tidy = true; one = None } in
+    let e : Entry =
+    record { id = old.id; keys = c.keep.new.keys; buffers = old.buffers; held = old.held; strong = old.strong; tidy = true; one = None } in
     let place = place_is c.args.id c.args.entries.now.items c.in-Some.at told in
-    let was : old ≡ get_or c.args.entries.now.items c.in-Some.at e = c.index_mut-entry.ensures.value ∙ get_or_default _ _ _ e place.within in
+    let was : old ≡ get_or c.args.entries.now.items c.in-Some.at e =
+    c.index_mut-entry.ensures.value ∙ get_or_default _ _ _ e place.within in
     let same : collection_in c.args.table.now (shelf_of e) ≡ collection_in c.args.table.now (shelf_of old) =
     λ i. record (collection_in c.args.table.now (shelf_of old)) {
       nodes = (ap (nodes_with c.args.table.now) c.keep.ensures ∙ found_nodes c.args.table.now old.keys.items) i;
     } in
     tidied_set c.args.table.now c.args.id c.args.entries.now.items c.in-Some.at e tidy
     (λ within is none counted.
-    recounted c.args.table.now old e same refl (λ h. ap (λ (x : Entry). list_any is_over (nodes_with c.args.table.now x.keys.items)) was ∙ none)
+    recounted c.args.table.now old e same refl (λ h. ap (λ (x : Entry). list_any is_over (nodes_with c.args.table.now x.keys.items)) was
+    ∙ none)
     (subst (IsCounted c.args.table.now) (sym was) counted))
     (λ within. place.id_is e) all
 
 pub returns-in_default-clause-shelves : goal.returns-in_default-clause-shelves
 returns-in_default-clause-shelves c =
-    let told : place_in c.args.id c.args.entries.now.items ≡ None = sym (rw c.deref.ensures.value at c.place_of.ensures) ∙ c.in_default.is in
+    let told : place_in c.args.id c.args.entries.now.items ≡ None =
+    sym (rw c.deref.ensures.value at c.place_of.ensures) ∙ c.in_default.is in
     thin_none c.args.table.now c.args.id c.args.entries.now.items told

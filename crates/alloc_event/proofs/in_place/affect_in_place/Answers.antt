@@ -19,14 +19,19 @@ returns-clause-some c us ss s opens =
     let is : is_plain c.args.effect.now ≡ true = sym c.is_plain.ensures ∙ c.if-not-is_plain.false in
     let was : node_at c.args.table.now c.args.key ≡ Some n = sym c.get.ensures ∙ sym c.copied.ensures ∙ c.in-Some.is in
     let after : c.affected_by-after.result ≡ affected c.args.key c.args.effect.now n = c.affected_by-after.ensures in
-    let becomes : c.write.new.table ≡ table_with_node c.args.table.now (affected c.args.key c.args.effect.now n).key (affected c.args.key c.args.effect.now n) =
+    let becomes : c.write.new.table ≡ table_with_node c.args.table.now (affected c.args.key c.args.effect.now n).key
+    (affected c.args.key c.args.effect.now n) =
     subst (λ (m : Node). c.write.new.table ≡ table_with_node c.args.table.now m.key m) after c.write.ensures.becomes in
-    let writes : Writes c.args.table.now c.write.new.table (affected c.args.key c.args.effect.now n).key (affected c.args.key c.args.effect.now n) =
+    let writes : Writes c.args.table.now c.write.new.table (affected c.args.key c.args.effect.now n).key
+    (affected c.args.key c.args.effect.now n) =
     subst (λ (m : Node). Writes c.args.table.now c.write.new.table m.key m) after c.write.ensures.writes in
-    let counted = strong_is c.args.table.now c.write.new.table us c.args.key c.args.effect.now n was becomes writes ss s c.args.strong opens in
+    let counted = strong_is c.args.table.now c.write.new.table us c.args.key c.args.effect.now n was becomes writes ss s c.args.strong
+    opens in
     let left : c.less-left.result ≡ strong_count (map (affected c.args.key c.args.effect.now) (nodes_with c.args.table.now s.keys)) =
-    less_is c.args.strong c.less-left.result c.is_strong.result c.is_strong-2.result (is_strong n) (is_strong (affected c.args.key c.args.effect.now n))
-    c.less-left.ensures c.is_strong.ensures (c.is_strong-2.ensures ∙ ap is_strong after) (strong_before c.args.key c.args.effect.now n) _ counted in
+    less_is c.args.strong c.less-left.result c.is_strong.result c.is_strong-2.result (is_strong n)
+    (is_strong (affected c.args.key c.args.effect.now n))
+    c.less-left.ensures c.is_strong.ensures (c.is_strong-2.ensures ∙ ap is_strong after) (strong_before c.args.key c.args.effect.now n) _
+    counted in
     plain_made c.args.table.now c.write.new.table us c.args.key c.args.effect.now n was becomes writes ss s c.args.strong opens is
     c.less-left.result (lt-ltb 0 c.less-left.result (omega arith)) left
 
@@ -36,5 +41,6 @@ write-requires c =
     let is : is_plain c.args.effect.now ≡ true = sym c.is_plain.ensures ∙ c.if-not-is_plain.false in
     let was : node_at c.args.table.now c.args.key ≡ Some n = sym c.get.ensures ∙ sym c.copied.ensures ∙ c.in-Some.is in
     let own : c.affected_by-after.result.key ≡ c.args.key =
-    ap (λ (m : Node). m.key) c.affected_by-after.ensures ∙ (plain_affected c.args.key c.args.effect.now is n).key ∙ c.requires.named c.args.key n was in
+    ap (λ (m : Node). m.key) c.affected_by-after.ensures ∙ (plain_affected c.args.key c.args.effect.now is n).key
+    ∙ c.requires.named c.args.key n was in
     row_there c.args.table.now c.affected_by-after.result.key (ap is_some (ap (node_at c.args.table.now) own ∙ was))

@@ -26,7 +26,8 @@ write-requires c =
     let n : Node = c.in-Some.node in
     let was : node_at c.args.table.now c.args.key ≡ Some n = sym c.get.ensures ∙ sym c.copied.ensures ∙ c.in-Some.is in
     let own : c.affected_by-after.result.key ≡ c.args.key =
-    ap (λ (m : Node). m.key) c.affected_by-after.ensures ∙ (same_affected c.args.key c.args.effect.now n).key ∙ c.requires.named c.args.key n was in
+    ap (λ (m : Node). m.key) c.affected_by-after.ensures ∙ (same_affected c.args.key c.args.effect.now n).key
+    ∙ c.requires.named c.args.key n was in
     row_there c.args.table.now c.affected_by-after.result.key (ap is_some (ap (node_at c.args.table.now) own ∙ was))
 
 -- the unit does not get its buffers next, or waits for another, or did not wait for the node
@@ -58,16 +59,19 @@ returns-clause-some c ss s opens =
     c.less-left.ensures c.is_strong.ensures (c.is_strong-2.ensures ∙ ap is_strong after) (strong_before key effect n) _
     (strong_is t c.write.new.table us key effect n was becomes writes ss s c.args.strong opens) in
     let live : c.less-live.result ≡ times (lives_in n.head) (map (affected key effect) (nodes_with t s.keys)) =
-    less_is c.unit_in-unit.result.live c.less-live.result c.is_live.result c.is_live-2.result (is_live_node n) (is_live_node (affected key effect n))
+    less_is c.unit_in-unit.result.live c.less-live.result c.is_live.result c.is_live-2.result (is_live_node n)
+    (is_live_node (affected key effect n))
     c.less-live.ensures c.is_live.ensures (c.is_live-2.ensures ∙ ap is_live_node after) (live_before key effect n) _
     (live_is t c.write.new.table us key effect n was becomes writes ss s c.args.strong opens within
     ∙ ap (λ (u : Unit). u.live + bit (is_live_node (affected key effect n))) (sym unit)) in
     let unready : c.less-unready.result ≡ times (waits_in n.head) (map (affected key effect) (nodes_with t s.keys)) =
-    less_is c.unit_in-unit.result.unready c.less-unready.result c.is_unready.result c.is_unready-2.result (is_unready n) (is_unready (affected key effect n))
+    less_is c.unit_in-unit.result.unready c.less-unready.result c.is_unready.result c.is_unready-2.result (is_unready n)
+    (is_unready (affected key effect n))
     c.less-unready.ensures c.is_unready.ensures (c.is_unready-2.ensures ∙ ap is_unready after) (unready_before key effect n) _
     (unready_is t c.write.new.table us key effect n was becomes writes ss s c.args.strong opens within
     ∙ ap (λ (u : Unit). u.unready + bit (is_unready (affected key effect n))) (sym unit)) in
     subst (λ (l : List Unit). IsMade t c.write.new.table l ss s (Change.Effect key effect) c.less-left.result) (sym c.put_unit.ensures)
     (counted_made t c.write.new.table us key effect n was becomes writes ss s c.args.strong opens within
     (record { live = c.less-live.result; unready = c.less-unready.result }) live unready
-    c.less-left.result (lt-ltb 0 c.less-left.result (omega (arith, c.if-left-eq0.false))) left (c.is_held.ensures c.if-not-is_held.false) (guard c))
+    c.less-left.result (lt-ltb 0 c.less-left.result (omega (arith, c.if-left-eq0.false))) left (c.is_held.ensures c.if-not-is_held.false)
+    (guard c))

@@ -26,4 +26,5 @@ from t key child id (Some n) is under h =
 
 pub returns-in-Some : goal.returns-in-Some
 returns-in-Some c h =
-    from c.args.table.now c.args.key c.in-Some.child c.args.id (node_at c.args.table.now c.in-Some.child) refl c.in-Some.ensures.parent_is (sym c.heads_unit.ensures ∙ h)
+    from c.args.table.now c.args.key c.in-Some.child c.args.id (node_at c.args.table.now c.in-Some.child) refl c.in-Some.ensures.parent_is
+    (sym c.heads_unit.ensures ∙ h)

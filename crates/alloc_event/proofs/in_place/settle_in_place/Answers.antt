@@ -16,12 +16,14 @@ use Rattle.alloc_event.proofs.in_place.settle_in_place.Goals as goal
 
 pub index-requires : goal.index-requires
 index-requires c =
-    let told : place_in c.args.id c.args.entries.now.items ≡ Some c.in-Some.at = sym (rw c.deref.ensures.value at c.place_of.ensures) ∙ c.in-Some.is in
+    let told : place_in c.args.id c.args.entries.now.items ≡ Some c.in-Some.at =
+    sym (rw c.deref.ensures.value at c.place_of.ensures) ∙ c.in-Some.is in
     omega (arith, (place_is c.args.id c.args.entries.now.items c.in-Some.at told).within)
 
 pub index_mut-requires : goal.index_mut-requires
 index_mut-requires c =
-    let told : place_in c.args.id c.args.entries.now.items ≡ Some c.in-Some.at = sym (rw c.deref.ensures.value at c.place_of.ensures) ∙ c.in-Some.is in
+    let told : place_in c.args.id c.args.entries.now.items ≡ Some c.in-Some.at =
+    sym (rw c.deref.ensures.value at c.place_of.ensures) ∙ c.in-Some.is in
     omega (arith, (place_is c.args.id c.args.entries.now.items c.in-Some.at told).within)
 
 pub change_in_place-requires-clause-room : goal.change_in_place-requires-clause-room
@@ -61,26 +63,34 @@ module _ (c : goal.After-entries-1) where
   again = c.index_mut.ensures.value ∙ get_or_default es c.in-Some.at c.index_mut.result.now old place.within ∙ sym is
 
   opens : IsOpen c.args.table.now c.args.units.now.items (shelves_of es) (shelf_of old) c.args.change.now old.strong
-  opens = opens_at c.args.table.now es c.args.id c.in-Some.at old place is c.requires.kept c.requires.counted c.args.units.now.items c.requires.units c.args.change.now c.requires.change
+  opens = opens_at c.args.table.now es c.args.id c.in-Some.at old place is c.requires.kept c.requires.counted c.args.units.now.items
+      c.requires.units c.args.change.now c.requires.change
 
-  made : IsMade c.args.table.now c.change_in_place.new.table c.change_in_place.new.units.items (shelves_of es) (shelf_of old) c.args.change.now c.in-Some-change_in_place.left
+  made : IsMade c.args.table.now c.change_in_place.new.table c.change_in_place.new.units.items (shelves_of es) (shelf_of old)
+      c.args.change.now c.in-Some-change_in_place.left
   made = c.in-Some-change_in_place.ensures.some (shelves_of es) (shelf_of old) opens
 
   tidies : new.tidy ≡ true → list_any (over_but new.one) (nodes_with c.change_in_place.new.table old.keys.items) ≡ false
-  tidies h = made.over new.one ∙ ap (λ (x : Entry). list_any (over_but x.one) (nodes_with c.args.table.now old.keys.items)) again ∙ tidy_at c.args.table.now es c.args.id c.in-Some.at old place is c.requires.kept c.requires.counted c.args.units.now.items c.requires.units c.args.change.now c.requires.change
+  tidies h = made.over new.one ∙ ap (λ (x : Entry). list_any (over_but x.one) (nodes_with c.args.table.now old.keys.items)) again
+      ∙ tidy_at c.args.table.now es c.args.id c.in-Some.at old place is c.requires.kept c.requires.counted c.args.units.now.items
+      c.requires.units c.args.change.now c.requires.change
       (sym (ap (λ (x : Entry). x.tidy) again) ∙ h)
 
   same_shelves : shelves_of (set es c.in-Some.at new) ≡ shelves_of es
-  same_shelves = shelves_at c.args.table.now es c.args.id c.in-Some.at old place is c.requires.kept c.requires.counted c.args.units.now.items c.requires.units c.args.change.now c.requires.change
-      c.change_in_place.new.table c.change_in_place.new.units.items c.in-Some-change_in_place.left made.done new (ap shelf_of again) refl tidies
+  same_shelves = shelves_at c.args.table.now es c.args.id c.in-Some.at old place is c.requires.kept c.requires.counted
+      c.args.units.now.items c.requires.units c.args.change.now c.requires.change
+      c.change_in_place.new.table c.change_in_place.new.units.items c.in-Some-change_in_place.left made.done new (ap shelf_of again) refl
+      tidies
 
 pub returns-clause-ok : goal.returns-clause-ok
 returns-clause-ok c h pool handles =
     subst (λ (ss : List Shelf). Finishes pool handles c.args.table.now (shelves_of c.args.entries.now.items) c.change_in_place.new.table ss
     (changed c.args.change.now no_key (collection_or_new (forest_of c.args.table.now (shelves_of c.args.entries.now.items)) c.args.id)))
     (sym (same_shelves c))
-    (finishes_at c.args.table.now c.args.entries.now.items c.args.id c.in-Some.at (old c) (place c) (is c) c.requires.kept c.requires.counted c.args.units.now.items c.requires.units c.args.change.now c.requires.change
-    c.change_in_place.new.table c.change_in_place.new.units.items c.in-Some-change_in_place.left (made c).done (new c) (ap shelf_of (again c)) refl (tidies c) pool handles)
+    (finishes_at c.args.table.now c.args.entries.now.items c.args.id c.in-Some.at (old c) (place c) (is c) c.requires.kept
+    c.requires.counted c.args.units.now.items c.requires.units c.args.change.now c.requires.change
+    c.change_in_place.new.table c.change_in_place.new.units.items c.in-Some-change_in_place.left (made c).done (new c)
+    (ap shelf_of (again c)) refl (tidies c) pool handles)
 
 pub returns-clause-shelves : goal.returns-clause-shelves
 returns-clause-shelves c = same_shelves c
@@ -90,11 +100,15 @@ returns-clause-kept c h = (made c).done.kept
 
 pub returns-clause-counted : goal.returns-clause-counted
 returns-clause-counted c h =
-    counted_at c.args.table.now c.args.entries.now.items c.args.id c.in-Some.at (old c) (place c) (is c) c.requires.kept c.requires.counted c.args.units.now.items c.requires.units c.args.change.now c.requires.change
-    c.change_in_place.new.table c.change_in_place.new.units.items c.in-Some-change_in_place.left (made c).done (new c) (ap shelf_of (again c)) refl (tidies c) (told c)
+    counted_at c.args.table.now c.args.entries.now.items c.args.id c.in-Some.at (old c) (place c) (is c) c.requires.kept c.requires.counted
+    c.args.units.now.items c.requires.units c.args.change.now c.requires.change
+    c.change_in_place.new.table c.change_in_place.new.units.items c.in-Some-change_in_place.left (made c).done (new c)
+    (ap shelf_of (again c)) refl (tidies c) (told c)
 
 pub returns-clause-same : goal.returns-clause-same
 returns-clause-same c = (made c).done.same
 
 pub returns-clause-units : goal.returns-clause-units
-returns-clause-units c = subst (λ (ss : List Shelf). AreUnits c.change_in_place.new.units.items (map (collection_in c.change_in_place.new.table) ss)) (sym (same_shelves c)) (made c).done.units
+returns-clause-units c =
+    subst (λ (ss : List Shelf). AreUnits c.change_in_place.new.units.items (map (collection_in c.change_in_place.new.table) ss))
+    (sym (same_shelves c)) (made c).done.units

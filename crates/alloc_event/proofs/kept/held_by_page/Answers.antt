@@ -17,7 +17,9 @@ loop-entry-preserved c = grind (arith, common_steps, flat_map-append)
 pub returns : goal.returns
 returns c =
     let all = c.loop-entry.invariant
-    ∙ ap (λ (es : List Entry). flat_map (λ (e : Entry). e.held.items) es) (take_all c.loop-entry.entry-index c.args.entries.now c.loop-entry-test.false) in
-    let sorted = stable_sorted (λ (h : HeldBuffer). h.start) _ _ (c.in_ok-sort_by_key.ensures.sorted (λ h. h.start) (answers_always _ _ _ (λ f a r g h. search rules)))
+    ∙ ap (λ (es : List Entry). flat_map (λ (e : Entry). e.held.items) es) (take_all c.loop-entry.entry-index c.args.entries.now
+    c.loop-entry-test.false) in
+    let sorted = stable_sorted (λ (h : HeldBuffer). h.start) _ _ (c.in_ok-sort_by_key.ensures.sorted (λ h.
+    h.start) (answers_always _ _ _ (λ f a r g h. search rules)))
     (c.sort_by_key.ensures.stable (λ h. h.start) (answers_always _ _ _ (λ f a r g h. search rules))) in
     sorted ∙ ap (sorted_by (λ (h : HeldBuffer). h.start)) all

@@ -19,8 +19,10 @@ loop-entry-preserved c = grind (arith, common_steps, map-append, flat_map-append
 pub returns : goal.returns
 returns c =
     let all = c.loop-entry.invariant
-    ∙ ap (λ (es : List Entry). filter is_live (nodes_with c.args.table.now (all_keys (shelves_of es)))) (take_all c.loop-entry.entry-index c.args.entries.now c.loop-entry-test.false) in
-    let sorted = stable_sorted (λ (n : Node). n.event) _ _ (c.in_ok-sort_by_key.ensures.sorted (λ n. n.event) (answers_always _ _ _ (λ f a r g h. search rules)))
+    ∙ ap (λ (es : List Entry). filter is_live (nodes_with c.args.table.now (all_keys (shelves_of es)))) (take_all c.loop-entry.entry-index
+    c.args.entries.now c.loop-entry-test.false) in
+    let sorted = stable_sorted (λ (n : Node). n.event) _ _ (c.in_ok-sort_by_key.ensures.sorted (λ n.
+    n.event) (answers_always _ _ _ (λ f a r g h. search rules)))
     (c.sort_by_key.ensures.stable (λ n. n.event) (answers_always _ _ _ (λ f a r g h. search rules))) in
     let whole = take_all c.loop-node.node-index c.deref-node-items.result.now c.loop-node-test.false ∙ c.deref-node-items.ensures.value in
     c.loop-node.invariant

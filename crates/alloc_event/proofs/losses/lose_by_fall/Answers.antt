@@ -19,4 +19,5 @@ pub returns : goal.returns
 returns c =
     rw c.deref.ensures.value at c.fail_all.ensures
     ∙ ((λ i. map (lost (λ n. c.order.ensures.same n.key i) c.args.fault) c.args.nodes.now)
-    ∙ losses_by_fall c.args.table.now c.args.nodes.now c.requires.tied c.args.fault c.requires.left c.in_ok-fallen.fallen.keys.items c.in_ok-fallen.ensures.keys)
+    ∙ losses_by_fall c.args.table.now c.args.nodes.now c.requires.tied c.args.fault c.requires.left c.in_ok-fallen.fallen.keys.items
+    c.in_ok-fallen.ensures.keys)

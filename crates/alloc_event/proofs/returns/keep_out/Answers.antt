@@ -48,12 +48,14 @@ module _ {X : Type 0} (p : X → Bool) where
 -- all stay
 pub returns-then-out-len : goal.returns-then-out-len
 returns-then-out-len c =
-    sym (filter_whole (is_out (total c.args.holds.now) c.args.strong_live) c.args.held.now.items (omega (arith, c.requires, c.if-out-len.true, c.len.ensures)))
+    sym (filter_whole (is_out (total c.args.holds.now) c.args.strong_live) c.args.held.now.items
+    (omega (arith, c.requires, c.if-out-len.true, c.len.ensures)))
 
 -- none stays
 pub returns-then-out-eq0 : goal.returns-then-out-eq0
 returns-then-out-eq0 c =
-    c.clear.ensures.items ∙ sym (filter_empty (is_out (total c.args.holds.now) c.args.strong_live) c.args.held.now.items (omega (arith, c.requires, c.if-out-eq0.true)))
+    c.clear.ensures.items ∙ sym (filter_empty (is_out (total c.args.holds.now) c.args.strong_live) c.args.held.now.items
+    (omega (arith, c.requires, c.if-out-eq0.true)))
 
 -- one goes
 pub loop-at-preserved-then-home_near : goal.loop-at-preserved-then-home_near

@@ -25,7 +25,8 @@ returns-in-None c told =
     let live : c.some_strong_live-strong_live.result ≡ some_strong_live (members_of it.nodes) =
     c.some_strong_live-strong_live.ensures ∙ (ap has_strong c.deref.ensures.value ∙ sym (strong_tie it.nodes)) in
     let out : list_all (is_out (total c.args.holds.now) c.some_strong_live-strong_live.result) own ≡ true =
-    ap (list_all (is_out (total c.args.holds.now) c.some_strong_live-strong_live.result)) (sym c.deref-in-None.ensures.value) ∙ (sym c.are_out.ensures ∙ told) in
+    ap (list_all (is_out (total c.args.holds.now) c.some_strong_live-strong_live.result)) (sym c.deref-in-None.ensures.value)
+    ∙ (sym c.are_out.ensures ∙ told) in
     record {
       rest = λ pool others. c.decide.ensures.forced pool others ∙ ap (option_map (mark_of pool (pages_in it ++ others))) c.in-None.is;
       out = sym (all-map (λ (h : HeldPages). not (is_home_in (total c.args.holds.now) it h.buffer)) held_pages own)

@@ -22,8 +22,10 @@ loop-node-preserved c =
     let more = take_more c.args.nodes.now c.loop-node.node-index c.node-item.result c.loop-node-test.true
     ∙ ap (λ (n : Node). take c.loop-node.node-index c.args.nodes.now ++ n ∷ []) (sym c.node-item.is) in
     record {
-      stores = rw more (Stores-more c.args.table.now c.loop-node.table c.write.new.table _ c.node-item.result c.requires.named c.loop-node.invariant.stores c.write.ensures.becomes c.write.ensures.writes);
+      stores = rw more (Stores-more c.args.table.now c.loop-node.table c.write.new.table _ c.node-item.result c.requires.named
+          c.loop-node.invariant.stores c.write.ensures.becomes c.write.ensures.writes);
     }
 
 pub returns : goal.returns
-returns c = subst (Stores c.args.table.now c.loop-node.table) (take_all c.loop-node.node-index c.args.nodes.now (omega arith)) c.loop-node.invariant.stores
+returns c = subst (Stores c.args.table.now c.loop-node.table) (take_all c.loop-node.node-index c.args.nodes.now (omega arith))
+    c.loop-node.invariant.stores

@@ -13,7 +13,8 @@ returns-in-Some c =
     let cleared_is = rw c.deref.ensures.value at c.clear.ensures in
     let tallied_is = rw c.deref-in-Some.ensures.value at c.tally.ensures in
     rw (tallied_is, cleared_is)
-    (recounted_all c.args.table.now (shelves_of c.args.entries.now) c.requires.kept c.args.id (shelf_of entry) found c.args.units.now.items few c.requires.others)
+    (recounted_all c.args.table.now (shelves_of c.args.entries.now) c.requires.kept c.args.id (shelf_of entry) found c.args.units.now.items
+    few c.requires.others)
 
 pub returns-in_default : goal.returns-in_default
 returns-in_default c =

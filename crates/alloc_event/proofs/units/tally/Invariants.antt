@@ -5,7 +5,8 @@ use Rattle.alloc_event.proofs.units.tally.Given as goal
 
 -- what is made with the rest is what is made with all
 abbrev pub invariant-on : goal.invariant-on
-invariant-on l = record { same : tallied (nodes_with l.table l.rest) l.units.items ≡ tallied (nodes_with l.table l.keys) l.initial.units.items }
+invariant-on l =
+    record { same : tallied (nodes_with l.table l.rest) l.units.items ≡ tallied (nodes_with l.table l.keys) l.initial.units.items }
 
 -- each key is looked at once
 abbrev pub decreases-on : goal.decreases-on

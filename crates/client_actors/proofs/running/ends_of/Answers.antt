@@ -10,7 +10,8 @@ loop-actor-preserved g c =
     let rest = c.pop.new.self.items in
     let one = c.in-Some.ensures.items ∙ ap (λ a. rest ++ a ∷ []) c.in-Some-actor.is in
     record {
-      all = ap (λ l. map Some l ++ reverse rest) c.push_reserved.ensures.items ∙ moved c.loop-actor.ends.items c.loop-actor.actors.items rest _ c.in-Some-actor.end so.all one;
+      all = ap (λ l. map Some l ++ reverse rest) c.push_reserved.ensures.items
+          ∙ moved c.loop-actor.ends.items c.loop-actor.actors.items rest _ c.in-Some-actor.end so.all one;
       some = (All-pop (λ a. IsSome a) c.loop-actor.actors.items rest c.pop.result c.pop.ensures.items so.some).0;
       room = omega (arith, so.room, c.in-Some.ensures.len, c.push_reserved.ensures.len, c.push_reserved.ensures.capacity);
     }

@@ -13,7 +13,8 @@ written_later g c = search rules
 
 pub ends_of-requires-clause-some : goal.ends_of-requires-clause-some
 ends_of-requires-clause-some g c =
-    subst (λ l. All (λ a. IsSome a) l) (sym (whole c.join_all.new.actors.len c.run_all.new.actors c.join_all.new.actors.items (written g c)))
+    subst (λ l. All (λ a. IsSome a) l) (sym (whole c.join_all.new.actors.len c.run_all.new.actors c.join_all.new.actors.items
+    (written g c)))
     (all_some c.as_slice-ids.result.now c.args.scripts.now c.run_all.new.actors c.run_all.ensures.ends)
 
 pub returns-in-Ok-clause-ran : goal.returns-in-Ok-clause-ran

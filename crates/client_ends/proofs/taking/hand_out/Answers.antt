@@ -36,7 +36,8 @@ handing-preserved g c =
           let passed = w.hand_one-handle.ensures.units in
           let pushed = w.push_reserved.ensures.items ∙ ap (λ (h : Grip). items ++ h ∷ []) w.hand_one-handle.ensures.handle in
           record {
-            units = rw w.units-is (units_behind i taken.set taken.strength c.handing.units w.hand_one-handle.new.units low bit so.units passed);
+            units = rw w.units-is (units_behind i taken.set taken.strength c.handing.units w.hand_one-handle.new.units low bit so.units
+                passed);
             events = rw w.units-is (same_events taken.strength c.handing.units w.hand_one-handle.new.units passed ∙ so.events);
             handles = rw w.room-is (rw pushed (grips_with i taken.set c.args.client taken items all low bit so.handles));
             few = rw w.room-is (omega (arith, w.push_reserved.ensures.len, so.few));

@@ -11,13 +11,15 @@ loop-part-preserved-in-Some-differ g c =
     let own = subst (λ o. DifferAt event o (part c.id.result history)) c.own.ensures c.in-Some-differ.ensures in
     let differs = subst (λ i. DifferAt event (own_of c.in-Some.part.now) (part i history)) c.id.ensures own in
     let found = subst (λ i. IsFound c.loop-part.found i event c.earlier.result) c.id-in-Some-differ.ensures c.earlier.ensures in
-    found_other history c.args.parts.now c.loop-part.rest.now c.in-Some.others.now c.in-Some.part.now event c.loop-part.found c.earlier.result c.loop-part.invariant c.in-Some.ensures.cases.0 differs found
+    found_other history c.args.parts.now c.loop-part.rest.now c.in-Some.others.now c.in-Some.part.now event c.loop-part.found
+    c.earlier.result c.loop-part.invariant c.in-Some.ensures.cases.0 differs found
 
 pub loop-part-preserved : goal.loop-part-preserved
 loop-part-preserved g c =
     let history = c.args.view.now in
     let same = sym c.own.ensures ∙ (c.in_default-differ.ensures ∙ ap (λ i. part i history) c.id.ensures) in
-    found_same history c.args.parts.now c.loop-part.rest.now c.in-Some.others.now c.in-Some.part.now c.loop-part.found c.loop-part.invariant c.in-Some.ensures.cases.0 same
+    found_same history c.args.parts.now c.loop-part.rest.now c.in-Some.others.now c.in-Some.part.now c.loop-part.found c.loop-part.invariant
+    c.in-Some.ensures.cases.0 same
 
 pub returns-in-Some-found : goal.returns-in-Some-found
 returns-in-Some-found g c =

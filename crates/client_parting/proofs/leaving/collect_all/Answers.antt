@@ -12,7 +12,8 @@ loop-left-preserved g c =
     record {
       made = (
         told ++ one.reply ∷ [],
-        collects_more c.args.client.now c.loop-left.client c.collect_one.new.client told (map thing_of c.loop-left.ends.items) (map thing_of c.loop-left.handles.items)
+        collects_more c.args.client.now c.loop-left.client c.collect_one.new.client told (map thing_of c.loop-left.ends.items)
+            (map thing_of c.loop-left.handles.items)
             (map thing_of c.collect_one.new.ends.items) (map thing_of c.collect_one.new.handles.items) so.made.1 one,
         omega (arith, longer, so.made.2, c.loop-left-test.true),
       );

@@ -7,7 +7,8 @@ use Rattle.client_parting.proofs.leaving.collect_all.Given as goal
 -- what was collected so far
 abbrev pub invariant-loop-left : goal.invariant-loop-left
 invariant-loop-left g l = record {
-  made : (told : List Reply) × Collects l.initial.client l.client told (map thing_of l.ends.items) (map thing_of l.handles.items) × (length told + l.left ≡ l.initial.left);
+  made : (told : List Reply) × Collects l.initial.client l.client told (map thing_of l.ends.items) (map thing_of l.handles.items) ×
+      (length told + l.left ≡ l.initial.left);
   ends : vec_len l.ends + l.left ≤ vec_capacity l.ends;
   handles : vec_len l.handles + l.left ≤ vec_capacity l.handles;
   few_ends : vec_len l.ends + l.left ≤ l.initial.left;

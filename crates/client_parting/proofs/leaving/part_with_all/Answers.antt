@@ -25,13 +25,16 @@ loop-thing-preserved-in-Ok-None g c =
     let so = c.loop-thing.invariant in
     let top = top_pop c.loop-thing.stack.items c.pop.new.self.items c.in-Some.thing c.in-Some.ensures.items in
     let owner : Thing → Type 0 = λ t. owner_of t ≡ c.loop-thing.client.id in
-    let one = subst (λ o. PartsWith c.loop-thing.client c.part_with.new.client (thing_of c.in-Some.thing) (kept_things o)) c.in-Ok-None.field-0-is c.in-Ok-None.ensures in
+    let one = subst (λ o. PartsWith c.loop-thing.client c.part_with.new.client (thing_of c.in-Some.thing) (kept_things o))
+    c.in-Ok-None.field-0-is c.in-Ok-None.ensures in
     let left = All-tail owner (thing_of c.in-Some.thing) (top_first c.pop.new.self.items) (subst (All owner) top so.owner) in
     record {
-      parts = parts_more c.args.client.now c.loop-thing.client c.part_with.new.client (top_first c.args.stack.now.items) (top_first c.loop-thing.stack.items) (top_first c.pop.new.self.items) (thing_of c.in-Some.thing) []
+      parts = parts_more c.args.client.now c.loop-thing.client c.part_with.new.client (top_first c.args.stack.now.items)
+          (top_first c.loop-thing.stack.items) (top_first c.pop.new.self.items) (thing_of c.in-Some.thing) []
           (held_in c.loop-thing.kept) (held_in c.loop-thing.kept) so.parts top one (sym (both_none (held_in c.loop-thing.kept)));
       owner = subst (λ n. All (λ t. owner_of t ≡ n) (top_first c.pop.new.self.items)) (sym one.made.id) left;
-      room = room_less c.loop-thing.kept (thing_of c.in-Some.thing) (top_first c.loop-thing.stack.items) (top_first c.pop.new.self.items) top so.room;
+      room = room_less c.loop-thing.kept (thing_of c.in-Some.thing) (top_first c.loop-thing.stack.items) (top_first c.pop.new.self.items)
+          top so.room;
     }
 
 pub loop-thing-preserved : goal.loop-thing-preserved
@@ -39,14 +42,17 @@ loop-thing-preserved g c =
     let so = c.loop-thing.invariant in
     let top = top_pop c.loop-thing.stack.items c.pop.new.self.items c.in-Some.thing c.in-Some.ensures.items in
     let owner : Thing → Type 0 = λ t. owner_of t ≡ c.loop-thing.client.id in
-    let one = subst (λ o. PartsWith c.loop-thing.client c.part_with.new.client (thing_of c.in-Some.thing) (kept_things o)) c.in-Ok-Some.field-0-is c.in-Ok-Some.ensures in
+    let one = subst (λ o. PartsWith c.loop-thing.client c.part_with.new.client (thing_of c.in-Some.thing) (kept_things o))
+    c.in-Ok-Some.field-0-is c.in-Ok-Some.ensures in
     let same = kept_same c.loop-thing.client c.part_with.new.client (thing_of c.in-Some.thing) (thing_of c.in-Ok-Some.thing) one in
     let left = All-tail owner (thing_of c.in-Some.thing) (top_first c.pop.new.self.items) (subst (All owner) top so.owner) in
     record {
-      parts = parts_more c.args.client.now c.loop-thing.client c.part_with.new.client (top_first c.args.stack.now.items) (top_first c.loop-thing.stack.items) (top_first c.pop.new.self.items) (thing_of c.in-Some.thing)
+      parts = parts_more c.args.client.now c.loop-thing.client c.part_with.new.client (top_first c.args.stack.now.items)
+          (top_first c.loop-thing.stack.items) (top_first c.pop.new.self.items) (thing_of c.in-Some.thing)
           (thing_of c.in-Ok-Some.thing ∷ []) (held_in c.loop-thing.kept) (held_in c.put.new.held) so.parts top one
           (c.put.ensures.put ∙ ap (both (held_in c.loop-thing.kept)) (sym (sorted_single (thing_of c.in-Ok-Some.thing))));
       owner = subst (λ n. All (λ t. owner_of t ≡ n) (top_first c.pop.new.self.items)) (sym one.made.id) left;
-      room = room_put c.loop-thing.kept c.put.new.held (thing_of c.in-Some.thing) (thing_of c.in-Ok-Some.thing) (top_first c.loop-thing.stack.items) (top_first c.pop.new.self.items) top so.room same c.put.ensures.put
+      room = room_put c.loop-thing.kept c.put.new.held (thing_of c.in-Some.thing) (thing_of c.in-Ok-Some.thing)
+          (top_first c.loop-thing.stack.items) (top_first c.pop.new.self.items) top so.room same c.put.ensures.put
           c.put.ensures.tokens c.put.ensures.collections c.put.ensures.handles;
     }

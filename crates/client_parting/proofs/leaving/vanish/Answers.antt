@@ -7,11 +7,14 @@ use Rattle.client_parting.proofs.PartingLaws.{goes, gone, owners, room_all, shut
 use Rattle.client_parting.proofs.leaving.vanish.Goals as goal
 
 pub returns-in-Err-make_room-clause-fault : goal.returns-in-Err-make_room-clause-fault
-returns-in-Err-make_room-clause-fault g c = inr (shut_only c.args.client c.shut.new.self c.in-Ok.reply (held_in c.args.held) (held_in c.make_room.new.held) c.in-Ok.ensures c.make_room.ensures.same)
+returns-in-Err-make_room-clause-fault g c =
+    inr (shut_only c.args.client c.shut.new.self c.in-Ok.reply (held_in c.args.held) (held_in c.make_room.new.held) c.in-Ok.ensures
+    c.make_room.ensures.same)
 
 pub returns-in-Err-make_room-clause-own : goal.returns-in-Err-make_room-clause-own
 returns-in-Err-make_room-clause-own g c =
-    broken_own c.args.client c.shut.new.self (held_in c.args.held) (held_in c.make_room.new.held) c.requires (returns-in-Err-make_room-clause-fault g c)
+    broken_own c.args.client c.shut.new.self (held_in c.args.held) (held_in c.make_room.new.held) c.requires
+    (returns-in-Err-make_room-clause-fault g c)
 
 pub part_if-parted-requires-clause-owner : goal.part_if-parted-requires-clause-owner
 part_if-parted-requires-clause-owner g c =
@@ -20,9 +23,11 @@ part_if-parted-requires-clause-owner g c =
     let made = c.collect_all-collected.ensures.made in
     let id : c.shut.new.self.id ≡ c.args.client.id = c.in-Ok.ensures.id in
     let is = c.stack_all-stack.ensures.things ∙ ap (stacked ends handles) c.make_room.ensures.same in
-    let all = owners c.shut.new.self.id made.told ends handles (held_in c.args.held) (subst (λ n. AreOf n (held_in c.args.held)) (sym id) c.requires) made.collects.ends_are made.collects.handles_are in
+    let all = owners c.shut.new.self.id made.told ends handles (held_in c.args.held) (subst (λ n. AreOf n (held_in c.args.held)) (sym id)
+    c.requires) made.collects.ends_are made.collects.handles_are in
     let now : c.shut.new.self.id ≡ c.collect_all-collected.new.client.id = sym made.collects.made.id in
-    subst (λ n. All (λ t. owner_of t ≡ n) (top_first c.stack_all-stack.result.items)) now (subst (All (λ t. owner_of t ≡ c.shut.new.self.id)) (sym is) all)
+    subst (λ n. All (λ t. owner_of t ≡ n) (top_first c.stack_all-stack.result.items)) now
+    (subst (All (λ t. owner_of t ≡ c.shut.new.self.id)) (sym is) all)
 
 pub part_if-parted-requires-clause-room : goal.part_if-parted-requires-clause-room
 part_if-parted-requires-clause-room g c =
@@ -31,7 +36,8 @@ part_if-parted-requires-clause-room g c =
     let made = c.collect_all-collected.ensures.made in
     let room = c.in-Ok-make_room.ensures.room in
     let stack = c.stack_all-stack.ensures in
-    room_all c.make_room.new.held c.stack_all-stack.new.held c.shut.new.self.id c.waiting_in.result made.told ends handles (top_first c.stack_all-stack.result.items) made.within made.collects.ends_are made.collects.handles_are
+    room_all c.make_room.new.held c.stack_all-stack.new.held c.shut.new.self.id c.waiting_in.result made.told ends handles
+    (top_first c.stack_all-stack.result.items) made.within made.collects.ends_are made.collects.handles_are
     stack.things stack.none room.tokens room.collections room.for_handles stack.tokens stack.collections stack.handles
 
 pub returns-in-Ok-parted-clause-gone : goal.returns-in-Ok-parted-clause-gone
@@ -40,10 +46,13 @@ returns-in-Ok-parted-clause-gone g c =
     let handles = map thing_of c.collect_all-collected.new.handles.items in
     let is = c.stack_all-stack.ensures.things ∙ ap (stacked ends handles) c.make_room.ensures.same in
     let far = c.collect_all-collected.new.client in
-    let collects = subst (λ n. CollectsFor (is_ok c.collect_all-collected.result) n c.shut.new.self far ends handles) c.waiting_in.ensures c.collect_all-collected.ensures.made in
+    let collects = subst (λ n. CollectsFor (is_ok c.collect_all-collected.result) n c.shut.new.self far ends handles) c.waiting_in.ensures
+    c.collect_all-collected.ensures.made in
     let none : length c.part_if-parted.new.stack.items ≡ 0 = omega (arith, c.in-Ok-parted.ensures.all.0, c.part_if-parted.new.stack.ok.0) in
-    let over = gone c.args.client c.shut.new.self far c.part_if-parted.new.client c.in-Ok.reply (is_ok c.collect_all-collected.result) ends handles (top_first c.stack_all-stack.result.items)
-    (top_first c.part_if-parted.new.stack.items) (held_in c.args.held) (held_in c.part_if-parted.new.kept) c.in-Ok.ensures collects c.part_if-parted.ensures.parts is (top_none c.part_if-parted.new.stack.items none)
+    let over = gone c.args.client c.shut.new.self far c.part_if-parted.new.client c.in-Ok.reply (is_ok c.collect_all-collected.result) ends
+    handles (top_first c.stack_all-stack.result.items)
+    (top_first c.part_if-parted.new.stack.items) (held_in c.args.held) (held_in c.part_if-parted.new.kept) c.in-Ok.ensures collects
+    c.part_if-parted.ensures.parts is (top_none c.part_if-parted.new.stack.items none)
     c.in-Ok-parted.ensures.all.1 in
     subst (λ w. IsGone c.args.client w.client (held_in c.args.held) w.refused) (sym c.new.ensures) over
 
@@ -53,10 +62,14 @@ returns-in-Err-parted-clause-fault g c =
     let handles = map thing_of c.collect_all-collected.new.handles.items in
     let is = c.stack_all-stack.ensures.things ∙ ap (stacked ends handles) c.make_room.ensures.same in
     let far = c.collect_all-collected.new.client in
-    let collects = subst (λ n. CollectsFor (is_ok c.collect_all-collected.result) n c.shut.new.self far ends handles) c.waiting_in.ensures c.collect_all-collected.ensures.made in
-    inr (goes c.args.client c.shut.new.self far c.part_if-parted.new.client c.in-Ok.reply (is_ok c.collect_all-collected.result) ends handles (top_first c.stack_all-stack.result.items)
-    (top_first c.part_if-parted.new.stack.items) (held_in c.args.held) (held_in c.part_if-parted.new.kept) (held_in c.put_all.new.held) c.in-Ok.ensures collects c.part_if-parted.ensures.parts is c.put_all.ensures)
+    let collects = subst (λ n. CollectsFor (is_ok c.collect_all-collected.result) n c.shut.new.self far ends handles) c.waiting_in.ensures
+    c.collect_all-collected.ensures.made in
+    inr (goes c.args.client c.shut.new.self far c.part_if-parted.new.client c.in-Ok.reply (is_ok c.collect_all-collected.result) ends
+    handles (top_first c.stack_all-stack.result.items)
+    (top_first c.part_if-parted.new.stack.items) (held_in c.args.held) (held_in c.part_if-parted.new.kept) (held_in c.put_all.new.held)
+    c.in-Ok.ensures collects c.part_if-parted.ensures.parts is c.put_all.ensures)
 
 pub returns-in-Err-parted-clause-own : goal.returns-in-Err-parted-clause-own
 returns-in-Err-parted-clause-own g c =
-    broken_own c.args.client c.part_if-parted.new.client (held_in c.args.held) (held_in c.put_all.new.held) c.requires (returns-in-Err-parted-clause-fault g c)
+    broken_own c.args.client c.part_if-parted.new.client (held_in c.args.held) (held_in c.put_all.new.held) c.requires
+    (returns-in-Err-parted-clause-fault g c)

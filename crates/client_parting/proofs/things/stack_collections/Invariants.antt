@@ -6,7 +6,8 @@ use Rattle.client_parting.proofs.things.stack_collections.Given as goal
 -- what is stacked, with what is left, is all
 abbrev pub invariant-loop-collection : goal.invariant-loop-collection
 invariant-loop-collection g l = record {
-  things : map Collection l.collections.items ++ top_first l.stack.items ≡ map Collection l.initial.collections.items ++ top_first l.initial.stack.items;
+  things : map Collection l.collections.items ++ top_first l.stack.items ≡ map Collection l.initial.collections.items ++ top_first
+      l.initial.stack.items;
   len : vec_len l.stack + vec_len l.collections ≡ vec_len l.initial.stack + vec_len l.initial.collections;
   room : vec_capacity l.stack ≡ vec_capacity l.initial.stack;
   kept : vec_capacity l.collections ≡ vec_capacity l.initial.collections;

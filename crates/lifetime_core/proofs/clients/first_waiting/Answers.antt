@@ -10,5 +10,7 @@ returns-in_err-row c = rw (finds_none c.args.client c.args.clients.now (sym c.pl
 -- the row of the client
 pub returns : goal.returns
 returns c =
-    let found = finds c.args.client c.args.clients.now c.in_ok-row.field-0 c.index-clients-branch.result (sym c.place_of.ensures ∙ c.in_ok-row.was) c.index-clients-branch.is in
-    rw found (c.copied.ensures ∙ (first_read c.row.inside.waiting.items c.front.result c.front.ensures.item ∙ ap (λ (r : Client). slice_get r.waiting 0) c.row.view_is))
+    let found = finds c.args.client c.args.clients.now c.in_ok-row.field-0 c.index-clients-branch.result (sym c.place_of.ensures
+    ∙ c.in_ok-row.was) c.index-clients-branch.is in
+    rw found (c.copied.ensures ∙ (first_read c.row.inside.waiting.items c.front.result c.front.ensures.item
+    ∙ ap (λ (r : Client). slice_get r.waiting 0) c.row.view_is))

@@ -11,7 +11,8 @@ returns-in-Ok-clause-ok c =
     let place = sym (rw c.deref.ensures.value at c.place_of.ensures) ∙ c.in-Some.is in
     (λ i. set rows c.in-Some.at (record { id = c.row.inside.id; shut = c.row.inside.shut; waiting = c.in-Ok.ensures.items i }))
     ∙ ap (λ (r : Client). set rows c.in-Some.at (with_parcel c.args.parcel r)) c.row.view_is
-    ∙ one_changed c.args.to (with_parcel c.args.parcel) rows c.in-Some.at c.index_mut-row.result.now c.requires place c.index_mut-row.ensures.value
+    ∙ one_changed c.args.to (with_parcel c.args.parcel) rows c.in-Some.at c.index_mut-row.result.now c.requires place
+    c.index_mut-row.ensures.value
 
 pub returns-in_default-clause-ok : goal.returns-in_default-clause-ok
 returns-in_default-clause-ok c =

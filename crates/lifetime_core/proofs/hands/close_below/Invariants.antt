@@ -6,7 +6,8 @@ use Rattle.lifetime_core.proofs.hands.close_below.Given as goal
 -- the handles from the end on are closed
 abbrev pub invariant-loop-end : goal.invariant-loop-end
 invariant-loop-end l = (l.end ≤ 64) × (l.holds.limit ≡ l.fn.holds.limit)
-    × ((before : Counts) → Opens before l.fn.holds l.client (is_below l.collection l.strength l.set l.fn.end) → Opens before l.holds l.client (is_below l.collection l.strength l.set l.end))
+    × ((before : Counts) → Opens before l.fn.holds l.client (is_below l.collection l.strength l.set l.fn.end) →
+    Opens before l.holds l.client (is_below l.collection l.strength l.set l.end))
 
 abbrev pub decreases-loop-end : goal.decreases-loop-end
 decreases-loop-end l = l.end

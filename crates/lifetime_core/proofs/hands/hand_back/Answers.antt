@@ -12,11 +12,14 @@ pub returns-in-Taken-clause-counts : goal.returns-in-Taken-clause-counts
 returns-in-Taken-clause-counts c = λ before moves.
     let t = c.in-Taken in
     let fits : t.set < 2 ^ 64 = search rules in
-    c.close_below.ensures.counts before (taken_opens c.args.client c.in-Take.field-0 t.collection t.strength t.set fits before c.args.holds.now (rw (c.in-Take.is, c.in-Taken.is) at moves))
+    c.close_below.ensures.counts before (taken_opens c.args.client c.in-Take.field-0 t.collection t.strength t.set fits before
+    c.args.holds.now (rw (c.in-Take.is, c.in-Taken.is) at moves))
 
 pub returns-in_default-reply : goal.returns-in_default-reply
 returns-in_default-reply c = record {
-  counts = λ before moves. moved_none (Called c.args.client c.args.reply.now c.args.call.now) (rw c.in-Take.is (not_taken c.args.client c.args.reply.now c.in-Take.field-0 c.in_default-reply.not-Taken)) before c.args.holds.now moves;
+  counts = λ before moves. moved_none (Called c.args.client c.args.reply.now c.args.call.now)
+      (rw c.in-Take.is (not_taken c.args.client c.args.reply.now c.in-Take.field-0 c.in_default-reply.not-Taken)) before c.args.holds.now
+      moves;
   limit = refl;
 }
 
@@ -30,7 +33,8 @@ returns-in-Done-clause-counts c = λ before moves.
 pub returns-in_default-reply-2 : goal.returns-in_default-reply-2
 returns-in_default-reply-2 c = record {
   counts = λ before moves. moved_none (Called c.args.client c.args.reply.now c.args.call.now)
-      (rw c.in-DupHandle.is (not_doubled c.args.client c.args.reply.now c.in-DupHandle.buffer c.in-DupHandle.strength c.in_default-reply-2.not-Done)) before c.args.holds.now moves;
+      (rw c.in-DupHandle.is (not_doubled c.args.client c.args.reply.now c.in-DupHandle.buffer c.in-DupHandle.strength
+      c.in_default-reply-2.not-Done)) before c.args.holds.now moves;
   limit = refl;
 }
 
@@ -39,12 +43,14 @@ returns-in-Done-reply-clause-counts c = λ before moves.
     let d = c.in-DropHandle in
     let can = rw (c.in-DropHandle.is, c.in-Done-reply.is) at c.requires in
     undrops c.args.client d.buffer d.strength before c.args.holds.now c.add.new.self (rw (c.in-DropHandle.is, c.in-Done-reply.is) at moves)
-    (opened c.add.result (total c.args.holds.now d.buffer d.strength) c.args.holds.now.limit c.add.ensures.too_many can.1 (c.add.ensures.room can.0) c.add.ensures.opened)
+    (opened c.add.result (total c.args.holds.now d.buffer d.strength) c.args.holds.now.limit c.add.ensures.too_many can.1
+    (c.add.ensures.room can.0) c.add.ensures.opened)
 
 pub returns-in_default-reply-3 : goal.returns-in_default-reply-3
 returns-in_default-reply-3 c = record {
   counts = λ before moves. moved_none (Called c.args.client c.args.reply.now c.args.call.now)
-      (rw c.in-DropHandle.is (not_dropped c.args.client c.args.reply.now c.in-DropHandle.buffer c.in-DropHandle.strength c.in_default-reply-3.not-Done)) before c.args.holds.now moves;
+      (rw c.in-DropHandle.is (not_dropped c.args.client c.args.reply.now c.in-DropHandle.buffer c.in-DropHandle.strength
+      c.in_default-reply-3.not-Done)) before c.args.holds.now moves;
   limit = refl;
 }
 
@@ -52,13 +58,15 @@ pub returns-in-Done-reply-2-clause-counts : goal.returns-in-Done-reply-2-clause-
 returns-in-Done-reply-2-clause-counts c = λ before moves.
     let g = c.in-GiveHandle in
     let can = rw (c.in-GiveHandle.is, c.in-Done-reply-2.is) at c.requires in
-    ungives c.args.client g.buffer g.strength g.field-2 before c.args.holds.now c.land.new.self can.1 (rw (c.in-GiveHandle.is, c.in-Done-reply-2.is) at moves)
+    ungives c.args.client g.buffer g.strength g.field-2 before c.args.holds.now c.land.new.self can.1
+    (rw (c.in-GiveHandle.is, c.in-Done-reply-2.is) at moves)
     (at_ok _ c.land.result (c.land.ensures.room can.0) c.land.ensures.landed)
 
 pub returns-in_default-reply-4 : goal.returns-in_default-reply-4
 returns-in_default-reply-4 c = record {
   counts = λ before moves. moved_none (Called c.args.client c.args.reply.now c.args.call.now)
-      (rw c.in-GiveHandle.is (not_handed c.args.client c.args.reply.now c.in-GiveHandle.buffer c.in-GiveHandle.strength c.in-GiveHandle.field-2 c.in_default-reply-4.not-Done)) before c.args.holds.now moves;
+      (rw c.in-GiveHandle.is (not_handed c.args.client c.args.reply.now c.in-GiveHandle.buffer c.in-GiveHandle.strength
+      c.in-GiveHandle.field-2 c.in_default-reply-4.not-Done)) before c.args.holds.now moves;
   limit = refl;
 }
 
@@ -67,11 +75,13 @@ returns-in-CollectedHandle-clause-counts c = λ before moves.
     let h = c.in-CollectedHandle in
     let was = rw (c.in-Collect.is, c.in-CollectedHandle.is) at moves in
     let some = got_one c.args.client h.buffer h.strength before c.args.holds.now was in
-    uncollects c.args.client h.buffer h.strength before c.args.holds.now c.lift.new.self c.tidy.new.self some was (OnTrue_at (c.lift.ensures.had.1 some) c.lift.ensures.lifted) c.tidy.ensures
+    uncollects c.args.client h.buffer h.strength before c.args.holds.now c.lift.new.self c.tidy.new.self some was
+    (OnTrue_at (c.lift.ensures.had.1 some) c.lift.ensures.lifted) c.tidy.ensures
 
 pub returns-in_default : goal.returns-in_default
 returns-in_default c = record {
   counts = λ before moves. moved_none (Called c.args.client c.args.reply.now c.args.call.now)
-      (not_handles c.args.client c.args.reply.now c.args.call.now c.in_default.not-Take c.in_default.not-DupHandle c.in_default.not-DropHandle c.in_default.not-GiveHandle c.in_default.not-Collect) before c.args.holds.now moves;
+      (not_handles c.args.client c.args.reply.now c.args.call.now c.in_default.not-Take c.in_default.not-DupHandle
+      c.in_default.not-DropHandle c.in_default.not-GiveHandle c.in_default.not-Collect) before c.args.holds.now moves;
   limit = refl;
 }

@@ -4,7 +4,8 @@ use Rattle.lifetime_core.proofs.hands.open_all.Given as goal
 
 -- the handles below the end are open
 abbrev pub invariant-loop-end : goal.invariant-loop-end
-invariant-loop-end l = (l.end ≤ 64) × (l.holds.limit ≡ l.fn.holds.limit) × Opens l.fn.holds l.holds l.client (is_below l.collection l.strength l.set l.end)
+invariant-loop-end l = (l.end ≤ 64) × (l.holds.limit ≡ l.fn.holds.limit) ×
+    Opens l.fn.holds l.holds l.client (is_below l.collection l.strength l.set l.end)
 
 abbrev pub decreases-loop-end : goal.decreases-loop-end
 decreases-loop-end l = 64 - l.end

@@ -20,5 +20,7 @@ returns-clause-opened c s before more client collection strength set key shows =
 pub returns-clause-next : goal.returns-clause-next
 returns-clause-next c s history shows limits client collection strength set key answer =
     let grown = legal_grows s.pool s.limits history shows.legal in
-    not_empty s.pool s.limits (timeline s.pool history) grown (every_rests s.pool s.limits history shows.legal.answers) limits client collection strength set key
-    (answer_is s (timeline s.pool history) shows.shown s.limits grown limits client (Call.Take key) (Reply.Taken collection strength set) answer)
+    not_empty s.pool s.limits (timeline s.pool history) grown (every_rests s.pool s.limits history shows.legal.answers) limits client
+    collection strength set key
+    (answer_is s (timeline s.pool history) shows.shown s.limits grown limits client (Call.Take key) (Reply.Taken collection strength set)
+    answer)

@@ -13,10 +13,12 @@ pub returns-in-Some : goal.returns-in-Some
 returns-in-Some c =
     let r = readings_of c.args.core.now in
     let call = c.args.call.now in
-    let clients : option_or (unknown_client r c.args.client call) (shut_client r c.args.client call) ≡ Some (Reply.Refused c.in-Some.refusal) =
+    let clients : option_or (unknown_client r c.args.client call) (shut_client r c.args.client call) ≡ Some
+    (Reply.Refused c.in-Some.refusal) =
     sym c.refusal_of_clients.ensures ∙ ap (option_map (λ (x : Refusal). Reply.Refused x)) c.in-Some.is in
     sym (lines_in_order c.args.core.now.limits r c.args.client call
-    ∙ ap (λ (o : Option Reply). option_or (option_or o (first_some (of_named r c.args.client call))) (first_some (limits_met c.args.core.now.limits r call))) clients)
+    ∙ ap (λ (o : Option Reply). option_or (option_or o (first_some (of_named r c.args.client call)))
+    (first_some (limits_met c.args.core.now.limits r call))) clients)
 
 -- what is named has an answer
 pub returns-in-Some-answer_of_named : goal.returns-in-Some-answer_of_named
@@ -25,7 +27,8 @@ returns-in-Some-answer_of_named c =
     let call = c.args.call.now in
     let clients : option_or (unknown_client r c.args.client call) (shut_client r c.args.client call) ≡ None =
     sym c.refusal_of_clients.ensures ∙ ap (option_map (λ (x : Refusal). Reply.Refused x)) c.in_default.is in
-    let named : first_some (of_named r c.args.client call) ≡ Some c.in-Some-answer_of_named.reply = sym c.answer_of_named.ensures ∙ c.in-Some-answer_of_named.is in
+    let named : first_some (of_named r c.args.client call) ≡ Some c.in-Some-answer_of_named.reply =
+    sym c.answer_of_named.ensures ∙ c.in-Some-answer_of_named.is in
     sym (lines_in_order c.args.core.now.limits r c.args.client call
     ∙ (λ i. option_or (option_or (clients i) (named i)) (first_some (limits_met c.args.core.now.limits r call))))
 

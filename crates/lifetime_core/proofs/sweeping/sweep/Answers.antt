@@ -12,4 +12,5 @@ pub returns-in_default : goal.returns-in_default
 returns-in_default c =
     let w : World = world_in c.args.forest.now (total c.args.holds.now) in
     sym (none_swept w c.args.event c.args.trackers.now
-    (λ t on. In-all (λ (t : Waiting). (c.args.collection ≡ Some t.place → ⊥) → is_due w t ≡ false) c.args.trackers.now.unfired c.requires.elsewhere t on (c.in_default.not-Some t.place)))
+    (λ t on. In-all (λ (t : Waiting). (c.args.collection ≡ Some t.place → ⊥) →
+    is_due w t ≡ false) c.args.trackers.now.unfired c.requires.elsewhere t on (c.in_default.not-Some t.place)))

@@ -21,7 +21,8 @@ returns-in_default c =
 
 pub spend-requires : goal.spend-requires
 spend-requires c =
-    let amid : IsAmid c.args.forest.now c.in-Some.task.collection c.in-Some.task.spends = subst (CanFinish c.args.forest.now) c.in-Some.is c.requires.task in
+    let amid : IsAmid c.args.forest.now c.in-Some.task.collection c.in-Some.task.spends =
+    subst (CanFinish c.args.forest.now) c.in-Some.is c.requires.task in
     ends_are_there c.args.forest.now c.in-Some.task.collection c.in-Some.task.spends amid
 
 pub returns : goal.returns
@@ -29,9 +30,11 @@ returns c =
     let f : Forest = c.args.forest.now in
     let t : Task = c.in-Some.task in
     let amid : IsAmid f t.collection t.spends = subst (CanFinish f) c.in-Some.is c.requires.task in
-    let same : SameKeys (with_place (spent_place t.spends) f) c.forget_over.new.self = subst (λ (x : Forest). SameKeys x c.forget_over.new.self) c.spend.ensures c.forget_over.ensures.keys in
+    let same : SameKeys (with_place (spent_place t.spends) f) c.forget_over.new.self =
+    subst (λ (x : Forest). SameKeys x c.forget_over.new.self) c.spend.ensures c.forget_over.ensures.keys in
     let less : c.forget_over.new.self.collections ≡ without_over_in t.collection (with_place (spent_place t.spends) f).collections =
-    subst (λ (x : Forest). c.forget_over.new.self.collections ≡ without_over_in t.collection x.collections) c.spend.ensures c.forget_over.ensures.collections in
+    subst (λ (x : Forest). c.forget_over.new.self.collections ≡ without_over_in t.collection x.collections) c.spend.ensures
+    c.forget_over.ensures.collections in
     let none : c.args.carried ≡ None = c.requires.one (ap is_some c.in-Some.is) in
     let place : placed c.args.task.now c.args.carried ≡ spent_place t.spends =
     rw (c.in-Some.is, none) (first (spent_place t.spends)) in

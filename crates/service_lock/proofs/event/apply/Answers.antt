@@ -14,46 +14,56 @@ write-requires-2-clause-fits g c =
     let log : List Entry = c.state.inside.log.items in
     let few : length log < c.events-2.result = omega (arith, c.events.ensures.shown log c.state.invariant.shown, c.if-events.false) in
     let small : c.events-2.result < 2 ^ 32 = omega arith in
-    fits c.state.inside.core.pool c.state.inside.core.limits Strong c.args.client c.args.call c.in_ok-reply.reply log c.moves_of.result c.state.inside.strong c.events-2.result
+    fits c.state.inside.core.pool c.state.inside.core.limits Strong c.args.client c.args.call c.in_ok-reply.reply log c.moves_of.result
+    c.state.inside.strong c.events-2.result
     c.state.invariant.shown.legal c.moves_of.ensures c.state.invariant.strong few small
 
 pub write-requires-2-clause-there : goal.write-requires-2-clause-there
 write-requires-2-clause-there g c =
     let log : List Entry = c.state.inside.log.items in
     let shown = c.in_ok-reply.ensures.goes_on log c.state.invariant.shown in
-    there c.state.inside.core.pool c.step.new.self.pool c.state.inside.core.limits c.step.new.self.limits Strong c.args.client c.args.call c.in_ok-reply.reply log c.moves_of.result
-    c.in_ok-reply.ensures.after.pool c.state.invariant.shown.legal shown.legal c.moves_of.ensures c.state.inside.strong c.state.invariant.strong
+    there c.state.inside.core.pool c.step.new.self.pool c.state.inside.core.limits c.step.new.self.limits Strong c.args.client c.args.call
+    c.in_ok-reply.reply log c.moves_of.result
+    c.in_ok-reply.ensures.after.pool c.state.invariant.shown.legal shown.legal c.moves_of.ensures c.state.inside.strong
+    c.state.invariant.strong
 
 pub write-requires-3-clause-fits : goal.write-requires-3-clause-fits
 write-requires-3-clause-fits g c =
     let log : List Entry = c.state.inside.log.items in
     let few : length log < c.events-2.result = omega (arith, c.events.ensures.shown log c.state.invariant.shown, c.if-events.false) in
     let small : c.events-2.result < 2 ^ 32 = omega arith in
-    fits c.state.inside.core.pool c.state.inside.core.limits Weak c.args.client c.args.call c.in_ok-reply.reply log c.moves_of-2.result c.state.inside.weak c.events-2.result
+    fits c.state.inside.core.pool c.state.inside.core.limits Weak c.args.client c.args.call c.in_ok-reply.reply log c.moves_of-2.result
+    c.state.inside.weak c.events-2.result
     c.state.invariant.shown.legal c.moves_of-2.ensures c.state.invariant.weak few small
 
 pub write-requires-3-clause-there : goal.write-requires-3-clause-there
 write-requires-3-clause-there g c =
     let log : List Entry = c.state.inside.log.items in
     let shown = c.in_ok-reply.ensures.goes_on log c.state.invariant.shown in
-    there c.state.inside.core.pool c.step.new.self.pool c.state.inside.core.limits c.step.new.self.limits Weak c.args.client c.args.call c.in_ok-reply.reply log c.moves_of-2.result
-    c.in_ok-reply.ensures.after.pool c.state.invariant.shown.legal shown.legal c.moves_of-2.ensures c.state.inside.weak c.state.invariant.weak
+    there c.state.inside.core.pool c.step.new.self.pool c.state.inside.core.limits c.step.new.self.limits Weak c.args.client c.args.call
+    c.in_ok-reply.reply log c.moves_of-2.result
+    c.in_ok-reply.ensures.after.pool c.state.invariant.shown.legal shown.legal c.moves_of-2.ensures c.state.inside.weak
+    c.state.invariant.weak
 
 pub invariant_of-state-2 : goal.invariant_of-state-2
 invariant_of-state-2 g c =
     let log : List Entry = c.state.inside.log.items in
     let e : Entry = (c.args.client, c.args.call, c.in_ok-reply.reply) in
-    let items : c.push_reserved.new.self.items ≡ log ++ e ∷ [] = pushed log c.reserve.new.self.items c.push_reserved.new.self.items e c.reserve.ensures.items c.push_reserved.ensures.items in
+    let items : c.push_reserved.new.self.items ≡ log ++ e ∷ [] =
+    pushed log c.reserve.new.self.items c.push_reserved.new.self.items e c.reserve.ensures.items c.push_reserved.ensures.items in
     let shown = c.in_ok-reply.ensures.goes_on log c.state.invariant.shown in
     let goes = λ (strength : Strength) (moves : Moves) (is : moves ≡ moves_by strength e.1 e.2).
     written c.state.inside.core.pool c.step.new.self.pool c.state.inside.core.limits c.step.new.self.limits strength e.0 e.1 e.2 log moves
     c.in_ok-reply.ensures.after.pool c.state.invariant.shown.legal shown.legal is in
-    let sound : IsSound c.step.new.self c.state.inside.limits (log ++ e ∷ []) c.write.new.self c.write-2.new.self c.write-3.new.self = record {
+    let sound : IsSound c.step.new.self c.state.inside.limits (log ++ e ∷ []) c.write.new.self c.write-2.new.self c.write-3.new.self =
+    record {
       shown = shown;
       limited = c.in_ok-reply.ensures.after.limits ∙ c.state.invariant.limited;
       counted = omega (arith, c.write.ensures.written.total, c.state.invariant.counted, length-append log (e ∷ []));
-      strong = goes Strong c.moves_of.result c.moves_of.ensures c.state.inside.strong c.state.invariant.strong c.write-2.new.self c.write-2.ensures.written;
-      weak = goes Weak c.moves_of-2.result c.moves_of-2.ensures c.state.inside.weak c.state.invariant.weak c.write-3.new.self c.write-3.ensures.written;
+      strong = goes Strong c.moves_of.result c.moves_of.ensures c.state.inside.strong c.state.invariant.strong c.write-2.new.self
+          c.write-2.ensures.written;
+      weak = goes Weak c.moves_of-2.result c.moves_of-2.ensures c.state.inside.weak c.state.invariant.weak c.write-3.new.self
+          c.write-3.ensures.written;
     } in
     subst (λ l. IsSound c.step.new.self c.state.inside.limits l c.write.new.self c.write-2.new.self c.write-3.new.self) (sym items) sound
 
@@ -61,7 +71,8 @@ pub returns-clause-made : goal.returns-clause-made
 returns-clause-made g c =
     let log : List Entry = c.state.inside.log.items in
     let e : Entry = (c.args.client, c.args.call, c.in_ok-reply.reply) in
-    let items : c.push_reserved.new.self.items ≡ log ++ e ∷ [] = pushed log c.reserve.new.self.items c.push_reserved.new.self.items e c.reserve.ensures.items c.push_reserved.ensures.items in
+    let items : c.push_reserved.new.self.items ≡ log ++ e ∷ [] =
+    pushed log c.reserve.new.self.items c.push_reserved.new.self.items e c.reserve.ensures.items c.push_reserved.ensures.items in
     let ids = c.in_ok-reply.ensures.untaken in
     let pools = c.in_ok-reply.ensures.after.pool in
     let seen : View = record {
@@ -78,7 +89,9 @@ pub returns-clause-legal : goal.returns-clause-legal
 returns-clause-legal g c =
     let log : List Entry = c.state.inside.log.items in
     let e : Entry = (c.args.client, c.args.call, c.in_ok-reply.reply) in
-    let items : c.push_reserved.new.self.items ≡ log ++ e ∷ [] = pushed log c.reserve.new.self.items c.push_reserved.new.self.items e c.reserve.ensures.items c.push_reserved.ensures.items in
+    let items : c.push_reserved.new.self.items ≡ log ++ e ∷ [] =
+    pushed log c.reserve.new.self.items c.push_reserved.new.self.items e c.reserve.ensures.items c.push_reserved.ensures.items in
     let shown = c.in_ok-reply.ensures.goes_on log c.state.invariant.shown in
     let limited : c.step.new.self.limits ≡ c.state.inside.limits = c.in_ok-reply.ensures.after.limits ∙ c.state.invariant.limited in
-    subst (λ l. IsLegal c.step.new.self.pool c.state.inside.limits l) (sym items) (subst (λ b. IsLegal c.step.new.self.pool b (log ++ e ∷ [])) limited shown.legal)
+    subst (λ l. IsLegal c.step.new.self.pool c.state.inside.limits l) (sym items) (subst (λ b.
+    IsLegal c.step.new.self.pool b (log ++ e ∷ [])) limited shown.legal)

@@ -12,7 +12,8 @@ loop-at-preserved g c =
 
 pub returns-in-Err-clause-err : goal.returns-in-Err-clause-err
 returns-in-Err-clause-err g c =
-    taken-failed _ _ _ _ _ _ _ _ c.loop-at.invariant c.in-Some.at _ c.in-Err.fault (sym c.place_of.ensures.value ∙ c.in-Some.is) c.in-Err.ensures.err
+    taken-failed _ _ _ _ _ _ _ _ c.loop-at.invariant c.in-Some.at _ c.in-Err.fault (sym c.place_of.ensures.value
+    ∙ c.in-Some.is) c.in-Err.ensures.err
 
 pub returns-in-Ok-extend_from_slice-clause-ok : goal.returns-in-Ok-extend_from_slice-clause-ok
 returns-in-Ok-extend_from_slice-clause-ok g c =

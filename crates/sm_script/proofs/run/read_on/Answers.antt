@@ -33,7 +33,8 @@ pub returns-in-Err-answer_all : goal.returns-in-Err-answer_all
 returns-in-Err-answer_all g c = λ setting start.
     let piece = take c.in-Ok.n c.read.new.buf in
     runs-broken _ _ _ _ _ _ _ _ c.turns.invariant setting start _ _ piece [] c.in-Err-answer_all.fault
-    (subst (Consumes (g.R.Read.remaining c.turns.reader) (g.R.Read.remaining c.read.new.self)) (sym (append-nil piece)) c.in-Ok.ensures.bytes.0)
+    (subst (Consumes (g.R.Read.remaining c.turns.reader) (g.R.Read.remaining c.read.new.self)) (sym (append-nil piece))
+    c.in-Ok.ensures.bytes.0)
     (omega (arith, length-take c.in-Ok.n c.read.new.buf, c.if-left-n.false)) (λ some. absurd (some refl))
     (c.in-Err-answer_all.ensures.err setting)
 

@@ -10,9 +10,12 @@ use Rattle.sysmem_main.proofs.words.pages_of.Goals as goal
 pub returns-in_err-get_one : goal.returns-in_err-get_one
 returns-in_err-get_one c =
     let inner = c.in_ok-inner.inner.now in
-    let none : AreAsked (one_text (found_of inner) (codes "pages")) (option_map (λ (pages : Pages). pages.count) c.from_residual-in_err-get_one.result) =
+    let none : AreAsked (one_text (found_of inner) (codes "pages")) (option_map (λ (pages : Pages).
+    pages.count) c.from_residual-in_err-get_one.result) =
     rw c.from_residual-in_err-get_one.ensures
-    (unread (λ t r. ParsesUnsigned 32 10 t r × ExplainsUnsignedError 10 t r × HasUnsignedDigitsIfOk t r) (λ t r h. h.0) (one_text (found_of inner) (codes "pages")) c.get_one.result c.get_one.ensures.none c.get_one.ensures.value c.in_err-get_one.was) in
+    (unread (λ t r. ParsesUnsigned 32 10 t r × ExplainsUnsignedError 10 t r × HasUnsignedDigitsIfOk t r) (λ t r h.
+    h.0) (one_text (found_of inner) (codes "pages")) c.get_one.result c.get_one.ensures.none c.get_one.ensures.value
+    c.in_err-get_one.was) in
     subst (λ (text : Option (List ℕ)). AreAsked text (option_map (λ (pages : Pages). pages.count) c.from_residual-in_err-get_one.result))
     (sym (its_text c.args.matches.now inner _ c.in_ok-inner.ensures.rows refl)) none
 
@@ -21,5 +24,7 @@ returns c =
     let inner = c.in_ok-inner.inner.now in
     subst (λ (text : Option (List ℕ)). AreAsked text (option_map (λ (pages : Pages). pages.count) c.new.result))
     (sym (its_text c.args.matches.now inner _ c.in_ok-inner.ensures.rows refl))
-    (was_read (λ t r. ParsesUnsigned 32 10 t r × ExplainsUnsignedError 10 t r × HasUnsignedDigitsIfOk t r) (λ t r h. h.0) (one_text (found_of inner) (codes "pages")) c.get_one.result c.in_ok-get_one.field-0 (option_map (λ (pages : Pages). pages.count) c.new.result)
+    (was_read (λ t r. ParsesUnsigned 32 10 t r × ExplainsUnsignedError 10 t r × HasUnsignedDigitsIfOk t r) (λ t r h.
+    h.0) (one_text (found_of inner) (codes "pages")) c.get_one.result c.in_ok-get_one.field-0 (option_map (λ (pages : Pages).
+    pages.count) c.new.result)
     c.get_one.ensures.none c.get_one.ensures.value c.in_ok-get_one.was c.new.ensures)

@@ -11,13 +11,15 @@ invariant_of-self c = record {
   kept = c.forget_over.ensures.kept;
   counted = c.forget_over.ensures.counted;
   units = subst (AreUnits c.self.inside.units.items) (sym c.forget_over.ensures.collections)
-      (units_over c.self.inside.units.items c.args.id (map (collection_in c.self.inside.table) (shelves_of c.self.inside.entries.items)) c.self.invariant.units);
+      (units_over c.self.inside.units.items c.args.id (map (collection_in c.self.inside.table) (shelves_of c.self.inside.entries.items))
+      c.self.invariant.units);
 }
 
 pub returns-clause-keys : goal.returns-clause-keys
 returns-clause-keys c =
     rw (← c.self.view_is)
-    (SameKeys-shown c.self.inside.table c.forget_over.new.table (shelves_of c.self.inside.entries.items) (shelves_of c.forget_over.new.entries.items)
+    (SameKeys-shown c.self.inside.table c.forget_over.new.table (shelves_of c.self.inside.entries.items)
+    (shelves_of c.forget_over.new.entries.items)
     c.self.invariant.kept.first c.forget_over.ensures.keys)
 
 pub returns-clause-collections : goal.returns-clause-collections

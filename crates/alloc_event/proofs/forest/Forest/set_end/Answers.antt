@@ -18,24 +18,28 @@ there c = sym c.get.ensures ∙ sym c.copied.ensures ∙ c.in-Some.is
 
 -- what the forest is then
 shown : (c : goal.After-write) → forest_of c.write.new.table (shelves_of c.note_over.new.entries.items)
-    ≡ on_collections (with_nodes (map (with_end c.args.key c.args.end))) (forest_of c.self.inside.table (shelves_of c.self.inside.entries.items))
+    ≡ on_collections (with_nodes (map (with_end c.args.key c.args.end))) (forest_of c.self.inside.table
+    (shelves_of c.self.inside.entries.items))
 shown c =
     ap (forest_of c.write.new.table) c.note_over.ensures.shelves
     ∙ ends-shown c.args.key c.args.end c.self.inside.table c.write.new.table c.in-Some.node (there c)
-    (c.self.invariant.kept.named _ _ (there c)) c.write.ensures.writes (shelves_of c.self.inside.entries.items) c.write.ensures.becomes c.self.invariant.kept
+    (c.self.invariant.kept.named _ _ (there c)) c.write.ensures.writes (shelves_of c.self.inside.entries.items) c.write.ensures.becomes
+    c.self.invariant.kept
 
 pub invariant_of-self : goal.invariant_of-self
 invariant_of-self c = record {
   kept = subst (IsKept c.write.new.table) (sym c.note_over.ensures.shelves)
       (ends-kept c.args.key c.args.end c.self.inside.table c.write.new.table c.in-Some.node (there c)
-      (c.self.invariant.kept.named _ _ (there c)) c.write.ensures.writes (shelves_of c.self.inside.entries.items) c.write.ensures.becomes c.self.invariant.kept);
+      (c.self.invariant.kept.named _ _ (there c)) c.write.ensures.writes (shelves_of c.self.inside.entries.items) c.write.ensures.becomes
+      c.self.invariant.kept);
   counted = mapped_all c.self.inside.table c.write.new.table (with_end c.args.key c.args.end)
       (λ n. record { key = refl; parent = refl; attached = refl; head = refl; allocated = refl; gone = refl; released = refl; asks = refl })
       (λ n. refl)
       (ends-look c.args.key c.args.end c.self.inside.table c.write.new.table c.in-Some.node (there c)
       (c.self.invariant.kept.named _ _ (there c)) c.write.ensures.writes c.self.invariant.kept.named)
       c.note_over.new.entries.items
-      (ends_tidy c.self.inside.table c.self.invariant.kept.named c.args.key c.args.end c.in-Some.node (there c) c.note_over.new.entries.items
+      (ends_tidy c.self.inside.table c.self.invariant.kept.named c.args.key c.args.end c.in-Some.node (there c)
+      c.note_over.new.entries.items
       (ap (are_filed c.self.inside.table) c.note_over.ensures.shelves ∙ c.self.invariant.kept.filed)
       (c.note_over.ensures.counted c.self.inside.table c.self.invariant.counted)
       (λ over. c.note_over.ensures.noted (c.is_over.ensures ∙ over)))

@@ -10,17 +10,25 @@ use Rattle.alloc_event.proofs.forest.Forest.settle.Goals as goal
 
 pub returns-in-Birth-clause-ok : goal.returns-in-Birth-clause-ok
 returns-in-Birth-clause-ok c =
-    let settled = settled_birth c.args.pool.now.size (total c.args.holds.now) c.self.inside.table c.settle_birth.new.table (shelves_of c.self.inside.entries.items) (shelves_of c.settle_birth.new.entries.items) c.self.invariant.kept c.args.collection
-    c.in-Birth.parent c.in-Birth.attached c.in-Birth.client c.in-Birth.event c.in_ok-key.key c.in_ok-key.ensures.ok c.in_ok-key.ensures.keys in
-    let told = subst (λ (change : Change). Settled c.args.pool.now.size (total c.args.holds.now) (forest_of c.self.inside.table (shelves_of c.self.inside.entries.items)) (forest_of c.settle_birth.new.table (shelves_of c.settle_birth.new.entries.items)) c.args.collection change (Some c.in_ok-key.key)) (sym c.in-Birth.is) settled in
-    subst (λ (f : Forest). Settled c.args.pool.now.size (total c.args.holds.now) f (forest_of c.settle_birth.new.table (shelves_of c.settle_birth.new.entries.items)) c.args.collection c.args.change (Some c.in_ok-key.key)) c.self.view_is told
+    let settled = settled_birth c.args.pool.now.size (total c.args.holds.now) c.self.inside.table c.settle_birth.new.table
+    (shelves_of c.self.inside.entries.items) (shelves_of c.settle_birth.new.entries.items) c.self.invariant.kept c.args.collection
+    c.in-Birth.parent c.in-Birth.attached c.in-Birth.client c.in-Birth.event c.in_ok-key.key c.in_ok-key.ensures.ok
+    c.in_ok-key.ensures.keys in
+    let told = subst (λ (change : Change).
+    Settled c.args.pool.now.size (total c.args.holds.now) (forest_of c.self.inside.table (shelves_of c.self.inside.entries.items))
+    (forest_of c.settle_birth.new.table (shelves_of c.settle_birth.new.entries.items)) c.args.collection change
+    (Some c.in_ok-key.key)) (sym c.in-Birth.is) settled in
+    subst (λ (f : Forest). Settled c.args.pool.now.size (total c.args.holds.now) f (forest_of c.settle_birth.new.table
+    (shelves_of c.settle_birth.new.entries.items)) c.args.collection c.args.change (Some c.in_ok-key.key)) c.self.view_is told
 
 pub returns : goal.returns
 returns c =
-    let settled = settled_change c.args.pool.now.size (total c.args.holds.now) c.self.inside.table c.settle_change.new.table (shelves_of c.self.inside.entries.items) (shelves_of c.settle_change.new.entries.items) c.self.invariant.kept c.args.collection
+    let settled = settled_change c.args.pool.now.size (total c.args.holds.now) c.self.inside.table c.settle_change.new.table
+    (shelves_of c.self.inside.entries.items) (shelves_of c.settle_change.new.entries.items) c.self.invariant.kept c.args.collection
     c.args.change (no_birth c.args.change c.in_default.not-Birth) c.in_ok-settle_change.ensures.ok c.settle_change.ensures.same in
     record {
-      ok = subst (λ (f : Forest). Settled c.args.pool.now.size (total c.args.holds.now) f (forest_of c.settle_change.new.table (shelves_of c.settle_change.new.entries.items)) c.args.collection c.args.change None) c.self.view_is settled;
+      ok = subst (λ (f : Forest). Settled c.args.pool.now.size (total c.args.holds.now) f (forest_of c.settle_change.new.table
+          (shelves_of c.settle_change.new.entries.items)) c.args.collection c.args.change None) c.self.view_is settled;
       pool = c.in_ok-settle_change.ensures.pool;
       size = c.settle_change.ensures.size;
       kept = tt;

@@ -6,5 +6,8 @@ use Rattle.client_actors.proofs.acting.Actor.make.Goals as goal
 pub returns-clause-made : goal.returns-clause-made
 returns-clause-made g c =
     let fine : is_err c.note.result ≡ false = search rules in
-    has_made c.args.step c.args.asked.now c.in-Some.reply c.args.self.now (record { client = c.ask.new.client; slots = c.ask.new.slots; held = c.make_room.new.held; desk = c.note.new.self }) c.make_room.new.slots.items
-    c.in_ok-ask.ensures.asked c.make_room.ensures.slots.0 (sym c.in-Some.is ∙ c.last.ensures.value) (on_ok c.note.result _ fine c.note.ensures.known) (on_ok c.note.result _ fine c.note.ensures.things)
+    has_made c.args.step c.args.asked.now c.in-Some.reply c.args.self.now
+    (record { client = c.ask.new.client; slots = c.ask.new.slots; held = c.make_room.new.held; desk = c.note.new.self })
+    c.make_room.new.slots.items
+    c.in_ok-ask.ensures.asked c.make_room.ensures.slots.0 (sym c.in-Some.is
+    ∙ c.last.ensures.value) (on_ok c.note.result _ fine c.note.ensures.known) (on_ok c.note.result _ fine c.note.ensures.things)

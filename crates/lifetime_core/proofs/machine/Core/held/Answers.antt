@@ -10,13 +10,16 @@ use Rattle.lifetime_core.proofs.machine.Core.held.Goals as goal
 pub returns-clause-shown : goal.returns-clause-shown
 returns-clause-shown c =
     let paged : HavePages c.args.self.now.forest =
-    subst (λ (s : State). HavePages s.forest) c.self.view_is (have_pages c.self.inside.pool c.self.inside.forest c.self.invariant.pages c.free_pages-free.ensures.sound) in
+    subst (λ (s : State). HavePages s.forest) c.self.view_is (have_pages c.self.inside.pool c.self.inside.forest c.self.invariant.pages
+    c.free_pages-free.ensures.sound) in
     IfOk-weaker c.held.result _ _
-    (λ held is history shows. is ∙ (ap (λ (s : State). map held_buffer (held_by_page s.forest)) c.self.view_is ∙ held_shown c.args.self.now history shows paged))
+    (λ held is history shows. is ∙ (ap (λ (s : State). map held_buffer (held_by_page s.forest)) c.self.view_is
+    ∙ held_shown c.args.self.now history shows paged))
     c.held.ensures
 
 pub returns-clause-apart : goal.returns-clause-apart
 returns-clause-apart c =
     IfOk-weaker c.held.result _ _
-    (λ held is. subst (AllPairs EndsBefore) (sym is) (held_in_order c.self.inside.pool c.self.inside.forest c.self.invariant.pages c.free_pages-free.ensures.sound))
+    (λ held is. subst (AllPairs EndsBefore) (sym is) (held_in_order c.self.inside.pool c.self.inside.forest c.self.invariant.pages
+    c.free_pages-free.ensures.sound))
     c.held.ensures

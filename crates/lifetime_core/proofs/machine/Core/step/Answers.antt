@@ -23,67 +23,88 @@ use Rattle.lifetime_core.proofs.machine.Core.step.Goals as goal
 pub answer-asked-requires : goal.answer-asked-requires
 answer-asked-requires c = record {
   law = c.traits_of-traits.ensures.law;
-  end = end_of_named c.args.self.now c.args.call c.traits_of-traits.result.on (option_copied c.named-node.result) c.traits_of-traits.ensures.law.key c.named-node.ensures ∙ sym (c.with_end.ensures.value c.args.self.now);
+  end = end_of_named c.args.self.now c.args.call c.traits_of-traits.result.on (option_copied c.named-node.result)
+      c.traits_of-traits.ensures.law.key c.named-node.ensures ∙ sym (c.with_end.ensures.value c.args.self.now);
   unspent = c.with_end.ensures.unspent;
 }
 
 -- what the call does may be done
 pub take_effect-requires : goal.take_effect-requires
 take_effect-requires c =
-    let s : State = record { pool = c.self.inside.pool.size; limits = c.self.inside.limits; events = c.self.inside.events; clients = c.self.inside.clients.items; forest = c.self.inside.forest; holds = c.self.inside.holds; trackers = c.self.inside.trackers } in
+    let s : State =
+    record { pool = c.self.inside.pool.size; limits = c.self.inside.limits; events = c.self.inside.events; clients = c.self.inside.clients.items; forest = c.self.inside.forest; holds = c.self.inside.holds; trackers = c.self.inside.trackers } in
     let b : Begins s c.args.client c.args.call c.answer-asked.result c.task_of-task.result c.tracking_of-tracking.result =
-    begins c.self.inside.pool s c.args.self.now c.args.client c.args.call c.answer-asked.result c.task_of-task.result c.tracking_of-tracking.result c.self.view_is c.self.invariant c.answer-asked.ensures
-    c.task_of-task.ensures.work c.task_of-task.ensures.spends c.task_of-task.ensures.there c.task_of-task.ensures.some c.tracking_of-tracking.ensures in
+    begins c.self.inside.pool s c.args.self.now c.args.client c.args.call c.answer-asked.result c.task_of-task.result
+    c.tracking_of-tracking.result c.self.view_is c.self.invariant c.answer-asked.ensures
+    c.task_of-task.ensures.work c.task_of-task.ensures.spends c.task_of-task.ensures.there c.task_of-task.ensures.some
+    c.tracking_of-tracking.ensures in
     record {
       clients = c.self.invariant.rising;
-      handles = moves s c.args.client c.args.call c.answer-asked.result c.answer-asked.result c.task_of-task.result c.tracking_of-tracking.result b;
+      handles = moves s c.args.client c.args.call c.answer-asked.result c.answer-asked.result c.task_of-task.result
+          c.tracking_of-tracking.result b;
       may = b.may;
       pool = c.self.invariant.pages;
-      rising = above s c.args.client c.args.call c.answer-asked.result c.answer-asked.result c.task_of-task.result c.tracking_of-tracking.result b;
-      room = fits s c.args.client c.args.call c.answer-asked.result c.answer-asked.result c.task_of-task.result c.tracking_of-tracking.result b;
-      alone = alone s c.args.client c.args.call c.answer-asked.result c.answer-asked.result c.task_of-task.result c.tracking_of-tracking.result b;
+      rising = above s c.args.client c.args.call c.answer-asked.result c.answer-asked.result c.task_of-task.result
+          c.tracking_of-tracking.result b;
+      room = fits s c.args.client c.args.call c.answer-asked.result c.answer-asked.result c.task_of-task.result
+          c.tracking_of-tracking.result b;
+      alone = alone s c.args.client c.args.call c.answer-asked.result c.answer-asked.result c.task_of-task.result
+          c.tracking_of-tracking.result b;
     }
 
 -- the node is the one that the call names
-names_it : (s : State) (call : Call) (on : Named) (there : Option Node) → key_of call ≡ key_in on → there ≡ option_and_then (node_at s.forest) (key_in on) → there ≡ node_named s call
+names_it : (s : State) (call : Call) (on : Named) (there : Option Node) → key_of call ≡ key_in on →
+    there ≡ option_and_then (node_at s.forest) (key_in on) → there ≡ node_named s call
 names_it s call on there key is = is ∙ ap (option_and_then (node_at s.forest)) (sym key)
 
 pub task_of-task-requires : goal.task_of-task-requires
 task_of-task-requires c = record {
   key = c.traits_of-traits.ensures.law.key;
-  node = names_it c.args.self.now c.args.call c.traits_of-traits.result.on (option_copied c.named-node.result) c.traits_of-traits.ensures.law.key c.named-node.ensures;
+  node = names_it c.args.self.now c.args.call c.traits_of-traits.result.on (option_copied c.named-node.result)
+      c.traits_of-traits.ensures.law.key c.named-node.ensures;
   answered = c.answer-asked.ensures;
 }
 
 pub tracking_of-tracking-requires : goal.tracking_of-tracking-requires
 tracking_of-tracking-requires c =
-    names_it c.args.self.now c.args.call c.traits_of-traits.result.on (option_copied c.named-node.result) c.traits_of-traits.ensures.law.key c.named-node.ensures
+    names_it c.args.self.now c.args.call c.traits_of-traits.result.on (option_copied c.named-node.result) c.traits_of-traits.ensures.law.key
+    c.named-node.ensures
 
 -- the call changes nothing, and the fields are still whole
 pub invariant_of-self : goal.invariant_of-self
 invariant_of-self c =
-    let s : State = record { pool = c.self.inside.pool.size; limits = c.self.inside.limits; events = c.self.inside.events; clients = c.self.inside.clients.items; forest = c.self.inside.forest; holds = c.self.inside.holds; trackers = c.self.inside.trackers } in
+    let s : State =
+    record { pool = c.self.inside.pool.size; limits = c.self.inside.limits; events = c.self.inside.events; clients = c.self.inside.clients.items; forest = c.self.inside.forest; holds = c.self.inside.holds; trackers = c.self.inside.trackers } in
     let i : Idles s c.args.client c.args.call c.answer-asked.result =
-    idles c.self.inside.pool s c.args.self.now c.args.client c.args.call c.answer-asked.result c.self.view_is c.self.invariant c.answer-asked.ensures (sym c.changes_nothing.ensures ∙ c.if-changes_nothing.true) in
-    let next : c.next_event-self-inside.result ≡ s.events + 1 = c.next_event-self-inside.ensures ∙ ap (λ (x : State). x.events + 1) (sym c.self.view_is) in
+    idles c.self.inside.pool s c.args.self.now c.args.client c.args.call c.answer-asked.result c.self.view_is c.self.invariant
+    c.answer-asked.ensures (sym c.changes_nothing.ensures ∙ c.if-changes_nothing.true) in
+    let next : c.next_event-self-inside.result ≡ s.events + 1 =
+    c.next_event-self-inside.ensures ∙ ap (λ (x : State). x.events + 1) (sym c.self.view_is) in
     rw next (idle_whole s c.args.client c.args.call c.answer-asked.result i c.self.inside.pool c.self.invariant (omega arith) (omega arith))
 
 -- and the new state follows
 pub returns-then-changes_nothing : goal.returns-then-changes_nothing
 returns-then-changes_nothing c =
-    let s : State = record { pool = c.self.inside.pool.size; limits = c.self.inside.limits; events = c.self.inside.events; clients = c.self.inside.clients.items; forest = c.self.inside.forest; holds = c.self.inside.holds; trackers = c.self.inside.trackers } in
+    let s : State =
+    record { pool = c.self.inside.pool.size; limits = c.self.inside.limits; events = c.self.inside.events; clients = c.self.inside.clients.items; forest = c.self.inside.forest; holds = c.self.inside.holds; trackers = c.self.inside.trackers } in
     let i : Idles s c.args.client c.args.call c.answer-asked.result =
-    idles c.self.inside.pool s c.args.self.now c.args.client c.args.call c.answer-asked.result c.self.view_is c.self.invariant c.answer-asked.ensures (sym c.changes_nothing.ensures ∙ c.if-changes_nothing.true) in
-    let next : c.next_event-self-inside.result ≡ s.events + 1 = c.next_event-self-inside.ensures ∙ ap (λ (x : State). x.events + 1) (sym c.self.view_is) in
-    let answers = step_answers s c.args.client c.args.call c.answer-asked.result c.answer-asked.result None None i.begins (parts_of s) i.takes in
+    idles c.self.inside.pool s c.args.self.now c.args.client c.args.call c.answer-asked.result c.self.view_is c.self.invariant
+    c.answer-asked.ensures (sym c.changes_nothing.ensures ∙ c.if-changes_nothing.true) in
+    let next : c.next_event-self-inside.result ≡ s.events + 1 =
+    c.next_event-self-inside.ensures ∙ ap (λ (x : State). x.events + 1) (sym c.self.view_is) in
+    let answers = step_answers s c.args.client c.args.call c.answer-asked.result c.answer-asked.result None None i.begins (parts_of s)
+    i.takes in
     let follows = idle_follows s c.args.client c.args.call c.answer-asked.result i in
     let room : s.events < s.limits.events = omega arith in
     rw (next, ← c.self.view_is) (record {
       answer = answers;
-      kind = reply-fits s.limits (readings_of s) c.args.client (key_told c.answer-asked.result) c.args.call c.answer-asked.result answers.told;
+      kind = reply-fits s.limits (readings_of s) c.args.client (key_told c.answer-asked.result) c.args.call c.answer-asked.result
+          answers.told;
       after = follows;
-      goes_on = goes_on s (further s c.args.client c.args.call c.answer-asked.result i) c.args.client c.args.call c.answer-asked.result answers follows room;
-      untaken = untaken_after s (further s c.args.client c.args.call c.answer-asked.result i) c.args.client c.args.call c.answer-asked.result answers follows;
+      goes_on = goes_on s (further s c.args.client c.args.call c.answer-asked.result i) c.args.client c.args.call c.answer-asked.result
+          answers follows room;
+      untaken = untaken_after s (further s c.args.client c.args.call c.answer-asked.result i) c.args.client c.args.call
+          c.answer-asked.result answers follows;
       kept = search rules;
       equal = search rules;
       stays = search rules;
@@ -94,63 +115,99 @@ returns-then-changes_nothing c =
 pub invariant_of-self-in_default : goal.invariant_of-self-in_default
 invariant_of-self-in_default c =
     let kept = c.in_default.ensures.err in
-    whole_same c.self.inside.pool c.take_effect.new.pool c.self.inside.limits c.self.inside.events c.self.inside.clients.items c.take_effect.new.clients.items c.self.inside.forest c.take_effect.new.forest
-    c.self.inside.holds c.take_effect.new.holds c.self.inside.trackers c.take_effect.new.trackers kept.0 kept.1 kept.2 kept.3 kept.4 c.take_effect.ensures.limit c.self.invariant
+    whole_same c.self.inside.pool c.take_effect.new.pool c.self.inside.limits c.self.inside.events c.self.inside.clients.items
+    c.take_effect.new.clients.items c.self.inside.forest c.take_effect.new.forest
+    c.self.inside.holds c.take_effect.new.holds c.self.inside.trackers c.take_effect.new.trackers kept.0 kept.1 kept.2 kept.3 kept.4
+    c.take_effect.ensures.limit c.self.invariant
 
 -- trackers elsewhere are not due
 pub sweep-requires : goal.sweep-requires
 sweep-requires c =
-    let s : State = record { pool = c.self.inside.pool.size; limits = c.self.inside.limits; events = c.self.inside.events; clients = c.self.inside.clients.items; forest = c.self.inside.forest; holds = c.self.inside.holds; trackers = c.self.inside.trackers } in
+    let s : State =
+    record { pool = c.self.inside.pool.size; limits = c.self.inside.limits; events = c.self.inside.events; clients = c.self.inside.clients.items; forest = c.self.inside.forest; holds = c.self.inside.holds; trackers = c.self.inside.trackers } in
     let b : Begins s c.args.client c.args.call c.answer-asked.result c.task_of-task.result c.tracking_of-tracking.result =
-    begins c.self.inside.pool s c.args.self.now c.args.client c.args.call c.answer-asked.result c.task_of-task.result c.tracking_of-tracking.result c.self.view_is c.self.invariant c.answer-asked.ensures
-    c.task_of-task.ensures.work c.task_of-task.ensures.spends c.task_of-task.ensures.there c.task_of-task.ensures.some c.tracking_of-tracking.ensures in
-    let parts : Parts = record { clients = c.take_effect.new.clients.items; forest = c.take_effect.new.forest; holds = c.take_effect.new.holds; trackers = c.take_effect.new.trackers } in
+    begins c.self.inside.pool s c.args.self.now c.args.client c.args.call c.answer-asked.result c.task_of-task.result
+    c.tracking_of-tracking.result c.self.view_is c.self.invariant c.answer-asked.ensures
+    c.task_of-task.ensures.work c.task_of-task.ensures.spends c.task_of-task.ensures.there c.task_of-task.ensures.some
+    c.tracking_of-tracking.ensures in
+    let parts : Parts =
+    record { clients = c.take_effect.new.clients.items; forest = c.take_effect.new.forest; holds = c.take_effect.new.holds; trackers = c.take_effect.new.trackers } in
     record { elsewhere = rw (c.place_to_sweep-place.ensures, c.changed_by.ensures) (none_elsewhere s c.args.client c.args.call c.answer-asked.result (keyed c.answer-asked.result c.in-Ok.key) c.task_of-task.result c.tracking_of-tracking.result b parts c.in-Ok.ensures.ok) }
 
 -- what is over can be forgotten
 pub finish-requires : goal.finish-requires
 finish-requires c =
-    let s : State = record { pool = c.self.inside.pool.size; limits = c.self.inside.limits; events = c.self.inside.events; clients = c.self.inside.clients.items; forest = c.self.inside.forest; holds = c.self.inside.holds; trackers = c.self.inside.trackers } in
+    let s : State =
+    record { pool = c.self.inside.pool.size; limits = c.self.inside.limits; events = c.self.inside.events; clients = c.self.inside.clients.items; forest = c.self.inside.forest; holds = c.self.inside.holds; trackers = c.self.inside.trackers } in
     let b : Begins s c.args.client c.args.call c.answer-asked.result c.task_of-task.result c.tracking_of-tracking.result =
-    begins c.self.inside.pool s c.args.self.now c.args.client c.args.call c.answer-asked.result c.task_of-task.result c.tracking_of-tracking.result c.self.view_is c.self.invariant c.answer-asked.ensures
-    c.task_of-task.ensures.work c.task_of-task.ensures.spends c.task_of-task.ensures.there c.task_of-task.ensures.some c.tracking_of-tracking.ensures in
-    let parts : Parts = record { clients = c.take_effect.new.clients.items; forest = c.take_effect.new.forest; holds = c.take_effect.new.holds; trackers = c.take_effect.new.trackers } in
+    begins c.self.inside.pool s c.args.self.now c.args.client c.args.call c.answer-asked.result c.task_of-task.result
+    c.tracking_of-tracking.result c.self.view_is c.self.invariant c.answer-asked.ensures
+    c.task_of-task.ensures.work c.task_of-task.ensures.spends c.task_of-task.ensures.there c.task_of-task.ensures.some
+    c.tracking_of-tracking.ensures in
+    let parts : Parts =
+    record { clients = c.take_effect.new.clients.items; forest = c.take_effect.new.forest; holds = c.take_effect.new.holds; trackers = c.take_effect.new.trackers } in
     record {
-      task = finishes s c.args.client c.args.call c.answer-asked.result (keyed c.answer-asked.result c.in-Ok.key) c.task_of-task.result c.tracking_of-tracking.result b parts c.in-Ok.ensures.ok;
-      carried = can_carry s c.args.client c.args.call c.answer-asked.result (keyed c.answer-asked.result c.in-Ok.key) c.task_of-task.result c.tracking_of-tracking.result b parts c.in-Ok.ensures.ok c.carried_end.result c.carried_end.ensures;
-      one = one s c.args.client c.args.call c.answer-asked.result (keyed c.answer-asked.result c.in-Ok.key) c.task_of-task.result c.tracking_of-tracking.result b parts c.in-Ok.ensures.ok c.carried_end.result c.carried_end.ensures;
+      task = finishes s c.args.client c.args.call c.answer-asked.result (keyed c.answer-asked.result c.in-Ok.key) c.task_of-task.result
+          c.tracking_of-tracking.result b parts c.in-Ok.ensures.ok;
+      carried = can_carry s c.args.client c.args.call c.answer-asked.result (keyed c.answer-asked.result c.in-Ok.key) c.task_of-task.result
+          c.tracking_of-tracking.result b parts c.in-Ok.ensures.ok c.carried_end.result c.carried_end.ensures;
+      one = one s c.args.client c.args.call c.answer-asked.result (keyed c.answer-asked.result c.in-Ok.key) c.task_of-task.result
+          c.tracking_of-tracking.result b parts c.in-Ok.ensures.ok c.carried_end.result c.carried_end.ensures;
     }
 
 -- the fields are whole again
 pub invariant_of-self-2 : goal.invariant_of-self-2
 invariant_of-self-2 c =
-    let s : State = record { pool = c.self.inside.pool.size; limits = c.self.inside.limits; events = c.self.inside.events; clients = c.self.inside.clients.items; forest = c.self.inside.forest; holds = c.self.inside.holds; trackers = c.self.inside.trackers } in
+    let s : State =
+    record { pool = c.self.inside.pool.size; limits = c.self.inside.limits; events = c.self.inside.events; clients = c.self.inside.clients.items; forest = c.self.inside.forest; holds = c.self.inside.holds; trackers = c.self.inside.trackers } in
     let b : Begins s c.args.client c.args.call c.answer-asked.result c.task_of-task.result c.tracking_of-tracking.result =
-    begins c.self.inside.pool s c.args.self.now c.args.client c.args.call c.answer-asked.result c.task_of-task.result c.tracking_of-tracking.result c.self.view_is c.self.invariant c.answer-asked.ensures
-    c.task_of-task.ensures.work c.task_of-task.ensures.spends c.task_of-task.ensures.there c.task_of-task.ensures.some c.tracking_of-tracking.ensures in
-    let parts : Parts = record { clients = c.take_effect.new.clients.items; forest = c.take_effect.new.forest; holds = c.take_effect.new.holds; trackers = c.take_effect.new.trackers } in
-    whole_then s c.args.client c.args.call c.answer-asked.result (keyed c.answer-asked.result c.in-Ok.key) c.task_of-task.result c.tracking_of-tracking.result b parts c.in-Ok.ensures.ok c.self.inside.pool c.take_effect.new.pool c.finish.new.forest
-    (placed c.task_of-task.result c.carried_end.result) c.sweep.new.trackers c.self.invariant c.take_effect.ensures.size c.take_effect.ensures.pool c.finish.ensures.held c.take_effect.ensures.limit
-    (omega arith) (omega arith) c.finish.ensures.collections c.finish.ensures.keys c.finish.ensures.sound c.finish.ensures.ids c.sweep.ensures
+    begins c.self.inside.pool s c.args.self.now c.args.client c.args.call c.answer-asked.result c.task_of-task.result
+    c.tracking_of-tracking.result c.self.view_is c.self.invariant c.answer-asked.ensures
+    c.task_of-task.ensures.work c.task_of-task.ensures.spends c.task_of-task.ensures.there c.task_of-task.ensures.some
+    c.tracking_of-tracking.ensures in
+    let parts : Parts =
+    record { clients = c.take_effect.new.clients.items; forest = c.take_effect.new.forest; holds = c.take_effect.new.holds; trackers = c.take_effect.new.trackers } in
+    whole_then s c.args.client c.args.call c.answer-asked.result (keyed c.answer-asked.result c.in-Ok.key) c.task_of-task.result
+    c.tracking_of-tracking.result b parts c.in-Ok.ensures.ok c.self.inside.pool c.take_effect.new.pool c.finish.new.forest
+    (placed c.task_of-task.result c.carried_end.result) c.sweep.new.trackers c.self.invariant c.take_effect.ensures.size
+    c.take_effect.ensures.pool c.finish.ensures.held c.take_effect.ensures.limit
+    (omega arith) (omega arith) c.finish.ensures.collections c.finish.ensures.keys c.finish.ensures.sound c.finish.ensures.ids
+    c.sweep.ensures
 
 -- the reply is the answer, and the new state follows
 pub returns : goal.returns
 returns c =
-    let s : State = record { pool = c.self.inside.pool.size; limits = c.self.inside.limits; events = c.self.inside.events; clients = c.self.inside.clients.items; forest = c.self.inside.forest; holds = c.self.inside.holds; trackers = c.self.inside.trackers } in
+    let s : State =
+    record { pool = c.self.inside.pool.size; limits = c.self.inside.limits; events = c.self.inside.events; clients = c.self.inside.clients.items; forest = c.self.inside.forest; holds = c.self.inside.holds; trackers = c.self.inside.trackers } in
     let b : Begins s c.args.client c.args.call c.answer-asked.result c.task_of-task.result c.tracking_of-tracking.result =
-    begins c.self.inside.pool s c.args.self.now c.args.client c.args.call c.answer-asked.result c.task_of-task.result c.tracking_of-tracking.result c.self.view_is c.self.invariant c.answer-asked.ensures
-    c.task_of-task.ensures.work c.task_of-task.ensures.spends c.task_of-task.ensures.there c.task_of-task.ensures.some c.tracking_of-tracking.ensures in
-    let parts : Parts = record { clients = c.take_effect.new.clients.items; forest = c.take_effect.new.forest; holds = c.take_effect.new.holds; trackers = c.take_effect.new.trackers } in
-    let answers = step_answers s c.args.client c.args.call c.answer-asked.result (keyed c.answer-asked.result c.in-Ok.key) c.task_of-task.result c.tracking_of-tracking.result b parts c.in-Ok.ensures.ok in
-    let follows = step_follows s c.args.client c.args.call c.answer-asked.result (keyed c.answer-asked.result c.in-Ok.key) c.task_of-task.result c.tracking_of-tracking.result b parts c.in-Ok.ensures.ok c.carried_end.result c.carried_end.ensures c.finish.new.forest c.sweep.new.trackers
+    begins c.self.inside.pool s c.args.self.now c.args.client c.args.call c.answer-asked.result c.task_of-task.result
+    c.tracking_of-tracking.result c.self.view_is c.self.invariant c.answer-asked.ensures
+    c.task_of-task.ensures.work c.task_of-task.ensures.spends c.task_of-task.ensures.there c.task_of-task.ensures.some
+    c.tracking_of-tracking.ensures in
+    let parts : Parts =
+    record { clients = c.take_effect.new.clients.items; forest = c.take_effect.new.forest; holds = c.take_effect.new.holds; trackers = c.take_effect.new.trackers } in
+    let answers = step_answers s c.args.client c.args.call c.answer-asked.result (keyed c.answer-asked.result c.in-Ok.key)
+    c.task_of-task.result c.tracking_of-tracking.result b parts c.in-Ok.ensures.ok in
+    let follows = step_follows s c.args.client c.args.call c.answer-asked.result (keyed c.answer-asked.result c.in-Ok.key)
+    c.task_of-task.result c.tracking_of-tracking.result b parts c.in-Ok.ensures.ok c.carried_end.result c.carried_end.ensures
+    c.finish.new.forest c.sweep.new.trackers
     c.finish.ensures.collections c.finish.ensures.keys c.sweep.ensures in
     let room : s.events < s.limits.events = omega arith in
     rw c.keyed.ensures (record {
       answer = rw (← c.self.view_is) answers;
-      kind = reply-fits s.limits (readings_of s) c.args.client (key_told (keyed c.answer-asked.result c.in-Ok.key)) c.args.call (keyed c.answer-asked.result c.in-Ok.key) answers.told;
+      kind = reply-fits s.limits (readings_of s) c.args.client (key_told (keyed c.answer-asked.result c.in-Ok.key)) c.args.call
+          (keyed c.answer-asked.result c.in-Ok.key) answers.told;
       after = rw (← c.self.view_is, c.take_effect.ensures.size) follows;
-      goes_on = rw (← c.self.view_is, c.take_effect.ensures.size) (goes_on s (after s c.args.client c.args.call c.answer-asked.result (keyed c.answer-asked.result c.in-Ok.key) c.task_of-task.result c.tracking_of-tracking.result b parts c.in-Ok.ensures.ok c.carried_end.result c.carried_end.ensures c.finish.new.forest c.sweep.new.trackers c.finish.ensures.collections c.finish.ensures.keys c.sweep.ensures) c.args.client c.args.call (keyed c.answer-asked.result c.in-Ok.key) answers follows room);
-      untaken = rw (← c.self.view_is) (untaken_after s (after s c.args.client c.args.call c.answer-asked.result (keyed c.answer-asked.result c.in-Ok.key) c.task_of-task.result c.tracking_of-tracking.result b parts c.in-Ok.ensures.ok c.carried_end.result c.carried_end.ensures c.finish.new.forest c.sweep.new.trackers c.finish.ensures.collections c.finish.ensures.keys c.sweep.ensures) c.args.client c.args.call (keyed c.answer-asked.result c.in-Ok.key) answers follows);
+      goes_on = rw (← c.self.view_is, c.take_effect.ensures.size) (goes_on s (after s c.args.client c.args.call c.answer-asked.result
+          (keyed c.answer-asked.result c.in-Ok.key) c.task_of-task.result c.tracking_of-tracking.result b parts c.in-Ok.ensures.ok
+          c.carried_end.result c.carried_end.ensures c.finish.new.forest c.sweep.new.trackers c.finish.ensures.collections
+          c.finish.ensures.keys c.sweep.ensures) c.args.client c.args.call (keyed c.answer-asked.result c.in-Ok.key) answers follows
+          room);
+      untaken = rw (← c.self.view_is) (untaken_after s (after s c.args.client c.args.call c.answer-asked.result
+          (keyed c.answer-asked.result c.in-Ok.key) c.task_of-task.result c.tracking_of-tracking.result b parts c.in-Ok.ensures.ok
+          c.carried_end.result c.carried_end.ensures c.finish.new.forest c.sweep.new.trackers c.finish.ensures.collections
+          c.finish.ensures.keys c.sweep.ensures) c.args.client c.args.call (keyed c.answer-asked.result c.in-Ok.key) answers
+          follows);
       kept = search rules;
       equal = search rules;
       stays = search rules;

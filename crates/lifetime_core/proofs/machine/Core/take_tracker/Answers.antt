@@ -7,5 +7,6 @@ use Rattle.lifetime_core.proofs.machine.Core.take_tracker.Goals as goal
 -- no history tells which readers were taken
 pub returns-clause-shows : goal.returns-clause-shows
 returns-clause-shows c history shows =
-    let s : State = record { pool = c.self.inside.pool.size; limits = c.self.inside.limits; events = c.self.inside.events; clients = c.self.inside.clients.items; forest = c.self.inside.forest; holds = c.self.inside.holds; trackers = c.self.inside.trackers } in
+    let s : State =
+    record { pool = c.self.inside.pool.size; limits = c.self.inside.limits; events = c.self.inside.events; clients = c.self.inside.clients.items; forest = c.self.inside.forest; holds = c.self.inside.holds; trackers = c.self.inside.trackers } in
     rw c.take_tracker.ensures.taken (take_shows s c.args.id history (subst (λ (x : State). Shows x history) (sym c.self.view_is) shows))

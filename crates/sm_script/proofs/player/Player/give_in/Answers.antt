@@ -6,9 +6,12 @@ use Rattle.sm_script.proofs.player.Player.give_in.Goals as goal
 
 pub returns-clause-at : goal.returns-clause-at
 returns-clause-at g c line = λ setting old lines far.
-    so_far-stop setting c.args.self.now old _ lines far _ line Stop.NoMemory _ (λ scene at. tt) (rw c.as_slice.ensures.value at c.give_up.ensures)
+    so_far-stop setting c.args.self.now old _ lines far _ line Stop.NoMemory _ (λ scene at.
+    tt) (rw c.as_slice.ensures.value at c.give_up.ensures)
 
 pub returns-clause-behind : goal.returns-clause-behind
 returns-clause-behind g c rest some = λ setting old lines far.
-    subst (λ (ls : List (List ℕ)). Breaks setting old (g.W.Write.contents c.give_up.new.writer) ls rest c.give_up.result) (sym (append-nil lines))
-    (so_far-behind setting c.args.self.now old _ lines far _ c.args.self.now.lines rest _ some (rw c.as_slice.ensures.value at c.give_up.ensures))
+    subst (λ (ls : List (List ℕ)). Breaks setting old (g.W.Write.contents c.give_up.new.writer) ls rest c.give_up.result)
+    (sym (append-nil lines))
+    (so_far-behind setting c.args.self.now old _ lines far _ c.args.self.now.lines rest _ some (rw c.as_slice.ensures.value at
+    c.give_up.ensures))
