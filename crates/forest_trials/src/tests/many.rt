@@ -439,7 +439,8 @@ fn many_that_fell_are_forgotten_from_the_last(rt: HostRuntime) -> Result<(), Fai
 fn many_that_fell_are_forgotten_from_the_middle(rt: HostRuntime) -> Result<(), Fail> {
     let (mut ground, mut keys) = family(rt.alloc(), 999, false)?;
     assert!(rt; fall_together(&mut ground, &keys)?);
-    keys.rotate_left(500);
+    let middle = keys.len() / 2;
+    keys.rotate_left(middle);
     assert!(rt; forget_in_turn(ground.into_forest(), &keys));
     Ok(())
 }
