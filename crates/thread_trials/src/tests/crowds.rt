@@ -39,6 +39,8 @@ fn sixty_four_actors_make_a_thousand_steps_each(rt: HostRuntime) -> Result<(), F
             push_lines(&mut script, ROUND, actor, round)?;
         }
     }
-    check_gathered(&rt, rt.alloc(), script.as_slice(), 64);
+    for _ in 0..20 {
+        check_gathered(&rt, rt.alloc(), script.as_slice(), 64);
+    }
     Ok(())
 }
