@@ -24,20 +24,22 @@ pub enum Change {
 /// What a call makes of the node that it names, if it makes and loses none.
 #[derive(Clone, Copy, Debug)]
 pub enum Effect {
-    /// It was a token, and is a collection.
+    /// It was a token, and is a collection. FIDL: `Allocator.BindSharedCollection`.
     Bound,
     /// Once its unit is allocated, its failure goes no further up.
+    /// FIDL: `BufferCollectionToken.SetDispensable`.
     Dispensable,
-    /// It keeps no buffer alive, nor do children made from now on.
+    /// It keeps no buffer alive, nor do children made from now on. FIDL: `Node.SetWeak`.
     Weak,
     /// It knows how to treat weak handles; with `true` also children made from now on.
+    /// FIDL: `Node.SetWeakOk`.
     WeakOk(bool),
-    /// It asks this of the buffers.
+    /// It asks this of the buffers. FIDL: `BufferCollection.SetConstraints`.
     Constrained(Constraints),
-    /// It took its handles.
+    /// It took its handles. FIDL: `BufferCollection.WaitForAllBuffersAllocated`.
     Taken,
-    /// It left without a failure.
+    /// It left without a failure. FIDL: `Node.Release`.
     Released,
-    /// One more tracker was made on it.
+    /// One more tracker was made on it. FIDL: `Node.AttachNodeTracking`.
     Tracked,
 }

@@ -22,7 +22,7 @@ fn if_done(reply: &Reply, key: NodeKey, effect: Effect) -> Option<Change>
 }
 
 /// The effect of the call, answered so, on the node that it names, if it has one. Each call is told
-/// of here, and none is left to a rest.
+/// of here, and none is left to a rest. Takes a constant time.
 pub fn effect_of(call: &Call, reply: &Reply) -> Option<Change>
     ensures { result ≡ option_map (λ e. Changed.Effect e.0 e.1) (effect_in call.now reply.now) }
 {
@@ -62,7 +62,7 @@ pub fn effect_of(call: &Call, reply: &Reply) -> Option<Change>
 }
 
 /// The effect is made on the node with this key, and on no other. If it is that of a tracker, fewer
-/// than 64 were made on the node. One walk over the nodes.
+/// than 64 were made on the node. Costs one walk over the nodes.
 pub fn affect(nodes: &mut [Node], key: NodeKey, effect: &Effect)
     requires { list_all (has_tracker_room key effect.now) nodes.old ≡ true }
     ensures { nodes.new ≡ after_effect key effect.now nodes.old }
