@@ -1,5 +1,6 @@
 //! What no contract says: that calls succeed, and how events follow on one another.
 mod acts;
+mod dropping;
 mod failing;
 mod first;
 mod giving;

@@ -1,8 +1,10 @@
 -- What an event makes of a core's state.
-use Rattle.std.specs.Prelude.{ℕ, ◌+◌, ◌-◌, true, false, ◌||◌, not, if◌then◌else◌, List, [], ◌++◌, map, drop, Option, Some, None, ◌≡◌}
+use Rattle.std.specs.Prelude.{ℕ, ◌+◌, ◌-◌, true, false, ◌||◌, not, nat_le, if◌then◌else◌, List, [], ◌++◌, map, drop, Option, Some, None, ◌≡◌}
 use Rattle.std.specs.List.{filter, cons_option}
 use Rattle.std.specs.Option.{option_map, option_and_then}
+use Rattle.sm_names.specs.declared.keys.BufferName.{BufferName}
 use Rattle.sm_names.specs.declared.keys.NodeKey.{NodeKey}
+use Rattle.sm_names.specs.declared.keys.Strength.{Strength}
 use Rattle.sm_names.specs.declared.messages.Call.{Call}
 use Rattle.sm_names.specs.declared.messages.Reply.{Reply}
 use Rattle.sm_names.specs.declared.outcomes.Cause.{Cause}
@@ -66,12 +68,18 @@ abbrev pub effect_at : Forest → Call → Reply → Option Work
 effect_at f call reply =
     option_and_then (λ (e : NodeKey × Effect). at_node f e.0 (λ n. Change.Effect e.0 e.1)) (effect_of call reply)
 
--- what a call that was answered Done changes: it loses its node, or drops a handle, after which a buffer may be kept no longer,
--- or has an effect. The other calls ask, move an end or a handle, or open a handle beside another
-abbrev pub done_to : Forest → Call → Option Work
-done_to f (Call.Close key) = loss_at f key Cause.Lost
-done_to f (Call.DropHandle buffer strength) = at_collection f buffer.collection Change.Nothing
-done_to f call = effect_at f call Reply.Done
+-- a drop of a handle of this buffer and strength: after the last one the buffer may be kept no longer. Where another one stays
+-- open, nothing is changed, since nothing is forced by how many are open
+abbrev pub drop_at : State → BufferName → Strength → Option Work
+drop_at s buffer strength =
+    if nat_le 2 (total s.holds buffer strength) then None else at_collection s.forest buffer.collection Change.Nothing
+
+-- what a call that was answered Done changes: it loses its node, or drops the last handle of a buffer and strength, or has an
+-- effect. The other calls ask, move an end or a handle, or open or drop a handle beside another
+abbrev pub done_to : State → Call → Option Work
+done_to s (Call.Close key) = loss_at s.forest key Cause.Lost
+done_to s (Call.DropHandle buffer strength) = drop_at s buffer strength
+done_to s call = effect_at s.forest call Reply.Done
 
 -- what the event changes of the nodes and buffers of a collection: the call makes a node, has an effect, or fails its node.
 -- Any other call and reply change nothing there
@@ -79,7 +87,7 @@ abbrev pub work_of : State → ℕ → Call → Reply → Option Work
 work_of s client call (Reply.Token key collection) = birth_by s client call collection
 work_of s client call (Reply.Misused misuse) =
     option_and_then (λ key. at_node s.forest key (λ n. Change.Loss key (Cause.Misused misuse))) (key_of call)
-work_of s client call Reply.Done = done_to s.forest call
+work_of s client call Reply.Done = done_to s call
 work_of s client call (Reply.Taken collection strength set) = effect_at s.forest call (Reply.Taken collection strength set)
 work_of s client call (Reply.Tracker id) = effect_at s.forest call (Reply.Tracker id)
 work_of s client call _ = None

@@ -210,6 +210,13 @@ impl Core {
         self.holds.of(client, buffer, strength)
     }
 
+    // How many of these handles are open, those in parcels among them.
+    pub(crate) fn open_total(&self, buffer: BufferName, strength: Strength) -> u32
+        ensures { result ≡ total self.now.holds buffer strength }
+    {
+        self.holds.total(buffer, strength)
+    }
+
     // Whether as many of these handles are open as may be. They are looked for near the spot.
     pub(crate) fn has_all_handles(
         &self,
@@ -324,7 +331,8 @@ impl Core {
     ///
     /// It costs a binary search among the clients, a few look-ups of a node, of a collection and of
     /// handles, and the work on one collection: that of the node or the buffer that the call names,
-    /// or the new one. A call that changes nothing there costs only the look-ups. A Take costs at
+    /// or the new one. A call that changes nothing there costs only the look-ups, and so does a
+    /// DropHandle beside which another handle of that buffer and strength is open. A Take costs at
     /// most five look-ups more for each buffer, and fewer where the counts of the buffers stand one
     /// after the other, as the first Take left them. An event that changes something in a collection
     /// costs one test for each node and each buffer that trackers wait for there, two for a node of

@@ -5,11 +5,10 @@ ghost use Rattle.sm_names.specs.declared.keys.NodeKey.{NodeKey as Key};
 ghost use Rattle.sm_names.specs.Answers.{answer as answer_of};
 ghost use Rattle.sm_names.specs.Timelines.{key_of as key_in};
 ghost use Rattle.buffer_holds.specs.Counts.{total};
-ghost use Rattle.alloc_event.specs.declared.change.Change.{Change as Changed};
 ghost use Rattle.alloc_event.specs.Forest.{IsPoolOf, SameKeys, all_held, node_at};
 ghost use Rattle.alloc_event.specs.Settling.{no_key};
 ghost use Rattle.lifetime_core.specs.Reads.{node_named, readings_of};
-ghost use Rattle.lifetime_core.specs.Steps.{Work, at_collection, at_node as change_at, birth_by, done_to};
+ghost use Rattle.lifetime_core.specs.Steps.{Work, at_node as change_at, birth_by, done_to, drop_at};
 ghost use Rattle.lifetime_core.specs.Steps.{work_of, with_place, without_over};
 ghost use Rattle.lifetime_core.specs.Tasks.{DoesSome, MayDo, Reworked, SpendsThere, carried_by};
 ghost use Rattle.lifetime_core.specs.Tasks.{placed, spent_by, spent_in, spent_place, work_in};
@@ -22,7 +21,9 @@ use alloc_event::effects::effect_of;
 use alloc_event::{Change, End, Forest, Node};
 use buffer_holds::Holds;
 use buffer_pool::Pool;
-use sm_names::{Call, Cause, ClientId, CollectionId, NoMemory, NodeKey, Reply};
+use sm_names::{
+    BufferName, Call, Cause, ClientId, CollectionId, NoMemory, NodeKey, Reply, Strength,
+};
 
 /// A change to a collection, if there is one, and the end that is spent after it, if one is.
 #[derive(Clone, Copy, Debug)]
@@ -60,19 +61,22 @@ fn birth(core: &Core, client: ClientId, call: &Call, collection: CollectionId) -
     })
 }
 
-// What is asked of the collection where a handle of it was dropped: its buffers may be home now.
-fn dropped(core: &Core, collection: CollectionId) -> Option<Task>
-    ensures work { work_in result
-        ≡ at_collection core.now.forest collection Changed.Nothing }
+// What is asked of the collection where a handle of one of its buffers is dropped. The buffer may be
+// home after the last one. Where another one stays open, nothing changes.
+fn dropped(core: &Core, buffer: BufferName, strength: Strength) -> Option<Task>
+    ensures work { work_in result ≡ drop_at core.now buffer strength }
     ensures spends { spent_in result ≡ None }
     ensures there { IfSome result (SpendsThere core.now.forest) }
     ensures some { IfSome result DoesSome }
 {
-    if !core.has_collection(collection) {
+    if 2 <= core.open_total(buffer, strength) {
+        return None;
+    }
+    if !core.has_collection(buffer.collection) {
         return None;
     }
     Some(Task {
-        collection,
+        collection: buffer.collection,
         change: Some(Change::Nothing),
         spends: None,
     })
@@ -83,13 +87,13 @@ fn done(core: &Core, call: &Call, node: Option<&Node>) -> Option<Task>
     requires node { option_copied node ≡ node_named core.now call.now }
     requires there { IfSome (key_in call.now) (λ key.
         is_some (node_at core.now.forest key) ≡ true) }
-    ensures work { work_in result ≡ done_to core.now.forest call.now }
+    ensures work { work_in result ≡ done_to core.now call.now }
     ensures spends { spent_in result ≡ spent_by call.now Reply.Done }
     ensures there { IfSome result (SpendsThere core.now.forest) }
     ensures some { IfSome result DoesSome }
 {
-    if let Call::DropHandle(buffer, _) = *call {
-        return dropped(core, buffer.collection);
+    if let Call::DropHandle(buffer, strength) = *call {
+        return dropped(core, buffer, strength);
     }
     let node = node?;
     let (change, spends) = match *call {

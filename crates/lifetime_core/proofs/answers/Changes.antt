@@ -27,6 +27,7 @@ use Rattle.sm_names.proofs.LifeLaws.{whole}
 use Rattle.sm_names.proofs.RejectLaws.{is_refusal, not_refused_end}
 use Rattle.sm_names.proofs.SamenessLaws.{either_way, none_or_some, or_right}
 use Rattle.sm_names.proofs.SettledLaws.{and_then-Some, map-Some}
+use Rattle.buffer_holds.specs.Counts.{total}
 use Rattle.alloc_event.specs.declared.change.Change.{Change}
 use Rattle.alloc_event.specs.declared.change.Effect.{Effect}
 use Rattle.alloc_event.specs.declared.node.Node.{Node}
@@ -34,14 +35,15 @@ use Rattle.alloc_event.specs.Forest.{Collection, collection_at, node_at}
 use Rattle.alloc_event.specs.Nodes.{affected}
 use Rattle.alloc_event.specs.Settling.{no_key}
 use Rattle.lifetime_core.specs.Shown.{IsAfter, node_after}
-use Rattle.lifetime_core.specs.State.{State}
-use Rattle.lifetime_core.specs.Steps.{Work, at_collection, at_node, done_to, loss_at, work_of}
+use Rattle.lifetime_core.specs.State.{HandleCounts, State}
+use Rattle.lifetime_core.specs.Steps.{Work, at_collection, at_node, done_to, drop_at, loss_at, work_of}
 use Rattle.lifetime_core.proofs.forced.Beginning.{IsFound, at_found, effect_starts, loss_starts, nothing_starts, root_starts, child_starts, attached_starts}
 use Rattle.lifetime_core.proofs.nodes.Called.{said}
 use Rattle.lifetime_core.proofs.forced.CallStep.{IsIdle}
-use Rattle.lifetime_core.proofs.forced.Losing.{IsLosing, losing}
+use Rattle.lifetime_core.proofs.forced.Dropping.{stays, took_last}
+use Rattle.lifetime_core.proofs.forced.Losing.{IsLosing, losing, no_work}
 use Rattle.lifetime_core.proofs.collections.Elsewhere.{named_in}
-use Rattle.lifetime_core.proofs.handles.Counts.{opens_alike, alike_called}
+use Rattle.lifetime_core.proofs.handles.Counts.{opens_alike, alike_called, alike_dropped}
 use Rattle.lifetime_core.proofs.ends.Forgotten.{open_kept}
 use Rattle.lifetime_core.proofs.views.Nodes.{collection_kept, collection_there, node_kept, node_there}
 use Rattle.lifetime_core.proofs.collections.Roots.{HasRoot, kept_root}
@@ -70,27 +72,26 @@ alike_misused _ m = refl
 
 -- ---- what is there
 
--- what is not there is nothing
-no_work : {A : Type 0} {a : Work} → None ≡ Some a → A
-no_work e = absurd (cc)
-
 -- what is there is that
 some_work : {a b : Work} → Some a ≡ Some b → a ≡ b
 some_work e = cc
 
 module _ (s : State) (marks : Timeline) (shown : IsAfter s marks) (limits : Bound) (grown : Grows s.pool limits [] marks) where
+  -- a node whose end is there is there
+  node_of_end : (key : NodeKey) (end : HasEnd marks key) → node_at s.forest key ≡ Some (node_after marks end.birth)
+  node_of_end key end =
+      let kept : is_kept marks key ≡ true = or_right (not (gone marks key)) _ (ap not end.unspent) in
+      node_kept s marks shown limits grown key end.birth end.is kept
+
   -- a node that a call names, and whose end is there, is there
   work_there : (client : ℕ) (reply : Reply) (call : Call) (key : NodeKey) (change : Node → Change) →
       IsAnswer limits (readings marks) client call reply → is_refusal reply ≡ false → key_of call ≡ Some key →
       at_node s.forest key change ≡ None → ⊥
   work_there client reply call key change answer stands is none =
       let end : HasEnd marks key = not_refused_end limits marks client call reply key answer stands is in
-      let kept : is_kept marks key ≡ true = or_right (not (gone marks key)) _ (ap not end.unspent) in
-      let there : node_at s.forest key ≡ Some (node_after marks end.birth) =
-      node_kept s marks shown limits grown key end.birth end.is kept in
       let some : at_node s.forest key change ≡ Some
       (record { collection = end.birth.collection; change = change (node_after marks end.birth) }) =
-      ap (option_map (λ (n : Node). record { collection = n.collection; change = change n })) there in
+      ap (option_map (λ (n : Node). record { collection = n.collection; change = change n })) (node_of_end key end) in
       no_work (sym none ∙ some)
 
   -- so is the collection of a buffer of which a handle is dropped
@@ -127,9 +128,6 @@ module _ (s : State) (marks : Timeline) (shown : IsAfter s marks) (limits : Boun
       IsIdle marks client Reply.Done (Call.Close key)
   idle_close client key answer none =
       let end : HasEnd marks key = not_refused_end limits marks client (Call.Close key) Reply.Done key answer refl refl in
-      let kept : is_kept marks key ≡ true = or_right (not (gone marks key)) _ (ap not end.unspent) in
-      let there : node_at s.forest key ≡ Some (node_after marks end.birth) =
-      node_kept s marks shown limits grown key end.birth end.is kept in
       let lost : Work = record { collection = end.birth.collection; change = Change.Loss key Cause.Lost } in
       elim (either_way (gone marks end.birth.node)) [
         | inl g ↦
@@ -139,13 +137,30 @@ module _ (s : State) (marks : Timeline) (shown : IsAfter s marks) (limits : Boun
         | inr g ↦
             let some : loss_at s.forest key Cause.Lost ≡ Some lost =
             ap (option_and_then (λ (n : Node). cond n.gone None
-            (Some (record { collection = n.collection; change = Change.Loss key Cause.Lost })))) there
+            (Some (record { collection = n.collection; change = Change.Loss key Cause.Lost })))) (node_of_end key end)
             ∙ ap (λ (b : Bool). cond b None (Some lost)) g in
             no_work (sym none ∙ some)
       ]
 
+  -- a DropHandle that is no work: another handle of the buffer and strength stays open
+  idle_drop : (client : ℕ) (buffer : BufferName) (strength : Strength) →
+      IsAnswer limits (readings marks) client (Call.DropHandle buffer strength) Reply.Done →
+      drop_at s buffer strength ≡ None → IsIdle marks client Reply.Done (Call.DropHandle buffer strength)
+  idle_drop client buffer strength answer none = elim (stays s buffer strength none) [
+    | inl more ↦
+        let same : open_total marks buffer strength ≡ total s.holds buffer strength =
+        ap (λ (h : HandleCounts). h.total buffer strength) (sym shown.handles) in
+        record {
+          bears_none = refl;
+          says_nothing = λ n. refl;
+          loses_none = refl;
+          opens_alike = alike_dropped s.pool limits marks grown client buffer strength answer (omega (arith, more, same));
+        }
+    | inr gone ↦ absurd (drop_there client buffer strength answer gone)
+  ]
+
   -- a call that was answered Done and is no work changes no node
-  idle_done : (client : ℕ) (call : Call) → IsAnswer limits (readings marks) client call Reply.Done → done_to s.forest call ≡ None →
+  idle_done : (client : ℕ) (call : Call) → IsAnswer limits (readings marks) client call Reply.Done → done_to s call ≡ None →
       IsIdle marks client Reply.Done call
   idle_done client (Call.Bind key) answer none =
       absurd (work_there client Reply.Done (Call.Bind key) key (λ n. Change.Effect key Effect.Bound) answer refl refl none)
@@ -162,7 +177,7 @@ module _ (s : State) (marks : Timeline) (shown : IsAfter s marks) (limits : Boun
   idle_done client (Call.Release key) answer none =
       absurd (work_there client Reply.Done (Call.Release key) key (λ n. Change.Effect key Effect.Released) answer refl refl none)
   idle_done client (Call.Close key) answer none = idle_close client key answer none
-  idle_done client (Call.DropHandle buffer strength) answer none = absurd (drop_there client buffer strength answer none)
+  idle_done client (Call.DropHandle buffer strength) answer none = idle_drop client buffer strength answer none
   idle_done client call answer none = changes_none client Reply.Done call answer refl (λ n. refl) refl refl
 
   -- nor does a misuse that is no work
@@ -251,7 +266,7 @@ module _ (s : State) (marks : Timeline) (shown : IsAfter s marks) (limits : Boun
 
   -- one that was answered Done
   starts_done : (client : ℕ) (call : Call) (answer : IsAnswer limits (readings marks) client call Reply.Done) (work : Work) →
-      done_to s.forest call ≡ Some work →
+      done_to s call ≡ Some work →
       Starts s marks shown limits grown client Reply.Done call answer work
   starts_done client (Call.Bind key) answer work e =
       starts_effect client Reply.Done (Call.Bind key) answer key Effect.Bound refl (λ n. refl) refl refl work e
@@ -267,7 +282,8 @@ module _ (s : State) (marks : Timeline) (shown : IsAfter s marks) (limits : Boun
   starts_done client (Call.Release key) answer work e =
       starts_effect client Reply.Done (Call.Release key) answer key Effect.Released refl (λ n. refl) refl refl work e
   starts_done client (Call.Close key) answer work e = starts_close client key answer work e
-  starts_done client (Call.DropHandle buffer strength) answer work e = starts_drop client buffer strength answer work e
+  starts_done client (Call.DropHandle buffer strength) answer work e =
+      starts_drop client buffer strength answer work (took_last s buffer strength work e)
   starts_done client _ answer work e = cc
 
   -- a misuse

@@ -1,6 +1,6 @@
 -- What an event keeps of the trackers.
 use Rattle.std.proofs.Common.{ℕ, ◌≡◌, ◌<◌, ◌≤◌, ◌+◌, refl, ap, sym, ◌∙◌, subst, Bool, true, false, nat_le, if◌then◌else◌, length, not, ◌⊎◌, inl, inr, [], ◌∷◌, Option, Some, None, is_some, IfSome, arith}
-use Rattle.std.proofs.lemmas.Bool.{eqb-true, eq-eqb, leb-false}
+use Rattle.std.proofs.lemmas.Bool.{eqb-true, eq-eqb, leb-false, leb-true}
 use Rattle.std.specs.List.{All}
 use Rattle.std.specs.Option.{option_map}
 use Rattle.sm_names.specs.declared.keys.BufferName.{BufferName}
@@ -17,9 +17,9 @@ use Rattle.sm_names.specs.Marks.{Called}
 use Rattle.sm_names.specs.Sameness.{same_buffer}
 use Rattle.sm_names.specs.Trackers.{World, holds}
 use Rattle.sm_names.proofs.AnswerLaws.{took_effect_all}
-use Rattle.sm_names.proofs.HandleLaws.{same_buffer-true}
+use Rattle.sm_names.proofs.HandleLaws.{same_buffer-true, same_strength-true}
 use Rattle.sm_names.proofs.ListLaws.{In, In-append, In-filter}
-use Rattle.sm_names.proofs.SamenessLaws.{and_left, either_way}
+use Rattle.sm_names.proofs.SamenessLaws.{and_left, and_right, either_way}
 use Rattle.sm_names.proofs.SettledLaws.{map-Some, not_back}
 use Rattle.event_laws.specs.ByEvent.{anyone, one_if}
 use Rattle.event_laws.proofs.NumberLaws.{In-all}
@@ -37,7 +37,7 @@ use Rattle.lifetime_core.specs.declared.task.Task.{Task}
 use Rattle.lifetime_core.specs.Hands.{Moves}
 use Rattle.lifetime_core.specs.Reads.{readings_of, world_in}
 use Rattle.lifetime_core.specs.State.{State}
-use Rattle.lifetime_core.specs.Steps.{Gains, Work, swept, tracker_by, with_place, without_over, work_of}
+use Rattle.lifetime_core.specs.Steps.{Gains, Work, at_collection, drop_at, swept, tracker_by, with_place, without_over, work_of}
 use Rattle.lifetime_core.specs.Tasks.{MayDo, Reworked, looked_in, waiting_as, work_in}
 use Rattle.lifetime_core.specs.Whole.{CanFinish, Concerns, IsNodeOf, IsSound, StillWaits}
 use Rattle.lifetime_core.proofs.forced.Forest.{node_with_key}
@@ -209,11 +209,14 @@ module _ (s : State) (client : ℕ) (call : Call) (asked : Reply) (task : Option
       by (Call.TrackWeak buffer) (Reply.Tracker number) there made = let no : None ≡ Some id = there in cc
       by _ _ there made = cc
 
-  -- a handle that is dropped is one of the collection that is changed, if it is there
+  -- where a handle is dropped, another one stays open, or its collection is changed, if it is there
   drops_there : (buffer : BufferName) (strength : Strength) → drops anyone buffer strength (Called client asked call) ≡ true →
       is_some (collection_at s.forest buffer.collection) ≡ true →
-      changed_by task ≡ Some buffer.collection
-  drops_there buffer strength dropped there = ap (option_map (λ (w : Work). w.collection)) starts.work ∙ by asked call dropped
+      (2 ≤ total s.holds buffer strength) ⊎ (changed_by task ≡ Some buffer.collection)
+  drops_there buffer strength dropped there = elim (by asked call dropped) [
+    | inl more ↦ inl more
+    | inr changed ↦ inr (ap (option_map (λ (w : Work). w.collection)) starts.work ∙ changed)
+  ]
     where
       at : (id : ℕ) (o : Option Collection) → is_some o ≡ true →
           option_map (λ (w : Work). w.collection) (option_map (λ (c : Collection). record { collection = id; change = Change.Nothing })
@@ -222,12 +225,19 @@ module _ (s : State) (client : ℕ) (call : Call) (asked : Reply) (task : Option
       at id (Some c) h = refl
 
       by : (asked : Reply) (call : Call) → drops anyone buffer strength (Called client asked call) ≡ true →
-          option_map (λ (w : Work). w.collection) (work_of s client call asked) ≡ Some buffer.collection
+          (2 ≤ total s.holds buffer strength)
+          ⊎ (option_map (λ (w : Work). w.collection) (work_of s client call asked) ≡ Some buffer.collection)
       by Reply.Done (Call.DropHandle name other) h =
-          let same : name.collection ≡ buffer.collection =
-          ap (λ (b : BufferName). b.collection) (same_buffer-true name buffer (and_left (same_buffer name buffer) _ h)) in
-          at name.collection (collection_at s.forest name.collection) (ap (λ (id : ℕ). is_some (collection_at s.forest id)) same ∙ there)
-          ∙ ap Some same
+          let which : name ≡ buffer = same_buffer-true name buffer (and_left (same_buffer name buffer) _ h) in
+          let how : other ≡ strength = same_strength-true other strength (and_right (same_buffer name buffer) _ h) in
+          elim (either_way (nat_le 2 (total s.holds buffer strength))) [
+            | inl more ↦ inl (leb-true 2 (total s.holds buffer strength) more)
+            | inr one ↦
+                inr (ap (option_map (λ (w : Work). w.collection))
+                ((λ i. drop_at s (which i) (how i))
+                ∙ ap (λ (b : Bool). if b then None else at_collection s.forest buffer.collection Change.Nothing) one)
+                ∙ at buffer.collection (collection_at s.forest buffer.collection) there)
+          ]
       by _ _ h = cc
 
 -- ---- after the event
@@ -262,7 +272,17 @@ module _ (s : State) (client : ℕ) (call : Call) (asked : Reply) (task : Option
   kept_elsewhere : (buffer : BufferName) → (changed_by task ≡ Some buffer.collection → ⊥) →
       is_some (collection_at s.forest buffer.collection) ≡ true → AreKept (total s.holds) (total holds) buffer
   kept_elsewhere buffer other there none = elim (either_way (drops anyone buffer Strength.Strong (Called client asked call))) [
-    | inl dropped ↦ absurd (other (drops_there s client call asked task tracking starts buffer Strength.Strong dropped there))
+    | inl dropped ↦
+        elim (drops_there s client call asked task tracking starts buffer Strength.Strong dropped there) [
+          | inl more ↦
+              let sum : total holds buffer Strength.Strong + one_if (drops anyone buffer Strength.Strong (Called client asked call))
+              ≡ total s.holds buffer Strength.Strong + one_if (opens anyone buffer Strength.Strong (Called client asked call)) =
+              (moves.in_all buffer Strength.Strong).adds_up in
+              let lost : one_if (drops anyone buffer Strength.Strong (Called client asked call)) ≡ 1 = ap one_if dropped in
+              let now : total holds buffer Strength.Strong ≡ 0 = eqb-true (total holds buffer Strength.Strong) 0 none in
+              absurd (omega (arith, sum, lost, now, more))
+          | inr changed ↦ absurd (other changed)
+        ]
     | inr not_dropped ↦
         let sum : total holds buffer Strength.Strong + one_if (drops anyone buffer Strength.Strong (Called client asked call))
         ≡ total s.holds buffer Strength.Strong + one_if (opens anyone buffer Strength.Strong (Called client asked call)) =

@@ -1,5 +1,5 @@
 -- A Close that loses its node.
-use Rattle.std.proofs.Common.{◌≡◌, ap, sym, ◌∙◌, Bool, false, cond, inl, inr, Option, Some, None}
+use Rattle.std.proofs.Common.{◌≡◌, ap, sym, ◌∙◌, Bool, false, cond, inl, inr, Some, None}
 use Rattle.std.specs.Option.{option_map}
 use Rattle.sm_names.specs.declared.keys.NodeKey.{NodeKey}
 use Rattle.sm_names.specs.declared.outcomes.Cause.{Cause}
@@ -18,7 +18,7 @@ pub record IsLosing (f : Forest) (key : NodeKey) (cause : Cause) (work : Work) :
   pub work_at : at_node f key (λ n. Change.Loss key cause) ≡ Some work
 
 -- what is not there is nothing
-no_work : {A : Type 0} {w : Work} → None ≡ Some w → A
+pub no_work : {A : Type 0} {w : Work} → None ≡ Some w → A
 no_work e = absurd (cc)
 
 module _ (f : Forest) (key : NodeKey) (cause : Cause) where

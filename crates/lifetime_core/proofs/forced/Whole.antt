@@ -30,12 +30,12 @@ use Rattle.alloc_event.specs.Nodes.{is_spent}
 use Rattle.alloc_event.specs.Settling.{MayChange, is_birth, is_there, no_key}
 use Rattle.lifetime_core.specs.Reads.{end_in, open_end_of, readings_of}
 use Rattle.lifetime_core.specs.State.{State}
-use Rattle.lifetime_core.specs.Steps.{Work, at_collection, at_node, done_to, loss_at, work_of}
+use Rattle.lifetime_core.specs.Steps.{Work, at_node, done_to, drop_at, loss_at, work_of}
 use Rattle.lifetime_core.specs.Tasks.{released_by, spent_by}
 use Rattle.lifetime_core.specs.Whole.{AreUpTo, IsSound, IsWhole}
+use Rattle.lifetime_core.proofs.forced.Dropping.{took_last}
 use Rattle.lifetime_core.proofs.forced.Losing.{IsLosing, losing}
 use Rattle.lifetime_core.proofs.answers.Passed.{Passed, is_closed, passed}
-use Rattle.lifetime_core.proofs.collections.ById.{found_by_id}
 use Rattle.lifetime_core.proofs.forced.Forest.{node_with_key}
 
 -- the node that the call names, and that its end is there
@@ -289,10 +289,10 @@ misused_well limits s client call m known w work =
 -- what a drop of a handle changes
 drop_well : (limits : Bound) (s : State) (client : ℕ) (buffer : BufferName) (strength : Strength) →
     Known limits s client (Call.DropHandle buffer strength) Reply.Done →
-    (w : Work) → at_collection s.forest buffer.collection Change.Nothing ≡ Some w → Well s (Call.DropHandle buffer strength) Reply.Done w
+    (w : Work) → drop_at s buffer strength ≡ Some w → Well s (Call.DropHandle buffer strength) Reply.Done w
 drop_well limits s client buffer strength known w work =
     let found = map-Some (λ (c : Collection). record { collection = buffer.collection; change = Change.Nothing })
-    (collection_at s.forest buffer.collection) w work in
+    (collection_at s.forest buffer.collection) w (took_last s buffer strength w work) in
     let here = In-find (λ (c : Collection). c.id == buffer.collection) s.forest.collections found.0 found.1 in
     let same : found.0.id ≡ buffer.collection = eqb-true found.0.id buffer.collection here.1 in
     let less : found.0.id ≤ s.events = known.whole.opened found.0 here.0 in
@@ -319,7 +319,7 @@ few_trackers limits s client key id known n at =
 
 -- what a call that was answered Done changes
 done_well : (limits : Bound) (s : State) (client : ℕ) (call : Call) → Known limits s client call Reply.Done → (w : Work) →
-    done_to s.forest call ≡ Some w → Well s call Reply.Done w
+    done_to s call ≡ Some w → Well s call Reply.Done w
 done_well limits s client (Call.Bind key) known w work =
     effect_well limits s client (Call.Bind key) Reply.Done known key Effect.Bound refl refl refl refl refl (λ k h. cc) (λ k n h. cc) w work
 done_well limits s client (Call.SetDispensable key) known w work =

@@ -149,3 +149,28 @@ module _ (pool : ℕ) (limits : Bound) (marks : Timeline) (grown : Grows pool li
             let same : open_total (mark ∷ marks) buffer strength ≡ open_total marks buffer strength = omega (arith, by, none, still) in
             ap (λ (n : ℕ). n == 0) same
       ]
+
+-- so it is where another handle stays open beside one that is dropped
+pub alike_dropped : (pool : ℕ) (limits : Bound) (marks : Timeline) → Grows pool limits [] marks → (client : ℕ) (name : BufferName)
+    (dropped : Strength) → IsAnswer limits (readings marks) client (Call.DropHandle name dropped) Reply.Done →
+    2 ≤ open_total marks name dropped → (buffer : BufferName) (strength : Strength) →
+    (open_total (Called client Reply.Done (Call.DropHandle name dropped) ∷ marks) buffer strength == 0)
+    ≡ (open_total marks buffer strength == 0)
+alike_dropped pool limits marks grown client name dropped answer more buffer strength =
+    let mark : Mark = Called client Reply.Done (Call.DropHandle name dropped) in
+    let by : _ = total_by pool limits marks grown client Reply.Done (Call.DropHandle name dropped) answer buffer strength in
+    elim (either_way (drops anyone buffer strength mark)) [
+      | inl e ↦
+          let which : name ≡ buffer = same_buffer-true name buffer (and_left _ _ e) in
+          let how : dropped ≡ strength = same_strength-true dropped strength (and_right (same_buffer name buffer) _ e) in
+          let some : 2 ≤ open_total marks buffer strength =
+          subst (λ (s : Strength). 2 ≤ open_total marks buffer s) how
+          (subst (λ (b : BufferName). 2 ≤ open_total marks b dropped) which more) in
+          let one : one_if (drops anyone buffer strength mark) ≡ 1 = ap one_if e in
+          some_is (open_total (mark ∷ marks) buffer strength) (omega (arith, by, one, some))
+          ∙ sym (some_is (open_total marks buffer strength) (omega (arith, some)))
+      | inr e ↦
+          let none : one_if (drops anyone buffer strength mark) ≡ 0 = ap one_if e in
+          let same : open_total (mark ∷ marks) buffer strength ≡ open_total marks buffer strength = omega (arith, by, none) in
+          ap (λ (n : ℕ). n == 0) same
+    ]
