@@ -19,6 +19,17 @@ use buffer_pool::Pool;
 use sm_names::{Call, ClientId, NoMemory, NodeKey, Reply};
 use trackers::Trackers;
 
+/// What a core keeps that an event changes, but for the number of events.
+#[derive(Drop)]
+pub(crate) struct Contents {
+    // The earliest first, so that their numbers rise.
+    pub(crate) clients: Vec<Client>,
+    pub(crate) forest: Forest,
+    pub(crate) pool: Pool,
+    pub(crate) holds: Holds,
+    pub(crate) trackers: Trackers,
+}
+
 /// Whether the call, answered so, changes nothing: it was refused, or only asks.
 pub(crate) fn changes_nothing(call: &Call, reply: &Reply) -> bool
     ensures { result ≡ is_idle call.now reply.now }
@@ -38,55 +49,69 @@ pub(crate) fn changes_nothing(call: &Call, reply: &Reply) -> bool
     }
 }
 
-/// Makes of the fields what the call makes of them that was answered so, but for the trackers that
+/// Makes of the contents what the call makes of them that was answered so, but for the trackers that
 /// fire and for what is forgotten, and answers the key of a new node, if there is one.
 ///
-/// `NoMemory` where memory is refused; then the fields are as they were, but for the order of the
+/// `NoMemory` where memory is refused; then the contents are as they were, but for the order of the
 /// rows of handles. It costs the work on one collection, and a few look-ups.
 pub(crate) fn take_effect(
-    clients: &mut Vec<Client>,
-    forest: &mut Forest,
-    pool: &mut Pool,
-    holds: &mut Holds,
-    trackers: &mut Trackers,
+    contents: &mut Contents,
     client: ClientId,
     call: &Call,
     asked: &Reply,
     task: &Option<Task>,
     tracking: Option<Tracking>,
 ) -> Result<Option<NodeKey>, NoMemory>
-    requires clients { Rise (map (λ (c : Row). c.id) clients.old.items) }
-    requires handles { MayMove holds.old client call.now asked.now }
-    requires may { IfSome task.now (MayDo forest.old) }
-    requires pool { IsPoolOf pool.old forest.old }
-    requires rising { IfSome tracking (λ t. All (λ (c : Cell). c.id < t.id) trackers.old.cells) }
-    requires room { IfSome tracking (λ t. length trackers.old.unfired < trackers.old.limit) }
+    requires clients { Rise (map (λ (c : Row). c.id) contents.old.clients.items) }
+    requires handles { MayMove contents.old.holds client call.now asked.now }
+    requires may { IfSome task.now (MayDo contents.old.forest) }
+    requires pool { IsPoolOf contents.old.pool contents.old.forest }
+    requires rising { IfSome tracking (λ t.
+        All (λ (c : Cell). c.id < t.id) contents.old.trackers.cells) }
+    requires room { IfSome tracking (λ t.
+        length contents.old.trackers.unfired < contents.old.trackers.limit) }
     requires alone { takes_room call.now asked.now ≡ true → (task.now ≡ None) × (tracking ≡ None) }
-    ensures ok { IfOk result (λ key. TakesEffect pool.old.size
-        (record { clients = clients.old.items; forest = forest.old; holds = holds.old; trackers = trackers.old })
-        (record { clients = clients.new.items; forest = forest.new; holds = holds.new; trackers = trackers.new })
+    ensures ok { IfOk result (λ key. TakesEffect contents.old.pool.size
+        (record {
+          clients = contents.old.clients.items;
+          forest = contents.old.forest;
+          holds = contents.old.holds;
+          trackers = contents.old.trackers;
+        })
+        (record {
+          clients = contents.new.clients.items;
+          forest = contents.new.forest;
+          holds = contents.new.holds;
+          trackers = contents.new.trackers;
+        })
         client call.now asked.now task.now tracking (keyed asked.now key)) }
-    ensures err { OnErr result ((clients.new.items ≡ clients.old.items) × (forest.new ≡ forest.old)
-        × (pool.new ≡ pool.old) × (counts_of holds.new ≡ counts_of holds.old)
-        × (trackers.new ≡ trackers.old)) }
-    ensures pool { IsPoolOf pool.new forest.new }
-    ensures size { pool.new.size ≡ pool.old.size }
-    ensures limit { holds.new.limit ≡ holds.old.limit }
+    ensures err { OnErr result ((contents.new.clients.items ≡ contents.old.clients.items)
+        × (contents.new.forest ≡ contents.old.forest) × (contents.new.pool ≡ contents.old.pool)
+        × (counts_of contents.new.holds ≡ counts_of contents.old.holds)
+        × (contents.new.trackers ≡ contents.old.trackers)) }
+    ensures pool { IsPoolOf contents.new.pool contents.new.forest }
+    ensures size { contents.new.pool.size ≡ contents.old.pool.size }
+    ensures limit { contents.new.holds.limit ≡ contents.old.holds.limit }
 {
-    hand_over(holds, client, call, asked)?;
-    let Ok(()) = attach(trackers, tracking) else {
-        hand_back(holds, client, call, asked);
+    hand_over(&mut contents.holds, client, call, asked)?;
+    let Ok(()) = attach(&mut contents.trackers, tracking) else {
+        hand_back(&mut contents.holds, client, call, asked);
         return Err(NoMemory);
     };
-    let Ok(key) = make(forest, pool, holds, task) else {
-        detach(trackers, tracking);
-        hand_back(holds, client, call, asked);
+    let Ok(key) = make(
+        &mut contents.forest,
+        &mut contents.pool,
+        &contents.holds,
+        task,
+    ) else {
+        detach(&mut contents.trackers, tracking);
+        hand_back(&mut contents.holds, client, call, asked);
         return Err(NoMemory);
     };
-    let Ok(()) = note(clients, client, call, asked) else {
-        hand_back(holds, client, call, asked);
+    let Ok(()) = note(&mut contents.clients, client, call, asked) else {
+        hand_back(&mut contents.holds, client, call, asked);
         return Err(NoMemory);
     };
-    tidy_up(holds, client, call);
+    tidy_up(&mut contents.holds, client, call);
     Ok(key)
 }

@@ -35,8 +35,8 @@ ghost use Rattle.lifetime_core.specs.Theorem.{GoesOn, Leads, Stops, entries};
 ghost use Rattle.lifetime_core.specs.Theorem.{tracker_told, trackers_told};
 ghost use Rattle.lifetime_core.specs.Traits.{key_in};
 
-use crate::clients::{Client, count_waiting, first_waiting, has_joined, is_shut};
-use crate::event::{changes_nothing, take_effect};
+use crate::clients::{count_waiting, first_waiting, has_joined, is_shut};
+use crate::event::{Contents, changes_nothing, take_effect};
 use crate::sweeping::{place_to_sweep, sweep, tracking_of};
 use crate::table::{answer, keyed};
 use crate::task::{carried_end, changed_by, finish, task_of};
@@ -59,14 +59,9 @@ use trackers::{Tracker, Trackers};
 /// (`specs/Shown`): whoever knows one of them knows each reply and all that is seen.
 #[derive(Drop)]
 pub struct Core {
-    pool: Pool,
     limits: Limits,
     events: u64,
-    // The earliest first, so that their numbers rise.
-    clients: Vec<Client>,
-    forest: Forest,
-    holds: Holds,
-    trackers: Trackers,
+    contents: Contents,
 }
 
 impl Model for Core {
@@ -77,17 +72,18 @@ impl Model for Core {
     ghost use Rattle.lifetime_core.specs.Whole.{IsWhole};
 
     ghost view = { λ c. record {
-      pool = c.pool.size;
+      pool = c.contents.pool.size;
       limits = c.limits;
       events = c.events;
-      clients = c.clients.items;
-      forest = c.forest;
-      holds = c.holds;
-      trackers = c.trackers;
+      clients = c.contents.clients.items;
+      forest = c.contents.forest;
+      holds = c.contents.holds;
+      trackers = c.contents.trackers;
     } };
 
-    ghost invariant = { λ c. IsWhole c.pool c.limits c.events c.clients.items
-        c.forest c.holds c.trackers };
+    ghost invariant = { λ c. IsWhole c.contents.pool c.limits c.events
+        c.contents.clients.items c.contents.forest c.contents.holds
+        c.contents.trackers };
 }
 
 // Whether the node is there and live.
@@ -155,13 +151,15 @@ impl Core {
     {
         let pool = Pool::new(alloc, pages)?;
         Ok(Core {
-            pool,
             limits,
             events: 0,
-            clients: Vec::new(alloc),
-            forest: Forest::new(alloc, limits.nodes() as usize),
-            holds: Holds::new(alloc, limits.handles()),
-            trackers: Trackers::new(alloc, limits.trackers()),
+            contents: Contents {
+                clients: Vec::new(alloc),
+                forest: Forest::new(alloc, limits.nodes() as usize),
+                pool,
+                holds: Holds::new(alloc, limits.handles()),
+                trackers: Trackers::new(alloc, limits.trackers()),
+            },
         })
     }
 
@@ -186,35 +184,35 @@ impl Core {
     pub(crate) fn is_shut(&self, client: ClientId) -> bool
         ensures { result ≡ (readings_of self.now).is_shut client }
     {
-        is_shut(&self.clients, client)
+        is_shut(&self.contents.clients, client)
     }
 
     // How many parcels wait for the client.
     pub(crate) fn count_waiting(&self, client: ClientId) -> usize
         ensures { result ≡ length ((readings_of self.now).waiting client) }
     {
-        count_waiting(&self.clients, client)
+        count_waiting(&self.contents.clients, client)
     }
 
     // The parcel that the client collects next.
     pub(crate) fn first_waiting(&self, client: ClientId) -> Option<Parcel>
         ensures { result ≡ slice_get ((readings_of self.now).waiting client) 0 }
     {
-        first_waiting(&self.clients, client)
+        first_waiting(&self.contents.clients, client)
     }
 
     // How many of these handles the client has open.
     pub(crate) fn open_of(&self, client: ClientId, buffer: BufferName, strength: Strength) -> u32
         ensures { result ≡ (readings_of self.now).open_of client buffer strength }
     {
-        self.holds.of(client, buffer, strength)
+        self.contents.holds.of(client, buffer, strength)
     }
 
     // How many of these handles are open, those in parcels among them.
     pub(crate) fn open_total(&self, buffer: BufferName, strength: Strength) -> u32
         ensures { result ≡ total self.now.holds buffer strength }
     {
-        self.holds.total(buffer, strength)
+        self.contents.holds.total(buffer, strength)
     }
 
     // Whether as many of these handles are open as may be. They are looked for near the spot.
@@ -226,7 +224,7 @@ impl Core {
     ) -> bool
         ensures { result ≡ is_at_limit self.now.limits (readings_of self.now) strength buffer }
     {
-        self.limits.handles() <= self.holds.total_near(buffer, strength, near)
+        self.limits.handles() <= self.contents.holds.total_near(buffer, strength, near)
     }
 
     // Whether as many trackers wait as may.
@@ -234,7 +232,7 @@ impl Core {
         ensures { result
             ≡ nat_le self.now.limits.trackers (readings_of self.now).unfired }
     {
-        self.limits.trackers() as usize <= self.trackers.waiting()
+        self.limits.trackers() as usize <= self.contents.trackers.waiting()
     }
 
     // Whether a strong node of the collection is live.
@@ -243,21 +241,21 @@ impl Core {
             (λ (c : Shelved). some_strong_live (members_of c.nodes))
             (collection_at self.now.forest id) false }
     {
-        self.forest.strong_live(id)
+        self.contents.forest.strong_live(id)
     }
 
     // Whether nothing strong keeps the buffer, where this says whether a strong node is live.
     pub(crate) fn is_doomed(&self, buffer: BufferName, strong_live: bool) -> bool
         ensures { result ≡ is_doomed (total self.now.holds buffer Strength.Strong) strong_live }
     {
-        self.holds.doomed(buffer, strong_live)
+        self.contents.holds.doomed(buffer, strong_live)
     }
 
     // Whether the client joined.
     pub(crate) fn has_joined(&self, client: ClientId) -> bool
         ensures { result ≡ (readings_of self.now).has_joined client }
     {
-        has_joined(&self.clients, client)
+        has_joined(&self.contents.clients, client)
     }
 
     // The node with this key, unless its end is spent.
@@ -266,7 +264,7 @@ impl Core {
             ≡ option_map (open_end_of self.now) (option_copied result) }
         ensures unspent { IfSome result (λ n. is_spent n.now.end ≡ false) }
     {
-        with_end(self.forest.node(key))
+        with_end(self.contents.forest.node(key))
     }
 
     // The node that is named, if it is there.
@@ -274,7 +272,7 @@ impl Core {
         ensures { option_copied result ≡ option_and_then (node_at self.now.forest) (key_in on) }
     {
         match on {
-            Named::End(key) => self.forest.node(key),
+            Named::End(key) => self.contents.forest.node(key),
             Named::Nothing | Named::Handle(_, _) => None,
         }
     }
@@ -283,7 +281,7 @@ impl Core {
     pub(crate) fn has_collection(&self, id: CollectionId) -> bool
         ensures { result ≡ is_some (collection_at self.now.forest id) }
     {
-        self.forest.collection(id).is_some()
+        self.contents.forest.collection(id).is_some()
     }
 
     // What the collection was given.
@@ -291,14 +289,14 @@ impl Core {
         ensures value { result ≡ buffers_in self.now id }
         ensures few { IfSome result (λ b. b.count ≤ 64) }
     {
-        self.forest.collection(id)?.buffers
+        self.contents.forest.collection(id)?.buffers
     }
 
     // Whether as many nodes are kept as may be.
     pub(crate) fn has_all_nodes(&self) -> bool
         ensures { result ≡ nat_le self.now.limits.nodes (kept self.now.forest) }
     {
-        self.limits.nodes() as usize <= self.forest.len()
+        self.limits.nodes() as usize <= self.contents.forest.len()
     }
 
     // Whether as many collections are kept as may be.
@@ -306,7 +304,7 @@ impl Core {
         ensures { result
             ≡ nat_le self.now.limits.collections (length self.now.forest.collections) }
     {
-        self.limits.collections() as usize <= self.forest.collections()
+        self.limits.collections() as usize <= self.contents.forest.collections()
     }
 
     // Why a call is not taken where there is no memory for it: the history comes first.
@@ -366,30 +364,28 @@ impl Core {
         }
         let task = task_of(self, client, &call, &asked, traits.on, node);
         let tracking = tracking_of(self, &call, &asked, node);
-        let Ok(key) = take_effect(
-            &mut self.clients,
-            &mut self.forest,
-            &mut self.pool,
-            &mut self.holds,
-            &mut self.trackers,
-            client,
-            &call,
-            &asked,
-            &task,
-            tracking,
-        ) else {
+        let Ok(key) = take_effect(&mut self.contents, client, &call, &asked, &task, tracking) else {
             return Err(StepFault::NoMemory);
         };
         self.events += 1;
-        let place = place_to_sweep(changed_by(&task), tracking, &self.forest, &self.holds);
+        let place = place_to_sweep(
+            changed_by(&task),
+            tracking,
+            &self.contents.forest,
+            &self.contents.holds,
+        );
         sweep(
-            &mut self.trackers,
+            &mut self.contents.trackers,
             self.events,
             place,
-            &self.forest,
-            &self.holds,
+            &self.contents.forest,
+            &self.contents.holds,
         );
-        finish(&mut self.forest, &task, carried_end(client, &call, &asked));
+        finish(
+            &mut self.contents.forest,
+            &task,
+            carried_end(client, &call, &asked),
+        );
         Ok(keyed(asked, key))
     }
 
@@ -456,7 +452,7 @@ impl Core {
             IfSome result (λ t. list_any (λ (u : Tracked). u.id == id)
             (tracked (timeline self.old.pool history)) ≡ true) }
     {
-        self.trackers.take_tracker(id)
+        self.contents.trackers.take_tracker(id)
     }
 
     /// The trackers that fired, by event, and by rising id within one. It costs a constant and takes
@@ -466,7 +462,7 @@ impl Core {
         ensures shown { (history : List Entry) → Shows self.now history →
             result.now ≡ fired_after (timeline self.now.pool history) }
     {
-        self.trackers.fired()
+        self.contents.trackers.fired()
     }
 
     /// Whether the node is live: neither gone nor released. A key that was given to no node, or to
@@ -476,7 +472,7 @@ impl Core {
         ensures shown { (history : List Entry) → Shows self.now history →
             result ≡ is_live_after (timeline self.now.pool history) key }
     {
-        is_live(self.forest.node(key))
+        is_live(self.contents.forest.node(key))
     }
 
     /// Why the node failed, and the node whose failure took it. `None` where it did not fail, and
@@ -490,7 +486,7 @@ impl Core {
             then option_map (λ (f : Fault). (f.cause, f.origin)) (fault_after marks key)
             else None) }
     {
-        cause(self.forest.node(key))
+        cause(self.contents.forest.node(key))
     }
 
     /// The live nodes of all collections, by birth.
@@ -502,7 +498,7 @@ impl Core {
         ensures shown { IfOk result (λ keys. (history : List Entry) → Shows self.now history →
             keys.items ≡ live_nodes (timeline self.now.pool history)) }
     {
-        self.forest.live()
+        self.contents.forest.live()
     }
 
     /// The buffers of all collections whose pages were not given back, with those pages, by page.
@@ -519,8 +515,8 @@ impl Core {
             AllPairs (λ (a b : Held). a.start + a.pages ≤ b.start) held.items) }
     {
         // The pool tells that each buffer has a page, so that no two start at the same one.
-        let _free = self.pool.free_pages();
-        self.forest.held()
+        let _free = self.contents.pool.free_pages();
+        self.contents.forest.held()
     }
 
     /// How many pages of the pool no buffer holds. It costs a constant.
@@ -529,6 +525,6 @@ impl Core {
         ensures shown { (history : List Entry) → Shows self.now history →
             result ≡ free_after self.now.pool (timeline self.now.pool history) }
     {
-        self.pool.free_pages()
+        self.contents.pool.free_pages()
     }
 }

@@ -11,11 +11,11 @@ use Rattle.lifetime_core.proofs.machine.Core.free_pages.Goals as goal
 -- the pool's pages are those of the buffers, in another order
 pub returns : goal.returns
 returns c =
-    let all : sum_by (λ (i : Interval). i.pages) c.self.inside.pool.held ≡ sum_by (λ (h : HeldPages).
-    h.pages.pages) (all_held c.self.inside.forest) =
+    let all : sum_by (λ (i : Interval). i.pages) c.self.inside.contents.pool.held ≡ sum_by (λ (h : HeldPages).
+    h.pages.pages) (all_held c.self.inside.contents.forest) =
     ap (sum_by (λ (i : Interval). i.pages)) c.self.invariant.pages
-    ∙ (sum-sorted (λ (i : Interval). i.pages) (λ (i : Interval). i.start) (map (λ (h : HeldPages). h.pages) (all_held c.self.inside.forest))
-    ∙ sum-map (λ (i : Interval). i.pages) (λ (h : HeldPages). h.pages) (all_held c.self.inside.forest)) in
+    ∙ (sum-sorted (λ (i : Interval). i.pages) (λ (i : Interval). i.start) (map (λ (h : HeldPages). h.pages) (all_held c.self.inside.contents.forest))
+    ∙ sum-map (λ (i : Interval). i.pages) (λ (h : HeldPages). h.pages) (all_held c.self.inside.contents.forest)) in
     let value : c.free_pages.result ≡ (views_of c.args.self.now).free =
     rw (← c.self.view_is) (omega (arith, c.free_pages.ensures.free, all)) in
     record {

@@ -32,9 +32,9 @@ answer-asked-requires c = record {
 pub take_effect-requires : goal.take_effect-requires
 take_effect-requires c =
     let s : State =
-    record { pool = c.self.inside.pool.size; limits = c.self.inside.limits; events = c.self.inside.events; clients = c.self.inside.clients.items; forest = c.self.inside.forest; holds = c.self.inside.holds; trackers = c.self.inside.trackers } in
+    record { pool = c.self.inside.contents.pool.size; limits = c.self.inside.limits; events = c.self.inside.events; clients = c.self.inside.contents.clients.items; forest = c.self.inside.contents.forest; holds = c.self.inside.contents.holds; trackers = c.self.inside.contents.trackers } in
     let b : Begins s c.args.client c.args.call c.answer-asked.result c.task_of-task.result c.tracking_of-tracking.result =
-    begins c.self.inside.pool s c.args.self.now c.args.client c.args.call c.answer-asked.result c.task_of-task.result
+    begins c.self.inside.contents.pool s c.args.self.now c.args.client c.args.call c.answer-asked.result c.task_of-task.result
     c.tracking_of-tracking.result c.self.view_is c.self.invariant c.answer-asked.ensures
     c.task_of-task.ensures.work c.task_of-task.ensures.spends c.task_of-task.ensures.there c.task_of-task.ensures.some
     c.tracking_of-tracking.ensures in
@@ -74,21 +74,21 @@ tracking_of-tracking-requires c =
 pub invariant_of-self : goal.invariant_of-self
 invariant_of-self c =
     let s : State =
-    record { pool = c.self.inside.pool.size; limits = c.self.inside.limits; events = c.self.inside.events; clients = c.self.inside.clients.items; forest = c.self.inside.forest; holds = c.self.inside.holds; trackers = c.self.inside.trackers } in
+    record { pool = c.self.inside.contents.pool.size; limits = c.self.inside.limits; events = c.self.inside.events; clients = c.self.inside.contents.clients.items; forest = c.self.inside.contents.forest; holds = c.self.inside.contents.holds; trackers = c.self.inside.contents.trackers } in
     let i : Idles s c.args.client c.args.call c.answer-asked.result =
-    idles c.self.inside.pool s c.args.self.now c.args.client c.args.call c.answer-asked.result c.self.view_is c.self.invariant
+    idles c.self.inside.contents.pool s c.args.self.now c.args.client c.args.call c.answer-asked.result c.self.view_is c.self.invariant
     c.answer-asked.ensures (sym c.changes_nothing.ensures ∙ c.if-changes_nothing.true) in
     let next : c.next_event-self-inside.result ≡ s.events + 1 =
     c.next_event-self-inside.ensures ∙ ap (λ (x : State). x.events + 1) (sym c.self.view_is) in
-    rw next (idle_whole s c.args.client c.args.call c.answer-asked.result i c.self.inside.pool c.self.invariant (omega arith) (omega arith))
+    rw next (idle_whole s c.args.client c.args.call c.answer-asked.result i c.self.inside.contents.pool c.self.invariant (omega arith) (omega arith))
 
 -- and the new state follows
 pub returns-then-changes_nothing : goal.returns-then-changes_nothing
 returns-then-changes_nothing c =
     let s : State =
-    record { pool = c.self.inside.pool.size; limits = c.self.inside.limits; events = c.self.inside.events; clients = c.self.inside.clients.items; forest = c.self.inside.forest; holds = c.self.inside.holds; trackers = c.self.inside.trackers } in
+    record { pool = c.self.inside.contents.pool.size; limits = c.self.inside.limits; events = c.self.inside.events; clients = c.self.inside.contents.clients.items; forest = c.self.inside.contents.forest; holds = c.self.inside.contents.holds; trackers = c.self.inside.contents.trackers } in
     let i : Idles s c.args.client c.args.call c.answer-asked.result =
-    idles c.self.inside.pool s c.args.self.now c.args.client c.args.call c.answer-asked.result c.self.view_is c.self.invariant
+    idles c.self.inside.contents.pool s c.args.self.now c.args.client c.args.call c.answer-asked.result c.self.view_is c.self.invariant
     c.answer-asked.ensures (sym c.changes_nothing.ensures ∙ c.if-changes_nothing.true) in
     let next : c.next_event-self-inside.result ≡ s.events + 1 =
     c.next_event-self-inside.ensures ∙ ap (λ (x : State). x.events + 1) (sym c.self.view_is) in
@@ -115,37 +115,37 @@ returns-then-changes_nothing c =
 pub invariant_of-self-in_default : goal.invariant_of-self-in_default
 invariant_of-self-in_default c =
     let kept = c.in_default.ensures.err in
-    whole_same c.self.inside.pool c.take_effect.new.pool c.self.inside.limits c.self.inside.events c.self.inside.clients.items
-    c.take_effect.new.clients.items c.self.inside.forest c.take_effect.new.forest
-    c.self.inside.holds c.take_effect.new.holds c.self.inside.trackers c.take_effect.new.trackers kept.0 kept.1 kept.2 kept.3 kept.4
+    whole_same c.self.inside.contents.pool c.take_effect.new.contents.pool c.self.inside.limits c.self.inside.events c.self.inside.contents.clients.items
+    c.take_effect.new.contents.clients.items c.self.inside.contents.forest c.take_effect.new.contents.forest
+    c.self.inside.contents.holds c.take_effect.new.contents.holds c.self.inside.contents.trackers c.take_effect.new.contents.trackers kept.0 kept.1 kept.2 kept.3 kept.4
     c.take_effect.ensures.limit c.self.invariant
 
 -- trackers elsewhere are not due
 pub sweep-requires : goal.sweep-requires
 sweep-requires c =
     let s : State =
-    record { pool = c.self.inside.pool.size; limits = c.self.inside.limits; events = c.self.inside.events; clients = c.self.inside.clients.items; forest = c.self.inside.forest; holds = c.self.inside.holds; trackers = c.self.inside.trackers } in
+    record { pool = c.self.inside.contents.pool.size; limits = c.self.inside.limits; events = c.self.inside.events; clients = c.self.inside.contents.clients.items; forest = c.self.inside.contents.forest; holds = c.self.inside.contents.holds; trackers = c.self.inside.contents.trackers } in
     let b : Begins s c.args.client c.args.call c.answer-asked.result c.task_of-task.result c.tracking_of-tracking.result =
-    begins c.self.inside.pool s c.args.self.now c.args.client c.args.call c.answer-asked.result c.task_of-task.result
+    begins c.self.inside.contents.pool s c.args.self.now c.args.client c.args.call c.answer-asked.result c.task_of-task.result
     c.tracking_of-tracking.result c.self.view_is c.self.invariant c.answer-asked.ensures
     c.task_of-task.ensures.work c.task_of-task.ensures.spends c.task_of-task.ensures.there c.task_of-task.ensures.some
     c.tracking_of-tracking.ensures in
     let parts : Parts =
-    record { clients = c.take_effect.new.clients.items; forest = c.take_effect.new.forest; holds = c.take_effect.new.holds; trackers = c.take_effect.new.trackers } in
+    record { clients = c.take_effect.new.contents.clients.items; forest = c.take_effect.new.contents.forest; holds = c.take_effect.new.contents.holds; trackers = c.take_effect.new.contents.trackers } in
     record { elsewhere = rw (c.place_to_sweep-place.ensures, c.changed_by.ensures) (none_elsewhere s c.args.client c.args.call c.answer-asked.result (keyed c.answer-asked.result c.in-Ok.key) c.task_of-task.result c.tracking_of-tracking.result b parts c.in-Ok.ensures.ok) }
 
 -- what is over can be forgotten
 pub finish-requires : goal.finish-requires
 finish-requires c =
     let s : State =
-    record { pool = c.self.inside.pool.size; limits = c.self.inside.limits; events = c.self.inside.events; clients = c.self.inside.clients.items; forest = c.self.inside.forest; holds = c.self.inside.holds; trackers = c.self.inside.trackers } in
+    record { pool = c.self.inside.contents.pool.size; limits = c.self.inside.limits; events = c.self.inside.events; clients = c.self.inside.contents.clients.items; forest = c.self.inside.contents.forest; holds = c.self.inside.contents.holds; trackers = c.self.inside.contents.trackers } in
     let b : Begins s c.args.client c.args.call c.answer-asked.result c.task_of-task.result c.tracking_of-tracking.result =
-    begins c.self.inside.pool s c.args.self.now c.args.client c.args.call c.answer-asked.result c.task_of-task.result
+    begins c.self.inside.contents.pool s c.args.self.now c.args.client c.args.call c.answer-asked.result c.task_of-task.result
     c.tracking_of-tracking.result c.self.view_is c.self.invariant c.answer-asked.ensures
     c.task_of-task.ensures.work c.task_of-task.ensures.spends c.task_of-task.ensures.there c.task_of-task.ensures.some
     c.tracking_of-tracking.ensures in
     let parts : Parts =
-    record { clients = c.take_effect.new.clients.items; forest = c.take_effect.new.forest; holds = c.take_effect.new.holds; trackers = c.take_effect.new.trackers } in
+    record { clients = c.take_effect.new.contents.clients.items; forest = c.take_effect.new.contents.forest; holds = c.take_effect.new.contents.holds; trackers = c.take_effect.new.contents.trackers } in
     record {
       task = finishes s c.args.client c.args.call c.answer-asked.result (keyed c.answer-asked.result c.in-Ok.key) c.task_of-task.result
           c.tracking_of-tracking.result b parts c.in-Ok.ensures.ok;
@@ -159,16 +159,16 @@ finish-requires c =
 pub invariant_of-self-2 : goal.invariant_of-self-2
 invariant_of-self-2 c =
     let s : State =
-    record { pool = c.self.inside.pool.size; limits = c.self.inside.limits; events = c.self.inside.events; clients = c.self.inside.clients.items; forest = c.self.inside.forest; holds = c.self.inside.holds; trackers = c.self.inside.trackers } in
+    record { pool = c.self.inside.contents.pool.size; limits = c.self.inside.limits; events = c.self.inside.events; clients = c.self.inside.contents.clients.items; forest = c.self.inside.contents.forest; holds = c.self.inside.contents.holds; trackers = c.self.inside.contents.trackers } in
     let b : Begins s c.args.client c.args.call c.answer-asked.result c.task_of-task.result c.tracking_of-tracking.result =
-    begins c.self.inside.pool s c.args.self.now c.args.client c.args.call c.answer-asked.result c.task_of-task.result
+    begins c.self.inside.contents.pool s c.args.self.now c.args.client c.args.call c.answer-asked.result c.task_of-task.result
     c.tracking_of-tracking.result c.self.view_is c.self.invariant c.answer-asked.ensures
     c.task_of-task.ensures.work c.task_of-task.ensures.spends c.task_of-task.ensures.there c.task_of-task.ensures.some
     c.tracking_of-tracking.ensures in
     let parts : Parts =
-    record { clients = c.take_effect.new.clients.items; forest = c.take_effect.new.forest; holds = c.take_effect.new.holds; trackers = c.take_effect.new.trackers } in
+    record { clients = c.take_effect.new.contents.clients.items; forest = c.take_effect.new.contents.forest; holds = c.take_effect.new.contents.holds; trackers = c.take_effect.new.contents.trackers } in
     whole_then s c.args.client c.args.call c.answer-asked.result (keyed c.answer-asked.result c.in-Ok.key) c.task_of-task.result
-    c.tracking_of-tracking.result b parts c.in-Ok.ensures.ok c.self.inside.pool c.take_effect.new.pool c.finish.new.forest
+    c.tracking_of-tracking.result b parts c.in-Ok.ensures.ok c.self.inside.contents.pool c.take_effect.new.contents.pool c.finish.new.forest
     (placed c.task_of-task.result c.carried_end.result) c.sweep.new.trackers c.self.invariant c.take_effect.ensures.size
     c.take_effect.ensures.pool c.finish.ensures.held c.take_effect.ensures.limit
     (omega arith) (omega arith) c.finish.ensures.collections c.finish.ensures.keys c.finish.ensures.sound c.finish.ensures.ids
@@ -178,14 +178,14 @@ invariant_of-self-2 c =
 pub returns : goal.returns
 returns c =
     let s : State =
-    record { pool = c.self.inside.pool.size; limits = c.self.inside.limits; events = c.self.inside.events; clients = c.self.inside.clients.items; forest = c.self.inside.forest; holds = c.self.inside.holds; trackers = c.self.inside.trackers } in
+    record { pool = c.self.inside.contents.pool.size; limits = c.self.inside.limits; events = c.self.inside.events; clients = c.self.inside.contents.clients.items; forest = c.self.inside.contents.forest; holds = c.self.inside.contents.holds; trackers = c.self.inside.contents.trackers } in
     let b : Begins s c.args.client c.args.call c.answer-asked.result c.task_of-task.result c.tracking_of-tracking.result =
-    begins c.self.inside.pool s c.args.self.now c.args.client c.args.call c.answer-asked.result c.task_of-task.result
+    begins c.self.inside.contents.pool s c.args.self.now c.args.client c.args.call c.answer-asked.result c.task_of-task.result
     c.tracking_of-tracking.result c.self.view_is c.self.invariant c.answer-asked.ensures
     c.task_of-task.ensures.work c.task_of-task.ensures.spends c.task_of-task.ensures.there c.task_of-task.ensures.some
     c.tracking_of-tracking.ensures in
     let parts : Parts =
-    record { clients = c.take_effect.new.clients.items; forest = c.take_effect.new.forest; holds = c.take_effect.new.holds; trackers = c.take_effect.new.trackers } in
+    record { clients = c.take_effect.new.contents.clients.items; forest = c.take_effect.new.contents.forest; holds = c.take_effect.new.contents.holds; trackers = c.take_effect.new.contents.trackers } in
     let answers = step_answers s c.args.client c.args.call c.answer-asked.result (keyed c.answer-asked.result c.in-Ok.key)
     c.task_of-task.result c.tracking_of-tracking.result b parts c.in-Ok.ensures.ok in
     let follows = step_follows s c.args.client c.args.call c.answer-asked.result (keyed c.answer-asked.result c.in-Ok.key)
