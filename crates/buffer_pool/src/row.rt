@@ -1,6 +1,7 @@
 //! A row of intervals with a gap at the place of the last change.
 ghost use Rattle.std.specs.Prelude.{◌≡◌, ◌+◌, ◌-◌, ◌++◌, ◌∷◌, [], ◌<◌, ◌^◌, ◌≤◌, length, take, drop, set, slice_index_or, IfOk, OnOk, vec_len};
 ghost use Rattle.std.specs.List.{insert, remove};
+ghost use lib.Seq.{paste};
 
 use sm_names::Interval;
 use std::alloc::{AllocError, Global};
@@ -165,6 +166,36 @@ impl Row {
     }
 }
 
+// Copies so many cells to a later place: in one move of memory, where they do not reach it.
+fn copy_up(cells: &mut [Interval], from: usize, to: usize, count: usize)
+    requires later { from ≤ to }
+    requires within { to + count ≤ length cells.old }
+    ensures cells { cells.new ≡ paste cells.old to (drop from cells.old) count }
+    ensures len { length cells.new ≡ length cells.old }
+{
+    if from + count <= to {
+        let (low, high) = cells.split_at_mut(to);
+        high[..count].copy_from_slice(&low[from..from + count]);
+    } else {
+        cells.copy_within(from..from + count, to);
+    }
+}
+
+// Copies so many cells to an earlier place: in one move of memory, where that ends before them.
+fn copy_down(cells: &mut [Interval], from: usize, to: usize, count: usize)
+    requires earlier { to ≤ from }
+    requires within { from + count ≤ length cells.old }
+    ensures cells { cells.new ≡ paste cells.old to (drop from cells.old) count }
+    ensures len { length cells.new ≡ length cells.old }
+{
+    if to + count <= from {
+        let (low, high) = cells.split_at_mut(from);
+        low[to..to + count].copy_from_slice(&high[..count]);
+    } else {
+        cells.copy_within(from..from + count, to);
+    }
+}
+
 // Moves the gap to another place, and gives its end.
 fn move_gap(cells: &mut Vec<Interval>, front: usize, back: usize, at: usize) -> usize
     requires gap { front ≤ back }
@@ -177,9 +208,9 @@ fn move_gap(cells: &mut Vec<Interval>, front: usize, back: usize, at: usize) -> 
 {
     let to = at + (back - front);
     if at < front {
-        cells.copy_within(at..front, to);
+        copy_up(cells.as_mut_slice(), at, to, front - at);
     } else if at > front {
-        cells.copy_within(back..to, front);
+        copy_down(cells.as_mut_slice(), back, front, to - back);
     }
     to
 }

@@ -1,5 +1,4 @@
 -- The starts rise, so what is before a smaller one is smaller.
-use Rattle.std.proofs.Common.{arith}
 use Rattle.sm_names.specs.declared.keys.Interval.{Interval}
 use Rattle.buffer_pool.proofs.Searches.{search_upper, search_ends}
 use Rattle.buffer_pool.proofs.holding.starts_before.Goals as goal
