@@ -1,8 +1,9 @@
 -- The buffers of a set.
-use Rattle.std.proofs.Common.{ℕ, zero, suc, ◌≡◌, ◌≤◌, ◌+◌, ◌==◌, ap, ◌∙◌, Bool, true, false, cond, List, [], ◌∷◌, ◌++◌, length, arith}
+use Rattle.std.proofs.Common.{ℕ, zero, suc, ◌≡◌, ◌≤◌, ◌+◌, ◌==◌, ◌/◌, ◌%◌, ◌^◌, ap, sym, ◌∙◌, Bool, true, false, cond, List, [], ◌∷◌, ◌++◌, length, arith}
 use Rattle.std.proofs.lemmas.List.Sums.{count_by-le-length, length-filter}
 use Rattle.std.proofs.lemmas.List.FromFn.{length-range_with_len}
 use Rattle.std.proofs.lemmas.Grind.{common_steps}
+use Rattle.std.proofs.lemmas.Nat.{shr-shr}
 use Rattle.std.specs.Int.{bit_at}
 use Rattle.std.specs.List.{filter, range_with_len}
 use Rattle.event_laws.specs.HandleSums.{indices_below, indices_in}
@@ -36,6 +37,26 @@ below_push most set =
   where
     one_more : (p : ℕ → Bool) (xs : List ℕ) (x : ℕ) → length (filter p (xs ++ x ∷ [])) ≡ length (filter p xs) + cond (p x) 1 0
     one_more p xs x = grind (arith, common_steps)
+
+-- where nothing is left of a set from a number on, nothing is from the next
+pub rest_next : (set most : ℕ) → set / 2 ^ most ≡ 0 → set / 2 ^ (most + 1) ≡ 0
+rest_next set most none = sym (shr-shr set most 1) ∙ ap (λ n. n / 2 ^ 1) none
+
+-- and has no buffer of that number
+pub rest_bit : (set most : ℕ) → set / 2 ^ most ≡ 0 → (bit_at set most == 1) ≡ false
+rest_bit set most none = ap (λ n. n % 2 == 1) none
+
+-- more numbers to look at add none
+pub below_rest : (more most set : ℕ) → set / 2 ^ most ≡ 0 → length (indices_below most set) ≡ length (indices_below (most + more) set)
+below_rest zero most set none = let same : most ≡ most + 0 = omega arith in ap (λ n. length (indices_below n set)) same
+below_rest (suc more) most set none =
+    let one = below_push most set in
+    let count : Bool → ℕ = λ b. cond b 1 0 in
+    let bit = ap count (rest_bit set most none) in
+    let on = below_rest more (most + 1) set (rest_next set most none) in
+    let next : (most + 1) + more ≡ most + suc more = omega arith in
+    let whole = ap (λ n. length (indices_below n set)) next in
+    omega (arith, one, bit, on, whole)
 
 -- none, or so many: no more than as many as that
 pub cond-le : (t : Bool) (n m : ℕ) → n ≤ m → cond t n 0 ≤ m

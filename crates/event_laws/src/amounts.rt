@@ -20,16 +20,18 @@ fn size_of(set: u64) -> u64
     ensures { result ≡ length (indices_in set) }
 {
     let mut size = 0;
-    for index in 0..64u8 {
+    let mut index = 0;
+    while index < 64 && set >> index != 0 {
         if has_buffer(set, index) {
             size += 1;
         }
+        index += 1;
     }
     size
 }
 
-/// How many buffers the set of a Take has, where the strengths are the same, and else none. Looks at
-/// 64 bits.
+/// How many buffers the set of a Take has, where the strengths are the same, and else none. Looks
+/// at the bits up to the last that is set.
 pub fn count_set(strength: Strength, other: Strength, set: u64) -> u64
     ensures { result ≡ count_if strength other (length (indices_in set)) }
 {
