@@ -120,7 +120,7 @@ pub(crate) fn tidy_up(holds: &mut Holds, client: ClientId, call: &Call)
     }
 }
 
-// Opens a handle on each buffer of the set.
+// Opens a handle on each buffer of the set. It goes up to the last one.
 fn open_all(
     holds: &mut Holds,
     client: ClientId,
@@ -136,7 +136,7 @@ fn open_all(
 {
     let mut near = Spot::new();
     let mut end = 0;
-    while end < 64 {
+    while end < 64 && set >> end != 0 {
         if let Err(NoMemory) = open_at(holds, client, collection, strength, set, end, &mut near) {
             close_below(holds, client, collection, strength, set, end);
             return Err(NoMemory);

@@ -1,5 +1,5 @@
 -- What opening and closing handles does to the counts.
-use Rattle.std.proofs.Common.{ℕ, ◌≡◌, ◌+◌, ◌-◌, ◌<◌, ◌≤◌, ◌==◌, ◌&&◌, nat_lt, refl, sym, ap, ◌∙◌, Bool, true, false, if◌then◌else◌, arith}
+use Rattle.std.proofs.Common.{ℕ, zero, suc, ◌≡◌, ◌+◌, ◌-◌, ◌/◌, ◌^◌, ◌<◌, ◌≤◌, ◌==◌, ◌&&◌, nat_lt, refl, sym, subst, ap, ◌∙◌, Bool, true, false, if◌then◌else◌, arith}
 use Rattle.std.specs.Int.{bit_at}
 use Rattle.std.proofs.lemmas.Bool.{eqb-true, eq-eqb}
 use Rattle.std.proofs.lemmas.Grind.{common_steps}
@@ -8,6 +8,7 @@ use Rattle.sm_names.specs.declared.keys.Strength.{Strength}
 use Rattle.sm_names.specs.Sameness.{same_buffer, same_strength}
 use Rattle.sm_names.proofs.SamenessLaws.{and_right}
 use Rattle.event_laws.specs.ByEvent.{one_if}
+use Rattle.event_laws.proofs.SetLaws.{rest_next, rest_bit}
 use Rattle.buffer_holds.specs.Changes.{Sets, Tidies}
 use Rattle.buffer_holds.specs.Counts.{Counts, of, moving, total, share}
 use Rattle.buffer_holds.specs.Kinds.{kind_of, hold_of, same_hold}
@@ -223,6 +224,19 @@ module _ (collection : ℕ) (strength : Strength) (set : ℕ) where
     parcels = opened.parcels;
     totals = λ b s. rw (none_below index b s lacks) (opened.totals b s);
   }
+
+  -- nor more from here on, where nothing is left of the set
+  pub opens_on : (more : ℕ) (before new : Counts) (client index : ℕ) → set / 2 ^ index ≡ 0 →
+      Opens before new client (is_below collection strength set index) →
+      Opens before new client (is_below collection strength set (index + more))
+  opens_on zero before new client index none opened =
+      let same : index ≡ index + 0 = omega arith in
+      subst (λ end. Opens before new client (is_below collection strength set end)) same opened
+  opens_on (suc more) before new client index none opened =
+      let next : (index + 1) + more ≡ index + suc more = omega arith in
+      subst (λ end. Opens before new client (is_below collection strength set end)) next
+      (opens_on more before new client (index + 1) (rest_next set index none)
+      (opens_same before new client index (rest_bit set index none) opened))
 
   -- so too the other way
   pub opens_still : (before new : Counts) (client index : ℕ) → (bit_at set index == 1) ≡ false →
