@@ -17,7 +17,8 @@ use Rattle.sm_names.specs.Trackers.{Tracked, tracked, fired}
 use Rattle.sm_names.specs.Weakness.{weak, weak_ok, covered, covers_children}
 use Rattle.sm_names.specs.Words.{times}
 use Rattle.event_laws.specs.Waiting.{waiting}
-use Rattle.trackers.specs.Table.{Table, Waiting, is_untaken}
+use Rattle.trackers.specs.declared.waiting.Waiting.{Waiting}
+use Rattle.trackers.specs.Table.{Table, is_untaken}
 use Rattle.alloc_event.specs.declared.node.End.{End}
 use Rattle.alloc_event.specs.declared.node.Node.{Node}
 use Rattle.alloc_event.specs.Forest.{Collection, given}

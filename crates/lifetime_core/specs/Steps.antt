@@ -18,7 +18,8 @@ use Rattle.sm_names.specs.Timelines.{key_of}
 use Rattle.sm_names.specs.Trackers.{World}
 use Rattle.event_laws.specs.ByEvent.{one_if, anyone, only, gains, loses}
 use Rattle.buffer_holds.specs.Counts.{total}
-use Rattle.trackers.specs.Table.{Table, Waiting, Attaches, firings, still_waiting}
+use Rattle.trackers.specs.declared.waiting.Waiting.{Waiting}
+use Rattle.trackers.specs.Table.{Table, Attaches, firings, still_waiting}
 use Rattle.alloc_event.specs.declared.change.Change.{Change}
 use Rattle.alloc_event.specs.declared.change.Effect.{Effect}
 use Rattle.alloc_event.specs.declared.node.End.{End}
@@ -158,12 +159,12 @@ handles_by mark h = record {
 -- the tracker that the event attaches, and the collection that it concerns: no other call makes one
 abbrev pub tracker_by : Forest → Call → Reply → Option Waiting
 tracker_by f (Call.TrackNode key) (Reply.Tracker id) =
-    option_map (λ (n : Node). record { id = id; place = n.collection; condition = Condition.Node key }) (node_at f key)
+    option_map (λ (n : Node). record { id = id; collection = n.collection; condition = Condition.Node key }) (node_at f key)
 tracker_by f (Call.TrackLifetime key most) (Reply.Tracker id) =
-    option_map (λ (n : Node). record { id = id; place = n.collection; condition = Condition.Lifetime key n.collection most })
+    option_map (λ (n : Node). record { id = id; collection = n.collection; condition = Condition.Lifetime key n.collection most })
     (node_at f key)
 tracker_by f (Call.TrackWeak buffer) (Reply.Tracker id) =
-    Some (record { id = id; place = buffer.collection; condition = Condition.Weak buffer })
+    Some (record { id = id; collection = buffer.collection; condition = Condition.Weak buffer })
 tracker_by f _ _ = None
 
 -- the trackers with one more, if one is made

@@ -13,8 +13,8 @@ use Rattle.sm_names.specs.Trackers.{World, holds}
 use Rattle.alloc_event.specs.Forest.{Forest, node_at}
 use Rattle.alloc_event.specs.Settling.{Handles, MayChange, Settled}
 use Rattle.buffer_holds.specs.Counts.{Counts, total}
-use Rattle.trackers.specs.Table.{Table, Waiting}
-use Rattle.lifetime_core.specs.declared.sweeping.Tracking.{Tracking}
+use Rattle.trackers.specs.declared.waiting.Waiting.{Waiting}
+use Rattle.trackers.specs.Table.{Table}
 use Rattle.lifetime_core.specs.declared.task.Place.{Place}
 use Rattle.lifetime_core.specs.declared.task.Task.{Task}
 use Rattle.lifetime_core.specs.Hands.{Moves}
@@ -87,12 +87,8 @@ takes_room (Call.Give key to) Reply.Done = true
 takes_room (Call.GiveHandle buffer strength to) Reply.Done = true
 takes_room _ _ = false
 
--- the tracker that is to be attached, as the table of trackers sees it
-abbrev pub waiting_as : Tracking → Waiting
-waiting_as t = record { id = t.id; place = t.collection; condition = t.condition }
-
 -- where trackers may be due: in the collection that is changed, and where none is, in that of the new tracker, if it is due
-abbrev pub looked_in : World → Option ℕ → Option Tracking → Option ℕ
+abbrev pub looked_in : World → Option ℕ → Option Waiting → Option ℕ
 looked_in world (Some id) tracking = Some id
 looked_in world None None = None
 looked_in world None (Some t) = if holds world t.condition then Some t.collection else None
@@ -129,10 +125,10 @@ pub record Parts : Type 0 where
 
 -- the call that was answered so took effect, but for the trackers that fire and for what is forgotten; a new node has this key
 pub record TakesEffect (pool : ℕ) (old new : Parts) (client : ℕ) (call : Call) (asked : Reply) (task : Option Task)
-    (tracking : Option Tracking) (reply : Reply) : Type 0 where
+    (tracking : Option Waiting) (reply : Reply) : Type 0 where
   pub key : Option NodeKey
   pub told : reply ≡ keyed asked key
   pub clients : new.clients ≡ clients_by (Called client asked call) old.clients
   pub handles : Moves old.holds new.holds (Called client asked call)
   pub work : Reworked pool (total new.holds) old.forest (work_in task) key new.forest
-  pub trackers : Gains old.trackers (option_map waiting_as tracking) new.trackers
+  pub trackers : Gains old.trackers tracking new.trackers

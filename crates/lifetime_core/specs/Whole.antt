@@ -15,7 +15,8 @@ use Rattle.alloc_event.specs.declared.node.Node.{Node}
 use Rattle.alloc_event.specs.Forest.{Collection, Forest, IsPoolOf, given, node_at, is_left, tidied}
 use Rattle.alloc_event.specs.Nodes.{is_spent}
 use Rattle.alloc_event.specs.Settling.{Handles}
-use Rattle.trackers.specs.Table.{Cell, Table, Waiting, is_due}
+use Rattle.trackers.specs.declared.waiting.Waiting.{Waiting}
+use Rattle.trackers.specs.Table.{Cell, Table, is_due}
 use Rattle.lifetime_core.specs.declared.task.Place.{Place}
 use Rattle.lifetime_core.specs.declared.task.Task.{Task}
 use Rattle.lifetime_core.specs.Reads.{world_in}
@@ -105,7 +106,7 @@ Concerns f collection (Condition.Weak buffer) = buffer.collection ≡ collection
 
 -- the tracker is filed under the collection that it concerns, and not due
 pub record StillWaits (f : Forest) (handles : Handles) (t : Waiting) : Type 0 where
-  pub filed : Concerns f t.place t.condition
+  pub filed : Concerns f t.collection t.condition
   pub undue : is_due (world_in f handles) t ≡ false
 
 -- no id is above this number

@@ -11,13 +11,13 @@ ghost use Rattle.lifetime_core.specs.Whole.{Rise};
 
 use crate::clients::{Client, note};
 use crate::hands::{hand_back, hand_over, tidy_up};
-use crate::sweeping::{Tracking, attach, detach};
+use crate::sweeping::{attach, detach};
 use crate::task::{Task, make};
 use alloc_event::Forest;
 use buffer_holds::Holds;
 use buffer_pool::Pool;
 use sm_names::{Call, ClientId, NoMemory, NodeKey, Reply};
-use trackers::Trackers;
+use trackers::{Trackers, Waiting};
 
 /// What a core keeps that an event changes, but for the number of events.
 #[derive(Drop)]
@@ -60,7 +60,7 @@ pub(crate) fn take_effect(
     call: &Call,
     asked: &Reply,
     task: &Option<Task>,
-    tracking: Option<Tracking>,
+    tracking: Option<Waiting>,
 ) -> Result<Option<NodeKey>, NoMemory>
     requires clients { Rise (map (λ (c : Row). c.id) contents.old.clients.items) }
     requires handles { MayMove contents.old.holds client call.now asked.now }

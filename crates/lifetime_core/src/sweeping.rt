@@ -1,27 +1,19 @@
 //! Trackers: those that an event attaches, and those that it fires.
 ghost use Rattle.std.specs.Prelude.{◌≡◌, ◌<◌, OnOk, OnErr, IfSome, Some, false, length, option_copied};
 ghost use Rattle.std.specs.List.{All};
-ghost use Rattle.trackers.specs.Table.{Cell, Table, Waiting, is_due};
-ghost use Rattle.std.specs.Option.{option_map};
+ghost use Rattle.trackers.specs.declared.waiting.Waiting.{Waiting};
+ghost use Rattle.trackers.specs.Table.{Cell, Table, is_due};
 ghost use Rattle.lifetime_core.specs.Reads.{node_named, world_in};
 ghost use Rattle.lifetime_core.specs.Steps.{Gains, swept, tracker_by};
-ghost use Rattle.lifetime_core.specs.Tasks.{looked_in, waiting_as};
+ghost use Rattle.lifetime_core.specs.Tasks.{looked_in};
 ghost use Rattle.buffer_holds.specs.Counts.{total};
 
 use crate::machine::Core;
 use crate::sight::Sight;
 use alloc_event::{Forest, Node};
 use buffer_holds::Holds;
-use sm_names::{Call, CollectionId, Condition, NoMemory, Reply, TrackerId};
-use trackers::{Trackers, holds_in};
-
-/// A tracker that an event attaches, and the collection that it concerns.
-#[derive(Clone, Copy, Debug)]
-pub(crate) struct Tracking {
-    pub(crate) id: TrackerId,
-    pub(crate) collection: CollectionId,
-    pub(crate) condition: Condition,
-}
+use sm_names::{Call, CollectionId, Condition, NoMemory, Reply};
+use trackers::{Trackers, Waiting, holds_in};
 
 /// The tracker that the call, answered so, attaches, if it attaches one. The node is the one that the
 /// call names.
@@ -30,9 +22,9 @@ pub(crate) fn tracking_of(
     call: &Call,
     reply: &Reply,
     node: Option<&Node>,
-) -> Option<Tracking>
+) -> Option<Waiting>
     requires { option_copied node ≡ node_named core.now call.now }
-    ensures { option_map waiting_as result ≡ tracker_by core.now.forest call.now reply.now }
+    ensures { result ≡ tracker_by core.now.forest call.now reply.now }
 {
     let Reply::Tracker(id) = *reply else {
         return None;
@@ -48,7 +40,7 @@ pub(crate) fn tracking_of(
             return None;
         }
     };
-    Some(Tracking {
+    Some(Waiting {
         id,
         collection,
         condition,
@@ -58,36 +50,29 @@ pub(crate) fn tracking_of(
 /// Attaches the tracker, if there is one, where one more may wait.
 ///
 /// `NoMemory` where memory is refused; then the trackers are as they were.
-pub(crate) fn attach(trackers: &mut Trackers, tracking: Option<Tracking>) -> Result<(), NoMemory>
+pub(crate) fn attach(trackers: &mut Trackers, tracking: Option<Waiting>) -> Result<(), NoMemory>
     requires rising { IfSome tracking (λ t. All (λ (c : Cell). c.id < t.id) trackers.old.cells) }
     requires room { IfSome tracking (λ t. length trackers.old.unfired < trackers.old.limit) }
-    ensures ok { OnOk result (Gains trackers.old (option_map waiting_as tracking) trackers.new) }
+    ensures ok { OnOk result (Gains trackers.old tracking trackers.new) }
     ensures err { OnErr result (trackers.new ≡ trackers.old) }
 {
-    let Some(
-        Tracking {
-            id,
-            collection,
-            condition,
-        },
-    ) = tracking
-    else {
+    let Some(tracker) = tracking else {
         return Ok(());
     };
-    match trackers.attach(id, collection, condition) {
+    match trackers.attach(tracker) {
         Ok(()) => Ok(()),
         Err(_) => Err(NoMemory),
     }
 }
 
 /// Takes the tracker out again that was attached just now, if one was. It takes no memory.
-pub(crate) fn detach(trackers: &mut Trackers, tracking: Option<Tracking>)
-    requires { (before : Table) × Gains before (option_map waiting_as tracking) trackers.old }
+pub(crate) fn detach(trackers: &mut Trackers, tracking: Option<Waiting>)
+    requires { (before : Table) × Gains before tracking trackers.old }
     ensures { (before : Table) →
-        Gains before (option_map waiting_as tracking) trackers.old → trackers.new ≡ before }
+        Gains before tracking trackers.old → trackers.new ≡ before }
 {
-    if let Some(Tracking { collection, .. }) = tracking {
-        trackers.detach(collection);
+    if let Some(tracker) = tracking {
+        trackers.detach(tracker.collection);
     }
 }
 
@@ -95,7 +80,7 @@ pub(crate) fn detach(trackers: &mut Trackers, tracking: Option<Tracking>)
 /// new tracker, if it is due at once: one test.
 pub(crate) fn place_to_sweep(
     changed: Option<CollectionId>,
-    tracking: Option<Tracking>,
+    tracking: Option<Waiting>,
     forest: &Forest,
     holds: &Holds,
 ) -> Option<CollectionId>
@@ -105,13 +90,9 @@ pub(crate) fn place_to_sweep(
     if changed.is_some() {
         return changed;
     }
-    let Tracking {
-        collection,
-        condition,
-        ..
-    } = tracking?;
-    if holds_in(condition, &Sight { forest, holds }) {
-        Some(collection)
+    let tracker = tracking?;
+    if holds_in(tracker.condition, &Sight { forest, holds }) {
+        Some(tracker.collection)
     } else {
         None
     }
@@ -127,7 +108,7 @@ pub(crate) fn sweep(
     forest: &Forest,
     holds: &Holds,
 )
-    requires elsewhere { All (λ (t : Waiting). (collection ≡ Some t.place → ⊥) →
+    requires elsewhere { All (λ (t : Waiting). (collection ≡ Some t.collection → ⊥) →
         is_due (world_in forest.now (total holds.now)) t ≡ false) trackers.old.unfired }
     ensures { trackers.new
         ≡ swept (world_in forest.now (total holds.now)) event trackers.old }

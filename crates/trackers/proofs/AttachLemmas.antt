@@ -4,7 +4,7 @@ use Rattle.std.specs.List.{filter_map, cons_option, AllByRecursion}
 use Rattle.std.proofs.lemmas.List.{map_push, length_push}
 use Rattle.std.proofs.lemmas.List.Sums.{sum_by-append, sum_by-cons}
 use Rattle.sm_names.specs.declared.tracking.Fired.{Fired}
-use Rattle.sm_names.specs.declared.tracking.Condition.{Condition}
+use Rattle.trackers.specs.declared.waiting.Waiting.{Waiting}
 use Rattle.trackers.specs.Table.{Cell, Attaches, firing_of}
 use Rattle.trackers.specs.Row.{Kept, Stage, Waits, Over, is_waiting, waiting_of_row, firing_of_row}
 use Rattle.trackers.specs.Filing.{Piles, Wish, entries_of, weigh}
@@ -67,19 +67,19 @@ module _ (row : Kept) where
 module _ (limit capacity capacity' spare spare' : ℕ) (rows rows' : List Kept) (fired fired' : List Fired) (old new : Piles)
     (kept : IsKeptUp limit rows fired capacity spare old) (same : fired' ≡ fired) where
   -- the table is right with one row more
-  pub kept_push : (id cell place : ℕ) (c : Condition) → AllByRecursion (λ (r : Kept). r.id < id) rows → count_by is_waiting rows < limit →
-      length rows + 1 ≤ capacity' → count_by is_waiting rows + 1 ≤ spare' → rows' ≡ rows ++ attached id cell place c ∷ [] →
-      ((k : ℕ) (f : Wish → ℕ) → weigh f (entries_of new k) ≡ (if k == place then f (c, length rows) + weigh f (entries_of old k) else weigh
+  pub kept_push : (cell : ℕ) (t : Waiting) → AllByRecursion (λ (r : Kept). r.id < t.id) rows → count_by is_waiting rows < limit →
+      length rows + 1 ≤ capacity' → count_by is_waiting rows + 1 ≤ spare' → rows' ≡ rows ++ attached cell t ∷ [] →
+      ((k : ℕ) (f : Wish → ℕ) → weigh f (entries_of new k) ≡ (if k == t.collection then f (t.condition, length rows) + weigh f (entries_of old k) else weigh
       f (entries_of old k))) → IsKeptUp limit rows' fired' capacity' spare' new
-  kept_push id cell place c all room_left room spare_left pushed filed =
-      let row : Kept = attached id cell place c in
+  kept_push cell t all room_left room spare_left pushed filed =
+      let row : Kept = attached cell t in
       rw (same, pushed) record {
         held = record {
           rising = rising_push row rows all kept.held.rising;
           counted = omega (arith, kept.held.counted, length_push rows row, sum_by-append (λ r. cond (is_waiting r) 1 0) rows (row ∷ []));
           room = omega (arith, room, length_push rows row);
           within = omega (arith, room_left, sum_by-append (λ r. cond (is_waiting r) 1 0) rows (row ∷ []));
-          told = told_push row fired rows (kept.held.own id (fresh id rows all)) kept.held.told;
+          told = told_push row fired rows (kept.held.own t.id (fresh t.id rows all)) kept.held.told;
           own = λ other none. kept.held.own other (none_push row other rows none);
         };
         filed = record {
@@ -90,10 +90,10 @@ module _ (limit capacity capacity' spare spare' : ℕ) (rows rows' : List Kept) 
               ap (weigh f) (asked_push k 0 rows row)
               ∙ weigh_append f (asked_from k 0 rows) (option_to_list (asked k (0 + length rows) row)) in
               let place_is : 0 + length rows ≡ length rows = omega arith in
-              filed k f ∙ (elim (k == place) as (λ b.
-              (if b then f (c, length rows) + weigh f (entries_of old k) else weigh f (entries_of old k)) ≡ weigh f
-              (asked_from k 0 rows) + weigh f (option_to_list (if b then Some (c, 0 + length rows) else None))) [
-                | true ↦ omega (arith, had, ap (λ m. f (c, m)) place_is)
+              filed k f ∙ (elim (k == t.collection) as (λ b.
+              (if b then f (t.condition, length rows) + weigh f (entries_of old k) else weigh f (entries_of old k)) ≡ weigh f
+              (asked_from k 0 rows) + weigh f (option_to_list (if b then Some (t.condition, 0 + length rows) else None))) [
+                | true ↦ omega (arith, had, ap (λ m. f (t.condition, m)) place_is)
                 | false ↦ omega (arith, had)
               ] ∙ sym joined);
         };
@@ -117,11 +117,11 @@ module _ (limit capacity capacity' spare spare' : ℕ) (rows rows' : List Kept) 
   }
 
 -- the table shows a row more
-pub table_push : (limit : ℕ) (rows rows' : List Kept) (fired fired' : List Fired) (id cell place : ℕ) (c : Condition) → fired' ≡ fired →
-    rows' ≡ rows ++ attached id cell place c ∷ [] →
-    Attaches (table_of limit rows fired) (table_of limit rows' fired') (record { id = id; place = place; condition = c })
-table_push limit rows rows' fired fired' id cell place c same pushed =
-    let row : Kept = attached id cell place c in
+pub table_push : (limit : ℕ) (rows rows' : List Kept) (fired fired' : List Fired) (cell : ℕ) (t : Waiting) → fired' ≡ fired →
+    rows' ≡ rows ++ attached cell t ∷ [] →
+    Attaches (table_of limit rows fired) (table_of limit rows' fired') t
+table_push limit rows rows' fired fired' cell t same pushed =
+    let row : Kept = attached cell t in
     rw (same, pushed) record {
       name = cell;
       next =
@@ -130,6 +130,6 @@ table_push limit rows rows' fired fired' id cell place c same pushed =
           ∙ ap (λ l. table_with limit (map cell_of_row rows ++ cell_of_row row ∷ []) l (filter_map untaken_of_row (rows ++ row ∷ [])) fired)
           (filter_map_push waiting_of_row rows row)
           ∙ ap (λ l. table_with limit (map cell_of_row rows ++ cell_of_row row ∷ [])
-          (filter_map waiting_of_row rows ++ record { id = id; place = place; condition = c } ∷ []) l fired)
+          (filter_map waiting_of_row rows ++ t ∷ []) l fired)
           (filter_map_push untaken_of_row rows row);
     }

@@ -8,7 +8,8 @@ use Rattle.std.proofs.lemmas.List.{map_push, length_push}
 use Rattle.std.proofs.lemmas.List.Sums.{sum_by-append, sum_by-cons}
 use Rattle.sm_names.specs.declared.tracking.Fired.{Fired}
 use Rattle.sm_names.specs.declared.tracking.Condition.{Condition}
-use Rattle.trackers.specs.Table.{Cell, Table, Waiting, Attaches, firing_of}
+use Rattle.trackers.specs.declared.waiting.Waiting.{Waiting}
+use Rattle.trackers.specs.Table.{Cell, Table, Attaches, firing_of}
 use Rattle.trackers.specs.Row.{Kept, Stage, Waits, Over, is_waiting, waiting_of_row, firing_of_row}
 use Rattle.trackers.specs.Filing.{Piles, Wish, entries_of, weigh, weigh_at}
 use Rattle.trackers.specs.Held.{cell_of_row, untaken_of_row, asked, asked_from, AreRising, IsKeptUp, NoneHas, table_of}
@@ -204,13 +205,13 @@ module _ (limit capacity spare : ℕ) (rows : List Kept) (row : Kept) (fired : L
       from false e = kept.held.own id (none_last id rows row (λ same. let no : false ≡ true = sym e ∙ eq-eqb row.id id same in cc) none)
 
   -- what it asks
-  asked_last : (c n : ℕ) → asked c n row ≡ (if c == tracker.place then Some (tracker.condition, n) else None)
-  asked_last c n = ap (λ o. option_map_or (λ (t : Waiting). if c == t.place then Some (t.condition, n) else None) o None) waits
+  asked_last : (c n : ℕ) → asked c n row ≡ (if c == tracker.collection then Some (tracker.condition, n) else None)
+  asked_last c n = ap (λ o. option_map_or (λ (t : Waiting). if c == t.collection then Some (t.condition, n) else None) o None) waits
 
   -- what was filed
   was_filed : (c : ℕ) (g : Wish → ℕ) →
       weigh g (entries_of old c) ≡ weigh g (asked_from c 0 rows) + weigh g
-      (option_to_list (if c == tracker.place then Some (tracker.condition, 0 + length rows) else None))
+      (option_to_list (if c == tracker.collection then Some (tracker.condition, 0 + length rows) else None))
   was_filed c g =
       kept.filed.at c g
       ∙ (ap (weigh g) (asked_push c 0 rows row)
@@ -219,7 +220,7 @@ module _ (limit capacity spare : ℕ) (rows : List Kept) (row : Kept) (fired : L
 
   -- the table is right without it
   pub kept_popped : ((c : ℕ) (f : Wish → ℕ) →
-      (if c == tracker.place then weigh f (entries_of new c) + weigh (weigh_at (length rows) f) (entries_of old c) else weigh f
+      (if c == tracker.collection then weigh f (entries_of new c) + weigh (weigh_at (length rows) f) (entries_of old c) else weigh f
       (entries_of new c)) ≡ weigh f (entries_of old c)) → IsKeptUp limit rows fired capacity spare new
   kept_popped withdrawn = record {
     held = record {
@@ -244,7 +245,7 @@ module _ (limit capacity spare : ℕ) (rows : List Kept) (row : Kept) (fired : L
       at c f =
           let none_there : weigh (weigh_at (length rows) f) (asked_from c 0 rows) ≡ 0 = none_at c (length rows) 0 f rows (omega arith) in
           let there = all_at (length rows) tracker.condition f in
-          (elim (c == tracker.place) as (λ b.
+          (elim (c == tracker.collection) as (λ b.
           weigh f (entries_of old c) ≡ weigh f (asked_from c 0 rows) + weigh f
           (option_to_list (if b then Some (tracker.condition, 0 + length rows) else None)) →
           weigh (weigh_at (length rows) f) (entries_of old c) ≡ weigh (weigh_at (length rows) f) (asked_from c 0 rows) + weigh
@@ -286,7 +287,7 @@ module _ (limit capacity spare : ℕ) (rows left : List Kept) (fired : List Fire
   -- and is right
   pub kept_detached : (o : Option Kept) → rows ≡ left ++ option_to_list o → (o ≡ None → rows ≡ []) → (before : Table) (tracker : Waiting) →
       Attaches before (table_of limit rows fired) tracker →
-      ((c : ℕ) (f : Wish → ℕ) → (if c == tracker.place then weigh f (entries_of new c) + weigh (weigh_at (length left) f)
+      ((c : ℕ) (f : Wish → ℕ) → (if c == tracker.collection then weigh f (entries_of new c) + weigh (weigh_at (length left) f)
       (entries_of old c) else weigh f (entries_of new c)) ≡ weigh f (entries_of old c)) → IsKeptUp limit left fired capacity spare new
   kept_detached o is none before tracker attaches withdrawn =
       let p = popped o is none before tracker attaches in

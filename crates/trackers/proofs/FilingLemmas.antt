@@ -5,7 +5,8 @@ use Rattle.std.specs.List.Sorted.{IsPermutation, IsNonDecreasing}
 use Rattle.std.proofs.lemmas.Bool.Decides.{nat_tests}
 use Rattle.std.proofs.lemmas.List.Sums.{sum_by-cons}
 use Rattle.sm_names.specs.Trackers.{World, holds}
-use Rattle.trackers.specs.Table.{Waiting, is_due}
+use Rattle.trackers.specs.declared.waiting.Waiting.{Waiting}
+use Rattle.trackers.specs.Table.{is_due}
 use Rattle.trackers.specs.Row.{Kept, Stage, Waits, Over, is_waiting, waiting_of_row}
 use Rattle.trackers.specs.Filing.{Piles, Wish, AreAlike, due_in, entries_of, is_wish_met, undue_in, weigh}
 use Rattle.trackers.specs.Held.{after, asked, asked_from, AreFiled, Reach, none, pass, pick}
@@ -19,7 +20,7 @@ apart m n failed same = grind (arith, nat_tests)
 module _ (w : World) (place : ℕ) where
   -- what is not filed under the place is not due
   abbrev pub Elsewhere : Waiting → Type 0
-  Elsewhere t = t.place ≢ place → is_due w t ≡ false
+  Elsewhere t = t.collection ≢ place → is_due w t ≡ false
 
   -- the places that are due reach each row that is met
   reach_at : (n id cell : ℕ) (stage : Stage) (has : Bool) (rows : List Kept) (more : List Wish) →

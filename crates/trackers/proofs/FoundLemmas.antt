@@ -5,7 +5,8 @@ use Rattle.std.proofs.lemmas.List.Elements.{All-from_recursion}
 use Rattle.std.proofs.lemmas.List.Sums.{sum_by-cons}
 use Rattle.std.proofs.lemmas.Bool.Decides.{nat_tests}
 use Rattle.sm_names.specs.declared.tracking.Fired.{Fired}
-use Rattle.trackers.specs.Table.{Table, Reader, Waiting, Cell, firing_of, cell_of, is_untaken, without, reader_of}
+use Rattle.trackers.specs.declared.waiting.Waiting.{Waiting}
+use Rattle.trackers.specs.Table.{Table, Reader, Cell, firing_of, cell_of, is_untaken, without, reader_of}
 use Rattle.trackers.specs.Filing.{Piles, weigh}
 use Rattle.trackers.specs.Row.{Kept, is_waiting, waiting_of_row, firing_of_row, reader_of_row}
 use Rattle.trackers.specs.Held.{cell_of_row, untaken_of_row, asked, asked_from, AreRising, AreHeld, IsKeptUp, NoneHas, Found, here, later, table_of}

@@ -6,7 +6,8 @@ use Rattle.std.proofs.lemmas.List.Elements.{All-from_recursion, recursion_from_A
 use Rattle.std.proofs.lemmas.List.Sums.{sum_by-cons}
 use Rattle.sm_names.specs.declared.tracking.Fired.{Fired}
 use Rattle.sm_names.specs.Trackers.{World, holds}
-use Rattle.trackers.specs.Table.{Waiting, is_due, firing, firings, still_waiting, firing_of}
+use Rattle.trackers.specs.declared.waiting.Waiting.{Waiting}
+use Rattle.trackers.specs.Table.{is_due, firing, firings, still_waiting, firing_of}
 use Rattle.trackers.specs.Row.{Kept, Stage, Waits, Over, is_waiting, waiting_of_row, firing_of_row}
 use Rattle.trackers.specs.Held.{cell_of_row, untaken_of_row, is_met, after, fires, AreRising, AreHeld, NoneHas, Found, here, later}
 use Rattle.trackers.proofs.FoundLemmas.{found_at, same_id, other_id}
@@ -25,10 +26,10 @@ module _ (w : World) (e : ℕ) where
   unfired_at id cell (Over event) has rest more same = same
   unfired_at id cell (Waits place c) has rest more same =
       elim (holds w c) as (λ b. cons_option (waiting_of_row (if b then row_of id cell (Over e) has else row_of id cell (Waits place c) has))
-      rest ≡ (let t : Waiting = record { id = id; place = place; condition = c } in
+      rest ≡ (let t : Waiting = record { id = id; collection = place; condition = c } in
       cond (not b) (t ∷ still_waiting w more) (still_waiting w more))) [
         | true ↦ same
-        | false ↦ ap (λ l. record { id = id; place = place; condition = c } ∷ l) same
+        | false ↦ ap (λ l. record { id = id; collection = place; condition = c } ∷ l) same
       ]
 
   -- the same for all rows
@@ -42,7 +43,7 @@ module _ (w : World) (e : ℕ) where
       cons_option (fires w e (row_of id cell stage has)) rest ≡ firings w e (cons_option (waiting_of_row (row_of id cell stage has)) more)
   firings_at id cell (Over event) has rest more same = same
   firings_at id cell (Waits place c) has rest more same =
-      let t : Waiting = record { id = id; place = place; condition = c } in
+      let t : Waiting = record { id = id; collection = place; condition = c } in
       let f : Fired = record { tracker = id; event = e } in
       let none : Option Fired = None in
       elim (holds w c) as (λ b. cons_option (if b then Some f else none) rest ≡ map (firing e) (cond b (t ∷ filter (is_due w) more)

@@ -5,7 +5,8 @@ use Rattle.std.specs.Option.{option_map_or}
 use Rattle.sm_names.specs.declared.tracking.Condition.{Condition}
 use Rattle.sm_names.specs.declared.tracking.Fired.{Fired}
 use Rattle.sm_names.specs.Trackers.{World}
-use Rattle.trackers.specs.Table.{Table, Waiting, Cell, is_due, firing_of}
+use Rattle.trackers.specs.declared.waiting.Waiting.{Waiting}
+use Rattle.trackers.specs.Table.{Table, Cell, is_due, firing_of}
 use Rattle.trackers.specs.Filing.{Piles, Wish, AreAlike, entries_of}
 use Rattle.trackers.specs.Row.{Kept, Waits, Over, is_waiting, waiting_of_row, firing_of_row}
 
@@ -42,7 +43,7 @@ fires world event row = if is_met world row then Some (record { tracker = row.id
 -- what the row at this place waits for, if it does under the collection
 abbrev pub asked : ℕ → ℕ → Kept → Option Wish
 asked collection n row =
-    option_map_or (λ (t : Waiting). if collection == t.place then Some (t.condition, n) else None) (waiting_of_row row) None
+    option_map_or (λ (t : Waiting). if collection == t.collection then Some (t.condition, n) else None) (waiting_of_row row) None
 
 -- what the rows wait for under the collection, where the list begins at this place
 abbrev pub asked_from : ℕ → ℕ → List Kept → List Wish
@@ -81,8 +82,8 @@ pub record AreFiled (rows : List Kept) (piles : Piles) : Type 0 where
   pub at : (collection : ℕ) → AreAlike (entries_of piles collection) (asked_from collection 0 rows)
 
 -- the row of a tracker that was attached just now
-abbrev pub attached : ℕ → ℕ → ℕ → Condition → Kept
-attached id cell place condition = record { id = id; cell = cell; stage = Waits place condition; has_reader = true }
+abbrev pub attached : ℕ → Waiting → Kept
+attached cell t = record { id = t.id; cell = cell; stage = Waits t.collection t.condition; has_reader = true }
 
 -- what holds of the table: its rows and firings are sound, those that wait are filed, and there is room for their places
 pub record IsKeptUp (limit : ℕ) (rows : List Kept) (fired : List Fired) (capacity : ℕ) (spare : ℕ) (piles : Piles) : Type 0 where

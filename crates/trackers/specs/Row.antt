@@ -2,7 +2,8 @@
 use Rattle.std.specs.Prelude.{ℕ, Bool, true, false, Option, Some, None, if◌then◌else◌}
 use Rattle.sm_names.specs.declared.tracking.Condition.{Condition}
 use Rattle.sm_names.specs.declared.tracking.Fired.{Fired}
-use Rattle.trackers.specs.Table.{Reader, Waiting}
+use Rattle.trackers.specs.declared.waiting.Waiting.{Waiting}
+use Rattle.trackers.specs.Table.{Reader}
 
 -- the first of two that knows a firing decides
 abbrev pub first_known : Option Fired → Option Fired → Option Fired
@@ -23,7 +24,7 @@ pub record Kept : Type 0 where
 
 -- the tracker with this id waits at this stage
 abbrev pub waiting_at : ℕ → Stage → Option Waiting
-waiting_at id (Waits place condition) = Some (record { id = id; place = place; condition = condition })
+waiting_at id (Waits place condition) = Some (record { id = id; collection = place; condition = condition })
 waiting_at id (Over event) = None
 
 -- the tracker with this id fired at this stage

@@ -2,21 +2,15 @@
 use Rattle.std.specs.Prelude.{◌≡◌, ℕ, Bool, ◌==◌, not, List, [], ◌∷◌, ◌++◌, map, Option, unwrap_or}
 use Rattle.std.specs.List.{filter, find, list_any}
 use Rattle.std.specs.Option.{option_map}
-use Rattle.sm_names.specs.declared.tracking.Condition.{Condition}
 use Rattle.sm_names.specs.declared.tracking.Fired.{Fired}
 use Rattle.sm_names.specs.Trackers.{World, holds}
+use Rattle.trackers.specs.declared.waiting.Waiting.{Waiting}
 
 -- a tracker that was handed out: its id, the name of its cell, and the firing that it knows
 pub record Reader : Type 0 where
   pub tracker : ℕ
   pub cell : ℕ
   pub known : Option Fired
-
--- a tracker that has not fired: the collection that it is filed under, and what it waits for
-pub record Waiting : Type 0 where
-  pub id : ℕ
-  pub place : ℕ
-  pub condition : Condition
 
 -- the cell of a tracker, by its name
 pub record Cell : Type 0 where

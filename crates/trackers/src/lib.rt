@@ -7,10 +7,12 @@ mod group;
 mod row;
 mod table;
 mod tracker;
+mod waiting;
 mod walk;
 mod world;
 
 pub use sm_names::{Condition, Fired};
 pub use table::{TrackFault, Trackers};
 pub use tracker::Tracker;
+pub use waiting::Waiting;
 pub use world::{World, holds_in};

@@ -6,6 +6,7 @@ ghost use Rattle.trackers.specs.Held.{is_met};
 ghost use Rattle.trackers.specs.Row.{Kept, Waits, Over, firing_of_row, reader_of_row, is_waiting};
 
 use crate::tracker::Tracker;
+use crate::waiting::Waiting;
 use crate::world::{World, holds_in};
 use once_cell::race::{Note, OnceBox};
 use sm_names::{CollectionId, Condition, Fired, TrackerId};
@@ -52,16 +53,16 @@ impl Model for Row {
 }
 
 impl Row {
-    /// A tracker that waits, filed under this collection, and its reader.
-    pub(crate) fn new(
-        alloc: Global,
-        id: TrackerId,
-        place: CollectionId,
-        condition: Condition,
-    ) -> Result<Row, AllocError>
-        ensures { IfOk result (λ r.
-            (r.id ≡ id) × (r.stage ≡ Waits place condition) × (r.has_reader ≡ true)) }
+    /// The tracker as a row, and its reader.
+    pub(crate) fn new(alloc: Global, tracker: Waiting) -> Result<Row, AllocError>
+        ensures { IfOk result (λ r. (r.id ≡ tracker.id)
+            × (r.stage ≡ Waits tracker.collection tracker.condition) × (r.has_reader ≡ true)) }
     {
+        let Waiting {
+            id,
+            collection: place,
+            condition,
+        } = tracker;
         let cell = Arc::new(alloc, OnceBox::new(alloc))?;
         let room = Box::new(
             alloc,

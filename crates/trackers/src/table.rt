@@ -1,16 +1,18 @@
 //! All trackers of a service.
 ghost use Rattle.std.specs.Prelude.{◌≡◌, ◌≢◌, ℕ, ◌+◌, ◌^◌, ◌<◌, ◌≤◌, ◌==◌, ◌↔◌, [], ◌∷◌, ◌++◌, length, vec_len, vec_capacity, false, if◌then◌else◌, Some, None, All, OnOk, OnErr, IfSome, Err};
 ghost use Rattle.std.specs.Bool.{OnTrue};
-ghost use Rattle.trackers.specs.Table.{Table, Waiting, Cell, empty, is_due, firings, still_waiting, firing_of, cell_of, is_untaken, without, reader_of, Attaches};
+ghost use Rattle.trackers.specs.declared.waiting.Waiting.{Waiting};
+ghost use Rattle.trackers.specs.Table.{Table, Cell, empty, is_due, firings, still_waiting, firing_of, cell_of, is_untaken, without, reader_of, Attaches};
 ghost use Rattle.trackers.specs.Filing.{Wish, entries_of, weigh};
 ghost use Rattle.trackers.specs.Held.{AreRising, IsPlace, attached};
 
 use crate::filing::{Piles, file, gather, withdraw};
 use crate::row::Row;
 use crate::tracker::Tracker;
+use crate::waiting::Waiting;
 use crate::walk::fire_due;
 use crate::world::World;
-use sm_names::{CollectionId, Condition, Fired, TrackerId};
+use sm_names::{CollectionId, Fired, TrackerId};
 use std::alloc::{AllocError, Global};
 use std::collections::HashMap;
 use std::marker::Model;
@@ -65,21 +67,14 @@ impl Trackers {
         }
     }
 
-    /// Attaches a tracker under the number of this event, filed under the collection that its
-    /// condition concerns. It is `Full` exactly where as many wait as may, whatever memory there
+    /// Attaches a tracker, under the number of this event. It is `Full` exactly where as many wait as may, whatever memory there
     /// is; a fault changes nothing. All memory that the firing and the taking will need is taken here:
     /// a cell, the room for its value, and a place in each table. It costs a binary search among the
     /// nodes and the buffers that are waited for under the collection, the logarithm of how many wait
     /// for the same, the shift of the others behind one that is new, and the growth of the tables.
-    pub fn attach(
-        &mut self,
-        id: TrackerId,
-        collection: CollectionId,
-        condition: Condition,
-    ) -> Result<(), TrackFault>
-        requires rising { All (λ (c : Cell). c.id < id) self.old.cells }
-        ensures ok { OnOk result (Attaches self.old self.new
-            (record { id = id; place = collection; condition = condition })) }
+    pub fn attach(&mut self, tracker: Waiting) -> Result<(), TrackFault>
+        requires rising { All (λ (c : Cell). c.id < tracker.id) self.old.cells }
+        ensures ok { OnOk result (Attaches self.old self.new tracker) }
         ensures full { (result ≡ Err TrackFault.Full)
             ↔ (length self.old.unfired ≡ self.old.limit) }
         ensures err { OnErr result (self.new ≡ self.old) }
@@ -94,9 +89,7 @@ impl Trackers {
             &mut self.piles,
             &mut self.due,
             waiting,
-            id,
-            collection,
-            condition,
+            tracker,
         ) {
             Ok(()) => Ok(()),
             Err(_) => Err(TrackFault::NoMemory),
@@ -116,7 +109,7 @@ impl Trackers {
     /// under the collection.
     pub fn detach(&mut self, collection: CollectionId)
         requires last { (before : Table) × (tracker : Waiting) × Attaches before self.old tracker
-            × (tracker.place ≡ collection) }
+            × (tracker.collection ≡ collection) }
         ensures { (before : Table) (tracker : Waiting) →
             Attaches before self.old tracker → self.new ≡ before }
     {
@@ -132,7 +125,7 @@ impl Trackers {
     /// those that fire, and then the nodes and buffers are gone through once more. Those that do not
     /// fire, those of other collections, and those that fired, cost nothing else.
     pub fn sweep<W: World>(&mut self, event: u64, collection: CollectionId, world: &W)
-        requires elsewhere { All (λ (t : Waiting). t.place ≢ collection
+        requires elsewhere { All (λ (t : Waiting). t.collection ≢ collection
             → is_due (W.seen world.now) t ≡ false) self.old.unfired }
         ensures fired { self.new.fired
             ≡ self.old.fired ++ firings (W.seen world.now) event self.old.unfired }
@@ -196,17 +189,15 @@ fn add(
     piles: &mut Piles,
     due: &mut Vec<usize>,
     waiting: usize,
-    id: TrackerId,
-    collection: CollectionId,
-    condition: Condition,
+    tracker: Waiting,
 ) -> Result<(), AllocError>
     requires { waiting < 2 ^ 32 }
     ensures row { OnOk result ((cell : ℕ) × (rows.new.items
-        ≡ rows.old.items ++ attached id cell collection condition ∷ [])) }
+        ≡ rows.old.items ++ attached cell tracker ∷ [])) }
     ensures room { OnOk result (vec_len fired.old + (waiting + 1) ≤ vec_capacity fired.new) }
     ensures spare { OnOk result (waiting + 1 ≤ vec_capacity due.new) }
     ensures filed { OnOk result ((c : ℕ) (f : Wish → ℕ) → weigh f (entries_of piles.new c)
-        ≡ (if c == collection then f (condition, vec_len rows.old) + weigh f (entries_of piles.old c)
+        ≡ (if c == tracker.collection then f (tracker.condition, vec_len rows.old) + weigh f (entries_of piles.old c)
         else weigh f (entries_of piles.old c))) }
     ensures fired { fired.new.items ≡ fired.old.items }
     ensures capacity { vec_capacity fired.old ≤ vec_capacity fired.new }
@@ -216,11 +207,17 @@ fn add(
         weigh f (entries_of piles.new c) ≡ weigh f (entries_of piles.old c)) }
 {
     let alloc = *rows.allocator();
-    let row = Row::new(alloc, id, collection, condition)?;
+    let row = Row::new(alloc, tracker)?;
     rows.reserve(1)?;
     fired.reserve(waiting + 1)?;
     due.reserve(waiting + 1)?;
-    file(piles, alloc, collection, condition, rows.len())?;
+    file(
+        piles,
+        alloc,
+        tracker.collection,
+        tracker.condition,
+        rows.len(),
+    )?;
     rows.push_reserved(row);
     Ok(())
 }

@@ -25,20 +25,20 @@ use Rattle.event_laws.specs.ByEvent.{anyone, one_if}
 use Rattle.event_laws.proofs.NumberLaws.{In-all}
 use Rattle.event_laws.proofs.FreeEndLaws.{passed}
 use Rattle.buffer_holds.specs.Counts.{Counts, total}
-use Rattle.trackers.specs.Table.{Cell, Table, Waiting, is_due}
+use Rattle.trackers.specs.declared.waiting.Waiting.{Waiting}
+use Rattle.trackers.specs.Table.{Cell, Table, is_due}
 use Rattle.alloc_event.specs.declared.change.Change.{Change}
 use Rattle.alloc_event.specs.declared.change.Effect.{Effect}
 use Rattle.alloc_event.specs.declared.node.Node.{Node}
 use Rattle.alloc_event.specs.Forest.{Collection, Forest, SameKeys, collection_at, given, node_at}
 use Rattle.alloc_event.specs.Settling.{no_key}
 use Rattle.lifetime_core.specs.declared.task.Place.{Place}
-use Rattle.lifetime_core.specs.declared.sweeping.Tracking.{Tracking}
 use Rattle.lifetime_core.specs.declared.task.Task.{Task}
 use Rattle.lifetime_core.specs.Hands.{Moves}
 use Rattle.lifetime_core.specs.Reads.{readings_of, world_in}
 use Rattle.lifetime_core.specs.State.{State}
 use Rattle.lifetime_core.specs.Steps.{Gains, Work, at_collection, drop_at, swept, tracker_by, with_place, without_over, work_of}
-use Rattle.lifetime_core.specs.Tasks.{MayDo, Reworked, looked_in, waiting_as, work_in}
+use Rattle.lifetime_core.specs.Tasks.{MayDo, Reworked, looked_in, work_in}
 use Rattle.lifetime_core.specs.Whole.{CanFinish, Concerns, IsNodeOf, IsSound, StillWaits}
 use Rattle.lifetime_core.proofs.forced.Forest.{node_with_key}
 use Rattle.lifetime_core.proofs.firing.Sweeps.{all_of}
@@ -46,12 +46,12 @@ use Rattle.lifetime_core.proofs.firing.Worlds.{amid_named, sound_named, waits_on
 use Rattle.lifetime_core.proofs.firing.WorldsApart.{AreKept, LeavesRest, changed_by, concerns_worked, leaves_rest, undue_elsewhere}
 
 -- what is known of a core where the call is answered
-pub record Starts (s : State) (client : ℕ) (call : Call) (asked : Reply) (task : Option Task) (tracking : Option Tracking) : Type 0 where
+pub record Starts (s : State) (client : ℕ) (call : Call) (asked : Reply) (task : Option Task) (tracking : Option Waiting) : Type 0 where
   pub sound : IsSound s.forest
   pub waiting : All (StillWaits s.forest (total s.holds)) s.trackers.unfired
   pub work : work_in task ≡ work_of s client call asked
   pub may : IfSome task (MayDo s.forest)
-  pub tracks : option_map waiting_as tracking ≡ tracker_by s.forest call asked
+  pub tracks : tracking ≡ tracker_by s.forest call asked
 
 -- ---- the tracker that is attached
 
@@ -78,11 +78,11 @@ module _ (limits : Bound) (s : State) (client : ℕ) where
   is_made : (call : Call) (asked : Reply) → asked ≡ answer limits (readings_of s) client no_key call → (t : Waiting) →
       tracker_by s.forest call asked ≡ Some t → IsMade limits s t
   is_made (Call.TrackNode key) (Reply.Tracker id) told t is =
-      let n = map-Some (λ (n : Node). record { id = id; place = n.collection; condition = Condition.Node key }) (node_at s.forest key) t
+      let n = map-Some (λ (n : Node). record { id = id; collection = n.collection; condition = Condition.Node key }) (node_at s.forest key) t
       is in
       called_made (Call.TrackNode key) id refl refl refl told t (ap (λ (w : Waiting). w.id) n.2)
   is_made (Call.TrackLifetime key most) (Reply.Tracker id) told t is =
-      let n = map-Some (λ (n : Node). record { id = id; place = n.collection; condition = Condition.Lifetime key n.collection most })
+      let n = map-Some (λ (n : Node). record { id = id; collection = n.collection; condition = Condition.Lifetime key n.collection most })
       (node_at s.forest key) t is in
       called_made (Call.TrackLifetime key most) id refl refl refl told t (ap (λ (w : Waiting). w.id) n.2)
   is_made (Call.TrackWeak buffer) (Reply.Tracker id) told t is = called_made (Call.TrackWeak buffer) id refl refl refl told t (id_of is)
@@ -91,25 +91,25 @@ module _ (limits : Bound) (s : State) (client : ℕ) where
       id_of h = cc
   is_made _ _ told t is = cc
 
-module _ (s : State) (call : Call) (asked : Reply) (limits : Bound) (client : ℕ) (tracking : Option Tracking) where
+module _ (s : State) (call : Call) (asked : Reply) (limits : Bound) (client : ℕ) (tracking : Option Waiting) where
   -- the call is answered so
   abbrev IsTold : Type 0
   IsTold = asked ≡ answer limits (readings_of s) client no_key call
 
   -- and attaches this tracker, if it attaches one
   abbrev Tracks : Type 0
-  Tracks = option_map waiting_as tracking ≡ tracker_by s.forest call asked
+  Tracks = tracking ≡ tracker_by s.forest call asked
 
   -- that is made
-  tracked : IsTold → Tracks → (t : Tracking) → tracking ≡ Some t → IsMade limits s (waiting_as t)
-  tracked told tracks t is = is_made limits s client call asked told (waiting_as t) (sym tracks ∙ ap (option_map waiting_as) is)
+  tracked : IsTold → Tracks → (t : Waiting) → tracking ≡ Some t → IsMade limits s t
+  tracked told tracks t is = is_made limits s client call asked told t (sym tracks ∙ is)
 
   -- its id is above all others
   pub attached_above : IsTold → Tracks → All (λ (c : Cell). c.id ≤ s.events) s.trackers.cells →
       IfSome tracking (λ t. All (λ (c : Cell). c.id < t.id) s.trackers.cells)
   attached_above told tracks numbered = by tracking refl
     where
-      by : (o : Option Tracking) → tracking ≡ o → IfSome o (λ t. All (λ (c : Cell). c.id < t.id) s.trackers.cells)
+      by : (o : Option Waiting) → tracking ≡ o → IfSome o (λ t. All (λ (c : Cell). c.id < t.id) s.trackers.cells)
       by None is = tt
       by (Some t) is = all_of (λ (c : Cell). c.id < t.id) s.trackers.cells (λ c on.
           let below : c.id ≤ s.events = In-all (λ (d : Cell). d.id ≤ s.events) s.trackers.cells numbered c on in
@@ -121,12 +121,12 @@ module _ (s : State) (call : Call) (asked : Reply) (limits : Bound) (client : �
       IfSome tracking (λ t. length s.trackers.unfired < s.trackers.limit)
   attached_fits told tracks limit = by tracking refl
     where
-      by : (o : Option Tracking) → tracking ≡ o → IfSome o (λ t. length s.trackers.unfired < s.trackers.limit)
+      by : (o : Option Waiting) → tracking ≡ o → IfSome o (λ t. length s.trackers.unfired < s.trackers.limit)
       by None is = tt
       by (Some t) is = rw limit (tracked told tracks t is).room
 
   -- the ids are still those of events
-  pub still_numbered : (attached : Table) → IsTold → Tracks → Gains s.trackers (option_map waiting_as tracking) attached →
+  pub still_numbered : (attached : Table) → IsTold → Tracks → Gains s.trackers tracking attached →
       All (λ (c : Cell). c.id ≤ s.events) s.trackers.cells →
       All (λ (c : Cell). c.id ≤ s.events + 1) attached.cells
   still_numbered attached told tracks gains numbered = by tracking refl gains
@@ -135,7 +135,7 @@ module _ (s : State) (call : Call) (asked : Reply) (limits : Bound) (client : �
       before c on = let below : c.id ≤ s.events =
           In-all (λ (d : Cell). d.id ≤ s.events) s.trackers.cells numbered c on in omega (arith, below)
 
-      by : (o : Option Tracking) → tracking ≡ o → Gains s.trackers (option_map waiting_as o) attached →
+      by : (o : Option Waiting) → tracking ≡ o → Gains s.trackers o attached →
           All (λ (c : Cell). c.id ≤ s.events + 1) attached.cells
       by None is gains = all_of (λ (c : Cell). c.id ≤ s.events + 1) attached.cells (λ c on.
           before c (subst (λ (t : Table). In c t.cells) gains on))
@@ -160,15 +160,15 @@ node_filed f sound key n at =
 
 -- a tracker is filed under the collection that it concerns
 made_filed : (f : Forest) → IsSound f → (call : Call) (asked : Reply) (t : Waiting) → tracker_by f call asked ≡ Some t →
-    Concerns f t.place t.condition
+    Concerns f t.collection t.condition
 made_filed f sound (Call.TrackNode key) (Reply.Tracker id) t is =
-    let n = map-Some (λ (n : Node). record { id = id; place = n.collection; condition = Condition.Node key }) (node_at f key) t is in
-    subst (λ (w : Waiting). Concerns f w.place w.condition) n.2 (node_filed f sound key n.0 n.1)
+    let n = map-Some (λ (n : Node). record { id = id; collection = n.collection; condition = Condition.Node key }) (node_at f key) t is in
+    subst (λ (w : Waiting). Concerns f w.collection w.condition) n.2 (node_filed f sound key n.0 n.1)
 made_filed f sound (Call.TrackLifetime key most) (Reply.Tracker id) t is =
-    let n = map-Some (λ (n : Node). record { id = id; place = n.collection; condition = Condition.Lifetime key n.collection most })
+    let n = map-Some (λ (n : Node). record { id = id; collection = n.collection; condition = Condition.Lifetime key n.collection most })
     (node_at f key) t is in
-    subst (λ (w : Waiting). Concerns f w.place w.condition) n.2 (refl, node_filed f sound key n.0 n.1)
-made_filed f sound (Call.TrackWeak buffer) (Reply.Tracker id) t is = subst (λ (w : Waiting). Concerns f w.place w.condition) (one is) refl
+    subst (λ (w : Waiting). Concerns f w.collection w.condition) n.2 (refl, node_filed f sound key n.0 n.1)
+made_filed f sound (Call.TrackWeak buffer) (Reply.Tracker id) t is = subst (λ (w : Waiting). Concerns f w.collection w.condition) (one is) refl
   where
     one : {w : Waiting} → Some w ≡ Some t → w ≡ t
     one h = cc
@@ -186,10 +186,10 @@ attached_from old new (Some w) gains t on = elim (In-append old.unfired (w ∷ [
 
 -- ---- the collection that is changed
 
-module _ (s : State) (client : ℕ) (call : Call) (asked : Reply) (task : Option Task) (tracking : Option Tracking)
+module _ (s : State) (client : ℕ) (call : Call) (asked : Reply) (task : Option Task) (tracking : Option Waiting)
     (starts : Starts s client call asked task tracking) where
   -- the tracker that is made is filed under it, if one is
-  made_here : (t : Waiting) → option_map waiting_as tracking ≡ Some t → (id : ℕ) → changed_by task ≡ Some id → t.place ≡ id
+  made_here : (t : Waiting) → tracking ≡ Some t → (id : ℕ) → changed_by task ≡ Some id → t.collection ≡ id
   made_here t is id changed =
       by call asked (sym (ap (option_map (λ (w : Work). w.collection)) starts.work) ∙ changed) (sym starts.tracks ∙ is)
     where
@@ -197,14 +197,14 @@ module _ (s : State) (client : ℕ) (call : Call) (asked : Reply) (task : Option
       same m n h = cc
 
       by : (call : Call) (asked : Reply) → option_map (λ (w : Work). w.collection) (work_of s client call asked) ≡ Some id →
-          tracker_by s.forest call asked ≡ Some t → t.place ≡ id
+          tracker_by s.forest call asked ≡ Some t → t.collection ≡ id
       by (Call.TrackNode key) (Reply.Tracker number) there made =
-          let n = map-Some (λ (n : Node). record { id = number; place = n.collection; condition = Condition.Node key })
+          let n = map-Some (λ (n : Node). record { id = number; collection = n.collection; condition = Condition.Node key })
           (node_at s.forest key) t made in
           let here : Some n.0.collection ≡ Some id =
           sym (ap (λ (o : Option Node). option_map (λ (w : Work). w.collection) (option_map (λ (m : Node).
           record { collection = m.collection; change = Change.Effect key Effect.Tracked }) o)) n.1) ∙ there in
-          ap (λ (w : Waiting). w.place) (sym n.2) ∙ same n.0.collection id here
+          ap (λ (w : Waiting). w.collection) (sym n.2) ∙ same n.0.collection id here
       by (Call.TrackLifetime key most) (Reply.Tracker number) there made = let no : None ≡ Some id = there in cc
       by (Call.TrackWeak buffer) (Reply.Tracker number) there made = let no : None ≡ Some id = there in cc
       by _ _ there made = cc
@@ -243,14 +243,14 @@ module _ (s : State) (client : ℕ) (call : Call) (asked : Reply) (task : Option
 -- ---- after the event
 
 -- a new tracker that is not looked for is not due
-new_elsewhere : (w : World) (changed : Option ℕ) (tracking : Option Tracking) (t : Waiting) → option_map waiting_as tracking ≡ Some t →
-    ((id : ℕ) → changed ≡ Some id → t.place ≡ id) → (looked_in w changed tracking ≡ Some t.place → ⊥) → is_due w t ≡ false
+new_elsewhere : (w : World) (changed : Option ℕ) (tracking : Option Waiting) (t : Waiting) → tracking ≡ Some t →
+    ((id : ℕ) → changed ≡ Some id → t.collection ≡ id) → (looked_in w changed tracking ≡ Some t.collection → ⊥) → is_due w t ≡ false
 new_elsewhere w (Some id) tracking t is here other = absurd (other (ap Some (sym (here id refl))))
 new_elsewhere w None None t is here other = cc
 new_elsewhere w None (Some n) t is here other =
-    let same : waiting_as n ≡ t = one is in
+    let same : n ≡ t = one is in
     subst (λ (x : Waiting). is_due w x ≡ false) same
-    (not_looked (holds w n.condition) (λ h. other (h ∙ ap (λ (x : Waiting). Some x.place) same)))
+    (not_looked (holds w n.condition) (λ h. other (h ∙ ap (λ (x : Waiting). Some x.collection) same)))
   where
     one : {x : Waiting} → Some x ≡ Some t → x ≡ t
     one h = cc
@@ -259,11 +259,11 @@ new_elsewhere w None (Some n) t is here other =
     not_looked true other = absurd (other refl)
     not_looked false other = refl
 
-module _ (s : State) (client : ℕ) (call : Call) (asked : Reply) (task : Option Task) (tracking : Option Tracking)
+module _ (s : State) (client : ℕ) (call : Call) (asked : Reply) (task : Option Task) (tracking : Option Waiting)
     (starts : Starts s client call asked task tracking)
     (holds : Counts) (moves : Moves s.holds holds (Called client asked call)) (worked : Forest) (key : Option NodeKey)
     (work : Reworked s.pool (total holds) s.forest (work_in task) key worked)
-    (amid : CanFinish worked task) (attached : Table) (gains : Gains s.trackers (option_map waiting_as tracking) attached) where
+    (amid : CanFinish worked task) (attached : Table) (gains : Gains s.trackers tracking attached) where
   -- the other collections are as they were
   rest : LeavesRest s.forest worked (changed_by task)
   rest = leaves_rest s.pool (total holds) s.forest worked task key starts.sound starts.may work
@@ -293,15 +293,15 @@ module _ (s : State) (client : ℕ) (call : Call) (asked : Reply) (task : Option
   ]
 
   -- no tracker is due elsewhere
-  pub elsewhere : All (λ (t : Waiting). (looked_in (world_in worked (total holds)) (changed_by task) tracking ≡ Some t.place → ⊥) →
+  pub elsewhere : All (λ (t : Waiting). (looked_in (world_in worked (total holds)) (changed_by task) tracking ≡ Some t.collection → ⊥) →
       is_due (world_in worked (total holds)) t ≡ false) attached.unfired
-  elsewhere = all_of (λ (t : Waiting). (looked_in (world_in worked (total holds)) (changed_by task) tracking ≡ Some t.place → ⊥) →
+  elsewhere = all_of (λ (t : Waiting). (looked_in (world_in worked (total holds)) (changed_by task) tracking ≡ Some t.collection → ⊥) →
       is_due (world_in worked (total holds)) t ≡ false) attached.unfired (λ t on other.
-      elim (attached_from s.trackers attached (option_map waiting_as tracking) gains t on) [
+      elim (attached_from s.trackers attached tracking gains t on) [
         | inl old ↦
             let waits : StillWaits s.forest (total s.holds) t =
             In-all (StillWaits s.forest (total s.holds)) s.trackers.unfired starts.waiting t old in
-            let apart : changed_by task ≡ Some t.place → ⊥ =
+            let apart : changed_by task ≡ Some t.collection → ⊥ =
             λ h. other (ap (λ (o : Option ℕ). looked_in (world_in worked (total holds)) o tracking) h) in
             undue_elsewhere s.forest worked (changed_by task) starts.sound (amid_named worked task amid) rest (total s.holds) (total holds)
             t apart waits.filed
@@ -311,8 +311,8 @@ module _ (s : State) (client : ℕ) (call : Call) (asked : Reply) (task : Option
       ])
 
   -- each tracker is filed under the collection that it concerns
-  filed : (t : Waiting) → In t attached.unfired → Concerns s.forest t.place t.condition
-  filed t on = elim (attached_from s.trackers attached (option_map waiting_as tracking) gains t on) [
+  filed : (t : Waiting) → In t attached.unfired → Concerns s.forest t.collection t.condition
+  filed t on = elim (attached_from s.trackers attached tracking gains t on) [
     | inl old ↦ (In-all (StillWaits s.forest (total s.holds)) s.trackers.unfired starts.waiting t old).filed
     | inr new ↦ made_filed s.forest starts.sound call asked t (sym starts.tracks ∙ new)
   ]
@@ -323,8 +323,8 @@ module _ (s : State) (client : ℕ) (call : Call) (asked : Reply) (task : Option
     pub waiting_after : All (StillWaits g (total holds)) (swept (world_in worked (total holds)) (s.events + 1) attached).unfired
     waiting_after = all_of (StillWaits g (total holds)) (swept (world_in worked (total holds)) (s.events + 1) attached).unfired (λ t on.
         let kept = In-filter (λ (x : Waiting). not (is_due (world_in worked (total holds)) x)) attached.unfired t on in
-        let there : Concerns worked t.place t.condition =
-        concerns_worked s.forest worked (changed_by task) starts.sound (amid_named worked task amid) rest t.place t.condition
+        let there : Concerns worked t.collection t.condition =
+        concerns_worked s.forest worked (changed_by task) starts.sound (amid_named worked task amid) rest t.collection t.condition
         (filed t kept.0) in
         waits_on worked g place (amid_named worked task amid) (sound_named g sound) left keys (total holds) t there
         (not_back (is_due (world_in worked (total holds)) t) kept.1))

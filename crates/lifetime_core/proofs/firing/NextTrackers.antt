@@ -26,7 +26,8 @@ use Rattle.event_laws.proofs.MomentLaws.{events_after, tracked_after}
 use Rattle.event_laws.proofs.RecallLaws.{recalled_due}
 use Rattle.event_laws.proofs.WaitingLaws.{fired_next, waiting_next}
 use Rattle.buffer_holds.specs.Counts.{total}
-use Rattle.trackers.specs.Table.{Table, Waiting, firing as firing_in, is_due as is_due_in, is_untaken}
+use Rattle.trackers.specs.declared.waiting.Waiting.{Waiting}
+use Rattle.trackers.specs.Table.{Table, firing as firing_in, is_due as is_due_in, is_untaken}
 use Rattle.alloc_event.specs.Forest.{node_at}
 use Rattle.lifetime_core.specs.Reads.{world_in}
 use Rattle.lifetime_core.specs.Shown.{AreTrackers, IsAfter, node_after, tracked_as}

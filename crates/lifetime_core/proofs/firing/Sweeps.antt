@@ -5,7 +5,8 @@ use Rattle.std.proofs.lemmas.List.Elements.{All-nil, All-cons}
 use Rattle.std.specs.List.{All}
 use Rattle.sm_names.specs.Trackers.{World}
 use Rattle.sm_names.proofs.ListLaws.{In, filter-none}
-use Rattle.trackers.specs.Table.{Table, Waiting, firing, firings, is_due, still_waiting}
+use Rattle.trackers.specs.declared.waiting.Waiting.{Waiting}
+use Rattle.trackers.specs.Table.{Table, firing, firings, is_due, still_waiting}
 use Rattle.lifetime_core.specs.Steps.{swept}
 use Rattle.lifetime_core.proofs.lists.Maps.{filter-all}
 

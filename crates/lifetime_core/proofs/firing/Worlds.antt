@@ -14,7 +14,8 @@ use Rattle.sm_names.specs.Trackers.{holds}
 use Rattle.sm_names.proofs.ListLaws.{In, In-filter, In-filter-back, In-find, In-map, In-map-back}
 use Rattle.sm_names.proofs.SamenessLaws.{and_left, and_right, both_ways, either_way, none_or_some, same_key-refl, same_key-true}
 use Rattle.sm_names.proofs.SettledLaws.{not_back}
-use Rattle.trackers.specs.Table.{Waiting, is_due}
+use Rattle.trackers.specs.declared.waiting.Waiting.{Waiting}
+use Rattle.trackers.specs.Table.{is_due}
 use Rattle.alloc_event.specs.declared.node.Node.{Node}
 use Rattle.alloc_event.specs.Forest.{Collection, Forest, SameKeys, all_nodes, collection_at, given, is_left, node_at, with_nodes}
 use Rattle.alloc_event.specs.Nodes.{is_of, is_over, member_of, members_of}
@@ -283,7 +284,7 @@ module _ (f g : Forest) (o : Option Place) (named : AreNamed f) (after : AreName
     still_concerns id (Condition.Weak buffer) was = was
 
     -- a tracker that waits waits on
-    pub waits_on : (handles : Handles) (t : Waiting) → Concerns f t.place t.condition → is_due (world_in f handles) t ≡ false →
+    pub waits_on : (handles : Handles) (t : Waiting) → Concerns f t.collection t.condition → is_due (world_in f handles) t ≡ false →
         StillWaits g handles t
     waits_on handles t filed undue =
-        record { filed = still_concerns t.place t.condition filed; undue = still_undue handles t.condition undue }
+        record { filed = still_concerns t.collection t.condition filed; undue = still_undue handles t.condition undue }

@@ -12,7 +12,8 @@ use Rattle.sm_names.specs.Members.{some_strong_live}
 use Rattle.sm_names.specs.Trackers.{holds}
 use Rattle.sm_names.proofs.ListLaws.{In, In-find}
 use Rattle.sm_names.proofs.SamenessLaws.{both_ways, false_if}
-use Rattle.trackers.specs.Table.{Waiting, is_due}
+use Rattle.trackers.specs.declared.waiting.Waiting.{Waiting}
+use Rattle.trackers.specs.Table.{is_due}
 use Rattle.alloc_event.specs.declared.change.Change.{Change}
 use Rattle.alloc_event.specs.declared.node.Node.{Node}
 use Rattle.alloc_event.specs.Forest.{Collection, Forest, collection_at, given, node_at}
@@ -172,13 +173,13 @@ still_undoomed f old new buffer keeps was = by (collection_at f buffer.collectio
 -- what was not to be told still is not, where the strong handles of the collection's buffers are not lost
 pub undue_elsewhere : (f worked : Forest) (here : Option ℕ) → IsSound f → AreNamed worked → LeavesRest f worked here →
     (old new : Handles) (t : Waiting) →
-    (here ≡ Some t.place → ⊥) → Concerns f t.place t.condition → ((buffer : BufferName) → buffer.collection ≡ t.place →
+    (here ≡ Some t.collection → ⊥) → Concerns f t.collection t.condition → ((buffer : BufferName) → buffer.collection ≡ t.collection →
     is_some (collection_at f buffer.collection) ≡ true → AreKept old new buffer) →
     is_due (world_in f old) t ≡ false → is_due (world_in worked new) t ≡ false
 undue_elsewhere f worked here sound named rest old new t other of keeps was =
-    same_world f worked here sound named rest new t.place t.condition other of ∙ by t.condition of was
+    same_world f worked here sound named rest new t.collection t.condition other of ∙ by t.condition of was
   where
-    by : (condition : Condition) → Concerns f t.place condition → holds (world_in f old) condition ≡ false →
+    by : (condition : Condition) → Concerns f t.collection condition → holds (world_in f old) condition ≡ false →
         holds (world_in f new) condition ≡ false
     by (Condition.Node key) of was = was
     by (Condition.Lifetime key its most) of was = was

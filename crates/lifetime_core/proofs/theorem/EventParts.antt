@@ -9,7 +9,8 @@ use Rattle.sm_names.specs.Answers.{IsAnswer, OpenEnd, answer, collected}
 use Rattle.sm_names.specs.Marks.{Called}
 use Rattle.sm_names.proofs.AnswerLaws.{took_effect_all}
 use Rattle.sm_names.proofs.SettledLaws.{and_then-Some}
-use Rattle.trackers.specs.Table.{Table, Waiting}
+use Rattle.trackers.specs.declared.waiting.Waiting.{Waiting}
+use Rattle.trackers.specs.Table.{Table}
 use Rattle.buffer_holds.specs.Counts.{total}
 use Rattle.buffer_pool.specs.Holdings.{Holdings}
 use Rattle.alloc_event.specs.declared.change.Change.{Change}
@@ -18,13 +19,12 @@ use Rattle.alloc_event.specs.declared.node.Node.{Node}
 use Rattle.alloc_event.specs.Forest.{Forest, SameKeys, node_at}
 use Rattle.alloc_event.specs.Nodes.{is_spent}
 use Rattle.alloc_event.specs.Settling.{no_key}
-use Rattle.lifetime_core.specs.declared.sweeping.Tracking.{Tracking}
 use Rattle.lifetime_core.specs.declared.task.Place.{Place}
 use Rattle.lifetime_core.specs.declared.task.Task.{Task}
 use Rattle.lifetime_core.specs.Reads.{open_end_of, readings_of, world_in}
 use Rattle.lifetime_core.specs.State.{State, counts_of}
 use Rattle.lifetime_core.specs.Steps.{Follows, Gains, end_by, swept, tracker_by, with_place, without_over, work_of}
-use Rattle.lifetime_core.specs.Tasks.{DoesSome, MayDo, Parts, Reworked, SpendsThere, TakesEffect, carried_by, keyed, placed, spent_by, spent_in, spent_place, takes_room, waiting_as, work_in, work_on}
+use Rattle.lifetime_core.specs.Tasks.{DoesSome, MayDo, Parts, Reworked, SpendsThere, TakesEffect, carried_by, keyed, placed, spent_by, spent_in, spent_place, takes_room, work_in, work_on}
 use Rattle.lifetime_core.specs.Whole.{CanCarry, CanFinish, IsWhole}
 use Rattle.lifetime_core.proofs.forced.Change.{can_finish}
 use Rattle.lifetime_core.proofs.handles.Moves.{moved}
@@ -63,11 +63,6 @@ carried_idle : (s : State) (client : ℕ) (call : Call) (asked : Reply) (place :
 carried_idle s client (Call.Give key to) Reply.Done place is = record { work = refl; spends = refl }
 carried_idle s client Call.Collect (Reply.Collected key kind collection) place is = record { work = refl; spends = refl }
 carried_idle s client _ _ place is = cc
-
--- nothing is made of nothing alone
-none_from : {A B : Type 0} (f : A → B) (o : Option A) → option_map f o ≡ None → o ≡ None
-none_from f None is = refl
-none_from f (Some x) is = cc
 
 -- an end is put somewhere by the task or by what is carried
 end_split : (client : ℕ) (call : Call) (asked : Reply) →
@@ -119,21 +114,21 @@ carried_there s client _ _ place known is = cc
 -- ---- the event
 
 -- what is known where the call was answered, and its task and its tracker were read
-pub record Begins (s : State) (client : ℕ) (call : Call) (asked : Reply) (task : Option Task) (tracking : Option Tracking) : Type 0 where
+pub record Begins (s : State) (client : ℕ) (call : Call) (asked : Reply) (task : Option Task) (tracking : Option Waiting) : Type 0 where
   pub known : Known s.limits s client call asked
   pub work : work_in task ≡ work_of s client call asked
   pub spends : spent_in task ≡ spent_by call asked
   pub may : IfSome task (MayDo s.forest)
   pub some : IfSome task DoesSome
-  pub tracks : option_map waiting_as tracking ≡ tracker_by s.forest call asked
+  pub tracks : tracking ≡ tracker_by s.forest call asked
 
 -- a core tells it of itself
 pub begins : (pool : Holdings) (s now : State) (client : ℕ) (call : Call) (asked : Reply) (task : Option Task)
-    (tracking : Option Tracking) → s ≡ now →
+    (tracking : Option Waiting) → s ≡ now →
     IsWhole pool s.limits s.events s.clients s.forest s.holds s.trackers → asked ≡ answer now.limits (readings_of now) client no_key call →
     work_in task ≡ work_of now client call asked → spent_in task ≡ spent_by call asked → IfSome task (SpendsThere now.forest) →
     IfSome task DoesSome →
-    option_map waiting_as tracking ≡ tracker_by now.forest call asked → Begins s client call asked task tracking
+    tracking ≡ tracker_by now.forest call asked → Begins s client call asked task tracking
 begins pool s now client call asked task tracking same whole told work spends there some tracks =
     let known : Known s.limits s client call asked = record {
       pool = pool;
@@ -149,10 +144,10 @@ begins pool s now client call asked task tracking same whole told work spends th
       may = may_do s.limits s client call asked task known work_here spends (subst (λ (x : State). IfSome task (SpendsThere x.forest))
           (sym same) there);
       some = some;
-      tracks = subst (λ (x : State). option_map waiting_as tracking ≡ tracker_by x.forest call asked) (sym same) tracks;
+      tracks = subst (λ (x : State). tracking ≡ tracker_by x.forest call asked) (sym same) tracks;
     }
 
-module _ (s : State) (client : ℕ) (call : Call) (asked reply : Reply) (task : Option Task) (tracking : Option Tracking)
+module _ (s : State) (client : ℕ) (call : Call) (asked reply : Reply) (task : Option Task) (tracking : Option Waiting)
     (b : Begins s client call asked task tracking) where
   -- there is no task, if there is none for the call
   idle : HasNoTask s client call asked → task ≡ None
@@ -162,7 +157,7 @@ module _ (s : State) (client : ℕ) (call : Call) (asked reply : Reply) (task : 
   pub alone : takes_room call asked ≡ true → (task ≡ None) × (tracking ≡ None)
   alone takes =
       let none = room_idle s client call asked takes in
-      (idle none.0, none_from waiting_as tracking (b.tracks ∙ none.1))
+      (idle none.0, b.tracks ∙ none.1)
 
   module _ (parts : Parts) (takes : TakesEffect s.pool
       (record { clients = s.clients; forest = s.forest; holds = s.holds; trackers = s.trackers }) parts client call asked task tracking

@@ -14,17 +14,17 @@ use Rattle.sm_names.specs.Timelines.{HeldPages}
 use Rattle.sm_names.specs.Words.{sorted_by}
 use Rattle.buffer_holds.specs.Counts.{Counts, total}
 use Rattle.buffer_pool.specs.Holdings.{Holdings}
-use Rattle.trackers.specs.Table.{Cell, Table, Waiting, is_due}
+use Rattle.trackers.specs.declared.waiting.Waiting.{Waiting}
+use Rattle.trackers.specs.Table.{Cell, Table, is_due}
 use Rattle.alloc_event.specs.Forest.{Forest, IsPoolOf, SameKeys, all_held}
 use Rattle.alloc_event.specs.Settling.{Handles, no_key}
 use Rattle.lifetime_core.specs.declared.task.Place.{Place}
-use Rattle.lifetime_core.specs.declared.sweeping.Tracking.{Tracking}
 use Rattle.lifetime_core.specs.declared.task.Task.{Task}
 use Rattle.lifetime_core.specs.Hands.{MayMove}
 use Rattle.lifetime_core.specs.Reads.{readings_of, world_in}
 use Rattle.lifetime_core.specs.State.{Client, HandleCounts, State, counts_of}
 use Rattle.lifetime_core.specs.Steps.{Gains, Work, clients_by, handles_by, new_client, swept, with_place, without_over}
-use Rattle.lifetime_core.specs.Tasks.{Parts, Reworked, TakesEffect, looked_in, waiting_as, work_in}
+use Rattle.lifetime_core.specs.Tasks.{Parts, Reworked, TakesEffect, looked_in, work_in}
 use Rattle.lifetime_core.specs.Whole.{AreSent, AreUpTo, IsSound, IsWhole, Rise, StillWaits}
 use Rattle.lifetime_core.proofs.theorem.EventParts.{Begins, finishes}
 use Rattle.lifetime_core.proofs.handles.Movable.{may_move}
@@ -148,7 +148,7 @@ attached_limit old new (Some t) gains = ap (λ (x : Table). x.limit) gains.next
 
 -- ---- the event
 
-module _ (s : State) (client : ℕ) (call : Call) (asked reply : Reply) (task : Option Task) (tracking : Option Tracking)
+module _ (s : State) (client : ℕ) (call : Call) (asked reply : Reply) (task : Option Task) (tracking : Option Waiting)
     (b : Begins s client call asked task tracking) where
   -- the handles may be moved
   pub moves : MayMove s.holds client call asked
@@ -177,7 +177,7 @@ module _ (s : State) (client : ℕ) (call : Call) (asked reply : Reply) (task : 
       reply) where
     -- no tracker elsewhere is due
     pub none_elsewhere : All (λ (t : Waiting).
-        (looked_in (world_in parts.forest (total parts.holds)) (changed_by task) tracking ≡ Some t.place → ⊥) →
+        (looked_in (world_in parts.forest (total parts.holds)) (changed_by task) tracking ≡ Some t.collection → ⊥) →
         is_due (world_in parts.forest (total parts.holds)) t ≡ false) parts.trackers.unfired
     none_elsewhere = elsewhere s client call asked task tracking starts parts.holds takes.handles parts.forest takes.key takes.work
         (finishes s client call asked reply task tracking b parts takes) parts.trackers takes.trackers
@@ -213,7 +213,7 @@ module _ (s : State) (client : ℕ) (call : Call) (asked reply : Reply) (task : 
           handle_limit = limit ∙ whole.handle_limit;
           sent = subst (AreSent (clients_by (Called client asked call) s.clients)) (sym counts) (still_sent s.limits s client whole.sent
               whole.rising asked call b.known.told);
-          tracker_limit = attached_limit s.trackers parts.trackers (option_map waiting_as tracking) takes.trackers ∙ whole.tracker_limit;
+          tracker_limit = attached_limit s.trackers parts.trackers tracking takes.trackers ∙ whole.tracker_limit;
           numbered = still_numbered s call asked s.limits client tracking parts.trackers b.known.told b.tracks takes.trackers
               whole.numbered;
           waiting = waiting_after s client call asked task tracking starts parts.holds takes.handles parts.forest takes.key takes.work amid

@@ -1,5 +1,5 @@
 //! What no contract says: that calls succeed, and that a cell that was set is seen.
-use fixture::{HERE, Here, Line, QUIET};
+use fixture::{HERE, Here, Line, QUIET, waiting};
 use sm_names::{BufferName, NodeKey};
 use std::test::Fail;
 use std::thread;
@@ -182,7 +182,7 @@ fn refused_memory_leaves_all_as_it_was(rt: HostRuntime) -> Result<(), Fail> {
 #[test]
 fn a_tracker_taken_out_again_never_was(rt: HostRuntime) -> Result<(), Fail> {
     let mut trackers = Trackers::new(rt.alloc(), 1);
-    match trackers.attach(1, HERE, Condition::Node(NODE)) {
+    match trackers.attach(waiting(1, Condition::Node(NODE))) {
         Ok(()) => trackers.detach(HERE),
         Err(_) => {
             return Err(Fail::from("not attached"));
@@ -190,7 +190,7 @@ fn a_tracker_taken_out_again_never_was(rt: HostRuntime) -> Result<(), Fail> {
     }
     assert_eq!(rt; trackers.waiting(), 0);
     assert!(rt; trackers.take_tracker(1).is_none());
-    match trackers.attach(1, HERE, Condition::Node(OTHER)) {
+    match trackers.attach(waiting(1, Condition::Node(OTHER))) {
         Ok(()) => {}
         Err(_) => {
             return Err(Fail::from("not attached again"));

@@ -1,7 +1,8 @@
 use Rattle.std.proofs.Common.{◌≡◌, false, Some, sym}
 use Rattle.buffer_holds.specs.Counts.{total}
 use Rattle.sm_names.specs.Trackers.{World}
-use Rattle.trackers.specs.Table.{Waiting, is_due}
+use Rattle.trackers.specs.declared.waiting.Waiting.{Waiting}
+use Rattle.trackers.specs.Table.{is_due}
 use Rattle.lifetime_core.specs.Reads.{world_in}
 use Rattle.lifetime_core.proofs.firing.Sweeps.{none_swept}
 use Rattle.lifetime_core.proofs.sweeping.sweep.Goals as goal
@@ -12,5 +13,5 @@ pub returns-in_default : goal.returns-in_default
 returns-in_default c =
     let w : World = world_in c.args.forest.now (total c.args.holds.now) in
     sym (none_swept w c.args.event c.args.trackers.now
-    (λ t on. In-all (λ (t : Waiting). (c.args.collection ≡ Some t.place → ⊥) →
-    is_due w t ≡ false) c.args.trackers.now.unfired c.requires.elsewhere t on (c.in_default.not-Some t.place)))
+    (λ t on. In-all (λ (t : Waiting). (c.args.collection ≡ Some t.collection → ⊥) →
+    is_due w t ≡ false) c.args.trackers.now.unfired c.requires.elsewhere t on (c.in_default.not-Some t.collection)))

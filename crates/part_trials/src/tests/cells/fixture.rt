@@ -1,11 +1,12 @@
 //! The trackers of one collection, at events that are numbered from 1.
 ghost use Rattle.std.specs.Prelude.{◌≡◌, ◌≤◌, Some, All, IfSome};
-ghost use Rattle.trackers.specs.Table.{Waiting, Cell, cell_of};
+ghost use Rattle.trackers.specs.declared.waiting.Waiting.{Waiting};
+ghost use Rattle.trackers.specs.Table.{Cell, cell_of};
 ghost use Rattle.part_trials.specs.declared.tests.cells.fixture.TheConstants.{HERE};
 
 use sm_names::{BufferName, CollectionId, NodeKey, TrackerId};
 use std::alloc::Global;
-use trackers::{Condition, Fired, TrackFault, Tracker, Trackers, World};
+use trackers::{Condition, Fired, TrackFault, Tracker, Trackers, Waiting, World};
 
 /// The collection.
 pub const HERE: CollectionId = 1;
@@ -62,13 +63,24 @@ impl World for Here {
     }
 }
 
+/// A tracker that is filed under the collection.
+pub fn waiting(id: TrackerId, condition: Condition) -> Waiting
+    ensures { result ≡ record { id = id; collection = HERE; condition = condition } }
+{
+    Waiting {
+        id,
+        collection: HERE,
+        condition,
+    }
+}
+
 /// Trackers, and the number of the newest event.
 #[derive(Drop)]
 pub struct Line {
     trackers: Trackers,
     event: u64,
     ghost numbered: { All (λ (c : Cell). c.id ≤ event) trackers.cells },
-    ghost here: { All (λ (t : Waiting). t.place ≡ HERE) trackers.unfired },
+    ghost here: { All (λ (t : Waiting). t.collection ≡ HERE) trackers.unfired },
 }
 
 impl Line {
@@ -91,7 +103,7 @@ impl Line {
             return Err(TrackFault::NoMemory);
         }
         let id = self.event + 1;
-        self.trackers.attach(id, HERE, condition)?;
+        self.trackers.attach(waiting(id, condition))?;
         self.event = id;
         Ok(id)
     }

@@ -13,9 +13,8 @@ invariant_of-self c =
     elim c.match-add.branch [
       | in-Ok w ↦
           let long : vec_len c.self.inside.rows ≡ length c.self.inside.rows.items = omega arith in
-          let all = all_below c.args.id c.self.inside.rows.items (recursion_from_All _ _ (rw (← c.self.view_is) at c.requires.rising)) in
-          kept_push _ _ _ _ _ _ _ _ _ _ _ c.self.invariant c.add.ensures.fired c.args.id w.in-Ok.ensures.row.0 c.args.collection
-          c.args.condition all
+          let all = all_below c.args.tracker.id c.self.inside.rows.items (recursion_from_All _ _ (rw (← c.self.view_is) at c.requires.rising)) in
+          kept_push _ _ _ _ _ _ _ _ _ _ _ c.self.invariant c.add.ensures.fired w.in-Ok.ensures.row.0 c.args.tracker all
           (omega (arith, held.counted, c.len.ensures, c.len-2.ensures))
           (omega (arith, w.in-Ok.ensures.room, held.counted, c.len.ensures, c.len-2.ensures))
           (omega (arith, w.in-Ok.ensures.spare, held.counted, c.len.ensures, c.len-2.ensures))
@@ -36,8 +35,8 @@ returns-then-waiting-self-clause-full c =
 
 pub returns-clause-ok : goal.returns-clause-ok
 returns-clause-ok c = elim c.match-add.branch [
-  | in-Ok w ↦ rw (w.result-is, ← c.self.view_is) (table_push c.self.inside.limit _ _ _ _ c.args.id w.in-Ok.ensures.row.0 c.args.collection
-      c.args.condition c.add.ensures.fired w.in-Ok.ensures.row.1)
+  | in-Ok w ↦ rw (w.result-is, ← c.self.view_is) (table_push c.self.inside.limit _ _ _ _ w.in-Ok.ensures.row.0 c.args.tracker
+      c.add.ensures.fired w.in-Ok.ensures.row.1)
   | in-Err w ↦ rw w.result-is tt
 ]
 
