@@ -7,6 +7,10 @@ use sm_names::Interval;
 use std::alloc::{AllocError, Global};
 use std::marker::Model;
 
+// How many intervals the gap passes in one step: 2 KiB of them, which a processor moves by its widest
+// words.
+const STEP: usize = 256;
+
 /// Intervals one after another. A change costs a move of those between it and the last one.
 #[derive(Drop)]
 pub(crate) struct Row {
@@ -196,8 +200,8 @@ fn copy_down(cells: &mut [Interval], from: usize, to: usize, count: usize)
     }
 }
 
-// Moves the gap to another place, and gives its end.
-fn move_gap(cells: &mut Vec<Interval>, front: usize, back: usize, at: usize) -> usize
+// Moves the gap to a near place, and gives its end.
+fn step_gap(cells: &mut Vec<Interval>, front: usize, back: usize, at: usize) -> usize
     requires gap { front ≤ back }
     requires back_within { back ≤ length cells.old.items }
     requires at_within { at + (back - front) ≤ length cells.old.items }
@@ -213,4 +217,38 @@ fn move_gap(cells: &mut Vec<Interval>, front: usize, back: usize, at: usize) -> 
         copy_down(cells.as_mut_slice(), back, front, to - back);
     }
     to
+}
+
+// Where the gap goes next on its way.
+fn next_stop(from: usize, at: usize) -> usize
+    ensures down { at < from → (at ≤ result) × (result < from) }
+    ensures up { from < at → (from < result) × (result ≤ at) }
+{
+    if at < from {
+        if from - at > STEP { from - STEP } else { at }
+    } else if at - from > STEP {
+        from + STEP
+    } else {
+        at
+    }
+}
+
+// Moves the gap to another place, and gives its end.
+fn move_gap(cells: &mut Vec<Interval>, front: usize, back: usize, at: usize) -> usize
+    requires gap { front ≤ back }
+    requires back_within { back ≤ length cells.old.items }
+    requires at_within { at + (back - front) ≤ length cells.old.items }
+    ensures back { result ≡ at + (back - front) }
+    ensures items { take at cells.new.items ++ drop result cells.new.items
+        ≡ take front cells.old.items ++ drop back cells.old.items }
+    ensures len { length cells.new.items ≡ length cells.old.items }
+{
+    let mut from = front;
+    let mut end = back;
+    while from != at {
+        let next = next_stop(from, at);
+        end = step_gap(cells, from, end, next);
+        from = next;
+    }
+    end
 }

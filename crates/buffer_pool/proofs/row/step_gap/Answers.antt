@@ -2,7 +2,7 @@
 use Rattle.std.proofs.Common.{◌-◌, ◌+◌, arith, drop, length}
 use Rattle.std.proofs.lemmas.List.{take_at}
 use Rattle.buffer_pool.proofs.Moves.{moved_up, moved_down}
-use Rattle.buffer_pool.proofs.row.move_gap.Goals as goal
+use Rattle.buffer_pool.proofs.row.step_gap.Goals as goal
 
 pub returns-then-at-front-clause-items : goal.returns-then-at-front-clause-items
 returns-then-at-front-clause-items c =
