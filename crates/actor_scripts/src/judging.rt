@@ -9,7 +9,7 @@ use crate::casting::Casting;
 use crate::fault::CastFault;
 use crate::halt::Halt;
 use crate::reading::read_script;
-use script_lines::{LabelHash, place_of};
+use script_lines::{LabelHash, line_end};
 use std::alloc::Global;
 use std::io::Read;
 
@@ -72,7 +72,7 @@ fn judge(casting: &mut Casting, script: &[u8]) -> Result<(), CastFault>
         (IsWhy (cast_from (seen casting.old) script.now)) }
 {
     let mut rest = script;
-    while let Some(at) = place_of(b'\n', rest) {
+    while let Some(at) = line_end(rest) {
         let number = casting.lines + 1;
         match casting.take_line(&rest[..at]) {
             Ok(()) => rest = &rest[at + 1..],

@@ -16,7 +16,7 @@ pub use label::Label;
 pub use line::{BufferVerb, Line, Verb, View};
 pub use parser::line as read_line;
 pub use spelling::{push, push_label, push_number};
-pub use words::place_of;
+pub use words::line_end;
 
 /// The greatest size of a script, in bytes.
 pub const MOST_BYTES: usize = 16_777_216;

@@ -4,6 +4,8 @@ ghost use Rattle.std.specs.List.{position};
 ghost use Rattle.std.specs.Str.{bytes_eq};
 ghost use Rattle.script_lines.specs.Words.{words, words_left};
 
+use memchr::memchr;
+
 // Whether the word is this one.
 pub(crate) fn is(word: &[u8], name: &str) -> bool
     ensures { result ≡ bytes_eq word.now name.now }
@@ -32,8 +34,17 @@ pub(crate) fn next_word(rest: Option<&[u8]>) -> Option<(&[u8], Option<&[u8]>)>
     }
 }
 
-/// Where the byte stands first, if it does. Takes a time in proportion to the length.
-pub fn place_of(byte: u8, bytes: &[u8]) -> Option<usize>
+/// Where the first line ends, if one does: the place of the first newline. Takes a time in
+/// proportion to that place, for some dozens of bytes at a time.
+pub fn line_end(bytes: &[u8]) -> Option<usize>
+    ensures value { result ≡ position (λ b. b == 10) bytes.now }
+    ensures within { IfSome result (λ at. at < length bytes.now) }
+{
+    memchr(b'\n', bytes)
+}
+
+// Where the byte stands first, if it does. Takes a time in proportion to the length.
+pub(crate) fn place_of(byte: u8, bytes: &[u8]) -> Option<usize>
     ensures value { result ≡ position (λ b. b == byte) bytes.now }
     ensures within { IfSome result (λ at. at < length bytes.now) }
 {

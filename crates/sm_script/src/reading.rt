@@ -5,7 +5,7 @@ ghost use Rattle.sm_script.specs.Players.{Answered, Broken, Failed};
 
 use crate::fault::ScriptFault;
 use crate::player::Player;
-use script_lines::place_of;
+use script_lines::line_end;
 use std::io::Write;
 
 // Answers the line whose front came before, and whose end came now.
@@ -56,7 +56,7 @@ pub(crate) fn take_piece<W: Write>(
         (rest_from front.old.items piece.now)) }
 {
     let mut rest = piece;
-    while let Some(at) = place_of(b'\n', rest) {
+    while let Some(at) = line_end(rest) {
         let line = &rest[..at];
         match end_line(player, writer, front, line) {
             Ok(()) => rest = &rest[at + 1..],

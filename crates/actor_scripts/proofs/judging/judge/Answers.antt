@@ -9,7 +9,7 @@ pub loop-at-preserved : goal.loop-at-preserved
 loop-at-preserved c =
     let (same, sound, few) = c.loop-at.invariant in
     let behind = take_rest c.loop-at.rest.now (c.in-Some.at + 1) in (
-      same ∙ goes-on _ _ c.in-Some.at (sym c.place_of.ensures.value ∙ c.in-Some.is) _ c.in-Ok.ensures.says
+      same ∙ goes-on _ _ c.in-Some.at (sym c.line_end.ensures.value ∙ c.in-Some.is) _ c.in-Ok.ensures.says
           ∙ ap (cast_from _) (sym behind),
       c.in-Ok.ensures.sound,
       rw behind (rw length-drop (omega (arith, few, c.in-Ok.ensures.counted, c.in-Some.ensures.within))),
@@ -19,10 +19,10 @@ pub returns-in-Err : goal.returns-in-Err
 returns-in-Err c =
     subst (λ judged. IsWhy judged c.fault_at.result) (sym c.loop-at.invariant.0)
     (subst (IsWhy (cast_from (seen c.loop-at.casting) c.loop-at.rest.now)) (sym c.fault_at.ensures)
-    (goes-no-further _ _ c.in-Some.at (sym c.place_of.ensures.value ∙ c.in-Some.is) c.in-Err.halt c.in-Err.ensures.says))
+    (goes-no-further _ _ c.in-Some.at (sym c.line_end.ensures.value ∙ c.in-Some.is) c.in-Err.halt c.in-Err.ensures.says))
 
 pub returns-else-is_ended : goal.returns-else-is_ended
 returns-else-is_ended c =
     let now = seen c.loop-at.casting in
-    c.loop-at.invariant.0 ∙ goes-out now c.loop-at.rest.now (sym c.place_of.ensures.value ∙ c.in_default.is)
+    c.loop-at.invariant.0 ∙ goes-out now c.loop-at.rest.now (sym c.line_end.ensures.value ∙ c.in_default.is)
     ∙ ap (λ (done : Bool). if done then Ok now.company else Err (now.lines + 1)) (sym c.is_ended.ensures ∙ c.if-is_ended.false)

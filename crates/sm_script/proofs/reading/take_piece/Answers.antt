@@ -7,23 +7,23 @@ loop-at-init g c = taken-none _ _ _ _
 
 pub loop-at-preserved : goal.loop-at-preserved
 loop-at-preserved g c =
-    taken-on _ _ _ _ _ c.loop-at.rest.now _ _ c.loop-at.invariant c.in-Some.at _ _ _ (sym c.place_of.ensures.value ∙ c.in-Some.is)
+    taken-on _ _ _ _ _ c.loop-at.rest.now _ _ c.loop-at.invariant c.in-Some.at _ _ _ (sym c.line_end.ensures.value ∙ c.in-Some.is)
     c.in-Some.ensures.within c.in-Ok.ensures.ok c.in-Ok.ensures.counted c.in-Ok.ensures.empty
 
 pub returns-in-Err-clause-err : goal.returns-in-Err-clause-err
 returns-in-Err-clause-err g c =
-    taken-failed _ _ _ _ _ _ _ _ c.loop-at.invariant c.in-Some.at _ c.in-Err.fault (sym c.place_of.ensures.value
+    taken-failed _ _ _ _ _ _ _ _ c.loop-at.invariant c.in-Some.at _ c.in-Err.fault (sym c.line_end.ensures.value
     ∙ c.in-Some.is) c.in-Err.ensures.err
 
 pub returns-in-Ok-extend_from_slice-clause-ok : goal.returns-in-Ok-extend_from_slice-clause-ok
 returns-in-Ok-extend_from_slice-clause-ok g c =
-    all-answered _ _ _ _ _ _ _ _ c.loop-at.invariant (sym c.place_of.ensures.value ∙ c.in_default.is)
+    all-answered _ _ _ _ _ _ _ _ c.loop-at.invariant (sym c.line_end.ensures.value ∙ c.in_default.is)
 
 pub returns-in-Ok-extend_from_slice-clause-rest : goal.returns-in-Ok-extend_from_slice-clause-rest
 returns-in-Ok-extend_from_slice-clause-rest g c = c.in-Ok-extend_from_slice.ensures.items
-    ∙ sym (all-rest _ _ _ _ _ _ _ _ c.loop-at.invariant (sym c.place_of.ensures.value ∙ c.in_default.is))
+    ∙ sym (all-rest _ _ _ _ _ _ _ _ c.loop-at.invariant (sym c.line_end.ensures.value ∙ c.in_default.is))
 
 pub returns-in-Err-extend_from_slice-clause-err : goal.returns-in-Err-extend_from_slice-clause-err
 returns-in-Err-extend_from_slice-clause-err g c =
-    all-failed _ _ _ _ _ _ _ _ c.loop-at.invariant (sym c.place_of.ensures.value ∙ c.in_default.is) _ _
+    all-failed _ _ _ _ _ _ _ _ c.loop-at.invariant (sym c.line_end.ensures.value ∙ c.in_default.is) _ _
     (c.give_in.ensures.behind _ (some_behind _ c.loop-at.rest.now (sym c.is_empty.ensures ∙ c.if-is_empty.false)))
