@@ -3,13 +3,9 @@ use Rattle.std.proofs.Common.{ℕ, ◌≡◌, ◌≤◌, ◌<◌, ◌+◌, refl,
 use Rattle.std.proofs.lemmas.List.{reverse-append}
 use Rattle.std.specs.List.{list_any, find, filter}
 use Rattle.sm_names.proofs.SamenessLaws.{either_way, or_none_left, or_none_right}
+pub use Rattle.sm_names.specs.Elements.{In}
 use Rattle.sm_names.specs.Words.{first_some, times, when}
 use mathlib.Core.List.{reverse_aux}
-
--- x is an element of the list
-abbrev pub In : {A : Type 0} → A → List A → Type 0
-In x [] = ⊥
-In x (y ∷ ys) = (x ≡ y) ⊎ In x ys
 
 -- what a filter keeps is an element that passes
 pub In-filter : {A : Type 0} (test : A → Bool) (xs : List A) (x : A) → In x (filter test xs) → In x xs × (test x ≡ true)

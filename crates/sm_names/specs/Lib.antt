@@ -4,6 +4,7 @@ pub mod Births
 pub mod Bounds
 pub mod Changes
 pub mod Demands
+pub mod Elements
 pub mod Ends
 pub mod Forced
 pub mod Handles
