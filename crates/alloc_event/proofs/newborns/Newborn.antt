@@ -361,10 +361,10 @@ above_there t ss id (Some _) None at = elim at [ ]
 above_there t ss id (Some _) (Some _) (Child up n is own here) = row_there t up (ap is_some is)
 
 -- a scene with one more node
-pub grown_scene : (c0 : Collection) (id : ℕ) (nodes old : List Node) (buffers : Option Buffers) (held : List HeldPages) (n node : Node) →
-    record { id = id; nodes = old; buffers = buffers; held = held } ≡ c0 → nodes ≡ old ++ n ∷ [] → n ≡ node →
-    record { id = id; nodes = nodes; buffers = buffers; held = held } ≡ grown c0 node
-grown_scene c0 id nodes old buffers held n node was added is =
+pub grown_scene : (from : Collection) (id : ℕ) (nodes old : List Node) (buffers : Option Buffers) (held : List HeldPages) (n node : Node) →
+    record { id = id; nodes = old; buffers = buffers; held = held } ≡ from → nodes ≡ old ++ n ∷ [] → n ≡ node →
+    record { id = id; nodes = nodes; buffers = buffers; held = held } ≡ grown from node
+grown_scene from id nodes old buffers held n node was added is =
     (λ i. record { id = id; nodes = (added ∙ ap (λ (m : Node). old ++ m ∷ []) is) i; buffers = buffers; held = held })
     ∙ ap (λ (c : Collection). grown c node) was
 
