@@ -6,7 +6,7 @@ use Rattle.sm_names.specs.declared.keys.Strength.{Strength}
 use Rattle.buffer_holds.specs.declared.kinds.HandleKind.{HandleKind}
 use Rattle.buffer_holds.specs.declared.kinds.Hold.{Hold}
 use Rattle.buffer_holds.specs.declared.tally.Tally.{Tally}
-use Rattle.buffer_holds.specs.Counts.{Counts, of, moving, total, has_room, share}
+use Rattle.buffer_holds.specs.Counts.{Counts, of, moving, total, has_handle_room, share}
 use Rattle.buffer_holds.specs.Changes.{Sets, Tidies}
 use Rattle.buffer_holds.specs.Kinds.{kind_of, hold_of, same_kind, same_hold}
 use Rattle.buffer_holds.specs.Rows.{Resets, Raises, row_at, count_at}
@@ -223,12 +223,12 @@ module _ {limit : ℕ} {rows rows' : List (Hold × ℕ)} {tallies tallies' : Lis
 
   -- which clients have room
   pub has_room_after : (c : ℕ) (b : BufferName) (s : Strength)
-      → has_room (counts_of limit rows' tallies') c b s ≡ cond (same_hold hold (hold_of c b s)) (is_some row')
-      (has_room (counts_of limit rows tallies) c b s)
+      → has_handle_room (counts_of limit rows' tallies') c b s ≡ cond (same_hold hold (hold_of c b s)) (is_some row')
+      (has_handle_room (counts_of limit rows tallies) c b s)
   has_room_after c b s = ap is_some (step.resets.finds (hold_of c b s)) ∙ inside (same_hold hold (hold_of c b s))
     where
       inside : (here : Bool) → is_some (cond here row' (lookup (same_hold (hold_of c b s)) rows)) ≡ cond here (is_some row')
-          (has_room (counts_of limit rows tallies) c b s)
+          (has_handle_room (counts_of limit rows tallies) c b s)
       inside true = refl
       inside false = refl
 
@@ -284,8 +284,8 @@ module _ {limit : ℕ} {rows rows' : List (Hold × ℕ)} {tallies tallies' : Lis
         totals = λ b s. total_after step b s ∙ ap (λ n. cond (same_kind (kind_of buffer strength) (kind_of b s)) n (total before b s))
             (is_total ∙ ap in_all (sym (total_is limit rows tallies step.sound buffer strength)));
         rooms = λ c b s. has_room_after step c b s
-            ∙ ap (λ o. cond (same_hold (hold_of client buffer strength) (hold_of c b s)) (is_some o) (has_room before c b s)) is_held
-            ∙ gains (same_hold (hold_of client buffer strength) (hold_of c b s)) (has_room before c b s);
+            ∙ ap (λ o. cond (same_hold (hold_of client buffer strength) (hold_of c b s)) (is_some o) (has_handle_room before c b s)) is_held
+            ∙ gains (same_hold (hold_of client buffer strength) (hold_of c b s)) (has_handle_room before c b s);
       })
     where
       gains : (here had : Bool) → cond here true had ≡ (here || had)

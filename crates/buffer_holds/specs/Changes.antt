@@ -2,7 +2,7 @@
 use Rattle.std.specs.Prelude.{◌≡◌, ℕ, ◌||◌, if◌then◌else◌, nat_lt}
 use Rattle.sm_names.specs.declared.keys.BufferName.{BufferName}
 use Rattle.sm_names.specs.declared.keys.Strength.{Strength}
-use Rattle.buffer_holds.specs.Counts.{Counts, of, moving, total, has_room}
+use Rattle.buffer_holds.specs.Counts.{Counts, of, moving, total, has_handle_room}
 use Rattle.buffer_holds.specs.Kinds.{kind_of, hold_of, same_kind, same_hold}
 
 -- the client now has `held` of these handles open, `in_parcels` are in parcels and `in_all` are open in all; no other count
@@ -16,7 +16,7 @@ pub record Sets (old new : Counts) (client : ℕ) (buffer : BufferName) (strengt
   pub totals : (b : BufferName) (s : Strength)
       → total new b s ≡ (if same_kind (kind_of buffer strength) (kind_of b s) then in_all else total old b s)
   pub rooms : (c : ℕ) (b : BufferName) (s : Strength)
-      → has_room new c b s ≡ (same_hold (hold_of client buffer strength) (hold_of c b s) || has_room old c b s)
+      → has_handle_room new c b s ≡ (same_hold (hold_of client buffer strength) (hold_of c b s) || has_handle_room old c b s)
 
 -- no count changes, and this client has room only if it has such a handle open
 pub record Tidies (old new : Counts) (client : ℕ) (buffer : BufferName) (strength : Strength) : Type 0 where
@@ -25,5 +25,5 @@ pub record Tidies (old new : Counts) (client : ℕ) (buffer : BufferName) (stren
   pub parcels : (b : BufferName) (s : Strength) → moving new b s ≡ moving old b s
   pub totals : (b : BufferName) (s : Strength) → total new b s ≡ total old b s
   pub rooms : (c : ℕ) (b : BufferName) (s : Strength)
-      → has_room new c b s ≡ (if same_hold (hold_of client buffer strength) (hold_of c b s) then nat_lt 0 (of old c b s) else has_room old c
+      → has_handle_room new c b s ≡ (if same_hold (hold_of client buffer strength) (hold_of c b s) then nat_lt 0 (of old c b s) else has_handle_room old c
       b s)

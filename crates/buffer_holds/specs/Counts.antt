@@ -30,5 +30,5 @@ abbrev pub total : Counts → BufferName → Strength → ℕ
 total counts buffer strength = sum_by (share (kind_of buffer strength)) counts.rows + moving counts buffer strength
 
 -- one more of these handles takes no memory for this client
-abbrev pub has_room : Counts → ℕ → BufferName → Strength → Bool
-has_room counts client buffer strength = is_some (lookup (same_hold (hold_of client buffer strength)) counts.rows)
+abbrev pub has_handle_room : Counts → ℕ → BufferName → Strength → Bool
+has_handle_room counts client buffer strength = is_some (lookup (same_hold (hold_of client buffer strength)) counts.rows)

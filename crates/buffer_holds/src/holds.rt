@@ -4,7 +4,7 @@ ghost use Rattle.std.specs.Bool.{OnTrue, OnFalse};
 ghost use Rattle.std.specs.List.{IsDistinct};
 ghost use Rattle.std.specs.Map.{keys_of};
 ghost use Rattle.sm_names.specs.Handles.{is_doomed, is_home};
-ghost use Rattle.buffer_holds.specs.Counts.{of, moving, total, has_room};
+ghost use Rattle.buffer_holds.specs.Counts.{of, moving, total, has_handle_room};
 ghost use Rattle.buffer_holds.specs.Kinds.{same_hold};
 ghost use Rattle.buffer_holds.specs.Changes.{Sets, Tidies};
 
@@ -21,7 +21,7 @@ use std::marker::Model;
 /// How many handles are open, by client, buffer and strength, and how many are in parcels.
 ///
 /// A contract sees the counts of clients and of parcels (`of`, `moving` and their sum, `total`),
-/// and for which of them one more handle takes no memory (`has_room`). A client gains room with
+/// and for which of them one more handle takes no memory (`has_handle_room`). A client gains room with
 /// the first handle that it opens or lands, and keeps it when the last one goes, so that `sub` is
 /// undone by `add`, and `lift` by `land`, without memory. `tidy` takes the room back: call it once
 /// a `sub` or a `lift` stands for good, else what was open keeps its memory. A room that was taken
@@ -150,7 +150,7 @@ impl Holds {
         ensures opened { OnOk result (Sets self.old self.new client buffer strength
             (of self.old client buffer strength + 1) (moving self.old buffer strength) (total self.old buffer strength + 1)) }
         ensures too_many { IsErrOf result HoldFault.TooMany ↔ (total self.old buffer strength ≡ self.old.limit) }
-        ensures room { IsTrue (has_room self.old client buffer strength) → IsOkUnless result HoldFault.TooMany }
+        ensures room { IsTrue (has_handle_room self.old client buffer strength) → IsOkUnless result HoldFault.TooMany }
         ensures err { OnErr result (self.new ≡ self.old) }
     {
         self.add_near(client, buffer, strength, &mut Spot::new())
@@ -168,7 +168,7 @@ impl Holds {
         ensures opened { OnOk result (Sets self.old self.new client buffer strength
             (of self.old client buffer strength + 1) (moving self.old buffer strength) (total self.old buffer strength + 1)) }
         ensures too_many { IsErrOf result HoldFault.TooMany ↔ (total self.old buffer strength ≡ self.old.limit) }
-        ensures room { IsTrue (has_room self.old client buffer strength) → IsOkUnless result HoldFault.TooMany }
+        ensures room { IsTrue (has_handle_room self.old client buffer strength) → IsOkUnless result HoldFault.TooMany }
         ensures err { OnErr result (self.new ≡ self.old) }
     {
         let kind = HandleKind { buffer, strength };
@@ -235,7 +235,7 @@ impl Holds {
         requires { 0 < moving self.old buffer strength }
         ensures landed { OnOk result (Sets self.old self.new client buffer strength
             (of self.old client buffer strength + 1) (moving self.old buffer strength - 1) (total self.old buffer strength)) }
-        ensures room { IsTrue (has_room self.old client buffer strength) → IsOk result }
+        ensures room { IsTrue (has_handle_room self.old client buffer strength) → IsOk result }
         ensures err { OnErr result (self.new ≡ self.old) }
     {
         let kind = HandleKind { buffer, strength };

@@ -6,7 +6,7 @@ use Rattle.std.proofs.lemmas.List.{append-nil}
 use Rattle.std.proofs.lemmas.List.Sums.{sum_by-cons}
 use Rattle.sm_names.specs.declared.keys.Interval.{Interval}
 use Rattle.buffer_pool.specs.Holes.{end_of, gap, holes_from, holes_of}
-use Rattle.buffer_pool.specs.Holdings.{IsKept, in_order, pages_in, without}
+use Rattle.buffer_pool.specs.Holdings.{IsPoolSound, in_order, pages_in, without}
 use Rattle.buffer_pool.specs.Merging.{spaced, first_begins, joined, released}
 use Rattle.buffer_pool.proofs.Orders.{first_in_order, in_order-cons, in_order-wider, in_order-at, without-later}
 use Rattle.buffer_pool.proofs.Spaces.{first_spaced, joined_apart}
@@ -143,9 +143,9 @@ pub record KeepsBack (size free : ℕ) (holes held : List Interval) (capacity : 
   pub fits : All (λ (h : Interval). end_of h < 4294967296) holes
   pub back_fits : end_of back < 4294967296
   pub room : length (released back holes) ≤ capacity
-  pub kept : IsKept size (free + back.pages) (released back holes) (without back.start held) capacity
+  pub kept : IsPoolSound size (free + back.pages) (released back holes) (without back.start held) capacity
 
-pub keeps_back : (size free : ℕ) (holes held : List Interval) (capacity : ℕ) (back : Interval) → IsKept size free holes held capacity →
+pub keeps_back : (size free : ℕ) (holes held : List Interval) (capacity : ℕ) (back : Interval) → IsPoolSound size free holes held capacity →
     Contains held back → KeepsBack size free holes held capacity back
 keeps_back size free holes held capacity back k there =
     let g = goes_back-of size back held k.in_order there in

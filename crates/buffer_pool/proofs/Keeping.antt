@@ -5,7 +5,7 @@ use Rattle.std.specs.List.Sorted.{IsNonDecreasingBy}
 use Rattle.sm_names.specs.declared.keys.Interval.{Interval}
 use Rattle.sm_names.specs.Pages.{places}
 use Rattle.buffer_pool.specs.Holes.{end_of, holes_of}
-use Rattle.buffer_pool.specs.Holdings.{IsKept, with_buffers}
+use Rattle.buffer_pool.specs.Holdings.{IsPoolSound, with_buffers}
 use Rattle.buffer_pool.specs.Looks.{looks_for}
 use Rattle.buffer_pool.specs.Placing.{PlacesBuffers}
 use Rattle.buffer_pool.specs.Fitting.{rooms, starts_in, left_in, looks_in}
@@ -21,7 +21,7 @@ pub record Lists (holes held : List Interval) : Type 0 where
   pub rises : IsNonDecreasingBy (λ (i : Interval). i.start) held
   pub begins : IsNonDecreasingBy (λ (h : Interval). h.start) holes
 
-pub lists_of : (size free : ℕ) (holes held : List Interval) (capacity : ℕ) → IsKept size free holes held capacity → Lists holes held
+pub lists_of : (size free : ℕ) (holes held : List Interval) (capacity : ℕ) → IsPoolSound size free holes held capacity → Lists holes held
 lists_of size free holes held capacity k =
     let small = k.sized.1 in
     record {
@@ -41,9 +41,10 @@ pub record KeepsRun (size free count pages : ℕ) (holes held : List Interval) :
   pub small : count * pages < 4294967296
   pub taken : count * pages ≤ free
   pub kept : (capacity : ℕ) → length held + count ≤ capacity →
-      IsKept size (free - count * pages) (left_in pages count holes) (with_buffers pages (starts_in pages count holes) held) capacity
+      IsPoolSound size (free - count * pages) (left_in pages count holes) (with_buffers pages (starts_in pages count holes) held) capacity
 
-pub keeps_run : (size free count pages : ℕ) (holes held : List Interval) (capacity : ℕ) → 1 ≤ pages → IsKept size free holes held capacity →
+pub keeps_run : (size free count pages : ℕ) (holes held : List Interval) (capacity : ℕ) → 1 ≤ pages →
+    IsPoolSound size free holes held capacity →
     count ≤ rooms pages holes → KeepsRun size free count pages holes held
 keeps_run size free count pages holes held capacity one k room =
     let room' : count ≤ rooms pages (holes_of size held) = subst (λ hs. count ≤ rooms pages hs) k.holes_are room in
@@ -93,7 +94,8 @@ pub not_full : (size pages count : ℕ) (held : List Interval) (starts : List �
 not_full size pages count held starts Q some none = cc
 
 -- where some buffer has no place it is
-pub is_full : (size free count pages : ℕ) (holes held : List Interval) (capacity : ℕ) → 1 ≤ pages → IsKept size free holes held capacity →
+pub is_full : (size free count pages : ℕ) (holes held : List Interval) (capacity : ℕ) → 1 ≤ pages →
+    IsPoolSound size free holes held capacity →
     rooms pages holes < count → places size pages count held ≡ None
 is_full size free count pages holes held capacity one k lt =
     places-none size pages count held one k.in_order (subst (λ hs. rooms pages hs < count) k.holes_are lt)

@@ -7,7 +7,7 @@ mod Greatest
 mod Keeping
 pub mod Least
 mod Marking
-mod Moves
+mod GapMoves
 mod Orders
 mod Placing
 mod Searches

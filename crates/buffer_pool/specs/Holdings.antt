@@ -41,7 +41,7 @@ abbrev pub without : ℕ → List Interval → List Interval
 without start held = filter (λ i. not (i.start == start)) held
 
 -- what the fields of a pool keep true
-pub record IsKept (size free : ℕ) (holes held : List Interval) (capacity : ℕ) : Type 0 where
+pub record IsPoolSound (size free : ℕ) (holes held : List Interval) (capacity : ℕ) : Type 0 where
   pub sized : (1 ≤ size) × (size ≤ 1048576)
   pub in_order : IsTrue (in_order 0 size held)
   pub holes_are : holes ≡ holes_of size held

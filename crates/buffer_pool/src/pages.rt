@@ -33,14 +33,14 @@ pub struct Pool {
 }
 
 impl Model for Pool {
-    ghost use Rattle.buffer_pool.specs.Holdings.{Holdings, IsKept};
+    ghost use Rattle.buffer_pool.specs.Holdings.{Holdings, IsPoolSound};
 
     ghost Value = { Holdings };
 
     ghost view = { λ p. record { size = p.size; held = p.held.items } };
 
     ghost invariant = { λ p.
-        IsKept p.size p.free p.holes.items p.held.items p.holes.capacity };
+        IsPoolSound p.size p.free p.holes.items p.held.items p.holes.capacity };
 }
 
 impl Pool {

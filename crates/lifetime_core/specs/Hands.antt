@@ -9,7 +9,7 @@ use Rattle.sm_names.specs.Handles.{opens, drops, lifts, lands}
 use Rattle.sm_names.specs.Marks.{Mark}
 use Rattle.sm_names.specs.Sameness.{same_buffer, same_strength}
 use Rattle.event_laws.specs.ByEvent.{GoesBy, anyone, only, gains, loses, one_if}
-use Rattle.buffer_holds.specs.Counts.{Counts, of, moving, total, has_room}
+use Rattle.buffer_holds.specs.Counts.{Counts, of, moving, total, has_handle_room}
 
 -- a handle of each buffer of the set has room under the limit
 abbrev pub CanOpen : Counts → ℕ → Strength → ℕ → Type 0
@@ -38,9 +38,9 @@ pub record Moves (old new : Counts) (mark : Mark) : Type 0 where
 -- what the call did to the handles can be undone without memory
 abbrev pub CanUndo : Counts → ℕ → Call → Reply → Type 0
 CanUndo holds client (Call.DropHandle buffer strength) Reply.Done =
-    (has_room holds client buffer strength ≡ true) × (total holds buffer strength < holds.limit)
+    (has_handle_room holds client buffer strength ≡ true) × (total holds buffer strength < holds.limit)
 CanUndo holds client (Call.GiveHandle buffer strength to) Reply.Done =
-    (has_room holds client buffer strength ≡ true) × (0 < moving holds buffer strength)
+    (has_handle_room holds client buffer strength ≡ true) × (0 < moving holds buffer strength)
 CanUndo holds client _ _ = ⊤
 
 -- ---- handles that a client opens

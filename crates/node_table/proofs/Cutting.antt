@@ -38,9 +38,9 @@ module _ {N : Type 0} (old mid : Slab (Slot N)) (nexts : List ℕ) (first count 
         → Joins mid new above (prev_in old.slots key.slot) (next_in old.slots key.slot) → IsCut new
     child-cut above was new joins =
         let alike : (i : ℕ) → is_some (slice_index_or new.slots i None) ≡ is_some (slice_index_or old.slots i None) =
-        λ i. joins.kept.kinds i ∙ kinds old mid key.slot loosened edits i in
+        λ i. joins.same_rows.kinds i ∙ kinds old mid key.slot loosened edits i in
         let cores : (i : ℕ) → option_map core_of (entry_in (get new i)) ≡ option_map core_of (entry_in (get mid i)) =
-        λ i. joins.kept.cores i ∙ option_map-keeps (λ (row : Row N). row) (λ row. refl) (option_map core_of (entry_in (get mid i))) in
+        λ i. joins.same_rows.cores i ∙ option_map-keeps (λ (row : Row N). row) (λ row. refl) (option_map core_of (entry_in (get mid i))) in
         let each = each-joined old mid nexts first count limit key sound there edits above was new joins in
         let rows = rows-left old mid nexts first count limit key sound there edits (Some above) was new cores each in
         let chained = chained-left old mid nexts first count limit key sound there edits (Some above) was new cores each in (

@@ -282,7 +282,7 @@ module _ {N : Type 0} (old mid new : Slab (Slot N)) (nexts nexts2 : List ℕ) (f
     other-row i differ =
         rows_are new.slots (given_count first nexts2) (gains parent) each (gains-short parent) i
         ∙ (ap (λ o. option_map (with_children (gains parent i)) (option_map core_of (entry_in o))) (updates.others i differ)
-        ∙ (ap (option_map (with_children (gains parent i))) (linked.kept.cores i ∙ option_map-keeps (λ (row : Row N). row) (λ row.
+        ∙ (ap (option_map (with_children (gains parent i))) (linked.same_rows.cores i ∙ option_map-keeps (λ (row : Row N). row) (λ row.
         refl) (option_map core_of (entry_in (get old i))))
         ∙ (gained parent i (option_map core_of (entry_in (get old i)))
         ∙ ap (option_map (at_slot parent (with_child key) i)) (sym (row-is old.slots most i)))))
@@ -299,7 +299,7 @@ module _ {N : Type 0} (old mid new : Slab (Slot N)) (nexts nexts2 : List ℕ) (f
     born-taken = ap is_some updates.changed
 
     born-kinds : (i : ℕ) → i ≢ key.slot → is_some (slice_index_or new.slots i None) ≡ is_some (slice_index_or old.slots i None)
-    born-kinds i differ = ap is_some (updates.others i differ) ∙ linked.kept.kinds i
+    born-kinds i differ = ap is_some (updates.others i differ) ∙ linked.same_rows.kinds i
 
     -- the table after the birth is sound, and is what a birth makes of it
     pub born : slice_index_or nexts key.slot first ≡ key.generation → count < limit
@@ -316,7 +316,8 @@ module _ {N : Type 0} where
   -- so many values more fit after the links as before
   pub linked-room : (old mid : Slab (Slot N)) (parent : Option NodeKey) (key : NodeKey) (last : Option NodeKey) →
       LinksLast old mid parent key last → slab_len old + 1 ≤ old.capacity → slab_len mid + 1 ≤ mid.capacity
-  linked-room old mid parent key last linked room = rw (count-same old.slots mid.slots linked.kept.kinds, linked.kept.capacity) room
+  linked-room old mid parent key last linked room =
+      rw (count-same old.slots mid.slots linked.same_rows.kinds, linked.same_rows.capacity) room
 
   -- the last child of the parent has an entry
   pub last-entry : (slots : List (Option (Slot N))) (nexts : List ℕ) (first count limit : ℕ) → IsSound slots nexts first count limit →

@@ -99,14 +99,14 @@ module _ {N : Type 0} where
   -- with no parent nothing is linked
   pub links_none : (slots : Slab (Slot N)) (key : NodeKey) → LinksLast slots slots None key None
   links_none slots key =
-      record { kept = relinks-none slots; firsts = λ i. refl; lasts = λ i. refl; prevs = λ i. refl; nexts = λ i. refl }
+      record { same_rows = relinks-none slots; firsts = λ i. refl; lasts = λ i. refl; prevs = λ i. refl; nexts = λ i. refl }
 
   -- a first child is linked to its parent
   pub links_first : (old mid new : Slab (Slot N)) (parent key : NodeKey) → Edits old mid parent.slot (with_first (Some key)) →
       Edits mid new parent.slot (with_last (Some key)) → LinksLast old new (Some parent) key None
   links_first old mid new parent key one two =
       record {
-        kept = relinks-both old mid new (relinks old mid parent.slot (with_first (Some key)) one (λ e. refl))
+        same_rows = relinks-both old mid new (relinks old mid parent.slot (with_first (Some key)) one (λ e. refl))
             (relinks mid new parent.slot (with_last (Some key)) two (λ e. refl));
         firsts = λ i. part-kept mid new parent.slot (with_last (Some key)) two (link_in (λ (e : Entry N). e.first)) (λ e. refl) i
             ∙ part-set old mid parent.slot (with_first (Some key)) one (link_in (λ (e : Entry N). e.first)) (Some key) (λ e. refl) i;
@@ -124,7 +124,7 @@ module _ {N : Type 0} where
       Edits mid new parent.slot (with_last (Some key)) → LinksLast old new (Some parent) key (Some last)
   links_more old mid new parent key last one two =
       record {
-        kept = relinks-both old mid new (relinks old mid last.slot (with_next (Some key)) one (λ e. refl))
+        same_rows = relinks-both old mid new (relinks old mid last.slot (with_next (Some key)) one (λ e. refl))
             (relinks mid new parent.slot (with_last (Some key)) two (λ e. refl));
         firsts = λ i. part-kept mid new parent.slot (with_last (Some key)) two (link_in (λ (e : Entry N). e.first)) (λ e. refl) i
             ∙ part-kept old mid last.slot (with_next (Some key)) one (link_in (λ (e : Entry N). e.first)) (λ e. refl) i;
@@ -142,7 +142,7 @@ module _ {N : Type 0} where
       Edits mid new parent.slot (with_last None) → Joins old new parent None None
   joins_only old mid new parent one two =
       record {
-        kept = relinks-both old mid new (relinks old mid parent.slot (with_first None) one (λ e. refl))
+        same_rows = relinks-both old mid new (relinks old mid parent.slot (with_first None) one (λ e. refl))
             (relinks mid new parent.slot (with_last None) two (λ e. refl));
         firsts = λ i. part-kept mid new parent.slot (with_last None) two (link_in (λ (e : Entry N). e.first)) (λ e. refl) i
             ∙ part-set old mid parent.slot (with_first None) one (link_in (λ (e : Entry N). e.first)) None (λ e. refl) i;
@@ -160,7 +160,7 @@ module _ {N : Type 0} where
       Edits mid new after.slot (with_prev None) → Joins old new parent None (Some after)
   joins_first old mid new parent after one two =
       record {
-        kept = relinks-both old mid new (relinks old mid parent.slot (with_first (Some after)) one (λ e. refl))
+        same_rows = relinks-both old mid new (relinks old mid parent.slot (with_first (Some after)) one (λ e. refl))
             (relinks mid new after.slot (with_prev None) two (λ e. refl));
         firsts = λ i. part-kept mid new after.slot (with_prev None) two (link_in (λ (e : Entry N). e.first)) (λ e. refl) i
             ∙ part-set old mid parent.slot (with_first (Some after)) one (link_in (λ (e : Entry N). e.first)) (Some after) (λ e. refl) i;
@@ -178,7 +178,7 @@ module _ {N : Type 0} where
       Edits mid new parent.slot (with_last (Some before)) → Joins old new parent (Some before) None
   joins_last old mid new parent before one two =
       record {
-        kept = relinks-both old mid new (relinks old mid before.slot (with_next None) one (λ e. refl))
+        same_rows = relinks-both old mid new (relinks old mid before.slot (with_next None) one (λ e. refl))
             (relinks mid new parent.slot (with_last (Some before)) two (λ e. refl));
         firsts = λ i. part-kept mid new parent.slot (with_last (Some before)) two (link_in (λ (e : Entry N). e.first)) (λ e. refl) i
             ∙ part-kept old mid before.slot (with_next None) one (link_in (λ (e : Entry N). e.first)) (λ e. refl) i;
@@ -196,7 +196,7 @@ module _ {N : Type 0} where
       Edits mid new after.slot (with_prev (Some before)) → Joins old new parent (Some before) (Some after)
   joins_mid old mid new parent before after one two =
       record {
-        kept = relinks-both old mid new (relinks old mid before.slot (with_next (Some after)) one (λ e. refl))
+        same_rows = relinks-both old mid new (relinks old mid before.slot (with_next (Some after)) one (λ e. refl))
             (relinks mid new after.slot (with_prev (Some before)) two (λ e. refl));
         firsts = λ i. part-kept mid new after.slot (with_prev (Some before)) two (link_in (λ (e : Entry N). e.first)) (λ e. refl) i
             ∙ part-kept old mid before.slot (with_next (Some after)) one (link_in (λ (e : Entry N). e.first)) (λ e. refl) i;

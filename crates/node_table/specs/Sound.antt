@@ -175,7 +175,7 @@ module _ {N : Type 0} where
 
   -- the key follows the last child of the parent, if there is a parent
   pub record LinksLast (old new : Slab (Slot N)) (parent : Option NodeKey) (key : NodeKey) (last : Option NodeKey) : Type 0 where
-    pub kept : Relinks old new (λ i row. row)
+    pub same_rows : Relinks old new (λ i row. row)
     pub firsts : (i : ℕ) → first_in new.slots i ≡ at_key (unless last parent) (Some key) i (first_in old.slots i)
     pub lasts : (i : ℕ) → last_in new.slots i ≡ at_key parent (Some key) i (last_in old.slots i)
     pub prevs : (i : ℕ) → prev_in new.slots i ≡ prev_in old.slots i
@@ -183,7 +183,7 @@ module _ {N : Type 0} where
 
   -- the neighbours of a child are linked to one another, or to the parent
   pub record Joins (old new : Slab (Slot N)) (parent : NodeKey) (prev next : Option NodeKey) : Type 0 where
-    pub kept : Relinks old new (λ i row. row)
+    pub same_rows : Relinks old new (λ i row. row)
     pub firsts : (i : ℕ) → first_in new.slots i ≡ at_key (unless prev (Some parent)) next i (first_in old.slots i)
     pub lasts : (i : ℕ) → last_in new.slots i ≡ at_key (unless next (Some parent)) prev i (last_in old.slots i)
     pub prevs : (i : ℕ) → prev_in new.slots i ≡ at_key next prev i (prev_in old.slots i)

@@ -8,11 +8,11 @@ use Rattle.sm_names.specs.declared.messages.Reply.{Reply}
 use Rattle.sm_names.specs.Marks.{Entry, Called}
 use Rattle.event_laws.specs.ByEvent.{anyone}
 use Rattle.event_laws.specs.HandleSums.{opened_at, dropped_at, sent_at, got_at, opened, dropped, sent, got}
-use Rattle.service_lock.specs.declared.moves.Moves.{Moves}
+use Rattle.service_lock.specs.declared.moves.HandleMoves.{HandleMoves}
 use Rattle.service_lock.specs.Counting.{moves_by}
 
 -- what the mark of an event does
-abbrev at_mark : Strength → ℕ → Reply → Call → Moves
+abbrev at_mark : Strength → ℕ → Reply → Call → HandleMoves
 at_mark strength client reply call = record {
   opened = opened_at anyone strength (Called client reply call);
   dropped = dropped_at anyone strength (Called client reply call);
@@ -46,23 +46,23 @@ module _ (strength : Strength) (client : ℕ) (call : Call) (reply : Reply) (his
   -- the handles that a record opened
   pub opened_push : opened anyone strength more ≡ opened anyone strength history + (moves_by strength call reply).opened
   opened_push =
-      let same = ap (λ (m : Moves). m.opened) (moves_are strength client reply call) in
+      let same = ap (λ (m : HandleMoves). m.opened) (moves_are strength client reply call) in
       omega (arith, same, sum_by-push (λ e. opened_at anyone strength (Called e.0 e.2 e.1)) history (client, call, reply))
 
   -- that it dropped
   pub dropped_push : dropped anyone strength more ≡ dropped anyone strength history + (moves_by strength call reply).dropped
   dropped_push =
-      let same = ap (λ (m : Moves). m.dropped) (moves_are strength client reply call) in
+      let same = ap (λ (m : HandleMoves). m.dropped) (moves_are strength client reply call) in
       omega (arith, same, sum_by-push (λ e. dropped_at anyone strength (Called e.0 e.2 e.1)) history (client, call, reply))
 
   -- that it put into parcels
   pub sent_push : sent anyone strength more ≡ sent anyone strength history + (moves_by strength call reply).sent
   sent_push =
-      let same = ap (λ (m : Moves). m.sent) (moves_are strength client reply call) in
+      let same = ap (λ (m : HandleMoves). m.sent) (moves_are strength client reply call) in
       omega (arith, same, sum_by-push (λ e. sent_at anyone strength (Called e.0 e.2 e.1)) history (client, call, reply))
 
   -- and that it took out
   pub got_push : got anyone strength more ≡ got anyone strength history + (moves_by strength call reply).got
   got_push =
-      let same = ap (λ (m : Moves). m.got) (moves_are strength client reply call) in
+      let same = ap (λ (m : HandleMoves). m.got) (moves_are strength client reply call) in
       omega (arith, same, sum_by-push (λ e. got_at anyone strength (Called e.0 e.2 e.1)) history (client, call, reply))

@@ -12,7 +12,7 @@ use Rattle.event_laws.specs.HandleSums.{all_moving, all_open}
 use Rattle.event_laws.proofs.HandleSumLaws.{all_moving_adds, all_open_adds}
 use Rattle.lifetime_core.specs.Shown.{Shows}
 use Rattle.lifetime_core.specs.State.{State}
-use Rattle.service_lock.specs.declared.moves.Moves.{Moves}
+use Rattle.service_lock.specs.declared.moves.HandleMoves.{HandleMoves}
 use Rattle.service_lock.specs.Counting.{moves_by}
 use Rattle.service_lock.specs.States.{CountsHandles, IsSound}
 use Rattle.service_lock.specs.Units.{Sums, Written}
@@ -45,7 +45,7 @@ begins core limits history events strong weak none shows limited no_event no_str
 
 -- the book holds what the event opens
 pub fits : (pool : ℕ) (limits : Bound) (strength : Strength) (client : ℕ) (call : Call) (reply : Reply) (history : List Entry)
-    (moves : Moves) (sums : Sums) (most : ℕ) →
+    (moves : HandleMoves) (sums : Sums) (most : ℕ) →
     IsLegal pool limits history → moves ≡ moves_by strength call reply → CountsHandles (timeline pool history) strength sums →
     length history < most → most < 2 ^ 32 → sums.total + moves.opened < 2 ^ 64
 fits pool limits strength client call reply history moves sums most legal is counts few small =
@@ -54,7 +54,7 @@ fits pool limits strength client call reply history moves sums most legal is cou
       counts.standing,
       few,
       small,
-      ap (λ (m : Moves). m.opened) is,
+      ap (λ (m : HandleMoves). m.opened) is,
       all_open_adds pool limits history legal strength,
       opened_push strength client call reply history,
       opened_le strength (history ++ (client, call, reply) ∷ []),
@@ -62,7 +62,7 @@ fits pool limits strength client call reply history moves sums most legal is cou
     )
 
 module _ (was pool : ℕ) (before now : Bound) (strength : Strength) (client : ℕ) (call : Call) (reply : Reply) (history : List Entry)
-    (moves : Moves)
+    (moves : HandleMoves)
     (same : pool ≡ was) (legal : IsLegal was before history) (next : IsLegal pool now (history ++ (client, call, reply) ∷ []))
     (is : moves ≡ moves_by strength call reply) where
   -- the record with the event
@@ -81,7 +81,7 @@ module _ (was pool : ℕ) (before now : Bound) (strength : Strength) (client : �
     -- what the event takes out of a parcel is in one
     pub there : moves.got ≤ old.carried
     there = elim (got_or_sent strength call reply) [
-      | inl none ↦ omega (arith, ap (λ (m : Moves). m.got) is, none)
+      | inl none ↦ omega (arith, ap (λ (m : HandleMoves). m.got) is, none)
       | inr none ↦
           omega (
             arith,
@@ -89,7 +89,7 @@ module _ (was pool : ℕ) (before now : Bound) (strength : Strength) (client : �
             counts_here.carried,
             all_moving_adds pool before history legal_here strength,
             all_moving_adds pool now more next strength,
-            ap (λ (m : Moves). m.got) is,
+            ap (λ (m : HandleMoves). m.got) is,
             got_push strength client call reply history,
             sent_push strength client call reply history,
           )
@@ -102,8 +102,8 @@ module _ (was pool : ℕ) (before now : Bound) (strength : Strength) (client : �
         arith,
         counts_here.standing,
         goes.total,
-        ap (λ (m : Moves). m.dropped) is,
-        ap (λ (m : Moves). m.opened) is,
+        ap (λ (m : HandleMoves). m.dropped) is,
+        ap (λ (m : HandleMoves). m.opened) is,
         all_open_adds pool before history legal_here strength,
         all_open_adds pool now more next strength,
         dropped_push strength client call reply history,
@@ -113,8 +113,8 @@ module _ (was pool : ℕ) (before now : Bound) (strength : Strength) (client : �
         arith,
         counts_here.carried,
         goes.carried,
-        ap (λ (m : Moves). m.got) is,
-        ap (λ (m : Moves). m.sent) is,
+        ap (λ (m : HandleMoves). m.got) is,
+        ap (λ (m : HandleMoves). m.sent) is,
         all_moving_adds pool before history legal_here strength,
         all_moving_adds pool now more next strength,
         got_push strength client call reply history,

@@ -5,7 +5,7 @@ use Rattle.sm_names.specs.declared.keys.Strength.TheVariants.{Strong, Weak}
 use Rattle.sm_names.specs.declared.messages.Call.{Call}
 use Rattle.sm_names.specs.declared.messages.Reply.{Reply}
 use Rattle.service_lock.specs.declared.blanks.Blanks.{Blanks}
-use Rattle.service_lock.specs.declared.moves.Moves.{Moves}
+use Rattle.service_lock.specs.declared.moves.HandleMoves.{HandleMoves}
 use Rattle.event_laws.specs.HandleSums.{count_if}
 use Rattle.service_lock.specs.Counting.{moves_by}
 
@@ -16,7 +16,7 @@ pub record Sums : Type 0 where
   pub left : ℕ
 
 -- the sums after these moves
-pub record Written (old new : Sums) (moves : Moves) : Type 0 where
+pub record Written (old new : Sums) (moves : HandleMoves) : Type 0 where
   pub total : new.total + moves.dropped ≡ old.total + moves.opened
   pub carried : new.carried + moves.got ≡ old.carried + moves.sent
 
@@ -38,7 +38,7 @@ pub record HasUnitFor (call : Call) (units : Amounts) : Type 0 where
   pub weak : needed Weak call ≤ units.weak
 
 -- the amount after these moves
-abbrev pub Moved : ℕ → ℕ → Moves → Type 0
+abbrev pub Moved : ℕ → ℕ → HandleMoves → Type 0
 Moved old new moves = new + (moves.dropped + moves.sent) ≡ old + (moves.opened + moves.got)
 
 -- the units count the event: one event more, and each handle that it opened, dropped or moved

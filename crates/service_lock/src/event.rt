@@ -8,14 +8,14 @@ ghost use Rattle.lifetime_core.specs.Kinds.{fits_call};
 ghost use Rattle.service_lock.specs.States.{after};
 ghost use Rattle.service_lock.specs.Units.{Counts, HasUnitFor};
 
-use crate::moves::{Moves, moves_of};
+use crate::moves::{HandleMoves, moves_of};
 use crate::shares::Units;
 use crate::state::State;
 use sm_names::{Call, ClientId, Reply, StepFault, Strength};
 use std::sync::ledger::Ledger;
 
 // What each event does to the book of events.
-const ONE_EVENT: Moves = Moves {
+const ONE_EVENT: HandleMoves = HandleMoves {
     opened: 1,
     dropped: 0,
     sent: 0,

@@ -8,14 +8,14 @@ use sm_names::{Call, Reply, Strength};
 /// How many handles of one strength an event opens and drops, puts into parcels and takes out of
 /// them.
 #[derive(Clone, Copy)]
-pub(crate) struct Moves {
+pub(crate) struct HandleMoves {
     pub opened: u64,
     pub dropped: u64,
     pub sent: u64,
     pub got: u64,
 }
 
-const NO_MOVES: Moves = Moves {
+const NO_MOVES: HandleMoves = HandleMoves {
     opened: 0,
     dropped: 0,
     sent: 0,
@@ -23,7 +23,7 @@ const NO_MOVES: Moves = Moves {
 };
 
 /// What the call that was answered so does to the handles of this strength.
-pub(crate) fn moves_of(strength: Strength, call: &Call, reply: &Reply) -> Moves
+pub(crate) fn moves_of(strength: Strength, call: &Call, reply: &Reply) -> HandleMoves
     ensures { result ≡ moves_by strength call.now reply.now }
 {
     match *call {
@@ -34,7 +34,7 @@ pub(crate) fn moves_of(strength: Strength, call: &Call, reply: &Reply) -> Moves
                 set,
             } = *reply
             {
-                return Moves {
+                return HandleMoves {
                     opened: count_set(strength, taken, set),
                     ..NO_MOVES
                 };
@@ -42,7 +42,7 @@ pub(crate) fn moves_of(strength: Strength, call: &Call, reply: &Reply) -> Moves
         }
         Call::DupHandle(_, dup) => {
             if let Reply::Done = *reply {
-                return Moves {
+                return HandleMoves {
                     opened: count_one(strength, dup),
                     ..NO_MOVES
                 };
@@ -50,7 +50,7 @@ pub(crate) fn moves_of(strength: Strength, call: &Call, reply: &Reply) -> Moves
         }
         Call::DropHandle(_, dropped) => {
             if let Reply::Done = *reply {
-                return Moves {
+                return HandleMoves {
                     dropped: count_one(strength, dropped),
                     ..NO_MOVES
                 };
@@ -58,7 +58,7 @@ pub(crate) fn moves_of(strength: Strength, call: &Call, reply: &Reply) -> Moves
         }
         Call::GiveHandle(_, given, _) => {
             if let Reply::Done = *reply {
-                return Moves {
+                return HandleMoves {
                     sent: count_one(strength, given),
                     ..NO_MOVES
                 };
@@ -70,7 +70,7 @@ pub(crate) fn moves_of(strength: Strength, call: &Call, reply: &Reply) -> Moves
                 strength: got,
             } = *reply
             {
-                return Moves {
+                return HandleMoves {
                     got: count_one(strength, got),
                     ..NO_MOVES
                 };

@@ -2,7 +2,7 @@
 ghost use Rattle.std.specs.Prelude.{◌≡◌, ◌+◌, ◌<◌, ◌≤◌, ◌^◌};
 ghost use Rattle.service_lock.specs.Units.{Moved, Written};
 
-use crate::moves::Moves;
+use crate::moves::HandleMoves;
 use std::marker::Model;
 use std::sync::ledger::{Blank, Book, Ledger, Share};
 
@@ -60,7 +60,7 @@ impl<L: Ledger> Tally<L> {
     }
 
     /// Writes what an event does into the book and into the share of the client whose event it is.
-    pub fn write(&mut self, share: &mut Share<L>, moves: Moves)
+    pub fn write(&mut self, share: &mut Share<L>, moves: HandleMoves)
         requires part { 0 < share.old.parts }
         requires fits { self.old.total + moves.opened < 2 ^ 64 }
         requires enough { moves.dropped + moves.sent ≤ share.old.amount }

@@ -6,16 +6,16 @@ use Rattle.std.proofs.lemmas.List.Sums.{sum_by-append, sum_by-cons}
 use Rattle.sm_names.specs.declared.tracking.Fired.{Fired}
 use Rattle.trackers.specs.declared.waiting.Waiting.{Waiting}
 use Rattle.trackers.specs.Table.{Cell, Attaches, firing_of}
-use Rattle.trackers.specs.Row.{Kept, Stage, Waits, Over, is_waiting, waiting_of_row, firing_of_row}
+use Rattle.trackers.specs.Row.{TrackerRow, Stage, Waits, Over, is_waiting, waiting_of_row, firing_of_row}
 use Rattle.trackers.specs.Filing.{Piles, Wish, entries_of, weigh}
-use Rattle.trackers.specs.Held.{cell_of_row, untaken_of_row, asked, asked_from, AreRising, IsKeptUp, NoneHas, table_of, attached}
+use Rattle.trackers.specs.Held.{cell_of_row, untaken_of_row, awaited, awaited_from, AreRising, IsTableSound, NoneHas, table_of, attached}
 use Rattle.trackers.proofs.FilingLemmas.{asked_push}
 use Rattle.trackers.proofs.FoundLemmas.{table_with}
 use Rattle.trackers.proofs.Weights.{weigh_append}
 use Rattle.trackers.proofs.Walks.{filter_map_push}
 
 -- a row that waits is shown
-shown_at : (id cell : ℕ) (stage : Stage) (has : Bool) (rows : List Kept) →
+shown_at : (id cell : ℕ) (stage : Stage) (has : Bool) (rows : List TrackerRow) →
     length (filter_map waiting_of_row rows) ≡ count_by is_waiting rows →
     length (cons_option (waiting_of_row (record { id = id; cell = cell; stage = stage; has_reader = has }))
     (filter_map waiting_of_row rows)) ≡ cond (is_waiting (record { id = id; cell = cell; stage = stage; has_reader = has })) 1
@@ -24,75 +24,76 @@ shown_at id cell (Over event) has rows same = omega arith
 shown_at id cell (Waits place c) has rows same = omega arith
 
 -- as many rows wait as are shown
-pub count_shown : (rows : List Kept) → length (filter_map waiting_of_row rows) ≡ count_by is_waiting rows
+pub count_shown : (rows : List TrackerRow) → length (filter_map waiting_of_row rows) ≡ count_by is_waiting rows
 count_shown [] = refl
 count_shown (row ∷ rows) =
     shown_at row.id row.cell row.stage row.has_reader rows (count_shown rows) ∙ sym (sum_by-cons (λ r. cond (is_waiting r) 1 0) row rows)
 
 -- the ids of the cells are those of the rows
-pub all_below : (n : ℕ) (rows : List Kept) → AllByRecursion (λ (c : Cell). c.id < n) (map cell_of_row rows) →
-    AllByRecursion (λ (r : Kept). r.id < n) rows
+pub all_below : (n : ℕ) (rows : List TrackerRow) → AllByRecursion (λ (c : Cell). c.id < n) (map cell_of_row rows) →
+    AllByRecursion (λ (r : TrackerRow). r.id < n) rows
 all_below n [] all = tt
 all_below n (row ∷ rows) all = (all.0, all_below n rows all.1)
 
 -- a greater id is one that no row has
-fresh : (n : ℕ) (rows : List Kept) → AllByRecursion (λ (r : Kept). r.id < n) rows → NoneHas n rows
+fresh : (n : ℕ) (rows : List TrackerRow) → AllByRecursion (λ (r : TrackerRow). r.id < n) rows → NoneHas n rows
 fresh n [] all = tt
 fresh n (row ∷ rows) all = ((λ same. omega (arith, all.0)), fresh n rows all.1)
 
-module _ (row : Kept) where
+module _ (row : TrackerRow) where
   -- an id below all stays so, if the new one is greater
-  below_push : (n : ℕ) (rows : List Kept) → n < row.id → AllByRecursion (λ (r : Kept). n < r.id) rows →
-      AllByRecursion (λ (r : Kept). n < r.id) (rows ++ row ∷ [])
+  below_push : (n : ℕ) (rows : List TrackerRow) → n < row.id → AllByRecursion (λ (r : TrackerRow). n < r.id) rows →
+      AllByRecursion (λ (r : TrackerRow). n < r.id) (rows ++ row ∷ [])
   below_push n [] above below = (above, tt)
   below_push n (other ∷ rows) above below = (below.0, below_push n rows above below.1)
 
   -- the ids rise on with a greater one
-  rising_push : (rows : List Kept) → AllByRecursion (λ (r : Kept). r.id < row.id) rows → AreRising rows → AreRising (rows ++ row ∷ [])
+  rising_push : (rows : List TrackerRow) → AllByRecursion (λ (r : TrackerRow). r.id < row.id) rows → AreRising rows →
+      AreRising (rows ++ row ∷ [])
   rising_push [] all rising = (tt, tt)
   rising_push (other ∷ rows) all rising = (below_push other.id rows all.0 rising.0, rising_push rows all.1 rising.1)
 
   -- each firing is found under its id with one row more
-  told_push : (fired : List Fired) (rows : List Kept) → firing_of fired row.id ≡ firing_of_row row →
-      AllByRecursion (λ (r : Kept). firing_of fired r.id ≡ firing_of_row r) rows →
-      AllByRecursion (λ (r : Kept). firing_of fired r.id ≡ firing_of_row r) (rows ++ row ∷ [])
+  told_push : (fired : List Fired) (rows : List TrackerRow) → firing_of fired row.id ≡ firing_of_row row →
+      AllByRecursion (λ (r : TrackerRow). firing_of fired r.id ≡ firing_of_row r) rows →
+      AllByRecursion (λ (r : TrackerRow). firing_of fired r.id ≡ firing_of_row r) (rows ++ row ∷ [])
   told_push fired [] here told = (here, tt)
   told_push fired (other ∷ rows) here told = (told.0, told_push fired rows here told.1)
 
   -- an id that none has was had by none before
-  none_push : (id : ℕ) (rows : List Kept) → NoneHas id (rows ++ row ∷ []) → NoneHas id rows
+  none_push : (id : ℕ) (rows : List TrackerRow) → NoneHas id (rows ++ row ∷ []) → NoneHas id rows
   none_push id [] none = tt
   none_push id (other ∷ rows) none = (none.0, none_push id rows none.1)
 
-module _ (limit capacity capacity' spare spare' : ℕ) (rows rows' : List Kept) (fired fired' : List Fired) (old new : Piles)
-    (kept : IsKeptUp limit rows fired capacity spare old) (same : fired' ≡ fired) where
+module _ (limit capacity capacity' spare spare' : ℕ) (rows rows' : List TrackerRow) (fired fired' : List Fired) (old new : Piles)
+    (sound : IsTableSound limit rows fired capacity spare old) (same : fired' ≡ fired) where
   -- the table is right with one row more
-  pub kept_push : (cell : ℕ) (t : Waiting) → AllByRecursion (λ (r : Kept). r.id < t.id) rows → count_by is_waiting rows < limit →
+  pub sound_push : (cell : ℕ) (t : Waiting) → AllByRecursion (λ (r : TrackerRow). r.id < t.id) rows → count_by is_waiting rows < limit →
       length rows + 1 ≤ capacity' → count_by is_waiting rows + 1 ≤ spare' → rows' ≡ rows ++ attached cell t ∷ [] →
       ((k : ℕ) (f : Wish → ℕ) → weigh f (entries_of new k) ≡ (if k == t.collection then f (t.condition, length rows) + weigh f (entries_of old k) else weigh
-      f (entries_of old k))) → IsKeptUp limit rows' fired' capacity' spare' new
-  kept_push cell t all room_left room spare_left pushed filed =
-      let row : Kept = attached cell t in
+      f (entries_of old k))) → IsTableSound limit rows' fired' capacity' spare' new
+  sound_push cell t all room_left room spare_left pushed filed =
+      let row : TrackerRow = attached cell t in
       rw (same, pushed) record {
         held = record {
-          rising = rising_push row rows all kept.held.rising;
-          counted = omega (arith, kept.held.counted, length_push rows row, sum_by-append (λ r. cond (is_waiting r) 1 0) rows (row ∷ []));
+          rising = rising_push row rows all sound.held.rising;
+          counted = omega (arith, sound.held.counted, length_push rows row, sum_by-append (λ r. cond (is_waiting r) 1 0) rows (row ∷ []));
           room = omega (arith, room, length_push rows row);
           within = omega (arith, room_left, sum_by-append (λ r. cond (is_waiting r) 1 0) rows (row ∷ []));
-          told = told_push row fired rows (kept.held.own t.id (fresh t.id rows all)) kept.held.told;
-          own = λ other none. kept.held.own other (none_push row other rows none);
+          told = told_push row fired rows (sound.held.own t.id (fresh t.id rows all)) sound.held.told;
+          own = λ other none. sound.held.own other (none_push row other rows none);
         };
         filed = record {
           at = λ k f.
-              let had : weigh f (entries_of old k) ≡ weigh f (asked_from k 0 rows) = kept.filed.at k f in
-              let joined : weigh f (asked_from k 0 (rows ++ row ∷ [])) ≡ weigh f (asked_from k 0 rows) + weigh f
-              (option_to_list (asked k (0 + length rows) row)) =
+              let had : weigh f (entries_of old k) ≡ weigh f (awaited_from k 0 rows) = sound.filed.at k f in
+              let joined : weigh f (awaited_from k 0 (rows ++ row ∷ [])) ≡ weigh f (awaited_from k 0 rows) + weigh f
+              (option_to_list (awaited k (0 + length rows) row)) =
               ap (weigh f) (asked_push k 0 rows row)
-              ∙ weigh_append f (asked_from k 0 rows) (option_to_list (asked k (0 + length rows) row)) in
+              ∙ weigh_append f (awaited_from k 0 rows) (option_to_list (awaited k (0 + length rows) row)) in
               let place_is : 0 + length rows ≡ length rows = omega arith in
               filed k f ∙ (elim (k == t.collection) as (λ b.
               (if b then f (t.condition, length rows) + weigh f (entries_of old k) else weigh f (entries_of old k)) ≡ weigh f
-              (asked_from k 0 rows) + weigh f (option_to_list (if b then Some (t.condition, 0 + length rows) else None))) [
+              (awaited_from k 0 rows) + weigh f (option_to_list (if b then Some (t.condition, 0 + length rows) else None))) [
                 | true ↦ omega (arith, had, ap (λ m. f (t.condition, m)) place_is)
                 | false ↦ omega (arith, had)
               ] ∙ sym joined);
@@ -101,27 +102,28 @@ module _ (limit capacity capacity' spare spare' : ℕ) (rows rows' : List Kept) 
       }
 
   -- and with more room alone
-  pub kept_grown : capacity ≤ capacity' → spare ≤ spare' → rows' ≡ rows →
-      ((k : ℕ) (f : Wish → ℕ) → weigh f (entries_of new k) ≡ weigh f (entries_of old k)) → IsKeptUp limit rows' fired' capacity' spare' new
-  kept_grown more more_spare stay filed = rw (same, stay) record {
+  pub sound_grown : capacity ≤ capacity' → spare ≤ spare' → rows' ≡ rows →
+      ((k : ℕ) (f : Wish → ℕ) → weigh f (entries_of new k) ≡ weigh f (entries_of old k)) →
+      IsTableSound limit rows' fired' capacity' spare' new
+  sound_grown more more_spare stay filed = rw (same, stay) record {
     held = record {
-      rising = kept.held.rising;
-      counted = kept.held.counted;
-      room = omega (arith, kept.held.room);
-      within = kept.held.within;
-      told = kept.held.told;
-      own = kept.held.own;
+      rising = sound.held.rising;
+      counted = sound.held.counted;
+      room = omega (arith, sound.held.room);
+      within = sound.held.within;
+      told = sound.held.told;
+      own = sound.held.own;
     };
-    filed = record { at = λ k f. filed k f ∙ kept.filed.at k f };
-    spare_room = omega (arith, kept.spare_room, more_spare);
+    filed = record { at = λ k f. filed k f ∙ sound.filed.at k f };
+    spare_room = omega (arith, sound.spare_room, more_spare);
   }
 
 -- the table shows a row more
-pub table_push : (limit : ℕ) (rows rows' : List Kept) (fired fired' : List Fired) (cell : ℕ) (t : Waiting) → fired' ≡ fired →
+pub table_push : (limit : ℕ) (rows rows' : List TrackerRow) (fired fired' : List Fired) (cell : ℕ) (t : Waiting) → fired' ≡ fired →
     rows' ≡ rows ++ attached cell t ∷ [] →
     Attaches (table_of limit rows fired) (table_of limit rows' fired') t
 table_push limit rows rows' fired fired' cell t same pushed =
-    let row : Kept = attached cell t in
+    let row : TrackerRow = attached cell t in
     rw (same, pushed) record {
       name = cell;
       next =

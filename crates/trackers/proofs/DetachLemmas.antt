@@ -10,9 +10,9 @@ use Rattle.sm_names.specs.declared.tracking.Fired.{Fired}
 use Rattle.sm_names.specs.declared.tracking.Condition.{Condition}
 use Rattle.trackers.specs.declared.waiting.Waiting.{Waiting}
 use Rattle.trackers.specs.Table.{Cell, Table, Attaches, firing_of}
-use Rattle.trackers.specs.Row.{Kept, Stage, Waits, Over, is_waiting, waiting_of_row, firing_of_row}
+use Rattle.trackers.specs.Row.{TrackerRow, Stage, Waits, Over, is_waiting, waiting_of_row, firing_of_row}
 use Rattle.trackers.specs.Filing.{Piles, Wish, entries_of, weigh, weigh_at}
-use Rattle.trackers.specs.Held.{cell_of_row, untaken_of_row, asked, asked_from, AreRising, IsKeptUp, NoneHas, table_of}
+use Rattle.trackers.specs.Held.{cell_of_row, untaken_of_row, awaited, awaited_from, AreRising, IsTableSound, NoneHas, table_of}
 use Rattle.trackers.proofs.FilingLemmas.{asked_push}
 use Rattle.trackers.proofs.Walks.{filter_map_push, row_of}
 use Rattle.trackers.proofs.Weights.{weigh_append}
@@ -50,14 +50,15 @@ no_items (x ∷ xs) none = absurd (omega (arith, none))
 -- ---- ids below that of the last row
 
 -- the rows before the last have lower ids
-below_last : (rows : List Kept) (row : Kept) → AreRising (rows ++ row ∷ []) → AllByRecursion (λ (r : Kept). r.id < row.id) rows
+below_last : (rows : List TrackerRow) (row : TrackerRow) → AreRising (rows ++ row ∷ []) →
+    AllByRecursion (λ (r : TrackerRow). r.id < row.id) rows
 below_last [] row rising = tt
-below_last (other ∷ rows) row rising = (last_of (λ (r : Kept). other.id < r.id) rows row rising.0, below_last rows row rising.1)
+below_last (other ∷ rows) row rising = (last_of (λ (r : TrackerRow). other.id < r.id) rows row rising.0, below_last rows row rising.1)
 
 -- and rise among themselves
-front_rises : (rows : List Kept) (row : Kept) → AreRising (rows ++ row ∷ []) → AreRising rows
+front_rises : (rows : List TrackerRow) (row : TrackerRow) → AreRising (rows ++ row ∷ []) → AreRising rows
 front_rises [] row rising = tt
-front_rises (other ∷ rows) row rising = (front_of (λ (r : Kept). other.id < r.id) rows row rising.0, front_rises rows row rising.1)
+front_rises (other ∷ rows) row rising = (front_of (λ (r : TrackerRow). other.id < r.id) rows row rising.0, front_rises rows row rising.1)
 
 -- what waits of rows with low ids has a low id
 waits_low : (n id cell : ℕ) (stage : Stage) (has : Bool) (more : List Waiting) → id < n → AllByRecursion (λ (t : Waiting). t.id < n) more →
@@ -65,7 +66,7 @@ waits_low : (n id cell : ℕ) (stage : Stage) (has : Bool) (more : List Waiting)
 waits_low n id cell (Waits place c) has more low all = (low, all)
 waits_low n id cell (Over event) has more low all = all
 
-waits_below : (n : ℕ) (rows : List Kept) → AllByRecursion (λ (r : Kept). r.id < n) rows →
+waits_below : (n : ℕ) (rows : List TrackerRow) → AllByRecursion (λ (r : TrackerRow). r.id < n) rows →
     AllByRecursion (λ (t : Waiting). t.id < n) (filter_map waiting_of_row rows)
 waits_below n [] all = tt
 waits_below n (row ∷ rows) all =
@@ -77,7 +78,7 @@ untaken_low : (n id cell : ℕ) (stage : Stage) (has : Bool) (more : List ℕ) �
 untaken_low n id cell stage true more low all = (low, all)
 untaken_low n id cell stage false more low all = all
 
-untaken_below : (n : ℕ) (rows : List Kept) → AllByRecursion (λ (r : Kept). r.id < n) rows →
+untaken_below : (n : ℕ) (rows : List TrackerRow) → AllByRecursion (λ (r : TrackerRow). r.id < n) rows →
     AllByRecursion (λ (i : ℕ). i < n) (filter_map untaken_of_row rows)
 untaken_below n [] all = tt
 untaken_below n (row ∷ rows) all =
@@ -85,7 +86,8 @@ untaken_below n (row ∷ rows) all =
 
 -- ---- the row that was attached last
 
-module _ (limit : ℕ) (rows : List Kept) (row : Kept) (fired : List Fired) (rising : AreRising (rows ++ row ∷ [])) (before : Table)
+module _ (limit : ℕ) (rows : List TrackerRow) (row : TrackerRow) (fired : List Fired) (rising : AreRising (rows ++ row ∷ []))
+    (before : Table)
     (tracker : Waiting)
     (attaches : Attaches before (table_of limit (rows ++ row ∷ []) fired) tracker) where
   -- its cell is the last
@@ -152,7 +154,7 @@ module _ (limit : ℕ) (rows : List Kept) (row : Kept) (fired : List Fired) (ris
 -- nothing behind the rows is asked
 none_at_row : (collection m n id cell : ℕ) (stage : Stage) (has : Bool) (f : Wish → ℕ) (more : List Wish) → n < m →
     weigh (weigh_at m f) more ≡ 0 →
-    weigh (weigh_at m f) (cons_option (asked collection n (row_of id cell stage has)) more) ≡ 0
+    weigh (weigh_at m f) (cons_option (awaited collection n (row_of id cell stage has)) more) ≡ 0
 none_at_row collection m n id cell (Over event) has f more less rest = rest
 none_at_row collection m n id cell (Waits p c) has f more less rest =
     elim (collection == p) as (λ b. weigh (weigh_at m f) (cons_option (if b then Some (c, n) else None) more) ≡ 0) [
@@ -163,8 +165,8 @@ none_at_row collection m n id cell (Waits p c) has f more less rest =
       | false ↦ rest
     ]
 
-none_at : (collection m n : ℕ) (f : Wish → ℕ) (rows : List Kept) → n + length rows ≤ m →
-    weigh (weigh_at m f) (asked_from collection n rows) ≡ 0
+none_at : (collection m n : ℕ) (f : Wish → ℕ) (rows : List TrackerRow) → n + length rows ≤ m →
+    weigh (weigh_at m f) (awaited_from collection n rows) ≡ 0
 none_at collection m n f [] within = refl
 none_at collection m n f (row ∷ rows) within =
     none_at_row collection m n row.id row.cell row.stage row.has_reader f _ (omega (arith, within)) (none_at collection m (n + 1) f rows
@@ -175,7 +177,7 @@ all_at : (m : ℕ) (c : Condition) (f : Wish → ℕ) → weigh_at m f (c, 0 + m
 all_at m c f = let same : (0 + m == m) ≡ true = grind (arith, nat_tests) in rw same refl
 
 -- an id that no row but the last has is had by none, if it is not the last one's
-none_last : (id : ℕ) (rows : List Kept) (row : Kept) → row.id ≢ id → NoneHas id rows → NoneHas id (rows ++ row ∷ [])
+none_last : (id : ℕ) (rows : List TrackerRow) (row : TrackerRow) → row.id ≢ id → NoneHas id rows → NoneHas id (rows ++ row ∷ [])
 none_last id [] row other none = (other, tt)
 none_last id (r ∷ rows) row other none = (none.0, none_last id rows row other none.1)
 
@@ -185,15 +187,15 @@ waits_untold : (id cell : ℕ) (stage : Stage) (has : Bool) (tracker : Waiting) 
 waits_untold id cell (Waits place c) has tracker e = (refl, refl)
 waits_untold id cell (Over event) has tracker e = cc
 
-module _ (limit capacity spare : ℕ) (rows : List Kept) (row : Kept) (fired : List Fired) (old new : Piles)
-    (kept : IsKeptUp limit (rows ++ row ∷ []) fired capacity spare old) (tracker : Waiting)
+module _ (limit capacity spare : ℕ) (rows : List TrackerRow) (row : TrackerRow) (fired : List Fired) (old new : Piles)
+    (sound : IsTableSound limit (rows ++ row ∷ []) fired capacity spare old) (tracker : Waiting)
     (waits : waiting_of_row row ≡ Some tracker) where
   -- the last row waits
   waits_on : (firing_of_row row ≡ None) × (is_waiting row ≡ true)
   waits_on = waits_untold row.id row.cell row.stage row.has_reader tracker waits
 
   -- the firing of a row is found under its id
-  abbrev Told : Kept → Type 0
+  abbrev Told : TrackerRow → Type 0
   Told r = firing_of fired r.id ≡ firing_of_row r
 
   -- no other id has a firing either
@@ -201,38 +203,38 @@ module _ (limit capacity spare : ℕ) (rows : List Kept) (row : Kept) (fired : L
   own_left id none = from (row.id == id) refl
     where
       from : (b : Bool) → (row.id == id) ≡ b → firing_of fired id ≡ None
-      from true e = ap (firing_of fired) (sym (eqb-true row.id id e)) ∙ (last_of Told rows row kept.held.told ∙ waits_on.0)
-      from false e = kept.held.own id (none_last id rows row (λ same. let no : false ≡ true = sym e ∙ eq-eqb row.id id same in cc) none)
+      from true e = ap (firing_of fired) (sym (eqb-true row.id id e)) ∙ (last_of Told rows row sound.held.told ∙ waits_on.0)
+      from false e = sound.held.own id (none_last id rows row (λ same. let no : false ≡ true = sym e ∙ eq-eqb row.id id same in cc) none)
 
   -- what it asks
-  asked_last : (c n : ℕ) → asked c n row ≡ (if c == tracker.collection then Some (tracker.condition, n) else None)
+  asked_last : (c n : ℕ) → awaited c n row ≡ (if c == tracker.collection then Some (tracker.condition, n) else None)
   asked_last c n = ap (λ o. option_map_or (λ (t : Waiting). if c == t.collection then Some (t.condition, n) else None) o None) waits
 
   -- what was filed
   was_filed : (c : ℕ) (g : Wish → ℕ) →
-      weigh g (entries_of old c) ≡ weigh g (asked_from c 0 rows) + weigh g
+      weigh g (entries_of old c) ≡ weigh g (awaited_from c 0 rows) + weigh g
       (option_to_list (if c == tracker.collection then Some (tracker.condition, 0 + length rows) else None))
   was_filed c g =
-      kept.filed.at c g
+      sound.filed.at c g
       ∙ (ap (weigh g) (asked_push c 0 rows row)
-      ∙ (weigh_append g (asked_from c 0 rows) (option_to_list (asked c (0 + length rows) row))
-      ∙ ap (λ o. weigh g (asked_from c 0 rows) + weigh g (option_to_list o)) (asked_last c (0 + length rows))))
+      ∙ (weigh_append g (awaited_from c 0 rows) (option_to_list (awaited c (0 + length rows) row))
+      ∙ ap (λ o. weigh g (awaited_from c 0 rows) + weigh g (option_to_list o)) (asked_last c (0 + length rows))))
 
   -- the table is right without it
-  pub kept_popped : ((c : ℕ) (f : Wish → ℕ) →
+  pub sound_popped : ((c : ℕ) (f : Wish → ℕ) →
       (if c == tracker.collection then weigh f (entries_of new c) + weigh (weigh_at (length rows) f) (entries_of old c) else weigh f
-      (entries_of new c)) ≡ weigh f (entries_of old c)) → IsKeptUp limit rows fired capacity spare new
-  kept_popped withdrawn = record {
+      (entries_of new c)) ≡ weigh f (entries_of old c)) → IsTableSound limit rows fired capacity spare new
+  sound_popped withdrawn = record {
     held = record {
-      rising = front_rises rows row kept.held.rising;
-      counted = omega (arith, kept.held.counted, length_push rows row, counts);
-      room = omega (arith, kept.held.room, length_push rows row);
-      within = omega (arith, kept.held.within, counts);
-      told = front_of Told rows row kept.held.told;
+      rising = front_rises rows row sound.held.rising;
+      counted = omega (arith, sound.held.counted, length_push rows row, counts);
+      room = omega (arith, sound.held.room, length_push rows row);
+      within = omega (arith, sound.held.within, counts);
+      told = front_of Told rows row sound.held.told;
       own = own_left;
     };
     filed = record { at = at };
-    spare_room = omega (arith, kept.spare_room, counts);
+    spare_room = omega (arith, sound.spare_room, counts);
   }
     where
       one : count_by is_waiting (row ∷ []) ≡ 1
@@ -241,35 +243,36 @@ module _ (limit capacity spare : ℕ) (rows : List Kept) (row : Kept) (fired : L
       counts : count_by is_waiting (rows ++ row ∷ []) ≡ count_by is_waiting rows + 1
       counts = sum_by-append (λ r. cond (is_waiting r) 1 0) rows (row ∷ []) ∙ ap (λ n. count_by is_waiting rows + n) one
 
-      at : (c : ℕ) (f : Wish → ℕ) → weigh f (entries_of new c) ≡ weigh f (asked_from c 0 rows)
+      at : (c : ℕ) (f : Wish → ℕ) → weigh f (entries_of new c) ≡ weigh f (awaited_from c 0 rows)
       at c f =
-          let none_there : weigh (weigh_at (length rows) f) (asked_from c 0 rows) ≡ 0 = none_at c (length rows) 0 f rows (omega arith) in
+          let none_there : weigh (weigh_at (length rows) f) (awaited_from c 0 rows) ≡ 0 = none_at c (length rows) 0 f rows (omega arith) in
           let there = all_at (length rows) tracker.condition f in
           (elim (c == tracker.collection) as (λ b.
-          weigh f (entries_of old c) ≡ weigh f (asked_from c 0 rows) + weigh f
+          weigh f (entries_of old c) ≡ weigh f (awaited_from c 0 rows) + weigh f
           (option_to_list (if b then Some (tracker.condition, 0 + length rows) else None)) →
-          weigh (weigh_at (length rows) f) (entries_of old c) ≡ weigh (weigh_at (length rows) f) (asked_from c 0 rows) + weigh
+          weigh (weigh_at (length rows) f) (entries_of old c) ≡ weigh (weigh_at (length rows) f) (awaited_from c 0 rows) + weigh
           (weigh_at (length rows) f) (option_to_list (if b then Some (tracker.condition, 0 + length rows) else None)) →
           (if b then weigh f (entries_of new c) + weigh (weigh_at (length rows) f) (entries_of old c) else weigh f
           (entries_of new c)) ≡ weigh f (entries_of old c) →
-          weigh f (entries_of new c) ≡ weigh f (asked_from c 0 rows)) [
+          weigh f (entries_of new c) ≡ weigh f (awaited_from c 0 rows)) [
             | true ↦ λ all some gone. omega (arith, all, some, gone, none_there, there)
             | false ↦ λ all some gone. omega (arith, all, gone)
           ]) (was_filed c f) (was_filed c (weigh_at (length rows) f)) (withdrawn c f)
 
 -- ---- the last row, taken out
 
-module _ (limit capacity spare : ℕ) (rows left : List Kept) (fired : List Fired) (old new : Piles) (kept : IsKeptUp limit rows fired
+module _ (limit capacity spare : ℕ) (rows left : List TrackerRow) (fired : List Fired) (old new : Piles)
+    (sound : IsTableSound limit rows fired
     capacity spare old) where
   -- the row that was taken out
-  popped : (o : Option Kept) → rows ≡ left ++ option_to_list o → (o ≡ None → rows ≡ []) → (before : Table) (tracker : Waiting) →
+  popped : (o : Option TrackerRow) → rows ≡ left ++ option_to_list o → (o ≡ None → rows ≡ []) → (before : Table) (tracker : Waiting) →
       Attaches before (table_of limit rows fired) tracker →
-      (row : Kept) × (rows ≡ left ++ row ∷ [])
+      (row : TrackerRow) × (rows ≡ left ++ row ∷ [])
   popped (Some row) is none before tracker attaches = (row, is)
   popped None is none before tracker attaches =
       let empty : rows ≡ [] = none refl in
       let bad : Attaches before (table_of limit [] fired) tracker =
-      subst (λ (rs : List Kept). Attaches before (table_of limit rs fired) tracker) empty attaches in
+      subst (λ (rs : List TrackerRow). Attaches before (table_of limit rs fired) tracker) empty attaches in
       absurd (some_cells (record { id = tracker.id; name = bad.name }) before.cells (ap (λ (t : Table). t.cells) bad.next))
     where
       some_cells : (c : Cell) (cs : List Cell) → ◌≡◌ {A = List Cell} [] (cs ++ c ∷ []) → ⊥
@@ -277,22 +280,25 @@ module _ (limit capacity spare : ℕ) (rows left : List Kept) (fired : List Fire
       some_cells c (d ∷ cs) e = cc
 
   -- the table shows what it showed before
-  pub shown_again : (o : Option Kept) → rows ≡ left ++ option_to_list o → (o ≡ None → rows ≡ []) → (before : Table) (tracker : Waiting) →
+  pub shown_again : (o : Option TrackerRow) → rows ≡ left ++ option_to_list o → (o ≡ None → rows ≡ []) →
+      (before : Table) (tracker : Waiting) →
       Attaches before (table_of limit rows fired) tracker → table_of limit left fired ≡ before
   shown_again o is none before tracker attaches =
       let p = popped o is none before tracker attaches in
-      table_popped limit left p.0 fired (subst AreRising p.1 kept.held.rising) before tracker (subst (λ (rs : List Kept).
+      table_popped limit left p.0 fired (subst AreRising p.1 sound.held.rising) before tracker (subst (λ (rs : List TrackerRow).
       Attaches before (table_of limit rs fired) tracker) p.1 attaches)
 
   -- and is right
-  pub kept_detached : (o : Option Kept) → rows ≡ left ++ option_to_list o → (o ≡ None → rows ≡ []) → (before : Table) (tracker : Waiting) →
+  pub sound_detached : (o : Option TrackerRow) → rows ≡ left ++ option_to_list o → (o ≡ None → rows ≡ []) →
+      (before : Table) (tracker : Waiting) →
       Attaches before (table_of limit rows fired) tracker →
       ((c : ℕ) (f : Wish → ℕ) → (if c == tracker.collection then weigh f (entries_of new c) + weigh (weigh_at (length left) f)
-      (entries_of old c) else weigh f (entries_of new c)) ≡ weigh f (entries_of old c)) → IsKeptUp limit left fired capacity spare new
-  kept_detached o is none before tracker attaches withdrawn =
+      (entries_of old c) else weigh f (entries_of new c)) ≡ weigh f (entries_of old c)) → IsTableSound limit left fired capacity spare new
+  sound_detached o is none before tracker attaches withdrawn =
       let p = popped o is none before tracker attaches in
       let so : Attaches before (table_of limit (left ++ p.0 ∷ []) fired) tracker =
-      subst (λ (rs : List Kept). Attaches before (table_of limit rs fired) tracker) p.1 attaches in
-      kept_popped limit capacity spare left p.0 fired old new (subst (λ (rs : List Kept). IsKeptUp limit rs fired capacity spare old) p.1
-      kept) tracker
-      (waits_same limit left p.0 fired (subst AreRising p.1 kept.held.rising) before tracker so).1 withdrawn
+      subst (λ (rs : List TrackerRow). Attaches before (table_of limit rs fired) tracker) p.1 attaches in
+      sound_popped limit capacity spare left p.0 fired old new
+      (subst (λ (rs : List TrackerRow). IsTableSound limit rs fired capacity spare old) p.1
+      sound) tracker
+      (waits_same limit left p.0 fired (subst AreRising p.1 sound.held.rising) before tracker so).1 withdrawn

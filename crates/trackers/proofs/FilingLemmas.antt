@@ -7,9 +7,9 @@ use Rattle.std.proofs.lemmas.List.Sums.{sum_by-cons}
 use Rattle.sm_names.specs.Trackers.{World, holds}
 use Rattle.trackers.specs.declared.waiting.Waiting.{Waiting}
 use Rattle.trackers.specs.Table.{is_due}
-use Rattle.trackers.specs.Row.{Kept, Stage, Waits, Over, is_waiting, waiting_of_row}
+use Rattle.trackers.specs.Row.{TrackerRow, Stage, Waits, Over, is_waiting, waiting_of_row}
 use Rattle.trackers.specs.Filing.{Piles, Wish, AreAlike, due_in, entries_of, is_wish_met, undue_in, weigh}
-use Rattle.trackers.specs.Held.{after, asked, asked_from, AreFiled, Reach, none, pass, pick}
+use Rattle.trackers.specs.Held.{after, awaited, awaited_from, AreFiled, Reach, none, pass, pick}
 use Rattle.trackers.proofs.Walks.{row_of}
 use Rattle.trackers.proofs.Weights.{DoRise, alike_filter, alike_map, alike_moved, do_rise, rising_same, weigh_filter, weigh_length, weigh_less, weigh_map}
 
@@ -23,9 +23,9 @@ module _ (w : World) (place : ℕ) where
   Elsewhere t = t.collection ≢ place → is_due w t ≡ false
 
   -- the places that are due reach each row that is met
-  reach_at : (n id cell : ℕ) (stage : Stage) (has : Bool) (rows : List Kept) (more : List Wish) →
+  reach_at : (n id cell : ℕ) (stage : Stage) (has : Bool) (rows : List TrackerRow) (more : List Wish) →
       AllByRecursion Elsewhere (cons_option (waiting_of_row (row_of id cell stage has)) []) → Reach w (n + 1) rows (due_in w more) →
-      Reach w n (row_of id cell stage has ∷ rows) (due_in w (cons_option (asked place n (row_of id cell stage has)) more))
+      Reach w n (row_of id cell stage has ∷ rows) (due_in w (cons_option (awaited place n (row_of id cell stage has)) more))
   reach_at n id cell (Over event) has rows more elsewhere reach = pass refl reach
   reach_at n id cell (Waits p c) has rows more elsewhere reach = elim (place == p) as (λ b. (place == p) ≡ b →
       Reach w n (row_of id cell (Waits p c) has ∷ rows) (due_in w (cons_option (if b then Some (c, n) else None) more))) [
@@ -44,8 +44,8 @@ module _ (w : World) (place : ℕ) where
   split_elsewhere None ts all = (tt, all)
   split_elsewhere (Some t) ts all = ((all.0, tt), all.1)
 
-  pub reach_due : (n : ℕ) (rows : List Kept) → AllByRecursion Elsewhere (filter_map waiting_of_row rows) →
-      Reach w n rows (due_in w (asked_from place n rows))
+  pub reach_due : (n : ℕ) (rows : List TrackerRow) → AllByRecursion Elsewhere (filter_map waiting_of_row rows) →
+      Reach w n rows (due_in w (awaited_from place n rows))
   reach_due n [] all = none
   reach_due n (row ∷ rows) all =
       let parts = split_elsewhere (waiting_of_row row) (filter_map waiting_of_row rows) all in
@@ -57,7 +57,7 @@ module _ (w : World) (place : ℕ) where
   -- they are not below the first place
   due_above_at : (m n id cell : ℕ) (stage : Stage) (has : Bool) (more : List Wish) → m ≤ n →
       AllByRecursion (λ (p : ℕ). m ≤ p) (due_in w more) →
-      AllByRecursion (λ (p : ℕ). m ≤ p) (due_in w (cons_option (asked place n (row_of id cell stage has)) more))
+      AllByRecursion (λ (p : ℕ). m ≤ p) (due_in w (cons_option (awaited place n (row_of id cell stage has)) more))
   due_above_at m n id cell (Over event) has more le all = all
   due_above_at m n id cell (Waits p c) has more le all =
       elim (place == p) as (λ b. AllByRecursion (λ (p : ℕ). m ≤ p) (due_in w (cons_option (if b then Some (c, n) else None) more))) [
@@ -66,7 +66,7 @@ module _ (w : World) (place : ℕ) where
         | false ↦ all
       ]
 
-  due_above : (m n : ℕ) (rows : List Kept) → m ≤ n → AllByRecursion (λ (p : ℕ). m ≤ p) (due_in w (asked_from place n rows))
+  due_above : (m n : ℕ) (rows : List TrackerRow) → m ≤ n → AllByRecursion (λ (p : ℕ). m ≤ p) (due_in w (awaited_from place n rows))
   due_above m n [] le = tt
   due_above m n (row ∷ rows) le =
       due_above_at m n row.id row.cell row.stage row.has_reader _ le (due_above m (n + 1) rows (omega (arith, le)))
@@ -74,7 +74,7 @@ module _ (w : World) (place : ℕ) where
   -- and rise
   due_rise_at : (n id cell : ℕ) (stage : Stage) (has : Bool) (more : List Wish) → AllByRecursion (λ (p : ℕ). n ≤ p) (due_in w more) →
       DoRise (due_in w more) →
-      DoRise (due_in w (cons_option (asked place n (row_of id cell stage has)) more))
+      DoRise (due_in w (cons_option (awaited place n (row_of id cell stage has)) more))
   due_rise_at n id cell (Over event) has more above rise = rise
   due_rise_at n id cell (Waits p c) has more above rise =
       elim (place == p) as (λ b. DoRise (due_in w (cons_option (if b then Some (c, n) else None) more))) [
@@ -83,39 +83,39 @@ module _ (w : World) (place : ℕ) where
         | false ↦ rise
       ]
 
-  due_rise : (n : ℕ) (rows : List Kept) → DoRise (due_in w (asked_from place n rows))
+  due_rise : (n : ℕ) (rows : List TrackerRow) → DoRise (due_in w (awaited_from place n rows))
   due_rise n [] = tt
   due_rise n (row ∷ rows) =
       due_rise_at n row.id row.cell row.stage row.has_reader _ (due_above n (n + 1) rows (omega arith)) (due_rise (n + 1) rows)
 
   -- so the sorted places that are due are those of the rows, in their order
-  pub due_sorted : (rows : List Kept) (entries : List Wish) (due sorted : List ℕ) → AreAlike entries (asked_from place 0 rows) →
+  pub due_sorted : (rows : List TrackerRow) (entries : List Wish) (due sorted : List ℕ) → AreAlike entries (awaited_from place 0 rows) →
       AreAlike due (due_in w entries) → IsPermutation due sorted → IsNonDecreasing sorted →
-      sorted ≡ due_in w (asked_from place 0 rows)
+      sorted ≡ due_in w (awaited_from place 0 rows)
   due_sorted rows entries due sorted alike gathered moved rises =
-      let found : AreAlike (due_in w entries) (due_in w (asked_from place 0 rows)) =
+      let found : AreAlike (due_in w entries) (due_in w (awaited_from place 0 rows)) =
       alike_map _ _ (λ (wish : Wish). wish.1) (alike_filter _ _ (is_wish_met w) alike) in
-      let same : AreAlike sorted (due_in w (asked_from place 0 rows)) =
+      let same : AreAlike sorted (due_in w (awaited_from place 0 rows)) =
       λ f. sym (alike_moved due sorted moved f) ∙ (gathered f ∙ found f) in
-      rising_same sorted (due_in w (asked_from place 0 rows)) (do_rise sorted rises) (due_rise 0 rows) same
+      rising_same sorted (due_in w (awaited_from place 0 rows)) (do_rise sorted rises) (due_rise 0 rows) same
 
 -- ---- how many are filed
 
 -- no more than wait
 one_asked : (place n id cell : ℕ) (stage : Stage) (has : Bool) (more : List Wish) →
-    length (cons_option (asked place n (row_of id cell stage has)) more) ≤ cond (is_waiting (row_of id cell stage has)) 1 0 + length more
+    length (cons_option (awaited place n (row_of id cell stage has)) more) ≤ cond (is_waiting (row_of id cell stage has)) 1 0 + length more
 one_asked place n id cell (Over event) has more = omega arith
 one_asked place n id cell (Waits p c) has more =
     elim (place == p) as (λ b. length (cons_option (if b then Some (c, n) else None) more) ≤ 1 + length more)
     [ true ↦ omega arith | false ↦ omega arith ]
 
-few_asked : (place n : ℕ) (rows : List Kept) → length (asked_from place n rows) ≤ count_by is_waiting rows
+few_asked : (place n : ℕ) (rows : List TrackerRow) → length (awaited_from place n rows) ≤ count_by is_waiting rows
 few_asked place n [] = omega arith
 few_asked place n (row ∷ rows) =
-    omega (arith, one_asked place n row.id row.cell row.stage row.has_reader (asked_from place (n + 1) rows), few_asked place (n + 1) rows, sum_by-cons (λ r. cond (is_waiting r) 1 0) row rows)
+    omega (arith, one_asked place n row.id row.cell row.stage row.has_reader (awaited_from place (n + 1) rows), few_asked place (n + 1) rows, sum_by-cons (λ r. cond (is_waiting r) 1 0) row rows)
 
 -- so there is room for those that are due
-pub due_fit : (w : World) (place : ℕ) (rows : List Kept) (entries : List Wish) → AreAlike entries (asked_from place 0 rows) →
+pub due_fit : (w : World) (place : ℕ) (rows : List TrackerRow) (entries : List Wish) → AreAlike entries (awaited_from place 0 rows) →
     length (due_in w entries) ≤ count_by is_waiting rows
 due_fit w place rows entries alike =
     let one : Wish → ℕ = λ wish. 1 in
@@ -125,27 +125,27 @@ due_fit w place rows entries alike =
     let less : weigh (λ (wish : Wish). if is_wish_met w wish then 1 else 0) entries ≤ weigh one entries =
     weigh_less (λ (wish : Wish). if is_wish_met w wish then 1 else 0) one (λ wish. elim (is_wish_met w wish) as (λ b.
     (if b then 1 else 0) ≤ 1) [ true ↦ omega arith | false ↦ omega arith ]) entries in
-    omega (arith, counted, less, alike one, weigh_length (asked_from place 0 rows), few_asked place 0 rows)
+    omega (arith, counted, less, alike one, weigh_length (awaited_from place 0 rows), few_asked place 0 rows)
 
 -- ---- what a sweep leaves
 
 module _ (w : World) (e : ℕ) where
   -- what is asked after an event is what was asked and does not hold
   asked_after_at : (collection n id cell : ℕ) (stage : Stage) (has : Bool) (had has_still : List Wish) → undue_in w had ≡ has_still →
-      undue_in w (cons_option (asked collection n (row_of id cell stage has)) had) ≡ cons_option
-      (asked collection n (after w e (row_of id cell stage has))) has_still
+      undue_in w (cons_option (awaited collection n (row_of id cell stage has)) had) ≡ cons_option
+      (awaited collection n (after w e (row_of id cell stage has))) has_still
   asked_after_at collection n id cell (Over event) has had has_still more = more
   asked_after_at collection n id cell (Waits p c) has had has_still more =
       elim (holds w c) as (λ b. holds w c ≡ b → undue_in w (cons_option (if collection == p then Some (c, n) else None) had) ≡ cons_option
-      (asked collection n (if b then row_of id cell (Over e) has else row_of id cell (Waits p c) has)) has_still) [
+      (awaited collection n (if b then row_of id cell (Over e) has else row_of id cell (Waits p c) has)) has_still) [
         | true ↦ λ met. elim (collection == p) as (λ b. undue_in w (cons_option (if b then Some (c, n) else None) had) ≡ has_still)
             [ true ↦ rw met more | false ↦ more ]
         | false ↦ λ unmet. elim (collection == p) as (λ b. undue_in w (cons_option (if b then Some (c, n) else None) had) ≡ cons_option
             (if b then Some (c, n) else None) has_still) [ true ↦ rw unmet (ap (λ l. (c, n) ∷ l) more) | false ↦ more ]
       ] refl
 
-  pub asked_after : (collection n : ℕ) (rows : List Kept) →
-      undue_in w (asked_from collection n rows) ≡ asked_from collection n (map (after w e) rows)
+  pub asked_after : (collection n : ℕ) (rows : List TrackerRow) →
+      undue_in w (awaited_from collection n rows) ≡ awaited_from collection n (map (after w e) rows)
   asked_after collection n [] = refl
   asked_after collection n (row ∷ rows) =
       asked_after_at collection n row.id row.cell row.stage row.has_reader _ _ (asked_after collection (n + 1) rows)
@@ -153,36 +153,36 @@ module _ (w : World) (e : ℕ) where
   -- under another collection all stays
   other_at : (place collection n id cell : ℕ) (stage : Stage) (has : Bool) → collection ≢ place →
       AllByRecursion (Elsewhere w place) (cons_option (waiting_of_row (row_of id cell stage has)) []) →
-      asked collection n (after w e (row_of id cell stage has)) ≡ asked collection n (row_of id cell stage has)
+      awaited collection n (after w e (row_of id cell stage has)) ≡ awaited collection n (row_of id cell stage has)
   other_at place collection n id cell (Over event) has differ elsewhere = refl
   other_at place collection n id cell (Waits p c) has differ elsewhere = elim (place == p) as (λ b. (place == p) ≡ b →
-      asked collection n (after w e (row_of id cell (Waits p c) has)) ≡ (if collection == p then Some (c, n) else None)) [
+      awaited collection n (after w e (row_of id cell (Waits p c) has)) ≡ (if collection == p then Some (c, n) else None)) [
         | true ↦ λ same.
             let other : (collection == p) ≡ false = grind (arith, nat_tests) in
-            elim (holds w c) as (λ b. asked collection n (if b then row_of id cell (Over e) has else row_of id cell (Waits p c) has) ≡ (if
+            elim (holds w c) as (λ b. awaited collection n (if b then row_of id cell (Over e) has else row_of id cell (Waits p c) has) ≡ (if
             collection == p then Some (c, n) else None)) [ true ↦ rw other refl | false ↦ refl ]
         | false ↦ λ e. rw (elsewhere.0 (apart place p e)) refl
       ] refl
 
-  pub other_asked : (place collection n : ℕ) (rows : List Kept) → collection ≢ place →
+  pub other_asked : (place collection n : ℕ) (rows : List TrackerRow) → collection ≢ place →
       AllByRecursion (Elsewhere w place) (filter_map waiting_of_row rows) →
-      asked_from collection n (map (after w e) rows) ≡ asked_from collection n rows
+      awaited_from collection n (map (after w e) rows) ≡ awaited_from collection n rows
   other_asked place collection n [] differ all = refl
   other_asked place collection n (row ∷ rows) differ all =
       let parts = split_elsewhere w place (waiting_of_row row) (filter_map waiting_of_row rows) all in
-      ap (cons_option (asked collection n (after w e row))) (other_asked place collection (n + 1) rows differ parts.1)
-      ∙ ap (λ o. cons_option o (asked_from collection (n + 1) rows)) (other_at place collection n row.id row.cell row.stage row.has_reader
+      ap (cons_option (awaited collection n (after w e row))) (other_asked place collection (n + 1) rows differ parts.1)
+      ∙ ap (λ o. cons_option o (awaited_from collection (n + 1) rows)) (other_at place collection n row.id row.cell row.stage row.has_reader
       differ parts.0)
 
   -- what is filed is right again once what holds was taken out under the place
-  pub filed_dropped : (place : ℕ) (rows : List Kept) (old new : Piles) →
+  pub filed_dropped : (place : ℕ) (rows : List TrackerRow) (old new : Piles) →
       AllByRecursion (Elsewhere w place) (filter_map waiting_of_row rows) → AreFiled rows old →
       ((c : ℕ) (f : Wish → ℕ) → weigh f (entries_of new c) ≡ (if c == place then weigh f (undue_in w (entries_of old c)) else weigh f
       (entries_of old c))) → AreFiled (map (after w e) rows) new
   filed_dropped place rows old new all filed dropped = record {
     at = λ c f. dropped c f ∙ elim (c == place) as (λ b. (c == place) ≡ b →
         (if b then weigh f (undue_in w (entries_of old c)) else weigh f (entries_of old c)) ≡ weigh f
-        (asked_from c 0 (map (after w e) rows))) [
+        (awaited_from c 0 (map (after w e) rows))) [
           | true ↦ λ same. alike_filter _ _ (λ wish. not (is_wish_met w wish)) (filed.at c) f ∙ ap (weigh f) (asked_after c 0 rows)
           | false ↦ λ other.
               let differ : c ≢ place = λ same. apart c place other (sym same) in
@@ -191,18 +191,19 @@ module _ (w : World) (e : ℕ) where
   }
 
 -- what one row more asks
-pub asked_push : (collection n : ℕ) (rows : List Kept) (row : Kept) →
-    asked_from collection n (rows ++ row ∷ []) ≡ asked_from collection n rows ++ option_to_list (asked collection (n + length rows) row)
+pub asked_push : (collection n : ℕ) (rows : List TrackerRow) (row : TrackerRow) →
+    awaited_from collection n (rows ++ row ∷ []) ≡
+    awaited_from collection n rows ++ option_to_list (awaited collection (n + length rows) row)
 asked_push collection n [] row =
     let same : n ≡ n + 0 = omega arith in
-    elim (asked collection n row) as (λ o. cons_option o [] ≡ option_to_list o) [ None ↦ refl | Some wish ↦ refl ]
-    ∙ ap (λ m. option_to_list (asked collection m row)) same
+    elim (awaited collection n row) as (λ o. cons_option o [] ≡ option_to_list o) [ None ↦ refl | Some wish ↦ refl ]
+    ∙ ap (λ m. option_to_list (awaited collection m row)) same
 asked_push collection n (other ∷ rows) row =
     let same : (n + 1) + length rows ≡ n + suc (length rows) = omega arith in
     let more = asked_push collection (n + 1) rows row
-    ∙ ap (λ m. asked_from collection (n + 1) rows ++ option_to_list (asked collection m row)) same in
-    elim (asked collection n other) as (λ o. cons_option o (asked_from collection (n + 1) (rows ++ row ∷ [])) ≡ cons_option o
-    (asked_from collection (n + 1) rows) ++ option_to_list (asked collection (n + suc (length rows)) row)) [
+    ∙ ap (λ m. awaited_from collection (n + 1) rows ++ option_to_list (awaited collection m row)) same in
+    elim (awaited collection n other) as (λ o. cons_option o (awaited_from collection (n + 1) (rows ++ row ∷ [])) ≡ cons_option o
+    (awaited_from collection (n + 1) rows) ++ option_to_list (awaited collection (n + suc (length rows)) row)) [
       | None ↦ more
       | Some wish ↦ ap (λ l. wish ∷ l) more
     ]

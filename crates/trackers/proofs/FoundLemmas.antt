@@ -8,8 +8,8 @@ use Rattle.sm_names.specs.declared.tracking.Fired.{Fired}
 use Rattle.trackers.specs.declared.waiting.Waiting.{Waiting}
 use Rattle.trackers.specs.Table.{Table, Reader, Cell, firing_of, cell_of, is_untaken, without, reader_of}
 use Rattle.trackers.specs.Filing.{Piles, weigh}
-use Rattle.trackers.specs.Row.{Kept, is_waiting, waiting_of_row, firing_of_row, reader_of_row}
-use Rattle.trackers.specs.Held.{cell_of_row, untaken_of_row, asked, asked_from, AreRising, AreHeld, IsKeptUp, NoneHas, Found, here, later, table_of}
+use Rattle.trackers.specs.Row.{TrackerRow, is_waiting, waiting_of_row, firing_of_row, reader_of_row}
+use Rattle.trackers.specs.Held.{cell_of_row, untaken_of_row, awaited, awaited_from, AreRising, AreHeld, IsTableSound, NoneHas, Found, here, later, table_of}
 
 -- the test of an id against itself
 pub same_id : (i : ℕ) → (i == i) ≡ true
@@ -20,48 +20,49 @@ pub other_id : (i j : ℕ) → i ≢ j → (i == j) ≡ false
 other_id i j differ = grind (arith, nat_tests)
 
 -- an id below all is that of none
-none_below : (id : ℕ) (rows : List Kept) → AllByRecursion (λ (r : Kept). id < r.id) rows → NoneHas id rows
+none_below : (id : ℕ) (rows : List TrackerRow) → AllByRecursion (λ (r : TrackerRow). id < r.id) rows → NoneHas id rows
 none_below id [] below = tt
 none_below id (row ∷ rows) below = ((λ same. omega (arith, below.0)), none_below id rows below.1)
 
 -- each row of rising ones is found at its place
-pub found_at : (rows : List Kept) → AreRising rows → (at : ℕ) (d : Kept) → at < length rows →
+pub found_at : (rows : List TrackerRow) → AreRising rows → (at : ℕ) (d : TrackerRow) → at < length rows →
     Found (get_or rows at d).id rows at (get_or rows at d)
 found_at [] rising at d within = absurd (omega arith)
 found_at (row ∷ rows) rising zero d within = here refl (none_below row.id rows rising.0)
 found_at (row ∷ rows) rising (suc at) d within =
-    let below : row.id < (get_or rows at d).id = All-from_recursion (λ (r : Kept). row.id < r.id) rows rising.0 at d (omega arith) in
+    let below : row.id < (get_or rows at d).id = All-from_recursion (λ (r : TrackerRow). row.id < r.id) rows rising.0 at d (omega arith) in
     later (λ same. omega arith) (found_at rows rising.1 at d (omega arith))
 
 module _ (id : ℕ) where
   -- the place is within
-  pub found_within : {rows : List Kept} {at : ℕ} {row : Kept} → Found id rows at row → at < length rows
+  pub found_within : {rows : List TrackerRow} {at : ℕ} {row : TrackerRow} → Found id rows at row → at < length rows
   found_within (here same rest) = omega arith
   found_within (later differ found) = omega (arith, found_within found)
 
   -- that row stands there
-  pub found_row : {rows : List Kept} {at : ℕ} {row : Kept} → Found id rows at row → (d : Kept) → get_or rows at d ≡ row
+  pub found_row : {rows : List TrackerRow} {at : ℕ} {row : TrackerRow} → Found id rows at row → (d : TrackerRow) → get_or rows at d ≡ row
   found_row (here same rest) d = refl
   found_row (later differ found) d = found_row found d
 
   -- and has the id
-  pub found_id : {rows : List Kept} {at : ℕ} {row : Kept} → Found id rows at row → row.id ≡ id
+  pub found_id : {rows : List TrackerRow} {at : ℕ} {row : TrackerRow} → Found id rows at row → row.id ≡ id
   found_id (here same rest) = same
   found_id (later differ found) = found_id found
 
   -- its cell is found
-  pub found_cell : {rows : List Kept} {at : ℕ} {row : Kept} → Found id rows at row → cell_of (map cell_of_row rows) id ≡ Some row.cell
+  pub found_cell : {rows : List TrackerRow} {at : ℕ} {row : TrackerRow} → Found id rows at row → cell_of (map cell_of_row rows) id ≡
+      Some row.cell
   found_cell {row = row} (here same rest) = rw same (rw (same_id id))
   found_cell (later {other = other} differ found) = rw (other_id other.id id differ) (found_cell found)
 
   -- what holds of all holds of it
-  pub found_told : {rows : List Kept} {at : ℕ} {row : Kept} (fired : List Fired) → Found id rows at row →
-      AllByRecursion (λ (r : Kept). firing_of fired r.id ≡ firing_of_row r) rows → firing_of fired id ≡ firing_of_row row
+  pub found_told : {rows : List TrackerRow} {at : ℕ} {row : TrackerRow} (fired : List Fired) → Found id rows at row →
+      AllByRecursion (λ (r : TrackerRow). firing_of fired r.id ≡ firing_of_row r) rows → firing_of fired id ≡ firing_of_row row
   found_told fired (here same rest) told = rw (← same) told.0
   found_told fired (later differ found) told = found_told fired found told.1
 
   -- no reader is here of an id that none has
-  pub none_untaken : (rows : List Kept) → NoneHas id rows → is_untaken (filter_map untaken_of_row rows) id ≡ false
+  pub none_untaken : (rows : List TrackerRow) → NoneHas id rows → is_untaken (filter_map untaken_of_row rows) id ≡ false
   none_untaken [] none = refl
   none_untaken (row ∷ rows) none =
       elim row.has_reader as (λ b. is_untaken (cons_option (if b then Some row.id else None) (filter_map untaken_of_row rows)) id ≡ false) [
@@ -70,7 +71,8 @@ module _ (id : ℕ) where
       ]
 
   -- and no id is lost with it
-  pub none_without : (rows : List Kept) → NoneHas id rows → without (filter_map untaken_of_row rows) id ≡ filter_map untaken_of_row rows
+  pub none_without : (rows : List TrackerRow) → NoneHas id rows → without (filter_map untaken_of_row rows) id ≡
+      filter_map untaken_of_row rows
   none_without [] none = refl
   none_without (row ∷ rows) none =
       elim row.has_reader as (λ b. without (cons_option (if b then Some row.id else None) (filter_map untaken_of_row rows)) id ≡ cons_option
@@ -80,7 +82,7 @@ module _ (id : ℕ) where
       ]
 
   -- its reader is here exactly if the id is untaken
-  pub found_untaken : {rows : List Kept} {at : ℕ} {row : Kept} → Found id rows at row →
+  pub found_untaken : {rows : List TrackerRow} {at : ℕ} {row : TrackerRow} → Found id rows at row →
       is_untaken (filter_map untaken_of_row rows) id ≡ row.has_reader
   found_untaken (here {row = row} {rows = rows} same rest) =
       elim row.has_reader as (λ b. is_untaken (cons_option (if b then Some row.id else None) (filter_map untaken_of_row rows)) id ≡ b) [
@@ -99,31 +101,31 @@ abbrev pub table_with : ℕ → List Cell → List Waiting → List ℕ → List
 table_with limit cells unfired untaken fired = record { limit = limit; cells = cells; unfired = unfired; untaken = untaken; fired = fired }
 
 -- a row whose reader was taken
-abbrev pub taken : Kept → Kept
+abbrev pub taken : TrackerRow → TrackerRow
 taken row = record row { has_reader = false }
 
 module _ (id : ℕ) where
   -- what the change of its reader leaves of the rows
-  pub taken_cells : {rows : List Kept} {at : ℕ} {row : Kept} → Found id rows at row →
+  pub taken_cells : {rows : List TrackerRow} {at : ℕ} {row : TrackerRow} → Found id rows at row →
       map cell_of_row (set rows at (taken row)) ≡ map cell_of_row rows
   taken_cells (here same rest) = refl
   taken_cells (later {other = other} differ found) = ap (λ l. cell_of_row other ∷ l) (taken_cells found)
 
   -- it waits as before
-  pub taken_unfired : {rows : List Kept} {at : ℕ} {row : Kept} → Found id rows at row →
+  pub taken_unfired : {rows : List TrackerRow} {at : ℕ} {row : TrackerRow} → Found id rows at row →
       filter_map waiting_of_row (set rows at (taken row)) ≡ filter_map waiting_of_row rows
   taken_unfired (here same rest) = refl
   taken_unfired (later {other = other} differ found) = ap (cons_option (waiting_of_row other)) (taken_unfired found)
 
   -- it is filed as before
-  pub taken_asked : (collection : ℕ) {rows : List Kept} {at : ℕ} {row : Kept} → Found id rows at row → (n : ℕ) →
-      asked_from collection n (set rows at (taken row)) ≡ asked_from collection n rows
+  pub taken_asked : (collection : ℕ) {rows : List TrackerRow} {at : ℕ} {row : TrackerRow} → Found id rows at row → (n : ℕ) →
+      awaited_from collection n (set rows at (taken row)) ≡ awaited_from collection n rows
   taken_asked collection (here same rest) n = refl
   taken_asked collection (later {other = other} differ found) n =
-      ap (cons_option (asked collection n other)) (taken_asked collection found (n + 1))
+      ap (cons_option (awaited collection n other)) (taken_asked collection found (n + 1))
 
   -- its id is no longer untaken
-  pub taken_untaken : {rows : List Kept} {at : ℕ} {row : Kept} → Found id rows at row →
+  pub taken_untaken : {rows : List TrackerRow} {at : ℕ} {row : TrackerRow} → Found id rows at row →
       filter_map untaken_of_row (set rows at (taken row)) ≡ without (filter_map untaken_of_row rows) id
   taken_untaken (here {row = row} {rows = rows} same rest) =
       elim row.has_reader as (λ b. filter_map untaken_of_row rows ≡ without (cons_option (if b then Some row.id else None)
@@ -140,7 +142,7 @@ module _ (id : ℕ) where
       ]
 
   -- as many wait
-  taken_count : {rows : List Kept} {at : ℕ} {row : Kept} → Found id rows at row →
+  taken_count : {rows : List TrackerRow} {at : ℕ} {row : TrackerRow} → Found id rows at row →
       count_by is_waiting (set rows at (taken row)) ≡ count_by is_waiting rows
   taken_count (here {row = row} {rows = rows} same rest) =
       sum_by-cons (λ r. cond (is_waiting r) 1 0) (taken row) rows ∙ sym (sum_by-cons (λ r. cond (is_waiting r) 1 0) row rows)
@@ -150,36 +152,41 @@ module _ (id : ℕ) where
       ∙ sym (sum_by-cons (λ r. cond (is_waiting r) 1 0) other rows)
 
   -- there are as many rows
-  taken_length : {rows : List Kept} {at : ℕ} {row : Kept} → Found id rows at row → length (set rows at (taken row)) ≡ length rows
+  taken_length : {rows : List TrackerRow} {at : ℕ} {row : TrackerRow} → Found id rows at row → length (set rows at (taken row)) ≡
+      length rows
   taken_length (here same rest) = refl
   taken_length (later differ found) = ap suc (taken_length found)
 
   -- an id below all stays so
-  taken_below : (n : ℕ) {rows : List Kept} {at : ℕ} {row : Kept} → Found id rows at row → AllByRecursion (λ (r : Kept). n < r.id) rows →
-      AllByRecursion (λ (r : Kept). n < r.id) (set rows at (taken row))
+  taken_below : (n : ℕ) {rows : List TrackerRow} {at : ℕ} {row : TrackerRow} → Found id rows at row →
+      AllByRecursion (λ (r : TrackerRow). n < r.id) rows →
+      AllByRecursion (λ (r : TrackerRow). n < r.id) (set rows at (taken row))
   taken_below n (here same rest) below = below
   taken_below n (later differ found) below = (below.0, taken_below n found below.1)
 
   -- the ids rise on
-  taken_rising : {rows : List Kept} {at : ℕ} {row : Kept} → Found id rows at row → AreRising rows → AreRising (set rows at (taken row))
+  taken_rising : {rows : List TrackerRow} {at : ℕ} {row : TrackerRow} → Found id rows at row → AreRising rows →
+      AreRising (set rows at (taken row))
   taken_rising (here same rest) rising = rising
   taken_rising (later {other = other} differ found) rising = (taken_below other.id found rising.0, taken_rising found rising.1)
 
   -- each firing is found under its id
-  taken_told : (fired : List Fired) {rows : List Kept} {at : ℕ} {row : Kept} → Found id rows at row →
-      AllByRecursion (λ (r : Kept). firing_of fired r.id ≡ firing_of_row r) rows →
-      AllByRecursion (λ (r : Kept). firing_of fired r.id ≡ firing_of_row r) (set rows at (taken row))
+  taken_told : (fired : List Fired) {rows : List TrackerRow} {at : ℕ} {row : TrackerRow} → Found id rows at row →
+      AllByRecursion (λ (r : TrackerRow). firing_of fired r.id ≡ firing_of_row r) rows →
+      AllByRecursion (λ (r : TrackerRow). firing_of fired r.id ≡ firing_of_row r) (set rows at (taken row))
   taken_told fired (here same rest) told = told
   taken_told fired (later differ found) told = (told.0, taken_told fired found told.1)
 
   -- no id is new
-  taken_none : (other : ℕ) {rows : List Kept} {at : ℕ} {row : Kept} → Found id rows at row → NoneHas other (set rows at (taken row)) →
+  taken_none : (other : ℕ) {rows : List TrackerRow} {at : ℕ} {row : TrackerRow} → Found id rows at row →
+      NoneHas other (set rows at (taken row)) →
       NoneHas other rows
   taken_none other (here same rest) none = none
   taken_none other (later differ found) none = (none.0, taken_none other found none.1)
 
   -- the rows stay sound
-  pub held_taken : (limit : ℕ) (fired : List Fired) (capacity : ℕ) {rows : List Kept} {at : ℕ} {row : Kept} → Found id rows at row →
+  pub held_taken : (limit : ℕ) (fired : List Fired) (capacity : ℕ) {rows : List TrackerRow} {at : ℕ} {row : TrackerRow} →
+      Found id rows at row →
       AreHeld limit rows fired capacity → AreHeld limit (set rows at (taken row)) fired capacity
   held_taken limit fired capacity found held = record {
     rising = taken_rising found held.rising;
@@ -191,17 +198,18 @@ module _ (id : ℕ) where
   }
 
   -- and so does the table
-  pub kept_taken : (limit : ℕ) (fired : List Fired) (capacity spare : ℕ) (piles : Piles) {rows : List Kept} {at : ℕ} {row : Kept} →
-      Found id rows at row → IsKeptUp limit rows fired capacity spare piles →
-      IsKeptUp limit (set rows at (taken row)) fired capacity spare piles
-  kept_taken limit fired capacity spare piles found kept = record {
-    held = held_taken limit fired capacity found kept.held;
-    filed = record { at = λ collection f. kept.filed.at collection f ∙ ap (weigh f) (sym (taken_asked collection found 0)) };
-    spare_room = rw (taken_count found) kept.spare_room;
+  pub sound_taken : (limit : ℕ) (fired : List Fired) (capacity spare : ℕ) (piles : Piles)
+      {rows : List TrackerRow} {at : ℕ} {row : TrackerRow} →
+      Found id rows at row → IsTableSound limit rows fired capacity spare piles →
+      IsTableSound limit (set rows at (taken row)) fired capacity spare piles
+  sound_taken limit fired capacity spare piles found sound = record {
+    held = held_taken limit fired capacity found sound.held;
+    filed = record { at = λ collection f. sound.filed.at collection f ∙ ap (weigh f) (sym (taken_asked collection found 0)) };
+    spare_room = rw (taken_count found) sound.spare_room;
   }
 
   -- of what the table shows only those still to be taken change
-  pub table_taken : (limit : ℕ) (fired : List Fired) {rows : List Kept} {at : ℕ} {row : Kept} → Found id rows at row →
+  pub table_taken : (limit : ℕ) (fired : List Fired) {rows : List TrackerRow} {at : ℕ} {row : TrackerRow} → Found id rows at row →
       table_of limit (set rows at (taken row)) fired ≡ record (table_of limit rows
       fired) { untaken = without (filter_map untaken_of_row rows) id }
   table_taken limit fired {rows} {at} {row} found =
@@ -212,15 +220,15 @@ module _ (id : ℕ) where
       ∙ ap (λ l. table_with limit (map cell_of_row rows) (filter_map waiting_of_row rows) l fired) (taken_untaken found)
 
   -- the reader of the row is the one that the table gives
-  pub reader_taken : (limit : ℕ) (fired : List Fired) {rows : List Kept} {at : ℕ} {row : Kept} → Found id rows at row →
-      AllByRecursion (λ (r : Kept). firing_of fired r.id ≡ firing_of_row r) rows →
+  pub reader_taken : (limit : ℕ) (fired : List Fired) {rows : List TrackerRow} {at : ℕ} {row : TrackerRow} → Found id rows at row →
+      AllByRecursion (λ (r : TrackerRow). firing_of fired r.id ≡ firing_of_row r) rows →
       reader_of_row row ≡ (if is_untaken (table_of limit rows fired).untaken id then Some (reader_of (table_of limit rows fired)
       id) else None)
   reader_taken limit fired {rows} {at} {row} found told =
       rw (found_untaken id found, found_cell id found, found_told id fired found told, found_id id found) refl
 
   -- and its cell is the one that the table has for the id
-  pub reader_cell : {rows : List Kept} {at : ℕ} {row : Kept} → Found id rows at row →
+  pub reader_cell : {rows : List TrackerRow} {at : ℕ} {row : TrackerRow} → Found id rows at row →
       IfSome (reader_of_row row) (λ (t : Reader). cell_of (map cell_of_row rows) id ≡ Some t.cell)
   reader_cell {rows} {at} {row} found =
       elim row.has_reader as (λ b. IfSome

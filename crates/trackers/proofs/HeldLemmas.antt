@@ -8,7 +8,7 @@ use Rattle.sm_names.specs.declared.tracking.Fired.{Fired}
 use Rattle.sm_names.specs.Trackers.{World, holds}
 use Rattle.trackers.specs.declared.waiting.Waiting.{Waiting}
 use Rattle.trackers.specs.Table.{is_due, firing, firings, still_waiting, firing_of}
-use Rattle.trackers.specs.Row.{Kept, Stage, Waits, Over, is_waiting, waiting_of_row, firing_of_row}
+use Rattle.trackers.specs.Row.{TrackerRow, Stage, Waits, Over, is_waiting, waiting_of_row, firing_of_row}
 use Rattle.trackers.specs.Held.{cell_of_row, untaken_of_row, is_met, after, fires, AreRising, AreHeld, NoneHas, Found, here, later}
 use Rattle.trackers.proofs.FoundLemmas.{found_at, same_id, other_id}
 use Rattle.trackers.proofs.Walks.{balance, row_of}
@@ -33,7 +33,7 @@ module _ (w : World) (e : ℕ) where
       ]
 
   -- the same for all rows
-  pub unfired_after : (rows : List Kept) →
+  pub unfired_after : (rows : List TrackerRow) →
       filter_map waiting_of_row (map (after w e) rows) ≡ still_waiting w (filter_map waiting_of_row rows)
   unfired_after [] = refl
   unfired_after (row ∷ rows) = unfired_at row.id row.cell row.stage row.has_reader _ _ (unfired_after rows)
@@ -53,32 +53,32 @@ module _ (w : World) (e : ℕ) where
       ]
 
   -- the same for all rows
-  pub firings_after : (rows : List Kept) → filter_map (fires w e) rows ≡ firings w e (filter_map waiting_of_row rows)
+  pub firings_after : (rows : List TrackerRow) → filter_map (fires w e) rows ≡ firings w e (filter_map waiting_of_row rows)
   firings_after [] = refl
   firings_after (row ∷ rows) = firings_at row.id row.cell row.stage row.has_reader _ _ (firings_after rows)
 
   -- the id, the cell and the reader of a row stay
-  id_after : (row : Kept) → (after w e row).id ≡ row.id
+  id_after : (row : TrackerRow) → (after w e row).id ≡ row.id
   id_after row = elim (is_met w row) as (λ b. (if b then record row { stage = Over e } else row).id ≡ row.id) [ true ↦ refl | false ↦ refl ]
 
   -- its cell stays
-  cell_after : (row : Kept) → cell_of_row (after w e row) ≡ cell_of_row row
+  cell_after : (row : TrackerRow) → cell_of_row (after w e row) ≡ cell_of_row row
   cell_after row = elim (is_met w row) as (λ b. cell_of_row (if b then record row { stage = Over e } else row) ≡ cell_of_row row)
       [ true ↦ refl | false ↦ refl ]
 
   -- its reader stays
-  untaken_after_row : (row : Kept) → untaken_of_row (after w e row) ≡ untaken_of_row row
+  untaken_after_row : (row : TrackerRow) → untaken_of_row (after w e row) ≡ untaken_of_row row
   untaken_after_row row = elim (is_met w row) as (λ b. untaken_of_row (if b then record row { stage = Over e } else row) ≡ untaken_of_row
       row) [ true ↦ refl | false ↦ refl ]
 
   -- so do all cells
-  pub cells_after : (rows : List Kept) → map cell_of_row (map (after w e) rows) ≡ map cell_of_row rows
+  pub cells_after : (rows : List TrackerRow) → map cell_of_row (map (after w e) rows) ≡ map cell_of_row rows
   cells_after [] = refl
   cells_after (row ∷ rows) =
       ap (λ c. c ∷ map cell_of_row (map (after w e) rows)) (cell_after row) ∙ ap (λ l. cell_of_row row ∷ l) (cells_after rows)
 
   -- and all readers
-  pub untaken_after : (rows : List Kept) → filter_map untaken_of_row (map (after w e) rows) ≡ filter_map untaken_of_row rows
+  pub untaken_after : (rows : List TrackerRow) → filter_map untaken_of_row (map (after w e) rows) ≡ filter_map untaken_of_row rows
   untaken_after [] = refl
   untaken_after (row ∷ rows) = ap (λ o. cons_option o (filter_map untaken_of_row (map (after w e) rows))) (untaken_after_row row)
       ∙ ap (cons_option (untaken_of_row row)) (untaken_after rows)
@@ -103,7 +103,7 @@ firing_behind (x ∷ xs) ys id none = elim (x.tracker == id) as (λ b. cond b (S
 
 module _ (w : World) (e : ℕ) where
   -- a row with another id gives no firing of this one
-  skip_firing : (id : ℕ) (row : Kept) (rest : List Fired) → row.id ≢ id →
+  skip_firing : (id : ℕ) (row : TrackerRow) (rest : List Fired) → row.id ≢ id →
       firing_of (cons_option (fires w e row) rest) id ≡ firing_of rest id
   skip_firing id row rest differ =
       elim (is_met w row) as (λ b. firing_of (cons_option (if b then Some (record { tracker = row.id; event = e }) else None) rest)
@@ -113,12 +113,12 @@ module _ (w : World) (e : ℕ) where
       ]
 
   -- nor do rows that all have others
-  pub none_fires : (id : ℕ) (rows : List Kept) → NoneHas id rows → firing_of (filter_map (fires w e) rows) id ≡ None
+  pub none_fires : (id : ℕ) (rows : List TrackerRow) → NoneHas id rows → firing_of (filter_map (fires w e) rows) id ≡ None
   none_fires id [] none = refl
   none_fires id (row ∷ rows) none = skip_firing id row (filter_map (fires w e) rows) none.0 ∙ none_fires id rows none.1
 
   -- the firing found under the id of a row is its own
-  pub found_fires : (id : ℕ) {rows : List Kept} {at : ℕ} {row : Kept} → Found id rows at row →
+  pub found_fires : (id : ℕ) {rows : List TrackerRow} {at : ℕ} {row : TrackerRow} → Found id rows at row →
       firing_of (filter_map (fires w e) rows) id ≡ fires w e row
   found_fires id (here {row = row} {rows = rows} same rest) =
       elim (is_met w row) as (λ b. firing_of (cons_option (if b then Some (record { tracker = row.id; event = e }) else None)
@@ -139,23 +139,23 @@ module _ (w : World) (e : ℕ) where
       (if b then row_of id cell (Over e) has else row_of id cell (Waits place c) has)) [ true ↦ refl | false ↦ refl ]
 
   -- the facts of the rows after an event
-  below_after : (n : ℕ) (rows : List Kept) → AllByRecursion (λ (r : Kept). n < r.id) rows →
-      AllByRecursion (λ (r : Kept). n < r.id) (map (after w e) rows)
+  below_after : (n : ℕ) (rows : List TrackerRow) → AllByRecursion (λ (r : TrackerRow). n < r.id) rows →
+      AllByRecursion (λ (r : TrackerRow). n < r.id) (map (after w e) rows)
   below_after n [] below = tt
   below_after n (row ∷ rows) below = (rw (id_after w e row) below.0, below_after n rows below.1)
 
   -- the ids rise on
-  rising_after : (rows : List Kept) → AreRising rows → AreRising (map (after w e) rows)
+  rising_after : (rows : List TrackerRow) → AreRising rows → AreRising (map (after w e) rows)
   rising_after [] rising = tt
   rising_after (row ∷ rows) rising = (rw (id_after w e row) (below_after row.id rows rising.0), rising_after rows rising.1)
 
   -- no id is lost
-  none_after : (id : ℕ) (rows : List Kept) → NoneHas id (map (after w e) rows) → NoneHas id rows
+  none_after : (id : ℕ) (rows : List TrackerRow) → NoneHas id (map (after w e) rows) → NoneHas id rows
   none_after id [] none = tt
   none_after id (row ∷ rows) none = (rw (id_after w e row) at none.0, none_after id rows none.1)
 
   -- each firing is of a row that waited
-  pub count_after : (rows : List Kept) → length (filter_map (fires w e) rows) + count_by is_waiting (map (after w e) rows) ≡ count_by
+  pub count_after : (rows : List TrackerRow) → length (filter_map (fires w e) rows) + count_by is_waiting (map (after w e) rows) ≡ count_by
       is_waiting rows
   count_after [] = refl
   count_after (row ∷ rows) =
@@ -164,22 +164,22 @@ module _ (w : World) (e : ℕ) where
       omega (arith, joined, balance w e row, count_after rows, sum_by-cons (λ r. cond (is_waiting r) 1 0) row rows, sum_by-cons (λ r. cond (is_waiting r) 1 0) (after w e row) (map (after w e) rows))
 
   -- each firing is found under its id
-  told_after : (fired : List Fired) (rows : List Kept) → AreRising rows →
-      AllByRecursion (λ (r : Kept). firing_of fired r.id ≡ firing_of_row r) rows →
-      AllByRecursion (λ (r : Kept). firing_of (fired ++ filter_map (fires w e) rows) r.id ≡ firing_of_row r) (map (after w e) rows)
+  told_after : (fired : List Fired) (rows : List TrackerRow) → AreRising rows →
+      AllByRecursion (λ (r : TrackerRow). firing_of fired r.id ≡ firing_of_row r) rows →
+      AllByRecursion (λ (r : TrackerRow). firing_of (fired ++ filter_map (fires w e) rows) r.id ≡ firing_of_row r) (map (after w e) rows)
   told_after fired rows rising told = recursion_from_All _ (map (after w e) rows) (λ k d within.
       let below : k < length rows = omega (arith, length-map rows (after w e)) in
-      let row : Kept = get_or rows k d in
+      let row : TrackerRow = get_or rows k d in
       let found : Found row.id rows k row = found_at rows rising k d below in
       let now : firing_of (fired ++ filter_map (fires w e) rows) row.id ≡ firing_of_row (after w e row) =
-      told_row fired (filter_map (fires w e) rows) row.id row.cell row.stage row.has_reader (All-from_recursion (λ (r : Kept).
+      told_row fired (filter_map (fires w e) rows) row.id row.cell row.stage row.has_reader (All-from_recursion (λ (r : TrackerRow).
       firing_of fired r.id ≡ firing_of_row r) rows told k d below) (found_fires row.id found) in
-      let IsTold : Kept → Type 0 = λ r. firing_of (fired ++ filter_map (fires w e) rows) r.id ≡ firing_of_row r in
+      let IsTold : TrackerRow → Type 0 = λ r. firing_of (fired ++ filter_map (fires w e) rows) r.id ≡ firing_of_row r in
       subst IsTold (sym (get_or-map (after w e) rows k d d below)) (ap (firing_of (fired ++ filter_map (fires w e) rows)) (id_after w e row)
       ∙ now))
 
   -- the rows stay sound over an event
-  pub held_after : (limit : ℕ) (fired : List Fired) (capacity : ℕ) (rows : List Kept) → AreHeld limit rows fired capacity →
+  pub held_after : (limit : ℕ) (fired : List Fired) (capacity : ℕ) (rows : List TrackerRow) → AreHeld limit rows fired capacity →
       AreHeld limit (map (after w e) rows) (fired ++ filter_map (fires w e) rows) capacity
   held_after limit fired capacity rows held = record {
     rising = rising_after rows held.rising;

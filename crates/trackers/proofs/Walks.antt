@@ -5,7 +5,7 @@ use Rattle.std.proofs.lemmas.List.{map-append, map_push, length-map, get_or_at, 
 use Rattle.std.proofs.lemmas.List.Sums.{sum_by-set}
 use Rattle.sm_names.specs.declared.tracking.Fired.{Fired}
 use Rattle.sm_names.specs.Trackers.{World, holds}
-use Rattle.trackers.specs.Row.{Kept, Stage, Waits, Over, is_waiting, waits}
+use Rattle.trackers.specs.Row.{TrackerRow, Stage, Waits, Over, is_waiting, waits}
 use Rattle.trackers.specs.Held.{is_met, after, fires, Reach, pass, pick}
 
 -- what h gives of a list with one more item
@@ -28,32 +28,32 @@ filter_map_append h (x ∷ xs) ys =
     ]
 
 -- a row as the record of its fields
-abbrev pub row_of : ℕ → ℕ → Stage → Bool → Kept
+abbrev pub row_of : ℕ → ℕ → Stage → Bool → TrackerRow
 row_of id cell stage has = record { id = id; cell = cell; stage = stage; has_reader = has }
 
 -- a row that is not met stays as it was, and fires nothing
-pub after_unmet : (w : World) (e : ℕ) (row : Kept) → is_met w row ≡ false → after w e row ≡ row
+pub after_unmet : (w : World) (e : ℕ) (row : TrackerRow) → is_met w row ≡ false → after w e row ≡ row
 after_unmet w e row unmet = rw unmet
 
 -- and fires nothing
-pub fires_unmet : (w : World) (e : ℕ) (row : Kept) → is_met w row ≡ false → fires w e row ≡ None
+pub fires_unmet : (w : World) (e : ℕ) (row : TrackerRow) → is_met w row ≡ false → fires w e row ≡ None
 fires_unmet w e row unmet = rw unmet
 
-module _ (w : World) (e : ℕ) (start : List Kept) (had : List Fired) where
+module _ (w : World) (e : ℕ) (start : List TrackerRow) (had : List Fired) where
   -- the rows so far are over, and those from here on are as they were
-  pub record Walked (rows : List Kept) (fired : List Fired) (due : List ℕ) : Type 0 where
-    pub done : List Kept
-    pub todo : List Kept
+  pub record Walked (rows : List TrackerRow) (fired : List Fired) (due : List ℕ) : Type 0 where
+    pub done : List TrackerRow
+    pub todo : List TrackerRow
     pub whole : start ≡ done ++ todo
     pub now : rows ≡ map (after w e) done ++ todo
     pub grown : fired ≡ had ++ filter_map (fires w e) done
     pub reach : Reach w (length done) todo due
 
   -- the walk stands at a row
-  pub record Stands (rows : List Kept) (fired : List Fired) (at : ℕ) (due : List ℕ) : Type 0 where
-    pub done : List Kept
-    pub row : Kept
-    pub todo : List Kept
+  pub record Stands (rows : List TrackerRow) (fired : List Fired) (at : ℕ) (due : List ℕ) : Type 0 where
+    pub done : List TrackerRow
+    pub row : TrackerRow
+    pub todo : List TrackerRow
     pub whole : start ≡ done ++ row ∷ todo
     pub now : rows ≡ map (after w e) done ++ row ∷ todo
     pub grown : fired ≡ had ++ filter_map (fires w e) done
@@ -61,7 +61,8 @@ module _ (w : World) (e : ℕ) (start : List Kept) (had : List Fired) where
     pub reach : Reach w (length done + 1) todo due
 
   -- what is over with one more row that is not met
-  done_pass : (done : List Kept) (row : Kept) (todo rows : List Kept) → is_met w row ≡ false → rows ≡ map (after w e) done ++ row ∷ todo →
+  done_pass : (done : List TrackerRow) (row : TrackerRow) (todo rows : List TrackerRow) → is_met w row ≡ false → rows ≡
+      map (after w e) done ++ row ∷ todo →
       rows ≡ map (after w e) (done ++ row ∷ []) ++ todo
   done_pass done row todo rows unmet now =
       now
@@ -70,7 +71,8 @@ module _ (w : World) (e : ℕ) (start : List Kept) (had : List Fired) where
       ∙ ap (λ l. l ++ todo) (sym (map_push (after w e) done row))
 
   -- the firings with one more row that is not met
-  grown_pass : (done : List Kept) (row : Kept) (fired : List Fired) → is_met w row ≡ false → fired ≡ had ++ filter_map (fires w e) done →
+  grown_pass : (done : List TrackerRow) (row : TrackerRow) (fired : List Fired) → is_met w row ≡ false → fired ≡
+      had ++ filter_map (fires w e) done →
       fired ≡ had ++ filter_map (fires w e) (done ++ row ∷ [])
   grown_pass done row fired unmet grown =
       grown
@@ -79,8 +81,8 @@ module _ (w : World) (e : ℕ) (start : List Kept) (had : List Fired) where
       ∙ append-nil (filter_map (fires w e) done)))
 
   -- the rows before the next place that is due are not met
-  stand_at : (n : ℕ) (todo : List Kept) (at : ℕ) (due : List ℕ) → Reach w n todo (at ∷ due) →
-      (done : List Kept) (rows : List Kept) (fired : List Fired) → n ≡ length done → start ≡ done ++ todo →
+  stand_at : (n : ℕ) (todo : List TrackerRow) (at : ℕ) (due : List ℕ) → Reach w n todo (at ∷ due) →
+      (done : List TrackerRow) (rows : List TrackerRow) (fired : List Fired) → n ≡ length done → start ≡ done ++ todo →
       rows ≡ map (after w e) done ++ todo → fired ≡ had ++ filter_map (fires w e) done → Stands rows fired at due
   stand_at n [] at due reach done rows fired place whole now grown = elim reach [ ]
   stand_at n (row ∷ todo) at due (pass unmet reach) done rows fired place whole now grown =
@@ -101,17 +103,18 @@ module _ (w : World) (e : ℕ) (start : List Kept) (had : List Fired) where
   }
 
   -- where the walk stands when a place is left
-  pub stand : (rows : List Kept) (fired : List Fired) (at : ℕ) (due : List ℕ) → Walked rows fired (at ∷ due) → Stands rows fired at due
+  pub stand : (rows : List TrackerRow) (fired : List Fired) (at : ℕ) (due : List ℕ) → Walked rows fired (at ∷ due) →
+      Stands rows fired at due
   stand rows fired at due walked =
       stand_at (length walked.done) walked.todo at due walked.reach walked.done rows fired refl walked.whole walked.now walked.grown
 
   -- the walk at an index of the places
-  pub stand_here : (rows : List Kept) (fired : List Fired) (due : List ℕ) (i : ℕ) → i < length due → Walked rows fired (drop i due) →
+  pub stand_here : (rows : List TrackerRow) (fired : List Fired) (due : List ℕ) (i : ℕ) → i < length due → Walked rows fired (drop i due) →
       Stands rows fired (get_or due i 0) (drop (i + 1) due)
   stand_here rows fired due i below walked =
       stand rows fired (get_or due i 0) (drop (i + 1) due) (subst (Walked rows fired) (drop_more due i 0 below) walked)
 
-  module _ (rows : List Kept) (fired : List Fired) (at : ℕ) (due : List ℕ) (stands : Stands rows fired at due) where
+  module _ (rows : List TrackerRow) (fired : List Fired) (at : ℕ) (due : List ℕ) (stands : Stands rows fired at due) where
     -- so many rows are done
     at_length : length (map (after w e) stands.done) ≡ at
     at_length = length-map stands.done (after w e) ∙ sym stands.place
@@ -121,7 +124,7 @@ module _ (w : World) (e : ℕ) (start : List Kept) (had : List Fired) where
     stands_within = rw stands.now (omega (arith, length-append (map (after w e) stands.done) (stands.row ∷ stands.todo), at_length))
 
     -- that row is as it was at the start
-    pub stands_row : (d : Kept) → get_or rows at d ≡ stands.row
+    pub stands_row : (d : TrackerRow) → get_or rows at d ≡ stands.row
     stands_row d = rw stands.now (get_or_at (map (after w e) stands.done) stands.row stands.todo d at at_length)
 
     -- the walk after that row
@@ -143,7 +146,7 @@ module _ (w : World) (e : ℕ) (start : List Kept) (had : List Fired) where
     }
 
   -- rows of which none is due stay
-  none_due : (n : ℕ) (todo : List Kept) → Reach w n todo [] → (map (after w e) todo ≡ todo) × (filter_map (fires w e) todo ≡ [])
+  none_due : (n : ℕ) (todo : List TrackerRow) → Reach w n todo [] → (map (after w e) todo ≡ todo) × (filter_map (fires w e) todo ≡ [])
   none_due n [] reach = (refl, refl)
   none_due n (row ∷ todo) (pass unmet reach) =
       let more = none_due (n + 1) todo reach in (
@@ -152,7 +155,7 @@ module _ (w : World) (e : ℕ) (start : List Kept) (had : List Fired) where
       )
 
   -- at the end of the walk all rows are over
-  pub walked_rows : (rows : List Kept) (fired : List Fired) → Walked rows fired [] → rows ≡ map (after w e) start
+  pub walked_rows : (rows : List TrackerRow) (fired : List Fired) → Walked rows fired [] → rows ≡ map (after w e) start
   walked_rows rows fired walked =
       walked.now
       ∙ ap (λ l. map (after w e) walked.done ++ l) (sym (none_due _ walked.todo walked.reach).0)
@@ -160,7 +163,7 @@ module _ (w : World) (e : ℕ) (start : List Kept) (had : List Fired) where
       ∙ ap (map (after w e)) (sym walked.whole)
 
   -- and each firing is there
-  pub walked_fired : (rows : List Kept) (fired : List Fired) → Walked rows fired [] → fired ≡ had ++ filter_map (fires w e) start
+  pub walked_fired : (rows : List TrackerRow) (fired : List Fired) → Walked rows fired [] → fired ≡ had ++ filter_map (fires w e) start
   walked_fired rows fired walked =
       walked.grown
       ∙ ap (λ l. had ++ l) (sym (ap (filter_map (fires w e)) walked.whole
@@ -173,24 +176,25 @@ module _ (w : World) (e : ℕ) (start : List Kept) (had : List Fired) where
   walk_start due reach = record { done = []; todo = start; whole = refl; now = refl; grown = sym (append-nil had); reach = reach }
 
 -- the firings of a row and its change balance
-balance_at : (w : World) (e id cell : ℕ) (stage : Stage) (has : Bool) (row : Kept) →
+balance_at : (w : World) (e id cell : ℕ) (stage : Stage) (has : Bool) (row : TrackerRow) →
     row ≡ record { id = id; cell = cell; stage = stage; has_reader = has } →
     length (option_to_list (fires w e row)) + cond (is_waiting (after w e row)) 1 0 ≡ cond (is_waiting row) 1 0
 balance_at w e id cell (Over event) has row same = rw same
 balance_at w e id cell (Waits place c) has row same =
     let fired : Option Fired = Some (record { tracker = id; event = e }) in
     let none_fired : Option Fired = None in
-    let over : Kept = record { id = id; cell = cell; stage = Over e; has_reader = has } in
-    let still : Kept = record { id = id; cell = cell; stage = Waits place c; has_reader = has } in
+    let over : TrackerRow = record { id = id; cell = cell; stage = Over e; has_reader = has } in
+    let still : TrackerRow = record { id = id; cell = cell; stage = Waits place c; has_reader = has } in
     rw same (elim (holds w c) as (λ b. length (option_to_list (if b then fired else none_fired)) + cond
     (is_waiting (if b then over else still)) 1 0 ≡ 1) [ true ↦ refl | false ↦ refl ])
 
 -- the same for a row as it is
-pub balance : (w : World) (e : ℕ) (row : Kept) → length (option_to_list (fires w e row)) + cond (is_waiting (after w e row)) 1 0 ≡ cond
+pub balance : (w : World) (e : ℕ) (row : TrackerRow) → length (option_to_list (fires w e row)) + cond (is_waiting (after w e row)) 1 0 ≡
+    cond
     (is_waiting row) 1 0
 balance w e row = balance_at w e row.id row.cell row.stage row.has_reader row refl
 
-module _ (rows : List Kept) (at : ℕ) (row : Kept) (within : at < length rows) (here : get_or rows at row ≡ row) where
+module _ (rows : List TrackerRow) (at : ℕ) (row : TrackerRow) (within : at < length rows) (here : get_or rows at row ≡ row) where
   -- a row that waits is counted
   pub counted_here : IsTrue (is_waiting row) → 0 < count_by is_waiting rows
   counted_here waits =

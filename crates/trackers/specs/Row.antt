@@ -16,7 +16,7 @@ pub data Stage : Type 0 where
   Over : ℕ → Stage
 
 -- a tracker: its id, the name of its cell, how far it is, and whether its reader is still here
-pub record Kept : Type 0 where
+pub record TrackerRow : Type 0 where
   pub id : ℕ
   pub cell : ℕ
   pub stage : Stage
@@ -38,18 +38,18 @@ waits (Waits place condition) = true
 waits (Over event) = false
 
 -- the tracker has not fired
-abbrev pub is_waiting : Kept → Bool
+abbrev pub is_waiting : TrackerRow → Bool
 is_waiting row = waits row.stage
 
 -- what the tracker waits for, if it has not fired
-abbrev pub waiting_of_row : Kept → Option Waiting
+abbrev pub waiting_of_row : TrackerRow → Option Waiting
 waiting_of_row row = waiting_at row.id row.stage
 
 -- the firing of the tracker, if it fired
-abbrev pub firing_of_row : Kept → Option Fired
+abbrev pub firing_of_row : TrackerRow → Option Fired
 firing_of_row row = firing_at row.id row.stage
 
 -- the reader of the tracker, if it is still here
-abbrev pub reader_of_row : Kept → Option Reader
+abbrev pub reader_of_row : TrackerRow → Option Reader
 reader_of_row row =
     if row.has_reader then Some (record { tracker = row.id; cell = row.cell; known = firing_of_row row }) else None

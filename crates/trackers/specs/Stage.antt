@@ -5,7 +5,7 @@ use Rattle.std.specs.Bool.{OnTrue}
 use Rattle.once_cell.specs.Once.{cell_name}
 use Rattle.sm_names.specs.declared.tracking.Fired.{Fired}
 use Rattle.trackers.specs.Table.{Reader}
-use Rattle.trackers.specs.Row.{Kept, Stage, Waits, Over, firing_at}
+use Rattle.trackers.specs.Row.{TrackerRow, Stage, Waits, Over, firing_at}
 use Rattle.trackers.specs.declared.row.Row.TheInside.{Inside}
 use Rattle.trackers.specs.declared.row.Stage.{Stage as Fields}
 use Rattle.trackers.specs.declared.row.Stage.TheVariants.{Waiting, Over as Past}
@@ -16,7 +16,7 @@ stage_of (Waiting spare) = Waits spare.place spare.condition
 stage_of (Past event was_set) = Over event
 
 -- a row as the table sees it
-abbrev pub view_of : Inside → Kept
+abbrev pub view_of : Inside → TrackerRow
 view_of row = record { id = row.id; cell = row.note.cell; stage = stage_of row.stage; has_reader = is_some row.reader }
 
 -- while a tracker waits, its cell is the one that the note speaks of, and nothing is known of it. After the

@@ -3,7 +3,7 @@ ghost use Rattle.std.specs.Prelude.{◌≡◌, true, false, Some, IfSome, IfOk, 
 ghost use Rattle.std.specs.Bool.{OnTrue};
 ghost use Rattle.trackers.specs.Table.{Reader};
 ghost use Rattle.trackers.specs.Held.{is_met};
-ghost use Rattle.trackers.specs.Row.{Kept, Waits, Over, firing_of_row, reader_of_row, is_waiting};
+ghost use Rattle.trackers.specs.Row.{TrackerRow, Waits, Over, firing_of_row, reader_of_row, is_waiting};
 
 use crate::tracker::Tracker;
 use crate::waiting::Waiting;
@@ -41,9 +41,9 @@ pub(crate) struct Row {
 }
 
 impl Model for Row {
-    ghost use Rattle.trackers.specs.Row.{Kept};
+    ghost use Rattle.trackers.specs.Row.{TrackerRow};
 
-    ghost Value = { Kept };
+    ghost Value = { TrackerRow };
 
     ghost use Rattle.trackers.specs.Stage.{view_of, IsSound};
 

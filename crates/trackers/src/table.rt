@@ -44,12 +44,12 @@ impl Model for Trackers {
     ghost Value = { Table };
 
     ghost use Rattle.std.specs.Prelude.{vec_capacity};
-    ghost use Rattle.trackers.specs.Held.{table_of, IsKeptUp};
+    ghost use Rattle.trackers.specs.Held.{table_of, IsTableSound};
 
     ghost view = { λ t. table_of t.limit t.rows.items t.fired.items };
 
     ghost invariant = { λ t.
-        IsKeptUp t.limit t.rows.items t.fired.items (vec_capacity t.fired) (vec_capacity t.due)
+        IsTableSound t.limit t.rows.items t.fired.items (vec_capacity t.fired) (vec_capacity t.due)
         t.piles };
 }
 

@@ -2,12 +2,12 @@
 use Rattle.std.proofs.Common.{◌∙◌, ◌<◌, ◌≤◌, rules, sym, subst}
 use Rattle.sm_names.specs.declared.keys.Interval.{Interval}
 use Rattle.buffer_pool.specs.Holes.{end_of}
-use Rattle.buffer_pool.proofs.Fits.{IsFit, fit_is, taken_whole, taken_part}
+use Rattle.buffer_pool.proofs.Fits.{IsFirstFit, fit_is, taken_whole, taken_part}
 use Rattle.buffer_pool.proofs.holes.take_front.Goals as goal
 use Rattle.buffer_pool.proofs.holes.take_front.Goals.{After-get-hole}
 
 -- the hole at the place
-the_fit : (c : After-get-hole) → IsFit c.args.pages_each c.args.holes.now.items c.args.at c.get-hole.result
+the_fit : (c : After-get-hole) → IsFirstFit c.args.pages_each c.args.holes.now.items c.args.at c.get-hole.result
 the_fit c = fit_is c.args.pages_each c.args.holes.now.items c.args.at c.get-hole.result c.requires.first c.requires.some c.get-hole.ensures
 
 pub overflow_add-rest : goal.overflow_add-rest

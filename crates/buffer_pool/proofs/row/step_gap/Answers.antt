@@ -1,7 +1,7 @@
 -- What lay between the two places lies on the other side of the gap.
 use Rattle.std.proofs.Common.{◌-◌, ◌+◌, arith, drop, length}
 use Rattle.std.proofs.lemmas.List.{take_at}
-use Rattle.buffer_pool.proofs.Moves.{moved_up, moved_down}
+use Rattle.buffer_pool.proofs.GapMoves.{moved_up, moved_down}
 use Rattle.buffer_pool.proofs.row.step_gap.Goals as goal
 
 pub returns-then-at-front-clause-items : goal.returns-then-at-front-clause-items

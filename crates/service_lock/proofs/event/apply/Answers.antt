@@ -3,7 +3,7 @@ use Rattle.sm_names.specs.declared.keys.Strength.{Strength}
 use Rattle.sm_names.specs.declared.keys.Strength.TheVariants.{Strong, Weak}
 use Rattle.sm_names.specs.Marks.{Entry}
 use Rattle.sm_names.specs.Legality.{IsLegal}
-use Rattle.service_lock.specs.declared.moves.Moves.{Moves}
+use Rattle.service_lock.specs.declared.moves.HandleMoves.{HandleMoves}
 use Rattle.service_lock.specs.Counting.{moves_by}
 use Rattle.service_lock.specs.States.{IsSound, View, after}
 use Rattle.service_lock.proofs.SoundLaws.{fits, pushed, there, written}
@@ -52,7 +52,7 @@ invariant_of-state-2 g c =
     let items : c.push_reserved.new.self.items ≡ log ++ e ∷ [] =
     pushed log c.reserve.new.self.items c.push_reserved.new.self.items e c.reserve.ensures.items c.push_reserved.ensures.items in
     let shown = c.in_ok-reply.ensures.goes_on log c.state.invariant.shown in
-    let goes = λ (strength : Strength) (moves : Moves) (is : moves ≡ moves_by strength e.1 e.2).
+    let goes = λ (strength : Strength) (moves : HandleMoves) (is : moves ≡ moves_by strength e.1 e.2).
     written c.state.inside.core.pool c.step.new.self.pool c.state.inside.core.limits c.step.new.self.limits strength e.0 e.1 e.2 log moves
     c.in_ok-reply.ensures.after.pool c.state.invariant.shown.legal shown.legal is in
     let sound : IsSound c.step.new.self c.state.inside.limits (log ++ e ∷ []) c.write.new.self c.write-2.new.self c.write-3.new.self =

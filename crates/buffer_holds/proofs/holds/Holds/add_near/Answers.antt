@@ -1,6 +1,6 @@
 use Rattle.std.proofs.Common.{◌≡◌, ◌+◌, refl, sym, ap, subst, ◌∙◌, arith, IsTrue}
 use Rattle.buffer_holds.specs.declared.fault.HoldFault.TheVariants.{TooMany}
-use Rattle.buffer_holds.specs.Counts.{total, has_room}
+use Rattle.buffer_holds.specs.Counts.{total, has_handle_room}
 use Rattle.buffer_holds.specs.Kinds.{kind_of, hold_of}
 use Rattle.buffer_holds.specs.Rows.{Raises, row_at}
 use Rattle.buffer_holds.specs.Sound.{IsSound, tally_row}
@@ -74,7 +74,7 @@ pub returns-clause-room : goal.returns-clause-room
 returns-clause-room c = λ room.
     let inside = c.self.inside in
     let hold = hold_of c.args.client c.args.buffer c.args.strength in
-    let row = subst (λ counts. IsTrue (has_room counts c.args.client c.args.buffer c.args.strength)) (sym c.self.view_is) room in
+    let row = subst (λ counts. IsTrue (has_handle_room counts c.args.client c.args.buffer c.args.strength)) (sym c.self.view_is) room in
     let kept = kept_from_something (tally_row inside.tallies.entries hold.kind)
     (omega (arith, one_row-IsSome (row_at inside.rows.entries hold) row, one_row-le-clients inside.limit inside.rows.entries inside.tallies.entries c.self.invariant hold)) in
     c.open.ensures.room row kept

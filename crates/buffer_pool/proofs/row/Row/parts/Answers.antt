@@ -1,7 +1,7 @@
 -- No allocation is larger.
 use Rattle.std.proofs.Common.{arith, ap, length}
 use Rattle.buffer_pool.specs.Rows.{Listed}
-use Rattle.buffer_pool.proofs.Moves.{length-parts}
+use Rattle.buffer_pool.proofs.GapMoves.{length-parts}
 use Rattle.buffer_pool.proofs.row.Row.parts.Goals as goal
 
 pub returns-clause-few : goal.returns-clause-few

@@ -1,7 +1,7 @@
 -- The gap moves to the interval, and takes it in.
 use Rattle.std.proofs.Common.{◌∙◌, ap, arith, length}
 use Rattle.buffer_pool.specs.Rows.{Listed}
-use Rattle.buffer_pool.proofs.Moves.{removed_behind, length-parts}
+use Rattle.buffer_pool.proofs.GapMoves.{removed_behind, length-parts}
 use Rattle.buffer_pool.proofs.row.Row.remove.Goals as goal
 
 pub returns-clause-items : goal.returns-clause-items

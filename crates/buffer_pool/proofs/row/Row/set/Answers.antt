@@ -1,7 +1,7 @@
 -- A write lies on either side of the gap.
 use Rattle.std.proofs.Common.{◌∙◌, ap, set}
 use Rattle.buffer_pool.specs.Rows.{Listed}
-use Rattle.buffer_pool.proofs.Moves.{set_before, set_behind}
+use Rattle.buffer_pool.proofs.GapMoves.{set_before, set_behind}
 use Rattle.buffer_pool.proofs.row.Row.set.Goals as goal
 
 pub returns-then-at-self-clause-items : goal.returns-then-at-self-clause-items

@@ -12,7 +12,7 @@ invariant_of-self-2 g c =
     let same : table_of c.reserve.new.self.slots c.reserve_to.new.nexts.items c.self.inside.first c.self.inside.limit ≡ c.args.self.now =
     rw (c.reserve_to.ensures.items, c.reserve.ensures.rest_kept) c.self.view_is in
     let key_is : c.insert_reserved-self-inside.result ≡ c.vacant_key-slot.result =
-    c.insert_reserved-self-inside.ensures.key ∙ c.link.ensures.kept.vacant_key ∙ sym c.vacant_key-slot.ensures.value in
+    c.insert_reserved-self-inside.ensures.key ∙ c.link.ensures.same_rows.vacant_key ∙ sym c.vacant_key-slot.ensures.value in
     (born c.reserve.new.self c.link.new.slots c.insert_reserved-self-inside.new.self c.reserve_to.new.nexts.items c.bump.new.nexts.items
     c.self.inside.first c.self.inside.count c.self.inside.limit c.args.parent
     (record { slot = c.vacant_key-slot.result; generation = c.next_of-next.result }) c.last_below-last.result c.args.node
@@ -26,7 +26,7 @@ returns-clause-born g c =
     let same : table_of c.reserve.new.self.slots c.reserve_to.new.nexts.items c.self.inside.first c.self.inside.limit ≡ c.args.self.now =
     rw (c.reserve_to.ensures.items, c.reserve.ensures.rest_kept) c.self.view_is in
     let key_is : c.insert_reserved-self-inside.result ≡ c.vacant_key-slot.result =
-    c.insert_reserved-self-inside.ensures.key ∙ c.link.ensures.kept.vacant_key ∙ sym c.vacant_key-slot.ensures.value in
+    c.insert_reserved-self-inside.ensures.key ∙ c.link.ensures.same_rows.vacant_key ∙ sym c.vacant_key-slot.ensures.value in
     subst (λ t. Births t (table_of c.insert_reserved-self-inside.new.self.slots c.bump.new.nexts.items c.self.inside.first
     c.self.inside.limit)
     c.args.parent c.args.node (record { slot = c.vacant_key-slot.result; generation = c.next_of-next.result })) same

@@ -2,7 +2,7 @@ use Rattle.std.proofs.Common.{◌≡◌, length, vec_len, refl, arith}
 use Rattle.std.specs.List.{filter_map}
 use Rattle.std.proofs.lemmas.List.Elements.{recursion_from_All}
 use Rattle.trackers.specs.Row.{waiting_of_row}
-use Rattle.trackers.proofs.AttachLemmas.{count_shown, all_below, kept_push, kept_grown, table_push}
+use Rattle.trackers.proofs.AttachLemmas.{count_shown, all_below, sound_push, sound_grown, table_push}
 use Rattle.trackers.proofs.table.Trackers.attach.Goals.{in-Ok, in-Err}
 use Rattle.trackers.proofs.table.Trackers.attach.Goals as goal
 
@@ -13,14 +13,15 @@ invariant_of-self c =
     elim c.match-add.branch [
       | in-Ok w ↦
           let long : vec_len c.self.inside.rows ≡ length c.self.inside.rows.items = omega arith in
-          let all = all_below c.args.tracker.id c.self.inside.rows.items (recursion_from_All _ _ (rw (← c.self.view_is) at c.requires.rising)) in
-          kept_push _ _ _ _ _ _ _ _ _ _ _ c.self.invariant c.add.ensures.fired w.in-Ok.ensures.row.0 c.args.tracker all
+          let all = all_below c.args.tracker.id c.self.inside.rows.items
+          (recursion_from_All _ _ (rw (← c.self.view_is) at c.requires.rising)) in
+          sound_push _ _ _ _ _ _ _ _ _ _ _ c.self.invariant c.add.ensures.fired w.in-Ok.ensures.row.0 c.args.tracker all
           (omega (arith, held.counted, c.len.ensures, c.len-2.ensures))
           (omega (arith, w.in-Ok.ensures.room, held.counted, c.len.ensures, c.len-2.ensures))
           (omega (arith, w.in-Ok.ensures.spare, held.counted, c.len.ensures, c.len-2.ensures))
           w.in-Ok.ensures.row.1
           (rw (← long) w.in-Ok.ensures.filed)
-      | in-Err w ↦ kept_grown _ _ _ _ _ _ _ _ _ _ _ c.self.invariant c.add.ensures.fired c.add.ensures.capacity c.add.ensures.more_spare
+      | in-Err w ↦ sound_grown _ _ _ _ _ _ _ _ _ _ _ c.self.invariant c.add.ensures.fired c.add.ensures.capacity c.add.ensures.more_spare
           w.in-Err.ensures.rows_kept w.in-Err.ensures.piles_kept
     ]
 

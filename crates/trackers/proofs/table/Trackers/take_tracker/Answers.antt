@@ -1,5 +1,5 @@
 use Rattle.std.proofs.Common.{refl, ◌∙◌, arith}
-use Rattle.trackers.proofs.FoundLemmas.{found_within, found_row, none_untaken, none_without, kept_taken, table_taken, reader_taken, reader_cell}
+use Rattle.trackers.proofs.FoundLemmas.{found_within, found_row, none_untaken, none_without, sound_taken, table_taken, reader_taken, reader_cell}
 use Rattle.trackers.proofs.table.Trackers.take_tracker.Goals as goal
 
 pub index_mut-requires : goal.index_mut-requires
@@ -12,7 +12,7 @@ pub invariant_of-self : goal.invariant_of-self
 invariant_of-self c =
     let found = rw c.deref.ensures.value at c.in-Some.ensures in
     let here = c.index_mut.ensures.value ∙ found_row _ found.1 c.index_mut.result.now in
-    rw (c.take.ensures.taken, here) (kept_taken _ _ _ _ _ _ found.1 c.self.invariant)
+    rw (c.take.ensures.taken, here) (sound_taken _ _ _ _ _ _ found.1 c.self.invariant)
 
 pub returns-in-Some-clause-tracker : goal.returns-in-Some-clause-tracker
 returns-in-Some-clause-tracker c =
