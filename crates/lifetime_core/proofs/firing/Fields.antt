@@ -78,8 +78,8 @@ module _ (limits : Bound) (s : State) (client : ℕ) where
   is_made : (call : Call) (asked : Reply) → asked ≡ answer limits (readings_of s) client no_key call → (t : Waiting) →
       tracker_by s.forest call asked ≡ Some t → IsMade limits s t
   is_made (Call.TrackNode key) (Reply.Tracker id) told t is =
-      let n = map-Some (λ (n : Node). record { id = id; collection = n.collection; condition = Condition.Node key }) (node_at s.forest key) t
-      is in
+      let n = map-Some (λ (n : Node). record { id = id; collection = n.collection; condition = Condition.Node key })
+      (node_at s.forest key) t is in
       called_made (Call.TrackNode key) id refl refl refl told t (ap (λ (w : Waiting). w.id) n.2)
   is_made (Call.TrackLifetime key most) (Reply.Tracker id) told t is =
       let n = map-Some (λ (n : Node). record { id = id; collection = n.collection; condition = Condition.Lifetime key n.collection most })
@@ -168,7 +168,8 @@ made_filed f sound (Call.TrackLifetime key most) (Reply.Tracker id) t is =
     let n = map-Some (λ (n : Node). record { id = id; collection = n.collection; condition = Condition.Lifetime key n.collection most })
     (node_at f key) t is in
     subst (λ (w : Waiting). Concerns f w.collection w.condition) n.2 (refl, node_filed f sound key n.0 n.1)
-made_filed f sound (Call.TrackWeak buffer) (Reply.Tracker id) t is = subst (λ (w : Waiting). Concerns f w.collection w.condition) (one is) refl
+made_filed f sound (Call.TrackWeak buffer) (Reply.Tracker id) t is =
+    subst (λ (w : Waiting). Concerns f w.collection w.condition) (one is) refl
   where
     one : {w : Waiting} → Some w ≡ Some t → w ≡ t
     one h = cc
