@@ -8,3 +8,4 @@ pub mod newborns
 pub mod shelves
 pub mod tables
 pub mod tallies
+pub mod turns

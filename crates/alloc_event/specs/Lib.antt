@@ -7,6 +7,7 @@ pub mod Falling
 pub mod Forest
 pub mod Forgetting
 pub mod InPlace
+pub mod InTurn
 pub mod Kept
 pub mod Moves
 pub mod Nodes

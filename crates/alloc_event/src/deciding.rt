@@ -30,6 +30,8 @@ pub fn decide(scene: &Scene, holds: &Holds) -> Option<Decision>
     ensures forced { (pool : ℕ) (others : List Interval) →
         forced pool (standing (total holds.now) others (collection_of scene.now))
         ≡ option_map (mark_of pool (pages_in (collection_of scene.now) ++ others)) result }
+    ensures value { result ≡ decided scene.now.nodes.items scene.now.buffers
+        (is_held_strongly (total holds.now) scene.now.id scene.now.buffers) }
     ensures step { IfSome result (IsStep (collection_of scene.now)) }
     ensures sized { IfSome result IsSized }
 {

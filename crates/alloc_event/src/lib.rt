@@ -21,6 +21,7 @@ pub mod forest;
 mod forgetting;
 pub mod held;
 mod in_place;
+mod in_turn;
 pub mod initial;
 mod kept;
 pub mod laws;

@@ -2,6 +2,7 @@
 ghost use Rattle.std.specs.Prelude.{◌≡◌, OnErr, OnOk, map, true};
 ghost use Rattle.buffer_holds.specs.Counts.{total};
 ghost use Rattle.alloc_event.specs.Decisions.{is_unplaced, IsMadeBy, IsSized, IsStep, RestsIn, SettlesIn};
+ghost use Rattle.alloc_event.specs.InTurn.{GoesOn, IsGiven};
 ghost use Rattle.alloc_event.specs.Kept.{IsWhole};
 ghost use Rattle.alloc_event.specs.Moves.{Moves};
 ghost use Rattle.alloc_event.specs.Scenes.{collection_of, frame_of, given_few, IsSound, PoolFollows};
@@ -10,6 +11,8 @@ use crate::allocating::allocate;
 use crate::deciding::decide;
 use crate::decision::Decision;
 use crate::ending::{end, end_bare};
+use crate::in_turn::allocate_in_turn;
+use crate::logical::next_head;
 use crate::losses::lose;
 use crate::placing::place_first;
 use crate::scene::Scene;
@@ -20,10 +23,13 @@ use sm_names::{Fault, NoMemory};
 /// Makes the forced steps of the collection, one after another, until none applies.
 ///
 /// `NoMemory` where a growth is refused: the pool is then as it was, and the scene may be thrown
-/// away. Only the allocation of a root unit takes memory.
+/// away. Only the allocation of a root unit is refused so. Attached units are allocated one by one
+/// where there is no memory to do more.
 ///
 /// There are at most two steps a node. Each looks, for each released head of a unit, three times
 /// over the nodes where one of its unit or right below it is live, and else for each live one.
+/// Attached units that are next one after another are allocated together, from the second on, which
+/// costs the nodes times a logarithm.
 pub fn settle_scene(scene: &mut Scene, pool: &mut Pool, holds: &Holds) -> Result<(), NoMemory>
     requires { IsSound (collection_of scene.old) }
     ensures settles { OnOk result (SettlesIn pool.old (total holds.now)
@@ -40,6 +46,7 @@ pub fn settle_scene(scene: &mut Scene, pool: &mut Pool, holds: &Holds) -> Result
 {
     'steps: while let Some(step) = decide(scene, holds) {
         make(scene, pool, step)?;
+        go_on(scene, step);
     }
     Ok(())
 }
@@ -68,6 +75,25 @@ pub(crate) fn settle_whole(
     settle_scene(scene, pool, holds)
 }
 
+/// Where the step allocated an attached unit and another one is next, allocates those that are
+/// next, one after another, until one fails or none is left. It costs the nodes times a logarithm.
+/// Where memory is refused nothing changes.
+fn go_on(scene: &mut Scene, step: Decision)
+    requires { IsSound (collection_of scene.old) }
+    ensures { GoesOn step (collection_of scene.old) (collection_of scene.new) }
+{
+    let Decision::Allocates(_) = step else {
+        return;
+    };
+    let Some(given) = scene.buffers else {
+        return;
+    };
+    if next_head(&scene.nodes).is_some() {
+        let alloc = *scene.nodes.allocator();
+        allocate_in_turn(alloc, &mut scene.nodes, given);
+    }
+}
+
 /// Makes the step. `NoMemory` where a growth is refused, and the pool is then as it was.
 fn make(scene: &mut Scene, pool: &mut Pool, step: Decision) -> Result<(), NoMemory>
     requires sound { IsSound (collection_of scene.old) }
@@ -79,6 +105,8 @@ fn make(scene: &mut Scene, pool: &mut Pool, step: Decision) -> Result<(), NoMemo
         (collection_of scene.old) (collection_of scene.new)) }
     ensures size { pool.new.size ≡ pool.old.size }
     ensures err { OnErr result (pool.new ≡ pool.old) }
+
+    ensures given { OnOk result (IsGiven step (collection_of scene.old) (collection_of scene.new)) }
 
     // Memory is asked for, and the pool changes, only where a root waits for its buffers.
     ensures waits { OnErr result (is_unplaced scene.old.nodes.items ≡ true) }
