@@ -5,6 +5,8 @@ pub mod Calming
 pub mod Deserting
 pub mod Forcing
 pub mod Keeping
+pub mod Lines
+pub mod Marking
 pub mod Movings
 pub mod Settlings
 pub mod Steps

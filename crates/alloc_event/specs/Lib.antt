@@ -9,6 +9,7 @@ pub mod Forgetting
 pub mod InPlace
 pub mod InTurn
 pub mod Kept
+pub mod Marks
 pub mod Moves
 pub mod Nodes
 pub mod Parted

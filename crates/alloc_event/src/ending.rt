@@ -1,13 +1,16 @@
 //! A collection or an attached subtree that ends, since no node of it is live.
-ghost use Rattle.std.specs.Prelude.{◌≡◌, ◌||◌, map, true};
+ghost use Rattle.std.specs.Prelude.{◌≡◌, ◌||◌, length, map, true};
 ghost use Rattle.std.specs.List.{find, list_any};
 ghost use Rattle.std.specs.Option.{option_map};
 ghost use Rattle.alloc_event.specs.Kept.{ended_bare, left_of};
+ghost use Rattle.alloc_event.specs.Marks.{AreMarked};
 ghost use Rattle.alloc_event.specs.Nodes.{after_end};
 ghost use Rattle.alloc_event.specs.Questions.{is_deserted_node, is_live_at, is_live_node};
+ghost use Rattle.alloc_event.specs.Scenes.{are_distinct};
 
+use crate::marks::{Marks, is_marked, mark_under};
 use crate::node::Node;
-use crate::questions::{is_live, is_under, some_live_under};
+use crate::questions::{is_live, some_live_under};
 use sm_names::NodeKey;
 
 /// Of the roots and attached nodes that are not gone, with no live node at or below them, the one
@@ -36,12 +39,23 @@ fn is_deserted(nodes: &[Node], node: &Node) -> bool
     (node.parent.is_none() || node.attached) && !node.gone && !some_live_under(nodes, node.key)
 }
 
-/// The top node leaves without a fault, and all below it. A walk for each node.
-pub fn end(nodes: &mut [Node], top: NodeKey)
+/// The top node leaves without a fault, and all below it. One pass marks them, and one makes them
+/// leave.
+pub(crate) fn end(nodes: &mut [Node], marks: &mut Marks, top: NodeKey)
+    requires { are_distinct nodes.old ≡ true }
+    ensures { nodes.new ≡ after_end top nodes.old }
+{
+    mark_under(nodes, marks, top);
+    leave_marked(nodes, marks, top);
+}
+
+/// The nodes that are marked leave: the top one and all below it.
+fn leave_marked(nodes: &mut [Node], marks: &Marks, top: NodeKey)
+    requires { AreMarked nodes.old top marks.now.below.items (length nodes.old) }
     ensures { nodes.new ≡ after_end top nodes.old }
 {
     for at in 0..nodes.len() {
-        let taken = is_under(nodes, top, nodes[at].key);
+        let taken = is_marked(nodes, marks, top, at, nodes[at].key);
         leave(&mut nodes[at], taken);
     }
 }

@@ -10,6 +10,7 @@ ghost use Rattle.alloc_event.specs.Units.{are_united};
 
 use crate::entry::Entry;
 use crate::kept::{count_strong, is_some_over};
+use crate::marks::marks_of;
 use crate::node::Node;
 use crate::returns::give_back;
 use crate::scene::Scene;
@@ -58,8 +59,11 @@ pub(crate) fn finish(
     if entries.reserve(1).is_err() {
         return Err(NoMemory);
     }
+    let Ok(mut marks) = marks_of(alloc, table, &scene.nodes) else {
+        return Err(NoMemory);
+    };
     part(pool);
-    settle_whole(&mut scene, pool, holds)?;
+    settle_whole(&mut scene, &mut marks, pool, holds)?;
     give_back(&mut scene, pool, holds);
     part(pool);
     store(table, &scene.nodes);

@@ -27,6 +27,7 @@ mod kept;
 pub mod laws;
 pub mod logical;
 pub mod losses;
+pub mod marks;
 pub mod node;
 pub mod placing;
 pub mod questions;

@@ -1,5 +1,5 @@
 //! What a failure takes.
-ghost use Rattle.std.specs.Prelude.{◌≡◌, map, reverse, OnOk, true};
+ghost use Rattle.std.specs.Prelude.{◌≡◌, length, map, reverse, OnOk, true};
 ghost use Rattle.std.specs.List.{list_any};
 ghost use Rattle.std.specs.List.Sorted.{IsSorted};
 ghost use Rattle.sm_names.specs.Losses.{top as topmost};
@@ -7,12 +7,15 @@ ghost use Rattle.sm_names.specs.Sameness.{same_key};
 ghost use Rattle.sm_names.specs.declared.keys.NodeKey.{NodeKey as Key};
 ghost use Rattle.alloc_event.specs.Decisions.{is_left_of};
 ghost use Rattle.alloc_event.specs.Falling.{key_order};
+ghost use Rattle.alloc_event.specs.Marks.{AreMarked};
 ghost use Rattle.alloc_event.specs.Nodes.{above_among, after_loss, lost};
 ghost use Rattle.alloc_event.specs.Questions.{blocks_here, is_below};
+ghost use Rattle.alloc_event.specs.Scenes.{are_distinct};
 ghost use Rattle.alloc_event.specs.Ties.{IsTied};
 
+use crate::marks::{Marks, is_marked, mark_under};
 use crate::node::Node;
-use crate::questions::{blocks, has_node, is_under};
+use crate::questions::{blocks, has_node};
 use failure_domains::fall;
 use node_table::NodeTable;
 use sm_names::{Fault, NoMemory, NodeKey};
@@ -69,17 +72,18 @@ pub(crate) fn is_among(keys: &[NodeKey], key: NodeKey) -> bool
 }
 
 /// The node where the fault began fails, and with it the highest node that its failure goes up to
-/// and all below that one. Nodes that are gone keep their faults. It takes no memory,
-/// and a walk over the nodes for each.
+/// and all below that one. Nodes that are gone keep their faults. It takes no memory, and walks over
+/// the nodes for the highest one and two passes by the marks.
 ///
 /// The forced steps lose nodes so: they work on nodes that the table does not have yet as they
 /// are, so that what falls there is not what falls here.
-pub fn lose(nodes: &mut [Node], fault: Fault)
+pub(crate) fn lose(nodes: &mut [Node], marks: &mut Marks, fault: Fault)
+    requires { are_distinct nodes.old ≡ true }
     ensures { nodes.new ≡ after_loss fault nodes.old }
 {
     if has_node(nodes, fault.origin) {
         let top = highest(nodes, fault.origin);
-        fail_under(nodes, top, fault);
+        fail_under(nodes, marks, top, fault);
     }
 }
 
@@ -105,12 +109,22 @@ fn highest(nodes: &[Node], key: NodeKey) -> NodeKey
     at
 }
 
-/// The top node and all below it fail.
-fn fail_under(nodes: &mut [Node], top: NodeKey, fault: Fault)
+/// The top node and all below it fail. One pass marks them, and one makes them fail.
+fn fail_under(nodes: &mut [Node], marks: &mut Marks, top: NodeKey, fault: Fault)
+    requires { are_distinct nodes.old ≡ true }
+    ensures { nodes.new ≡ map (lost (λ n. is_below nodes.old top n.key) fault) nodes.old }
+{
+    mark_under(nodes, marks, top);
+    fail_marked(nodes, marks, top, fault);
+}
+
+/// The nodes that are marked fail: the top one and all below it.
+fn fail_marked(nodes: &mut [Node], marks: &Marks, top: NodeKey, fault: Fault)
+    requires { AreMarked nodes.old top marks.now.below.items (length nodes.old) }
     ensures { nodes.new ≡ map (lost (λ n. is_below nodes.old top n.key) fault) nodes.old }
 {
     for at in 0..nodes.len() {
-        let taken = is_under(nodes, top, nodes[at].key);
+        let taken = is_marked(nodes, marks, top, at, nodes[at].key);
         fail(&mut nodes[at], taken, fault);
     }
 }

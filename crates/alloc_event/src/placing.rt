@@ -9,6 +9,7 @@ ghost use Rattle.alloc_event.specs.Scenes.{collection_of, given_few, laid, IsSou
 use crate::allocating::allocate;
 use crate::held::HeldBuffer;
 use crate::losses::lose;
+use crate::marks::Marks;
 use crate::scene::Scene;
 use buffer_pool::{Pool, PoolFault};
 use sm_names::{BufferName, Buffers, Cause, CollectionId, Failure, Fault, NoMemory, NodeKey};
@@ -19,6 +20,7 @@ use sm_names::{BufferName, Buffers, Cause, CollectionId, Failure, Fault, NoMemor
 /// `NoMemory` where a growth is refused: the pool and the scene are then as they were.
 pub fn place_first(
     scene: &mut Scene,
+    marks: &mut Marks,
     pool: &mut Pool,
     head: NodeKey,
     wants: Buffers,
@@ -55,6 +57,7 @@ pub fn place_first(
             let cause = Cause::Failed(Failure::PoolFull);
             lose(
                 &mut scene.nodes,
+                marks,
                 Fault {
                     cause,
                     origin: head,

@@ -14,6 +14,7 @@ use crate::ending::{end, end_bare};
 use crate::in_turn::allocate_in_turn;
 use crate::logical::next_head;
 use crate::losses::lose;
+use crate::marks::Marks;
 use crate::placing::place_first;
 use crate::scene::Scene;
 use buffer_holds::Holds;
@@ -26,11 +27,18 @@ use sm_names::{Fault, NoMemory};
 /// away. Only the allocation of a root unit is refused so. Attached units are allocated one by one
 /// where there is no memory to do more.
 ///
-/// There are at most two steps a node. Each looks, for each released head of a unit, three times
-/// over the nodes where one of its unit or right below it is live, and else for each live one.
-/// Attached units that are next one after another are allocated together, from the second on, which
-/// costs the nodes times a logarithm.
-pub fn settle_scene(scene: &mut Scene, pool: &mut Pool, holds: &Holds) -> Result<(), NoMemory>
+/// There are at most two steps a node, each of some walks over the nodes. It looks, for each released
+/// head of a unit, three times over the nodes besides where one of its unit or right below it is
+/// live, and else for each live one. Attached units that are next one after another are allocated
+/// together, from the second on, which costs the nodes times a logarithm.
+///
+/// The marks tell where parents stand. Without that a loss or an end costs a walk for each node.
+pub fn settle_scene(
+    scene: &mut Scene,
+    marks: &mut Marks,
+    pool: &mut Pool,
+    holds: &Holds,
+) -> Result<(), NoMemory>
     requires { IsSound (collection_of scene.old) }
     ensures settles { OnOk result (SettlesIn pool.old (total holds.now)
         (collection_of scene.old) (collection_of scene.new)) }
@@ -45,7 +53,7 @@ pub fn settle_scene(scene: &mut Scene, pool: &mut Pool, holds: &Holds) -> Result
         (map frame_of scene.new.nodes.items ≡ map frame_of scene.old.nodes.items) }
 {
     'steps: while let Some(step) = decide(scene, holds) {
-        make(scene, pool, step)?;
+        make(scene, marks, pool, step)?;
         go_on(scene, step);
     }
     Ok(())
@@ -55,6 +63,7 @@ pub fn settle_scene(scene: &mut Scene, pool: &mut Pool, holds: &Holds) -> Result
 /// one walk.
 pub(crate) fn settle_whole(
     scene: &mut Scene,
+    marks: &mut Marks,
     pool: &mut Pool,
     holds: &Holds,
 ) -> Result<(), NoMemory>
@@ -72,7 +81,7 @@ pub(crate) fn settle_whole(
         (map frame_of scene.new.nodes.items ≡ map frame_of scene.old.nodes.items) }
 {
     end_bare(&mut scene.nodes);
-    settle_scene(scene, pool, holds)
+    settle_scene(scene, marks, pool, holds)
 }
 
 /// Where the step allocated an attached unit and another one is next, allocates those that are
@@ -95,7 +104,12 @@ fn go_on(scene: &mut Scene, step: Decision)
 }
 
 /// Makes the step. `NoMemory` where a growth is refused, and the pool is then as it was.
-fn make(scene: &mut Scene, pool: &mut Pool, step: Decision) -> Result<(), NoMemory>
+fn make(
+    scene: &mut Scene,
+    marks: &mut Marks,
+    pool: &mut Pool,
+    step: Decision,
+) -> Result<(), NoMemory>
     requires sound { IsSound (collection_of scene.old) }
     requires step { IsStep (collection_of scene.old) step }
     requires sized { IsSized step }
@@ -116,9 +130,9 @@ fn make(scene: &mut Scene, pool: &mut Pool, step: Decision) -> Result<(), NoMemo
     ensures id { OnOk result (scene.new.id ≡ scene.old.id) }
 {
     match step {
-        Decision::Ends(top) => end(&mut scene.nodes, top),
-        Decision::Loses(origin, cause) => lose(&mut scene.nodes, Fault { cause, origin }),
-        Decision::Places(head, wants) => return place_first(scene, pool, head, wants),
+        Decision::Ends(top) => end(&mut scene.nodes, marks, top),
+        Decision::Loses(origin, cause) => lose(&mut scene.nodes, marks, Fault { cause, origin }),
+        Decision::Places(head, wants) => return place_first(scene, marks, pool, head, wants),
         Decision::Allocates(head) => allocate(&mut scene.nodes, head),
     }
     Ok(())

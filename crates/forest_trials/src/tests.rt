@@ -2,12 +2,8 @@
 ghost use Rattle.std.specs.Prelude.{◌≡◌, [], IfOk};
 ghost use Rattle.alloc_event.specs.Scenes.{collection_of, IsSound};
 
-use alloc_event::allocating::allocate;
 use alloc_event::births::{new_child, new_root};
-use alloc_event::change::Effect;
-use alloc_event::effects::affect;
-use alloc_event::ending::end;
-use alloc_event::losses::lose;
+use alloc_event::marks::no_marks;
 use alloc_event::returns::give_back;
 use alloc_event::scene::Scene;
 use alloc_event::settling::settle_scene;
@@ -87,7 +83,7 @@ fn settle(alloc: Global, scene: &mut Scene, pool: &mut Pool) -> Result<(), Fail>
     requires pool { pool.old.held ≡ [] }
 {
     let holds = Holds::new(alloc, 8);
-    match settle_scene(scene, pool, &holds) {
+    match settle_scene(scene, &mut no_marks(alloc), pool, &holds) {
         Ok(()) => {
             give_back(scene, pool, &holds);
             Ok(())
@@ -220,22 +216,5 @@ fn weak_nodes_are_given_nothing(rt: HostRuntime) -> Result<(), Fail> {
         free_pages: 16,
     };
     assert!(rt; settles(rt.alloc(), asks, false, true, &wanted)?);
-    Ok(())
-}
-
-#[test]
-fn a_loss_goes_up_as_far_as_links_let_it(rt: HostRuntime) -> Result<(), Fail> {
-    let root = new_root(ROOT, 5, 5, 1);
-    let middle = new_child(false, MIDDLE, 6, 1, &root);
-    let low = new_child(false, LOW, 7, 1, &middle);
-    let mut nodes = [root, middle, low];
-    affect(&mut nodes, MIDDLE, &Effect::Dispensable);
-    allocate(&mut nodes, ROOT);
-    let cause = Cause::Lost;
-    lose(&mut nodes, Fault { cause, origin: LOW });
-    assert!(rt; !nodes[0].gone && nodes[1].gone && nodes[2].gone);
-    end(&mut nodes, ROOT);
-    assert!(rt; nodes[0].gone && nodes[0].fault.is_none());
-    assert!(rt; nodes[1].fault == Some(Fault { cause, origin: LOW }));
     Ok(())
 }

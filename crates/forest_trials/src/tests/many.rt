@@ -368,6 +368,29 @@ fn units_end_as_their_dispensable_nodes_fail(rt: HostRuntime) -> Result<(), Fail
     Ok(())
 }
 
+// Whether a failure of the last goes up to the second, whose fault stays as the collection ends.
+fn goes_up_to_second(ground: &mut Ground, keys: &[NodeKey]) -> Result<bool, Fail> {
+    let Some((root, others)) = keys.split_first() else {
+        return Ok(false);
+    };
+    let (Some(second), Some(last)) = (others.first(), others.last()) else {
+        return Ok(false);
+    };
+    ground.make_dispensable(*second)?;
+    ask_each(ground, keys)?;
+    ground.lose(*last)?;
+    let stayed = is_allocated(ground, *root) && have_failed(ground, others);
+    ground.release(*root)?;
+    Ok(stayed && left(ground, *root) && have_failed(ground, others))
+}
+
+#[test]
+fn a_loss_goes_up_as_far_as_links_let_it(rt: HostRuntime) -> Result<(), Fail> {
+    let (mut ground, keys) = chain(rt.alloc(), 3, false)?;
+    assert!(rt; goes_up_to_second(&mut ground, &keys)?);
+    Ok(())
+}
+
 // Whether all of them fail with the first.
 fn fall_together(ground: &mut Ground, keys: &[NodeKey]) -> Result<bool, Fail> {
     let Some((root, others)) = keys.split_first() else {
@@ -397,6 +420,47 @@ fn many_siblings_fall_with_the_root(rt: HostRuntime) -> Result<(), Fail> {
 fn a_long_chain_falls(rt: HostRuntime) -> Result<(), Fail> {
     let (mut ground, keys) = chain(rt.alloc(), 1000, false)?;
     assert!(rt; fall_together(&mut ground, &keys)?);
+    Ok(())
+}
+
+// Whether the attached nodes, which ask for more than there is, all fail as the root asks.
+fn fail_at_once(ground: &mut Ground, keys: &[NodeKey]) -> Result<bool, Fail> {
+    let Some((root, heads)) = keys.split_first() else {
+        return Ok(false);
+    };
+    let large = demand(0, 1, 8192)?;
+    for key in heads {
+        ground.ask(*key, large)?;
+    }
+    ground.ask(*root, demand(0, 1, 4096)?)?;
+    Ok(is_allocated(ground, *root) && have_failed(ground, heads))
+}
+
+#[test]
+fn many_units_that_ask_for_too_much_fail_by_one_call(rt: HostRuntime) -> Result<(), Fail> {
+    let (mut ground, keys) = family(rt.alloc(), 900, true)?;
+    assert!(rt; fail_at_once(&mut ground, &keys)?);
+    Ok(())
+}
+
+// Whether all nodes of one unit fail as the last of them asks for one buffer more.
+fn ask_for_too_many(ground: &mut Ground, keys: &[NodeKey]) -> Result<bool, Fail> {
+    let Some((last, others)) = keys.split_last() else {
+        return Ok(false);
+    };
+    let one = demand(1, 0, 4096)?;
+    for key in others {
+        ground.ask(*key, one)?;
+    }
+    let stayed = !have_failed(ground, others);
+    ground.ask(*last, one)?;
+    Ok(stayed && have_failed(ground, keys))
+}
+
+#[test]
+fn a_long_chain_that_asks_for_too_many_fails(rt: HostRuntime) -> Result<(), Fail> {
+    let (mut ground, keys) = chain(rt.alloc(), 1000, false)?;
+    assert!(rt; ask_for_too_many(&mut ground, &keys)?);
     Ok(())
 }
 

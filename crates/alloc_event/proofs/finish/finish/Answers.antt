@@ -21,7 +21,7 @@ give_back-requires c =
 pub store-requires-clause-places : goal.store-requires-clause-places
 store-requires-clause-places c =
     let s = c.in_ok-settle_whole.ensures in
-    rw c.deref-2.ensures.value (back_places (total c.args.holds.now) c.args.table.now (shelves_of c.args.entries.now.items) c.args.scene
+    rw c.deref-3.ensures.value (back_places (total c.args.holds.now) c.args.table.now (shelves_of c.args.entries.now.items) c.args.scene
     c.settle_whole.new.scene c.give_back.new.scene
     c.requires.kept c.requires.rising c.requires.own s.sound s.id s.frames c.give_back.ensures.scene)
 
@@ -37,7 +37,7 @@ returns-clause-ok c =
       collections = rw placed (finished-collections (total c.args.holds.now) c.args.table.now (shelves_of c.args.entries.now.items)
           c.args.scene c.settle_whole.new.scene c.give_back.new.scene
           c.requires.kept c.requires.rising c.requires.own s.sound s.id s.frames c.give_back.ensures.scene c.store.new.table
-          (rw c.deref-2.ensures.value at c.store.ensures) c.in-Ok.keys.items keys);
+          (rw c.deref-3.ensures.value at c.store.ensures) c.in-Ok.keys.items keys);
       rests = s.rests _;
     }
 
@@ -54,7 +54,7 @@ returns-clause-kept c =
     rw placed (finished-kept (total c.args.holds.now) c.args.table.now (shelves_of c.args.entries.now.items) c.args.scene
     c.settle_whole.new.scene c.give_back.new.scene
     c.requires.kept c.requires.rising c.requires.own s.sound s.id s.frames c.give_back.ensures.scene c.store.new.table
-    (rw c.deref-2.ensures.value at c.store.ensures) c.in-Ok.keys.items keys hung c.requires.united)
+    (rw c.deref-3.ensures.value at c.store.ensures) c.in-Ok.keys.items keys hung c.requires.united)
 
 pub returns-clause-pool : goal.returns-clause-pool
 returns-clause-pool c =
@@ -64,7 +64,7 @@ returns-clause-pool c =
     rw placed (finished-pool (total c.args.holds.now) c.args.table.now (shelves_of c.args.entries.now.items) c.args.scene
     c.settle_whole.new.scene c.give_back.new.scene
     c.requires.kept c.requires.rising c.requires.own s.sound s.id s.frames c.give_back.ensures.scene c.store.new.table
-    (rw c.deref-2.ensures.value at c.store.ensures) c.in-Ok.keys.items keys
+    (rw c.deref-3.ensures.value at c.store.ensures) c.in-Ok.keys.items keys
     c.give_back.new.pool.held c.part-2.ensures
     (c.give_back.ensures.pool _ (s.pool _ (pool_beside c.args.pool.now.held c.args.table.now (shelf_in c.args.scene)
     (shelves_of c.args.entries.now.items) c.requires.rising c.part.ensures c.requires.pool))))
@@ -79,6 +79,6 @@ returns-clause-counted c =
     let placed : c.put_entry.new.entries.items ≡ put_in new es = rw c.reserve.ensures.items at c.put_entry.ensures.items in
     rw placed (finished-counted (total c.args.holds.now) c.args.table.now es c.args.scene c.settle_whole.new.scene c.give_back.new.scene
     c.requires.kept c.requires.rising c.requires.own s.sound s.id s.frames c.give_back.ensures.scene c.store.new.table
-    (rw c.deref-2.ensures.value at c.store.ensures)
-    new keys refl refl refl (rw c.deref-3.ensures.value at c.count_strong-strong.ensures)
-    (ap not (rw c.deref-4.ensures.value at c.is_some_over-tidy.ensures)) refl c.args.pool.now.size s.rests c.requires.counted)
+    (rw c.deref-3.ensures.value at c.store.ensures)
+    new keys refl refl refl (rw c.deref-4.ensures.value at c.count_strong-strong.ensures)
+    (ap not (rw c.deref-5.ensures.value at c.is_some_over-tidy.ensures)) refl c.args.pool.now.size s.rests c.requires.counted)

@@ -1,11 +1,12 @@
-use Rattle.std.proofs.Common.{◌≡◌, ◌<◌, ◌∙◌, ◌||◌, ap, Bool, map, length, get_or, arith, refl}
+use Rattle.std.proofs.Common.{◌≡◌, ◌<◌, ◌∙◌, ap, false, map, length, get_or, slice_get, Some, arith, refl}
 use Rattle.std.proofs.lemmas.List.{get_or_default}
 use Rattle.alloc_event.specs.declared.node.Node.{Node}
 use Rattle.alloc_event.specs.Nodes.{ended}
 use Rattle.alloc_event.specs.Questions.{is_below}
+use Rattle.alloc_event.proofs.calm.Marking.{ended_by, next_at, read_mark}
 use Rattle.alloc_event.proofs.lists.Loops.{map_step}
 use Rattle.alloc_event.proofs.tables.Links.{below_by_links, link_of, map-kept_part}
-use Rattle.alloc_event.proofs.ending.end.Goals as goal
+use Rattle.alloc_event.proofs.ending.leave_marked.Goals as goal
 
 -- the nodes so far have the links that they had
 pub loop-at-preserved : goal.loop-at-preserved
@@ -18,10 +19,12 @@ loop-at-preserved c =
     let f : Node → Node = ended old c.args.top in
     let links : map link_of c.loop-at.nodes ≡ map link_of old =
     ap (map link_of) c.loop-at.invariant ∙ map-kept_part f link_of old c.loop-at.at (λ n. refl) in
-    let taken : c.is_under-taken.result ≡ is_below old c.args.top x.key =
-    c.is_under-taken.ensures
-    ∙ (below_by_links c.loop-at.nodes old c.args.top first.key links
-    ∙ ap (λ (n : Node). is_below old c.args.top n.key) same) in
+    let told : is_below c.loop-at.nodes c.args.top first.key ≡ is_below old c.args.top x.key =
+    below_by_links c.loop-at.nodes old c.args.top first.key links ∙ ap (λ (n : Node). is_below old c.args.top n.key) same in
+    let there : slice_get old c.loop-at.at ≡ Some x =
+    next_at f old c.loop-at.nodes c.loop-at.at x c.loop-at.invariant within (get_or_default c.loop-at.nodes c.loop-at.at _ _ within) in
+    let taken : x.gone ≡ false → c.is_marked-taken.result ≡ is_below old c.args.top x.key =
+    read_mark old c.args.top c.args.marks.now.below.items c.loop-at.at x _ _ c.requires there told c.is_marked-taken.ensures in
     map_step f old c.loop-at.nodes c.loop-at.at c.index-nodes-at-in-loop-at.result _
     (omega arith) c.loop-at.invariant c.index-nodes-at-in-loop-at.is
-    (c.leave.ensures ∙ ap (λ (b : Bool). record x { gone = b || x.gone }) taken)
+    (c.leave.ensures ∙ ended_by (is_below old c.args.top x.key) x _ taken)

@@ -1,6 +1,6 @@
 use Rattle.std.proofs.Common.{◌≡◌, ◌++◌, map, take, drop}
 use Rattle.alloc_event.specs.Nodes.{ended}
-use Rattle.alloc_event.proofs.ending.end.Given as goal
+use Rattle.alloc_event.proofs.ending.leave_marked.Given as goal
 
 -- those so far left that are at or below the top
 abbrev pub invariant-loop-at : goal.invariant-loop-at

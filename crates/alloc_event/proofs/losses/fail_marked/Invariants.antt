@@ -1,7 +1,7 @@
 use Rattle.std.proofs.Common.{◌≡◌, ◌++◌, map, take, drop}
 use Rattle.alloc_event.specs.Nodes.{lost}
 use Rattle.alloc_event.specs.Questions.{is_below}
-use Rattle.alloc_event.proofs.losses.fail_under.Given as goal
+use Rattle.alloc_event.proofs.losses.fail_marked.Given as goal
 
 -- those so far failed that are at or below the top
 abbrev pub invariant-loop-at : goal.invariant-loop-at
