@@ -6,6 +6,7 @@ pub mod Deserting
 pub mod Forcing
 pub mod Keeping
 pub mod Lines
+pub mod Living
 pub mod Marking
 pub mod Movings
 pub mod Settlings

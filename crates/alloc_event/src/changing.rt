@@ -23,6 +23,7 @@ use crate::effects::affect;
 use crate::entry::{Entry, entry_of, place_of};
 use crate::finish::finish;
 use crate::losses::lose_by_fall;
+use crate::marks::marks_of;
 use crate::node::Node;
 use crate::scene::Scene;
 use crate::still::is_still;
@@ -522,7 +523,10 @@ fn settle_unwatched(
     let Ok(scene) = load_or_new(alloc, table, entries, id) else {
         return Err(NoMemory);
     };
-    if is_still(&scene, holds) {
+    let Ok(mut marks) = marks_of(alloc, table, &scene.nodes) else {
+        return Err(NoMemory);
+    };
+    if is_still(&scene, &mut marks, holds) {
         return bear_still(table, entries, id, parent, attached, client, event);
     }
     settle_newborn(

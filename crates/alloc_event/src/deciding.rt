@@ -9,7 +9,7 @@ ghost use Rattle.sm_names.specs.Handles.{names};
 ghost use Rattle.buffer_holds.specs.Counts.{total};
 ghost use Rattle.alloc_event.specs.Decisions.{decided, first_step, later_step, mark_of, IsSized, IsStep};
 ghost use Rattle.alloc_event.specs.Forest.{pages_in};
-ghost use Rattle.alloc_event.specs.Scenes.{collection_of, given_few, is_held_strongly, name_of, IsSound};
+ghost use Rattle.alloc_event.specs.Scenes.{are_distinct, collection_of, given_few, is_held_strongly, name_of, IsSound};
 ghost use Rattle.alloc_event.specs.Settling.{standing};
 
 use crate::abandoned::abandoned;
@@ -17,6 +17,7 @@ use crate::decision::Decision;
 use crate::ending::ending;
 use crate::initial::{first_wants, waiting_root};
 use crate::logical::{failure, next_head};
+use crate::marks::Marks;
 use crate::node::Node;
 use crate::scene::Scene;
 use buffer_holds::Holds;
@@ -25,7 +26,7 @@ use sm_names::{BufferName, Buffers, Cause, CollectionId, NodeKey, Strength};
 /// The next step that the collection forces, if any: the first of these that applies. A collection
 /// or an attached subtree ends, the buffers are abandoned, the root unit is allocated, or an
 /// attached unit is.
-pub fn decide(scene: &Scene, holds: &Holds) -> Option<Decision>
+pub fn decide(scene: &Scene, marks: &mut Marks, holds: &Holds) -> Option<Decision>
     requires { IsSound (collection_of scene.now) }
     ensures forced { (pool : ℕ) (others : List Interval) →
         forced pool (standing (total holds.now) others (collection_of scene.now))
@@ -35,7 +36,7 @@ pub fn decide(scene: &Scene, holds: &Holds) -> Option<Decision>
     ensures step { IfSome result (IsStep (collection_of scene.now)) }
     ensures sized { IfSome result IsSized }
 {
-    choose(&scene.nodes, scene.id, scene.buffers, holds)
+    choose(&scene.nodes, marks, scene.id, scene.buffers, holds)
 }
 
 /// Whether a strong handle is open on one of the collection's buffers, in a parcel or out of it.
@@ -71,15 +72,17 @@ fn is_open(collection: CollectionId, index: u8, holds: &Holds) -> bool
 /// The same by the nodes and what was given.
 fn choose(
     nodes: &[Node],
+    marks: &mut Marks,
     id: CollectionId,
     buffers: Option<Buffers>,
     holds: &Holds,
 ) -> Option<Decision>
-    requires { given_few buffers ≡ true }
+    requires few { given_few buffers ≡ true }
+    requires distinct { are_distinct nodes.now ≡ true }
     ensures value { result ≡ decided nodes.now buffers (is_held_strongly (total holds.now) id buffers) }
     ensures sized { IfSome result IsSized }
 {
-    if let Some(top) = ending(nodes) {
+    if let Some(top) = ending(nodes, marks) {
         return Some(Decision::Ends(top));
     }
     if let Some(root) = abandoned(nodes, id, buffers, holds) {

@@ -1,39 +1,44 @@
 //! A collection or an attached subtree that ends, since no node of it is live.
-ghost use Rattle.std.specs.Prelude.{◌≡◌, ◌||◌, length, map, true};
+ghost use Rattle.std.specs.Prelude.{◌≡◌, ◌||◌, length, map, slice_get, true, Some};
 ghost use Rattle.std.specs.List.{find, list_any};
 ghost use Rattle.std.specs.Option.{option_map};
 ghost use Rattle.alloc_event.specs.Kept.{ended_bare, left_of};
-ghost use Rattle.alloc_event.specs.Marks.{AreMarked};
+ghost use Rattle.alloc_event.specs.Marks.{AreLiving, AreMarked};
 ghost use Rattle.alloc_event.specs.Nodes.{after_end};
-ghost use Rattle.alloc_event.specs.Questions.{is_deserted_node, is_live_at, is_live_node};
+ghost use Rattle.alloc_event.specs.Questions.{is_deserted_node, is_live_node};
 ghost use Rattle.alloc_event.specs.Scenes.{are_distinct};
 
-use crate::marks::{Marks, is_marked, mark_under};
+use crate::marks::{Marks, is_living, is_marked, mark_living, mark_under};
 use crate::node::Node;
 use crate::questions::{is_live, some_live_under};
 use sm_names::NodeKey;
 
 /// Of the roots and attached nodes that are not gone, with no live node at or below them, the one
-/// that was born first. It ends. One walk, and for each head of a unit that is released three more,
-/// or, where none of its unit or right below it is live, a walk for each live node.
-pub fn ending(nodes: &[Node]) -> Option<NodeKey>
+/// that was born first. It ends. Two passes mark the nodes with a live one below them, and a walk
+/// looks for it. For the one that ends there is a walk for each live node besides.
+pub(crate) fn ending(nodes: &[Node], marks: &mut Marks) -> Option<NodeKey>
+    requires { are_distinct nodes.now ≡ true }
     ensures { result ≡ option_map (λ n. n.key) (find (is_deserted_node nodes.now) nodes.now) }
 {
+    mark_living(nodes, marks);
+    let mut at = 0;
     for node in nodes {
-        if is_deserted(nodes, node) {
+        if is_deserted(nodes, marks, node, at) {
             return Some(node.key);
         }
+        at += 1;
     }
     None
 }
 
-/// Whether the node, which is one of these if it is live, is a root or attached, not gone, and no
-/// live node is at or below it.
-fn is_deserted(nodes: &[Node], node: &Node) -> bool
-    requires { is_live_node node.now ≡ true → is_live_at nodes.now node.now.key ≡ true }
+/// Whether the node, which stands at this place, is a root or attached, not gone, and no live node is
+/// at or below it.
+fn is_deserted(nodes: &[Node], marks: &Marks, node: &Node, at: usize) -> bool
+    requires living { AreLiving nodes.now marks.now.living.items (length nodes.now) }
+    requires there { slice_get nodes.now at ≡ Some node.now }
     ensures { result ≡ is_deserted_node nodes.now node.now }
 {
-    if is_live(node) {
+    if is_living(marks, at) {
         return false;
     }
     (node.parent.is_none() || node.attached) && !node.gone && !some_live_under(nodes, node.key)

@@ -2,12 +2,12 @@
 ghost use Rattle.std.specs.Prelude.{◌≡◌, ◌<◌, false, true, length, set, slice_get, IfSome, Some};
 ghost use Rattle.std.specs.Option.{unwrap_or};
 ghost use Rattle.alloc_event.specs.declared.node.Node.{Node as Kept};
-ghost use Rattle.alloc_event.specs.Marks.{AreMarked, is_left_at};
+ghost use Rattle.alloc_event.specs.Marks.{AreLiving, AreMarked, is_left_at};
 ghost use Rattle.alloc_event.specs.Questions.{is_below};
 ghost use Rattle.alloc_event.specs.Scenes.{are_distinct};
 
 use crate::node::Node;
-use crate::questions::is_under;
+use crate::questions::{is_live, is_under};
 use node_table::NodeTable;
 use sm_names::NodeKey;
 use std::alloc::{AllocError, Global};
@@ -23,6 +23,8 @@ pub struct Marks {
     above: Vec<usize>,
     /// Room to mark those that are the top node or below it.
     below: Vec<bool>,
+    /// Room to mark those that have a live node at or below them.
+    living: Vec<bool>,
 }
 
 /// No places, and no room.
@@ -30,6 +32,7 @@ pub fn no_marks(alloc: Global) -> Marks {
     Marks {
         above: Vec::new(alloc),
         below: Vec::new(alloc),
+        living: Vec::new(alloc),
     }
 }
 
@@ -42,11 +45,17 @@ pub(crate) fn marks_of(
 ) -> Result<Marks, AllocError> {
     let mut above = Vec::with_capacity(alloc, nodes.len())?;
     let mut below = Vec::with_capacity(alloc, nodes.len())?;
+    let mut living = Vec::with_capacity(alloc, nodes.len())?;
     for node in nodes {
         above.push(place_of_parent(table, nodes, node))?;
         below.push(false)?;
+        living.push(false)?;
     }
-    Ok(Marks { above, below })
+    Ok(Marks {
+        above,
+        below,
+        living,
+    })
 }
 
 /// Where the parent of the node stands, if the node is not gone and has one. No two nodes were born
@@ -150,5 +159,55 @@ pub(crate) fn is_marked(
     match mark_at(marks, at) {
         Some(mark) => mark,
         None => is_under(nodes, top, key),
+    }
+}
+
+/// Whether the node at this place is known to have a live node at or below it.
+pub(crate) fn is_living(marks: &Marks, at: usize) -> bool
+    ensures { result ≡ true → slice_get marks.now.living.items at ≡ Some true }
+{
+    match marks.living.get(at).copied() {
+        Some(mark) => mark,
+        None => false,
+    }
+}
+
+/// Marks the nodes that have a live node at or below them, as far as the places of parents are known:
+/// the live ones, and then from the last to the first the parent of each that is marked. Two passes.
+pub(crate) fn mark_living(nodes: &[Node], marks: &mut Marks)
+    requires { are_distinct nodes.now ≡ true }
+    ensures { AreLiving nodes.now marks.new.living.items (length nodes.now) }
+{
+    mark_live(nodes, marks);
+    let count = nodes.len();
+    for back in 0..count {
+        hand_up(nodes, marks, count - 1 - back);
+    }
+}
+
+/// Marks the live nodes, and no others.
+fn mark_live(nodes: &[Node], marks: &mut Marks)
+    ensures { AreLiving nodes.now marks.new.living.items (length nodes.now) }
+{
+    for at in 0..nodes.len() {
+        let mark = is_live(&nodes[at]);
+        put_mark(&mut marks.living, at, mark);
+    }
+}
+
+/// Marks the parent of the node at this place, if the node is marked.
+fn hand_up(nodes: &[Node], marks: &mut Marks, at: usize)
+    requires distinct { are_distinct nodes.now ≡ true }
+    requires living { AreLiving nodes.now marks.old.living.items (length nodes.now) }
+    requires within { at < length nodes.now }
+    ensures { AreLiving nodes.now marks.new.living.items (length nodes.now) }
+{
+    if is_living(marks, at) {
+        let node = nodes[at];
+        if let Some(parent) = node.parent {
+            if let Some(up) = place_above(nodes, &marks.above, at, parent) {
+                put_mark(&mut marks.living, up, true);
+            }
+        }
     }
 }

@@ -27,12 +27,12 @@ use sm_names::{Fault, NoMemory};
 /// away. Only the allocation of a root unit is refused so. Attached units are allocated one by one
 /// where there is no memory to do more.
 ///
-/// There are at most two steps a node, each of some walks over the nodes. It looks, for each released
-/// head of a unit, three times over the nodes besides where one of its unit or right below it is
-/// live, and else for each live one. Attached units that are next one after another are allocated
-/// together, from the second on, which costs the nodes times a logarithm.
+/// There are at most two steps a node, each of some walks over the nodes; where a unit or the
+/// collection ends, of one for each live node besides. Attached units that are next one after
+/// another are allocated together, from the second on, which costs the nodes times a logarithm.
 ///
-/// The marks tell where parents stand. Without that a loss or an end costs a walk for each node.
+/// The marks tell where parents stand. Without that a loss or an end costs a walk for each node, and
+/// each step one for each head of a unit that is released, and each live node.
 pub fn settle_scene(
     scene: &mut Scene,
     marks: &mut Marks,
@@ -52,7 +52,7 @@ pub fn settle_scene(
     ensures frames { OnOk result
         (map frame_of scene.new.nodes.items ≡ map frame_of scene.old.nodes.items) }
 {
-    'steps: while let Some(step) = decide(scene, holds) {
+    'steps: while let Some(step) = decide(scene, marks, holds) {
         make(scene, marks, pool, step)?;
         go_on(scene, step);
     }

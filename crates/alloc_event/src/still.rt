@@ -7,6 +7,7 @@ ghost use Rattle.alloc_event.specs.Still.{IsStill};
 
 use crate::deciding::decide;
 use crate::held::HeldBuffer;
+use crate::marks::Marks;
 use crate::questions::some_strong_live;
 use crate::scene::Scene;
 use buffer_holds::Holds;
@@ -16,11 +17,11 @@ use buffer_holds::Holds;
 ///
 /// It takes no memory, and costs the question for the next step and a walk over the nodes and the
 /// buffers.
-pub(crate) fn is_still(scene: &Scene, holds: &Holds) -> bool
+pub(crate) fn is_still(scene: &Scene, marks: &mut Marks, holds: &Holds) -> bool
     requires { IsSound (collection_of scene.now) }
     ensures { result ≡ true → IsStill (total holds.now) (collection_of scene.now) }
 {
-    match decide(scene, holds) {
+    match decide(scene, marks, holds) {
         Some(_) => false,
         None => {
             let strong_live = some_strong_live(&scene.nodes);

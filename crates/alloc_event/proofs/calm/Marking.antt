@@ -45,18 +45,18 @@ by_parent nodes top marks at up n parent mark distinct marked there other is bef
     ∙ sym (below_parent nodes distinct at n there top up p.node before p.there (is ∙ ap Some (sym p.is)) ∙ (rw other refl))
 
 -- what stands at another place stays
-slice_get-set_other : {A : Type 0} (xs : List A) (i j : ℕ) (y : A) → j < i → slice_get (set xs i y) j ≡ slice_get xs j
+pub slice_get-set_other : {A : Type 0} (xs : List A) (i j : ℕ) (y : A) → j < i → slice_get (set xs i y) j ≡ slice_get xs j
 slice_get-set_other [] i j y before = refl
 slice_get-set_other (x ∷ xs) zero j y before = absurd (omega arith)
 slice_get-set_other (x ∷ xs) (suc i) zero y before = refl
 slice_get-set_other (x ∷ xs) (suc i) (suc j) y before = slice_get-set_other xs i j y (omega arith)
 
-slice_get-set_same : {A : Type 0} (xs : List A) (i : ℕ) (y x : A) → slice_get (set xs i y) i ≡ Some x → x ≡ y
+pub slice_get-set_same : {A : Type 0} (xs : List A) (i : ℕ) (y x : A) → slice_get (set xs i y) i ≡ Some x → x ≡ y
 slice_get-set_same [] i y x e = cc
 slice_get-set_same (z ∷ xs) zero y x e = sym (same_Some y x e)
 slice_get-set_same (z ∷ xs) (suc i) y x e = slice_get-set_same xs i y x e
 
-up_to : (j at : ℕ) → j < at + 1 → (j < at) ⊎ (j ≡ at)
+pub up_to : (j at : ℕ) → j < at + 1 → (j < at) ⊎ (j ≡ at)
 up_to zero zero within = inr refl
 up_to zero (suc at) within = inl (omega arith)
 up_to (suc j) zero within = absurd (omega arith)

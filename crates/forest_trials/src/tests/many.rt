@@ -464,6 +464,47 @@ fn a_long_chain_that_asks_for_too_many_fails(rt: HostRuntime) -> Result<(), Fail
     Ok(())
 }
 
+// Whether released heads below one another stay over a node far below, while one call allocates
+// their units.
+fn hold_from_below(ground: &mut Ground, near: &[NodeKey], heads: &[NodeKey]) -> Result<bool, Fail> {
+    let (Some((root, children)), Some((last, released))) = (near.split_first(), heads.split_last())
+    else {
+        return Ok(false);
+    };
+    release_each(ground, released)?;
+    ask_each(ground, children)?;
+    ground.ask(*root, demand(0, 1, 4096)?)?;
+    let allocated = are_allocated(ground, near, true) && are_allocated(ground, released, true);
+    Ok(allocated && !is_allocated(ground, *last) && have_left(ground, heads, false))
+}
+
+// So many attached nodes below the node, each below the one before.
+fn hang_chain(
+    alloc: Global,
+    ground: &mut Ground,
+    top: NodeKey,
+    nodes: usize,
+) -> Result<Vec<NodeKey>, Fail> {
+    let mut keys = Vec::new(alloc);
+    let mut above = top;
+    for _ in 0..nodes {
+        above = ground.bear(Some(above), true)?;
+        keys.push(above)?;
+    }
+    Ok(keys)
+}
+
+#[test]
+fn many_released_heads_stay_over_a_node_far_below(rt: HostRuntime) -> Result<(), Fail> {
+    let (mut ground, keys) = family(rt.alloc(), 100, false)?;
+    let Some(root) = keys.first() else {
+        return Err(Fail::from("no root"));
+    };
+    let heads = hang_chain(rt.alloc(), &mut ground, *root, 300)?;
+    assert!(rt; hold_from_below(&mut ground, &keys, &heads)?);
+    Ok(())
+}
+
 // Whether each node is forgotten once its end is spent, in this order, and the collection with the
 // last.
 fn forget_in_turn(mut forest: Forest, keys: &[NodeKey]) -> bool {
