@@ -4,16 +4,13 @@ use Rattle.std.specs.List.{prefix_len, list_any, find, range_with_len}
 use Rattle.std.proofs.lemmas.Bool.{and_from, and_left, and_right, lt-ltb, le-ltb, le-leb, lt-leb, leb-true, and_parts, cases_lt, cases_eq}
 use Rattle.std.proofs.lemmas.List.{append-nil}
 use Rattle.sm_names.specs.declared.keys.Interval.{Interval}
+use Rattle.sm_names.specs.Apart.{at_pages}
 use Rattle.sm_names.specs.Pages.{meets, has_room, least_start}
 use Rattle.buffer_pool.specs.Holes.{end_of, gap, holes_from}
 use Rattle.buffer_pool.specs.Holdings.{in_order, with_interval}
 use Rattle.buffer_pool.specs.Fitting.{too_small, rooms, first_fit, taken}
 use Rattle.buffer_pool.proofs.Orders.{IsFirst, first_in_order, in_order-cons}
 use Rattle.buffer_pool.proofs.Gaps.{gap_none, gap_fits, gap_passes}
-
--- so many pages from a page on
-abbrev pub pages_at : ℕ → ℕ → Interval
-pages_at pages start = record { start = start; pages = pages }
 
 -- which intervals meet
 pub meets-before : (a b : Interval) → end_of a ≤ b.start → meets a b ≡ false
@@ -47,20 +44,20 @@ has_room-before low size a (i ∷ is) h le =
 -- the least start from a page on at which there is room
 pub record IsLeast (low size pages : ℕ) (is : List Interval) (start : ℕ) : Type 0 where
   pub from : low ≤ start
-  pub is_free : has_room size is (pages_at pages start) ≡ true
-  pub is_least : (t : ℕ) → low ≤ t → t < start → has_room size is (pages_at pages t) ≡ false
+  pub is_free : has_room size is (at_pages pages start) ≡ true
+  pub is_least : (t : ℕ) → low ≤ t → t < start → has_room size is (at_pages pages t) ≡ false
 
 -- what the first fit is, where some hole is long enough
 pub record Fit (low size pages : ℕ) (is : List Interval) : Type 0 where
   pub least : IsLeast low size pages is (first_fit pages (holes_from low size is))
-  pub holes : holes_from low size (with_interval (pages_at pages (first_fit pages (holes_from low size is))) is) ≡ taken pages
+  pub holes : holes_from low size (with_interval (at_pages pages (first_fit pages (holes_from low size is))) is) ≡ taken pages
       (holes_from low size is)
-  pub in_order : in_order low size (with_interval (pages_at pages (first_fit pages (holes_from low size is))) is) ≡ true
+  pub in_order : in_order low size (with_interval (at_pages pages (first_fit pages (holes_from low size is))) is) ≡ true
   pub some : prefix_len (too_small pages) (holes_from low size is) < length (holes_from low size is)
 
 -- what is so where no hole is
 pub record NoFit (low size pages : ℕ) (is : List Interval) : Type 0 where
-  pub none : (t : ℕ) → low ≤ t → has_room size is (pages_at pages t) ≡ false
+  pub none : (t : ℕ) → low ≤ t → has_room size is (at_pages pages t) ≡ false
   pub rooms : rooms pages (holes_from low size is) ≡ 0
 
 -- a gap at the end that is long enough
@@ -92,17 +89,17 @@ fit_before low size pages i is one fits f =
     let g = gap_fits low i.start pages rest one fits in
     let empty = gap_none low low (omega arith) in
     let behind : nat_lt i.start low ≡ false = le-ltb _ _ (omega arith) in
-    let apart = meets-before (pages_at pages low) i fits in
-    let room : has_room size is (pages_at pages low) ≡ true =
-    has_room-before (end_of i) size (pages_at pages low) is f.rest (omega arith) in
+    let apart = meets-before (at_pages pages low) i fits in
+    let room : has_room size is (at_pages pages low) ≡ true =
+    has_room-before (end_of i) size (at_pages pages low) is f.rest (omega arith) in
     let least : IsLeast low size pages (i ∷ is) low =
     record {
       from = omega arith;
-      is_free = has_room-past size (pages_at pages low) i is apart ∙ room;
+      is_free = has_room-past size (at_pages pages low) i is apart ∙ room;
       is_least = λ t from less. absurd (omega arith);
     } in
-    let order : in_order low size (pages_at pages low ∷ i ∷ is) ≡ true =
-    in_order-cons low size (pages_at pages low) (i ∷ is)
+    let order : in_order low size (at_pages pages low ∷ i ∷ is) ≡ true =
+    in_order-cons low size (at_pages pages low) (i ∷ is)
     (record {
       from = omega arith;
       has_pages = one;
@@ -117,12 +114,12 @@ fit_before low size pages i is one fits f =
 
 -- a start from a page on lies over the interval, or behind it
 room_behind : (low size pages t : ℕ) (i : Interval) (is : List Interval) → i.start < low + pages → low ≤ t →
-    (has_room size (i ∷ is) (pages_at pages t) ≡ false) ⊎
-    ((end_of i ≤ t) × (has_room size (i ∷ is) (pages_at pages t) ≡ has_room size is (pages_at pages t)))
+    (has_room size (i ∷ is) (at_pages pages t) ≡ false) ⊎
+    ((end_of i ≤ t) × (has_room size (i ∷ is) (at_pages pages t) ≡ has_room size is (at_pages pages t)))
 room_behind low size pages t i is small from =
     elim (cases_lt t (end_of i)) [
-      | inl over ↦ inl (has_room-over size (pages_at pages t) i is (meets-over (pages_at pages t) i over (omega arith)))
-      | inr behind ↦ inr (behind, has_room-past size (pages_at pages t) i is (meets-behind (pages_at pages t) i behind))
+      | inl over ↦ inl (has_room-over size (at_pages pages t) i is (meets-over (at_pages pages t) i over (omega arith)))
+      | inr behind ↦ inr (behind, has_room-past size (at_pages pages t) i is (meets-behind (at_pages pages t) i behind))
     ]
 
 -- the first fit lies behind an interval whose gap is not long enough
@@ -136,24 +133,24 @@ fit_behind low size pages i is one small f r =
     let least : IsLeast low size pages (i ∷ is) start =
     record {
       from = omega (arith, r.least.from, f.from);
-      is_free = has_room-past size (pages_at pages start) i is (meets-behind (pages_at pages start) i r.least.from) ∙ r.least.is_free;
+      is_free = has_room-past size (at_pages pages start) i is (meets-behind (at_pages pages start) i r.least.from) ∙ r.least.is_free;
       is_least = λ t from less.
           elim (room_behind low size pages t i is small from) [
             | inl none ↦ none
             | inr b ↦ b.1 ∙ r.least.is_least t b.0 less
           ];
     } in
-    let order : in_order low size (i ∷ with_interval (pages_at pages start) is) ≡ true =
-    in_order-cons low size i (with_interval (pages_at pages start) is)
+    let order : in_order low size (i ∷ with_interval (at_pages pages start) is) ≡ true =
+    in_order-cons low size i (with_interval (at_pages pages start) is)
     (record { from = f.from; has_pages = f.has_pages; rest = r.in_order }) in
-    let holes : holes_from low size (with_interval (pages_at pages start) (i ∷ is)) ≡ taken pages (gap low i.start ++ rest) =
+    let holes : holes_from low size (with_interval (at_pages pages start) (i ∷ is)) ≡ taken pages (gap low i.start ++ rest) =
     rw (before, g.taken) (ap (λ hs. gap low i.start ++ hs) r.holes) in
-    let ordered : in_order low size (with_interval (pages_at pages start) (i ∷ is)) ≡ true = rw before order in
+    let ordered : in_order low size (with_interval (at_pages pages start) (i ∷ is)) ≡ true = rw before order in
     record {
       least = subst (IsLeast low size pages (i ∷ is)) (sym g.first_fit) least;
-      holes = subst (λ s. holes_from low size (with_interval (pages_at pages s) (i ∷ is)) ≡ taken pages (gap low i.start ++ rest))
+      holes = subst (λ s. holes_from low size (with_interval (at_pages pages s) (i ∷ is)) ≡ taken pages (gap low i.start ++ rest))
           (sym g.first_fit) holes;
-      in_order = subst (λ s. in_order low size (with_interval (pages_at pages s) (i ∷ is)) ≡ true) (sym g.first_fit) ordered;
+      in_order = subst (λ s. in_order low size (with_interval (at_pages pages s) (i ∷ is)) ≡ true) (sym g.first_fit) ordered;
       some = g.some r.some;
     }
 
@@ -180,7 +177,7 @@ fit_or_none low size pages [] one h =
       | inl small ↦
           let g = gap_passes low size pages [] one le small in
           let r : rooms pages (gap low size) ≡ 0 = simp append-nil at g.rooms in
-          inr (record { none = λ t from. has_room-beyond size (pages_at pages t) [] (omega arith); rooms = r })
+          inr (record { none = λ t from. has_room-beyond size (at_pages pages t) [] (omega arith); rooms = r })
     ]
 fit_or_none low size pages (i ∷ is) one h =
     let f = first_in_order low size i is h in
@@ -216,7 +213,7 @@ pub least_start-fit : (size pages : ℕ) (is : List Interval) → 1 ≤ pages �
 least_start-fit size pages is one f =
     let start : ℕ = first_fit pages (holes_from 0 size is) in
     let inside : start + pages ≤ size = leb-true _ _ (and_parts (nat_le (start + pages) size) _ f.least.is_free).0 in
-    find_least (λ t. has_room size is (pages_at pages t)) 0 size start (omega arith) (omega arith) f.least.is_free f.least.is_least
+    find_least (λ t. has_room size is (at_pages pages t)) 0 size start (omega arith) (omega arith) f.least.is_free f.least.is_least
 
 pub least_start-none : (size pages : ℕ) (is : List Interval) → NoFit 0 size pages is → least_start size pages is ≡ None
-least_start-none size pages is f = find_none (λ t. has_room size is (pages_at pages t)) 0 size f.none
+least_start-none size pages is f = find_none (λ t. has_room size is (at_pages pages t)) 0 size f.none

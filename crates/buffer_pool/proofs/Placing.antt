@@ -6,6 +6,7 @@ use Rattle.std.proofs.Math.Nat.{div-eq_of_lt, div-eq-sub-div, mul-le-mul_right, 
 use Rattle.std.proofs.lemmas.Bool.{cases_Bool, ltb-true, ltb-false, le-leb, lt-leb, eqb-true}
 use Rattle.std.proofs.lemmas.List.Sums.{sum_by-cons}
 use Rattle.sm_names.specs.declared.keys.Interval.{Interval}
+use Rattle.sm_names.specs.Apart.{at_pages}
 use Rattle.sm_names.specs.Pages.{meets, places}
 use Rattle.buffer_pool.specs.Holes.{end_of, holes_of}
 use Rattle.buffer_pool.specs.Holdings.{in_order, pages_in, with_interval, with_buffers}
@@ -15,7 +16,7 @@ use Rattle.buffer_pool.specs.Merging.{spaced}
 use Rattle.buffer_pool.proofs.Orders.{length-with_interval, pages_in-with_interval}
 use Rattle.buffer_pool.proofs.Spaces.{first_spaced}
 use Rattle.buffer_pool.proofs.Gaps.{spaced-holes}
-use Rattle.buffer_pool.proofs.Least.{pages_at, Fit, fit_or_none, least_start-fit, least_start-none}
+use Rattle.buffer_pool.proofs.Least.{Fit, fit_or_none, least_start-fit, least_start-none}
 
 -- where a buffer is taken from, there was room for one more
 pub rooms-taken : (pages : ℕ) (hs : List Interval) → 1 ≤ pages → prefix_len (too_small pages) hs < length hs →
@@ -166,21 +167,21 @@ pub record Run (size pages count : ℕ) (held hs : List Interval) : Type 0 where
 -- the places after the first are those beside it
 places-more : (size pages count : ℕ) (held : List Interval) → 1 ≤ pages → (f : Fit 0 size pages held) →
     places size pages (suc count) held ≡ option_map (λ starts. first_fit pages (holes_of size held) ∷ starts)
-    (places size pages count (with_interval (pages_at pages (first_fit pages (holes_of size held))) held))
+    (places size pages count (with_interval (at_pages pages (first_fit pages (holes_of size held))) held))
 places-more size pages count held one f =
     let start : ℕ = first_fit pages (holes_of size held) in
-    let new : Interval = pages_at pages start in
+    let new : Interval = at_pages pages start in
     rw (least_start-fit size pages held one f)
     (ap (option_map (λ starts. start ∷ starts)) (places-same size pages count (new ∷ held) (with_interval new held) (λ p.
     sym (list_any-with_interval p new held))))
 
 -- one more buffer before others
 run_more : (size pages count : ℕ) (held : List Interval) → 1 ≤ pages → in_order 0 size held ≡ true → Fit 0 size pages held →
-    Run size pages count (with_interval (pages_at pages (first_fit pages (holes_of size held))) held) (taken pages (holes_of size held)) →
+    Run size pages count (with_interval (at_pages pages (first_fit pages (holes_of size held))) held) (taken pages (holes_of size held)) →
     Run size pages (suc count) held (holes_of size held)
 run_more size pages count held one order f r =
     let hs : List Interval = holes_of size held in
-    let new : Interval = pages_at pages (first_fit pages hs) in
+    let new : Interval = at_pages pages (first_fit pages hs) in
     let look = looks_at-first_fit pages 0 hs (spaced-holes 0 size held order) f.some in
     let more : suc count * pages ≡ count * pages + pages = suc-mul count pages in
     let added : pages_in (with_interval new held) ≡ pages + pages_in held = pages_in-with_interval new held in
@@ -202,7 +203,7 @@ run_of size pages (suc count) held one order le =
     let hs : List Interval = holes_of size held in
     elim (fit_or_none 0 size pages held one order) [
       | inl f ↦
-          let held' : List Interval = with_interval (pages_at pages (first_fit pages hs)) held in
+          let held' : List Interval = with_interval (at_pages pages (first_fit pages hs)) held in
           let left : count ≤ rooms pages (taken pages hs) = omega (arith, rooms-taken pages hs one f.some) in
           let r : Run size pages count held' (holes_of size held') =
           run_of size pages count held' one f.in_order (subst (λ hs. count ≤ rooms pages hs) (sym f.holes) left) in
@@ -218,7 +219,7 @@ places-none size pages (suc count) held one order lt =
     let hs : List Interval = holes_of size held in
     elim (fit_or_none 0 size pages held one order) [
       | inl f ↦
-          let held' : List Interval = with_interval (pages_at pages (first_fit pages hs)) held in
+          let held' : List Interval = with_interval (at_pages pages (first_fit pages hs)) held in
           let left : rooms pages (taken pages hs) < count = omega (arith, rooms-taken pages hs one f.some) in
           let r : places size pages count held' ≡ None =
           places-none size pages count held' one f.in_order (subst (λ hs. rooms pages hs < count) (sym f.holes) left) in
