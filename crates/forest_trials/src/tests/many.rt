@@ -554,7 +554,11 @@ fn many_that_fell_are_forgotten_from_the_middle(rt: HostRuntime) -> Result<(), F
 fn ask_before_root(ground: &mut Ground, keys: &[NodeKey], camping: u8) -> Result<(), Fail> {
     if let Some((root, others)) = keys.split_first() {
         for key in others {
-            if ground.forest().node(*key).is_some_and(|node| node.constraints.is_none()) {
+            if ground
+                .forest()
+                .node(*key)
+                .is_some_and(|node| node.constraints.is_none())
+            {
                 ground.ask(*key, demand(camping, 0, 4096)?)?;
             }
         }
@@ -566,13 +570,12 @@ fn ask_before_root(ground: &mut Ground, keys: &[NodeKey], camping: u8) -> Result
 // Whether those before this place are allocated, the one there failed, and those behind it too, or
 // are allocated.
 fn fails_at(ground: &Ground, keys: &[NodeKey], at: usize, all: bool) -> bool {
-    let mut place = 0;
-    for key in keys {
+    for place in 0..keys.len() {
+        let key = keys[place];
         let fails = place == at || place > at && all;
-        if failed(ground, *key) != fails || is_allocated(ground, *key) == fails {
+        if failed(ground, key) != fails || is_allocated(ground, key) == fails {
             return false;
         }
-        place += 1;
     }
     true
 }
