@@ -22,7 +22,7 @@ use Rattle.sm_names.proofs.ListLaws.{In, In-append, In-filter}
 use Rattle.sm_names.proofs.SamenessLaws.{and_left, and_right, either_way}
 use Rattle.sm_names.proofs.SettledLaws.{map-Some, not_back}
 use Rattle.event_laws.specs.ByEvent.{anyone, one_if}
-use Rattle.event_laws.proofs.NumberLaws.{In-all}
+use Rattle.event_laws.proofs.NumberLaws.{all-In, In-all}
 use Rattle.event_laws.proofs.FreeEndLaws.{passed}
 use Rattle.buffer_holds.specs.Counts.{Counts, total}
 use Rattle.trackers.specs.declared.waiting.Waiting.{Waiting}
@@ -41,7 +41,6 @@ use Rattle.lifetime_core.specs.Steps.{Gains, Work, at_collection, drop_at, swept
 use Rattle.lifetime_core.specs.Tasks.{MayDo, Reworked, looked_in, work_in}
 use Rattle.lifetime_core.specs.Whole.{CanFinish, Concerns, IsNodeOf, IsSound, StillWaits}
 use Rattle.lifetime_core.proofs.forced.Forest.{node_with_key}
-use Rattle.lifetime_core.proofs.firing.Sweeps.{all_of}
 use Rattle.lifetime_core.proofs.firing.Worlds.{amid_named, sound_named, waits_on}
 use Rattle.lifetime_core.proofs.firing.WorldsApart.{AreKept, LeavesRest, changed_by, concerns_worked, leaves_rest, undue_elsewhere}
 
@@ -111,7 +110,7 @@ module _ (s : State) (call : Call) (asked : Reply) (limits : Bound) (client : �
     where
       by : (o : Option Waiting) → tracking ≡ o → IfSome o (λ t. All (λ (c : Cell). c.id < t.id) s.trackers.cells)
       by None is = tt
-      by (Some t) is = all_of (λ (c : Cell). c.id < t.id) s.trackers.cells (λ c on.
+      by (Some t) is = all-In (λ (c : Cell). c.id < t.id) s.trackers.cells (λ c on.
           let below : c.id ≤ s.events = In-all (λ (d : Cell). d.id ≤ s.events) s.trackers.cells numbered c on in
           let number : t.id ≡ s.events + 1 = (tracked told tracks t is).number in
           omega (arith, below, number))
@@ -137,9 +136,9 @@ module _ (s : State) (call : Call) (asked : Reply) (limits : Bound) (client : �
 
       by : (o : Option Waiting) → tracking ≡ o → Gains s.trackers o attached →
           All (λ (c : Cell). c.id ≤ s.events + 1) attached.cells
-      by None is gains = all_of (λ (c : Cell). c.id ≤ s.events + 1) attached.cells (λ c on.
+      by None is gains = all-In (λ (c : Cell). c.id ≤ s.events + 1) attached.cells (λ c on.
           before c (subst (λ (t : Table). In c t.cells) gains on))
-      by (Some t) is gains = all_of (λ (c : Cell). c.id ≤ s.events + 1) attached.cells (λ c on.
+      by (Some t) is gains = all-In (λ (c : Cell). c.id ≤ s.events + 1) attached.cells (λ c on.
           elim (In-append s.trackers.cells (record { id = t.id; name = gains.name } ∷ []) c (subst (λ (x : Table).
           In c x.cells) gains.next on)) [
             | inl old ↦ before c old
@@ -296,7 +295,7 @@ module _ (s : State) (client : ℕ) (call : Call) (asked : Reply) (task : Option
   -- no tracker is due elsewhere
   pub elsewhere : All (λ (t : Waiting). (looked_in (world_in worked (total holds)) (changed_by task) tracking ≡ Some t.collection → ⊥) →
       is_due (world_in worked (total holds)) t ≡ false) attached.unfired
-  elsewhere = all_of (λ (t : Waiting). (looked_in (world_in worked (total holds)) (changed_by task) tracking ≡ Some t.collection → ⊥) →
+  elsewhere = all-In (λ (t : Waiting). (looked_in (world_in worked (total holds)) (changed_by task) tracking ≡ Some t.collection → ⊥) →
       is_due (world_in worked (total holds)) t ≡ false) attached.unfired (λ t on other.
       elim (attached_from s.trackers attached tracking gains t on) [
         | inl old ↦
@@ -322,7 +321,7 @@ module _ (s : State) (client : ℕ) (call : Call) (asked : Reply) (task : Option
       (keys : SameKeys worked g) (sound : IsSound g) where
     -- those that wait still are where they belong, and not due
     pub waiting_after : All (StillWaits g (total holds)) (swept (world_in worked (total holds)) (s.events + 1) attached).unfired
-    waiting_after = all_of (StillWaits g (total holds)) (swept (world_in worked (total holds)) (s.events + 1) attached).unfired (λ t on.
+    waiting_after = all-In (StillWaits g (total holds)) (swept (world_in worked (total holds)) (s.events + 1) attached).unfired (λ t on.
         let kept = In-filter (λ (x : Waiting). not (is_due (world_in worked (total holds)) x)) attached.unfired t on in
         let there : Concerns worked t.collection t.condition =
         concerns_worked s.forest worked (changed_by task) starts.sound (amid_named worked task amid) rest t.collection t.condition

@@ -1,19 +1,12 @@
--- A sweep where no tracker is due, and facts on each element.
-use Rattle.std.proofs.Common.{ℕ, ◌≡◌, refl, ap, ◌∙◌, false, not, inl, inr, List, [], ◌∷◌, ◌++◌, map}
+-- A sweep where no tracker is due.
+use Rattle.std.proofs.Common.{ℕ, ◌≡◌, refl, ap, ◌∙◌, false, not, List, ◌++◌, map}
 use Rattle.std.proofs.lemmas.List.{append-nil}
-use Rattle.std.proofs.lemmas.List.Elements.{All-nil, All-cons}
-use Rattle.std.specs.List.{All}
 use Rattle.sm_names.specs.Trackers.{World}
 use Rattle.sm_names.proofs.ListLaws.{In, filter-none}
 use Rattle.trackers.specs.declared.waiting.Waiting.{Waiting}
 use Rattle.trackers.specs.Table.{Table, firing, firings, is_due, still_waiting}
 use Rattle.lifetime_core.specs.Steps.{swept}
 use Rattle.lifetime_core.proofs.lists.Maps.{filter-all}
-
--- and the other way round
-pub all_of : {A : Type 0} (P : A → Type 0) (xs : List A) → ((x : A) → In x xs → P x) → All P xs
-all_of P [] each = All-nil P
-all_of P (y ∷ ys) each = All-cons P y ys (each y (inl refl)) (all_of P ys (λ x on. each x (inr on)))
 
 -- where none is due, a sweep leaves the trackers
 pub none_swept : (w : World) (event : ℕ) (t : Table) → ((x : Waiting) → In x t.unfired → is_due w x ≡ false) → swept w event t ≡ t

@@ -7,6 +7,7 @@ use Rattle.sm_names.specs.declared.keys.NodeKey.{NodeKey}
 use Rattle.sm_names.specs.Sameness.{same_key}
 use Rattle.sm_names.proofs.ListLaws.{In, In-append, In-find, is_some-find}
 use Rattle.sm_names.proofs.SamenessLaws.{or_left, or_right, both_ways, same_key-refl, same_key-true}
+use Rattle.sm_names.proofs.StandingLaws.{In-any}
 use Rattle.alloc_event.specs.declared.change.Change.{Change}
 use Rattle.alloc_event.specs.declared.node.Node.{Node}
 use Rattle.alloc_event.specs.Forest.{Collection, Forest, all_nodes, collection_at, beside, given, node_at}
@@ -22,12 +23,6 @@ use Rattle.lifetime_core.proofs.collections.ById.{ids, found_by_id, put_from, pu
 in_behind : {A : Type 0} (xs ys : List A) (x : A) → In x ys → In x (xs ++ ys)
 in_behind [] ys x there = there
 in_behind (z ∷ xs) ys x there = inr (in_behind xs ys x there)
-
--- an element that passes the test
-any_in : {A : Type 0} (test : A → Bool) (xs : List A) (x : A) → In x xs → test x ≡ true → list_any test xs ≡ true
-any_in test [] x there passes = absurd there
-any_in test (y ∷ ys) x (inl is) passes = or_left (test y) (list_any test ys) (ap test (sym is) ∙ passes)
-any_in test (y ∷ ys) x (inr on) passes = or_right (test y) (list_any test ys) (any_in test ys x on passes)
 
 -- a node of all collections is one of some collection
 pub node_in : (cs : List Collection) (n : Node) → In n (flat_map (λ (c : Collection). c.nodes) cs) → (c : Collection) × In c cs ×
@@ -58,7 +53,7 @@ pub key_is_there : (f : Forest) (c : Collection) (n : Node) (key : NodeKey) → 
     is_some (node_at f key) ≡ true
 key_is_there f c n key c_on n_in is =
     is_some-find (is_of key) (all_nodes f)
-    ∙ any_in (is_of key) (all_nodes f) n (in_all_nodes f.collections c n c_on n_in) (subst (λ (k : NodeKey).
+    ∙ In-any (is_of key) (all_nodes f) n (in_all_nodes f.collections c n c_on n_in) (subst (λ (k : NodeKey).
     same_key n.key k ≡ true) is (same_key-refl n.key))
 
 -- an end that was not about to be spent is none that is

@@ -42,7 +42,8 @@ use Rattle.sm_names.proofs.SamenessLaws.{either_way, and_left, and_right, both_w
 use Rattle.sm_names.proofs.SettledLaws.{find_birth, map-Some, member_birth, none_if, Why, Initial, Logical, forced_why}
 use Rattle.sm_names.proofs.StandingLaws.{In-any}
 use Rattle.sm_names.proofs.SumLaws.{one}
-use Rattle.sm_names.proofs.TakeLaws.{took, none_key}
+use Rattle.sm_names.proofs.TakeLaws.{took, none_key, same_strength-refl}
+use Rattle.event_laws.proofs.HandleCaseLaws.{same_buffer-refl}
 use Rattle.lifetime_core.proofs.collections.Roots.{HasRoot, has_root}
 
 -- ---- a collection is given one buffer at least
@@ -157,15 +158,6 @@ by_handle g a n is =
     neither true = refl
     neither false = refl
 
--- a strength passes the test with itself
-same_strength-refl : (s : Strength) → same_strength s s ≡ true
-same_strength-refl Strength.Strong = refl
-same_strength-refl Strength.Weak = refl
-
--- a buffer is itself
-same_itself : (b : BufferName) → same_buffer b b ≡ true
-same_itself b = rw (eq-eqb b.collection b.collection refl) (eq-eqb b.index b.index refl)
-
 module _ (pool : ℕ) (limits : Bound) (marks : Timeline) (grown : Grows pool limits [] marks) (rest : (c : ℕ) →
     next_forced pool c marks ≡ None) where
   -- the root of a node that is not gone is left
@@ -222,7 +214,7 @@ module _ (pool : ℕ) (limits : Bound) (marks : Timeline) (grown : Grows pool li
           let t = In-list_any (λ (x : BufferName). nat_lt 0 (open_total marks x Strength.Strong)) (names b.collection w.count) named in
           let m = In-map (λ i. record { collection = b.collection; index = i }) (range_with_len 0 w.count) t.0 t.1 in
           let it : list_any (λ x. same_buffer x t.0) (names b.collection w.count) ≡ true =
-          In-any (λ x. same_buffer x t.0) (names b.collection w.count) t.0 t.1 (same_itself t.0) in
+          In-any (λ x. same_buffer x t.0) (names b.collection w.count) t.0 t.1 (same_buffer-refl t.0) in
           let low : nat_lt t.0.index w.count ≡ true =
           and_right (b.collection == t.0.collection) _ (sym (named_below b.collection w.count t.0) ∙ it) in
           let stays : doomed marks t.0 ≡ false = by_handle _ _ (open_total marks t.0 Strength.Strong) t.2 in

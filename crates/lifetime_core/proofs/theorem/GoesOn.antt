@@ -23,6 +23,7 @@ use Rattle.buffer_holds.specs.Counts.{total}
 use Rattle.trackers.specs.Table.{empty, without}
 use Rattle.alloc_event.specs.Forest.{Forest, given, empty_forest}
 use Rattle.alloc_event.specs.Settling.{Handles}
+use Rattle.event_laws.proofs.MomentLaws.{events_after}
 use Rattle.lifetime_core.specs.Reads.{readings_of}
 use Rattle.lifetime_core.specs.Shown.{IsAfter, Shows, collection_after, handles_after, kept_ids}
 use Rattle.lifetime_core.specs.State.{HandleCounts, State, counts_of}
@@ -31,7 +32,7 @@ use Rattle.lifetime_core.specs.Theorem.{GoesOn}
 use Rattle.lifetime_core.proofs.forced.CallStep.{IsIdle}
 use Rattle.lifetime_core.proofs.answers.Changes.{idle, starts}
 use Rattle.lifetime_core.proofs.joined.Joining.{clients_event}
-use Rattle.lifetime_core.proofs.theorem.EventCount.{events-after, events-timeline}
+use Rattle.lifetime_core.proofs.theorem.EventCount.{events-timeline}
 use Rattle.lifetime_core.proofs.nodes.Answered.{no_birth}
 use Rattle.lifetime_core.proofs.collections.Elsewhere.{came}
 use Rattle.lifetime_core.proofs.handles.Counts.{handles_called, handles_event}
@@ -134,7 +135,7 @@ module _ (s : State) (marks : Timeline) (shown : IsAfter s marks) (limits : Boun
     -- the next state is what the marks make of it
     pub after_event : IsAfter new (after s.pool marks (client, call, reply))
     after_event = record {
-      events = f.events ∙ (ap (λ (n : ℕ). n + 1) shown.events ∙ sym (events-after s.pool marks (client, call, reply)));
+      events = f.events ∙ (ap (λ (n : ℕ). n + 1) shown.events ∙ sym (events_after s.pool marks (client, call, reply)));
       clients = f.clients ∙ (ap (clients_by (Called client reply call)) shown.clients
           ∙ sym (clients_event s.pool limits marks grown client reply call answer));
       collections = f.collections ∙ (left_collections (total new.holds) counts_new f.worked f.work
