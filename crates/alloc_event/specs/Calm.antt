@@ -12,7 +12,7 @@ use Rattle.alloc_event.specs.declared.units.Unit.{Unit}
 use Rattle.alloc_event.specs.Counts.{HaveUnits}
 use Rattle.alloc_event.specs.Decisions.{decided}
 use Rattle.alloc_event.specs.Forest.{Collection}
-use Rattle.alloc_event.specs.Kept.{IsKept, collection_in, is_strong, nodes_with, shelf_of, shelves_of}
+use Rattle.alloc_event.specs.Kept.{IsStored, collection_in, is_strong, nodes_with, shelf_of, shelves_of}
 use Rattle.alloc_event.specs.Nodes.{is_over}
 
 -- no step would be forced in the collection, were a strong handle open
@@ -52,7 +52,7 @@ put_in new (e ∷ es) =
 
 -- what holds of the table, the entries and the counts of units of each forest
 pub record IsForest (t : Table Node) (es : List Entry) (us : List Unit) : Type 0 where
-  pub kept : IsKept t (shelves_of es)
+  pub kept : IsStored t (shelves_of es)
   pub counted : AreCounted t es
   pub units : HaveUnits us t es
 

@@ -47,8 +47,8 @@ abbrev pub node_at : Forest → NodeKey → Option Node
 node_at f key = node_of (all_nodes f) key
 
 -- how many nodes are kept
-abbrev pub kept : Forest → ℕ
-kept f = length (all_nodes f)
+abbrev pub node_count : Forest → ℕ
+node_count f = length (all_nodes f)
 
 -- the pages of a collection
 abbrev pub pages_in : Collection → List Interval

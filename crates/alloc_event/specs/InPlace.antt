@@ -9,7 +9,7 @@ use Rattle.alloc_event.specs.declared.node.Node.{Node}
 use Rattle.alloc_event.specs.declared.units.Unit.{Unit}
 use Rattle.alloc_event.specs.Calm.{IsCalm, over_but, strong_count}
 use Rattle.alloc_event.specs.Counts.{AreUnits}
-use Rattle.alloc_event.specs.Kept.{Finishes, IsKept, SameTable, Shelf, collection_in, forest_of, is_filed, nodes_with}
+use Rattle.alloc_event.specs.Kept.{Finishes, IsStored, SameTable, Shelf, collection_in, forest_of, is_filed, nodes_with}
 use Rattle.alloc_event.specs.Settling.{Handles, MayChange, changed, collection_or_new, no_key}
 
 -- 1 where the test holds
@@ -30,7 +30,7 @@ is_plain Effect.Tracked = true
 -- the change may be made to the collection of the shelf, which is calm and has so many strong live nodes, and the
 -- units are counted
 pub record IsOpen (t : Table Node) (us : List Unit) (ss : List Shelf) (s : Shelf) (change : Change) (lives : ℕ) : Type 0 where
-  pub kept : IsKept t ss
+  pub kept : IsStored t ss
   pub found : find (λ (x : Shelf). x.id == s.id) ss ≡ Some s
   pub may : MayChange (forest_of t ss) s.id change
   pub calm : IsCalm (collection_in t s)
@@ -39,7 +39,7 @@ pub record IsOpen (t : Table Node) (us : List Unit) (ss : List Shelf) (s : Shelf
 
 -- the change was made, nothing is forced by it, and so many strong nodes are live then
 pub record IsDone (t now : Table Node) (us : List Unit) (ss : List Shelf) (s : Shelf) (change : Change) (lives : ℕ) : Type 0 where
-  pub kept : IsKept now ss
+  pub kept : IsStored now ss
   pub finishes : (pool : ℕ) (handles : Handles) →
       Finishes pool handles t ss now ss (changed change no_key (collection_or_new (forest_of t ss) s.id))
   pub calm : IsCalm (collection_in now s)

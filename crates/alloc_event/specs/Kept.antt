@@ -120,7 +120,7 @@ pub record IsHung (t : Table Node) (nodes : List Node) : Type 0 where
   pub rooted : are_rooted (reverse nodes) ≡ true
 
 -- what holds of the table and the shelves of each forest
-pub record IsKept (t : Table Node) (ss : List Shelf) : Type 0 where
+pub record IsStored (t : Table Node) (ss : List Shelf) : Type 0 where
   pub first : t.first ≡ 0
   pub rising : AreRising ss
   pub apart : are_apart (all_keys ss) ≡ true
@@ -170,9 +170,9 @@ pub record Finishes (pool : ℕ) (handles : Handles) (old : Table Node) (before 
   pub rests : forced pool (standing handles (beside (forest_of new behind) c.id) (given_back handles after)) ≡ None
 
 -- a tracker that the change makes has room on its node
-abbrev pub has_room : Change → List Node → Bool
-has_room (Change.Effect key effect) nodes = list_all (has_tracker_room key effect) nodes
-has_room _ nodes = true
+abbrev pub has_room_for_tracker : Change → List Node → Bool
+has_room_for_tracker (Change.Effect key effect) nodes = list_all (has_tracker_room key effect) nodes
+has_room_for_tracker _ nodes = true
 
 -- a node that the change loses is there, and not gone
 abbrev pub loses_left : Change → List Node → Bool

@@ -10,7 +10,7 @@ pub mod InPlace
 pub mod InTurn
 pub mod Kept
 pub mod Marks
-pub mod Moves
+pub mod Progress
 pub mod Nodes
 pub mod Parted
 pub mod Questions

@@ -16,7 +16,7 @@ use Rattle.sm_names.specs.Timelines.{HeldPages, layout}
 use Rattle.alloc_event.specs.declared.change.Change.{Change}
 use Rattle.alloc_event.specs.declared.change.Effect.{Effect}
 use Rattle.alloc_event.specs.declared.node.Node.{Node}
-use Rattle.alloc_event.specs.Forest.{Collection, Forest, collection_at, node_at, beside, pages_in, with_nodes, kept, given}
+use Rattle.alloc_event.specs.Forest.{Collection, Forest, collection_at, node_at, beside, pages_in, with_nodes, node_count, given}
 use Rattle.alloc_event.specs.Nodes.{node_of, members_of, after_loss, after_allocation, after_end, after_effect, new_root, new_child}
 
 -- how many handles of a buffer and strength are open, in parcels or out of them
@@ -110,22 +110,22 @@ is_there f id key =
     option_map_or (λ (n : Node). n.collection == id && not n.gone) (node_at f key) false
 
 -- the collection is there
-abbrev pub is_kept : Forest → ℕ → Bool
-is_kept f id = is_some (collection_at f id)
+abbrev pub has_collection : Forest → ℕ → Bool
+has_collection f id = is_some (collection_at f id)
 
 -- each node that the change names is in the collection and not gone, the collection of a root is new, and any other is
 -- there
 abbrev pub fits : Forest → ℕ → Change → Bool
-fits f id (Change.Birth None attached client event) = not (is_kept f id)
+fits f id (Change.Birth None attached client event) = not (has_collection f id)
 fits f id (Change.Birth (Some above) attached client event) = is_there f id above
 fits f id (Change.Effect key effect) = is_there f id key
 fits f id (Change.Loss origin cause) = is_there f id origin
-fits f id Change.Nothing = is_kept f id
+fits f id Change.Nothing = has_collection f id
 
 -- the change may be made to the collection; a birth has room under the limit, and a root is not attached
 pub record MayChange (f : Forest) (id : ℕ) (change : Change) : Type 0 where
   pub named : fits f id change ≡ true
-  pub room : is_birth change ≡ true → kept f < f.limit
+  pub room : is_birth change ≡ true → node_count f < f.limit
   pub heads : is_attached_root change ≡ false
   -- a tracker is made only on a node on which fewer than 64 were made
   pub trackers : (key : NodeKey) (n : Node) → change ≡ Change.Effect key Effect.Tracked → node_at f key ≡ Some n → n.trackers < 64

@@ -35,7 +35,7 @@ abbrev pub IsFall : Table Node → NodeKey → List NodeKey → Type 0
 IsFall t origin keys = (key : NodeKey) → Contains keys key ↔ Reach (parent_at t) (blocked_at is_blocking t) origin key
 
 -- the key is new to the nodes, and a parent is one of them that is left; only a birth asks for this
-abbrev pub IsFit : Change → NodeKey → List Node → Type 0
-IsFit (Change.Birth parent attached client event) key nodes =
+abbrev pub FitsChange : Change → NodeKey → List Node → Type 0
+FitsChange (Change.Birth parent attached client event) key nodes =
     (list_any (is_of key) nodes ≡ false) × (option_map_or (is_left_of nodes) parent true ≡ true)
-IsFit _ key nodes = ⊤
+FitsChange _ key nodes = ⊤

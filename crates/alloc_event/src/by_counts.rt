@@ -3,7 +3,7 @@ ghost use Rattle.std.specs.Prelude.{◌≡◌, ℕ, false, true, IfOk, OnErr};
 ghost use Rattle.alloc_event.specs.declared.change.Change.{Change as Changed};
 ghost use Rattle.alloc_event.specs.Calm.{AreCounted};
 ghost use Rattle.alloc_event.specs.Counts.{HaveUnits};
-ghost use Rattle.alloc_event.specs.Kept.{IsKept, Finishes, SameTable, shelves_of, forest_of};
+ghost use Rattle.alloc_event.specs.Kept.{IsStored, Finishes, SameTable, shelves_of, forest_of};
 ghost use Rattle.alloc_event.specs.Settling.{Handles, MayChange, changed, collection_or_new, no_key};
 
 use crate::change::{Change, Effect};
@@ -26,7 +26,7 @@ fn settle_effect(
     key: NodeKey,
     effect: &Effect,
 ) -> Result<bool, NoMemory>
-    requires kept { IsKept table.old (shelves_of entries.old.items) }
+    requires kept { IsStored table.old (shelves_of entries.old.items) }
     requires counted { AreCounted table.old entries.old.items }
     requires units { HaveUnits units.old.items table.old entries.old.items }
     requires change { MayChange (forest_of table.old (shelves_of entries.old.items)) id (Changed.Effect key effect.now) }
@@ -38,7 +38,7 @@ fn settle_effect(
         Finishes pool handles table.old (shelves_of entries.old.items) table.new (shelves_of entries.new.items)
         (changed (Changed.Effect key effect.now) no_key (collection_or_new (forest_of table.old (shelves_of entries.old.items)) id))) }
     ensures shelves { shelves_of entries.new.items ≡ shelves_of entries.old.items }
-    ensures kept { IfOk result (λ made. made ≡ true → IsKept table.new (shelves_of entries.old.items)) }
+    ensures kept { IfOk result (λ made. made ≡ true → IsStored table.new (shelves_of entries.old.items)) }
     ensures counted { IfOk result (λ made. made ≡ true → AreCounted table.new entries.new.items) }
     ensures units { HaveUnits units.new.items table.new entries.new.items }
     ensures same { SameTable table.old table.new }
@@ -69,7 +69,7 @@ pub(crate) fn settle_counted(
     id: CollectionId,
     change: &Change,
 ) -> Result<bool, NoMemory>
-    requires kept { IsKept table.old (shelves_of entries.old.items) }
+    requires kept { IsStored table.old (shelves_of entries.old.items) }
     requires counted { AreCounted table.old entries.old.items }
     requires units { HaveUnits units.old.items table.old entries.old.items }
     requires change { MayChange (forest_of table.old (shelves_of entries.old.items)) id change.now }
@@ -81,7 +81,7 @@ pub(crate) fn settle_counted(
         Finishes pool handles table.old (shelves_of entries.old.items) table.new (shelves_of entries.new.items)
         (changed change.now no_key (collection_or_new (forest_of table.old (shelves_of entries.old.items)) id))) }
     ensures shelves { shelves_of entries.new.items ≡ shelves_of entries.old.items }
-    ensures kept { IfOk result (λ made. made ≡ true → IsKept table.new (shelves_of entries.old.items)) }
+    ensures kept { IfOk result (λ made. made ≡ true → IsStored table.new (shelves_of entries.old.items)) }
     ensures counted { IfOk result (λ made. made ≡ true → AreCounted table.new entries.new.items) }
     ensures units { HaveUnits units.new.items table.new entries.new.items }
     ensures same { SameTable table.old table.new }

@@ -10,7 +10,7 @@ ghost use Rattle.buffer_holds.specs.Counts.{total};
 ghost use Rattle.alloc_event.specs.Calm.{AreCounted, put_in};
 ghost use Rattle.alloc_event.specs.Counts.{HaveUnits};
 ghost use Rattle.alloc_event.specs.Forest.{IsPoolOf};
-ghost use Rattle.alloc_event.specs.Kept.{AreRising, IsKept, Bears, Gives, Finishes, SameTable, born, put_shelf, shelf_of, shelves_of, forest_of, has_room, loses_left};
+ghost use Rattle.alloc_event.specs.Kept.{AreRising, IsStored, Bears, Gives, Finishes, SameTable, born, put_shelf, shelf_of, shelves_of, forest_of, has_room_for_tracker, loses_left};
 ghost use Rattle.alloc_event.specs.Scenes.{collection_of};
 ghost use Rattle.alloc_event.specs.Settling.{Handles, MayChange, changed, with_birth, collection_or_new, is_birth, no_key};
 ghost use Rattle.alloc_event.specs.Still.{IsStill, no_shelf, shelf_before, shelf_with};
@@ -21,7 +21,7 @@ use crate::by_counts::settle_counted;
 use crate::change::Change;
 use crate::effects::affect;
 use crate::entry::{Entry, entry_of, place_of};
-use crate::finish::finish;
+use crate::finish::store_settled;
 use crate::losses::lose_by_fall;
 use crate::marks::marks_of;
 use crate::node::Node;
@@ -44,7 +44,7 @@ fn change_scene(
     change: &Change,
 ) -> Result<(), NoMemory>
     requires birth { is_birth change.now ≡ false }
-    requires room { has_room change.now scene.old.nodes.items ≡ true }
+    requires room { has_room_for_tracker change.now scene.old.nodes.items ≡ true }
     requires tied { IsTied table.now scene.old.nodes.items }
     requires left { loses_left change.now scene.old.nodes.items ≡ true }
     ensures { OnOk result (collection_of scene.new ≡ changed change.now no_key (collection_of scene.old)) }
@@ -70,7 +70,7 @@ fn settle_scene_change(
     id: CollectionId,
     change: &Change,
 ) -> Result<(), NoMemory>
-    requires kept { IsKept table.old (shelves_of entries.old.items) }
+    requires kept { IsStored table.old (shelves_of entries.old.items) }
     requires counted { AreCounted table.old entries.old.items }
     requires change { MayChange (forest_of table.old (shelves_of entries.old.items)) id change.now }
     requires birth { is_birth change.now ≡ false }
@@ -78,7 +78,7 @@ fn settle_scene_change(
     ensures ok { OnOk result (Finishes pool.old.size (total holds.now) table.old (shelves_of entries.old.items)
         table.new (shelves_of entries.new.items)
         (changed change.now no_key (collection_or_new (forest_of table.old (shelves_of entries.old.items)) id))) }
-    ensures kept { OnOk result (IsKept table.new (shelves_of entries.new.items)) }
+    ensures kept { OnOk result (IsStored table.new (shelves_of entries.new.items)) }
     ensures counted { OnOk result (AreCounted table.new entries.new.items) }
     ensures pool { OnOk result (IsPoolOf pool.new (forest_of table.new (shelves_of entries.new.items))) }
     ensures size { pool.new.size ≡ pool.old.size }
@@ -95,7 +95,7 @@ fn settle_scene_change(
         return Err(NoMemory);
     };
     change_scene(alloc, table, &mut scene, change)?;
-    finish(table, entries, pool, holds, scene)
+    store_settled(table, entries, pool, holds, scene)
 }
 
 /// Makes a change to a collection that is there, and all that it forces: in its place, where the
@@ -110,7 +110,7 @@ pub(crate) fn settle_change(
     id: CollectionId,
     change: &Change,
 ) -> Result<(), NoMemory>
-    requires kept { IsKept table.old (shelves_of entries.old.items) }
+    requires kept { IsStored table.old (shelves_of entries.old.items) }
     requires counted { AreCounted table.old entries.old.items }
     requires units { HaveUnits units.old.items table.old entries.old.items }
     requires change { MayChange (forest_of table.old (shelves_of entries.old.items)) id change.now }
@@ -119,7 +119,7 @@ pub(crate) fn settle_change(
     ensures ok { OnOk result (Finishes pool.old.size (total holds.now) table.old (shelves_of entries.old.items)
         table.new (shelves_of entries.new.items)
         (changed change.now no_key (collection_or_new (forest_of table.old (shelves_of entries.old.items)) id))) }
-    ensures kept { OnOk result (IsKept table.new (shelves_of entries.new.items)) }
+    ensures kept { OnOk result (IsStored table.new (shelves_of entries.new.items)) }
     ensures counted { OnOk result (AreCounted table.new entries.new.items) }
     ensures units { HaveUnits units.new.items table.new entries.new.items }
     ensures pool { OnOk result (IsPoolOf pool.new (forest_of table.new (shelves_of entries.new.items))) }
@@ -264,7 +264,7 @@ fn settle_newborn(
     event: u64,
     mut scene: Scene,
 ) -> Result<NodeKey, NoMemory>
-    requires kept { IsKept table.old (shelves_of entries.old.items) }
+    requires kept { IsStored table.old (shelves_of entries.old.items) }
     requires counted { AreCounted table.old entries.old.items }
     requires change { MayChange (forest_of table.old (shelves_of entries.old.items)) id (Change.Birth parent attached client event) }
     requires pool { IsPoolOf pool.old (forest_of table.old (shelves_of entries.old.items)) }
@@ -273,7 +273,7 @@ fn settle_newborn(
         table.new (shelves_of entries.new.items)
         (with_birth parent attached client event key (collection_or_new (forest_of table.old (shelves_of entries.old.items)) id))) }
     ensures keys { IfOk result (λ key. Gives table.old table.new key) }
-    ensures kept { OnOk result (IsKept table.new (shelves_of entries.new.items)) }
+    ensures kept { OnOk result (IsStored table.new (shelves_of entries.new.items)) }
     ensures counted { OnOk result (AreCounted table.new entries.new.items) }
     ensures pool { OnOk result (IsPoolOf pool.new (forest_of table.new (shelves_of entries.new.items))) }
     ensures size { pool.new.size ≡ pool.old.size }
@@ -290,7 +290,7 @@ fn settle_newborn(
     let Ok(()) = add(&mut scene.nodes, &node) else {
         return Err(NoMemory);
     };
-    finish(&mut next, entries, pool, holds, scene)?;
+    store_settled(&mut next, entries, pool, holds, scene)?;
     *table = next;
     Ok(key)
 }
@@ -413,7 +413,7 @@ fn bear_still(
     client: ClientId,
     event: u64,
 ) -> Result<NodeKey, NoMemory>
-    requires kept { IsKept table.old (shelves_of entries.old.items) }
+    requires kept { IsStored table.old (shelves_of entries.old.items) }
     requires counted { AreCounted table.old entries.old.items }
     requires change { MayChange (forest_of table.old (shelves_of entries.old.items)) id (Change.Birth parent attached client event) }
     requires still { (handles : Handles) × IsStill handles
@@ -465,7 +465,7 @@ fn bear_counted(
     client: ClientId,
     event: u64,
 ) -> Result<NodeKey, NoMemory>
-    requires kept { IsKept table.old (shelves_of entries.old.items) }
+    requires kept { IsStored table.old (shelves_of entries.old.items) }
     requires counted { AreCounted table.old entries.old.items }
     requires units { HaveUnits units.old.items table.old entries.old.items }
     requires room { vec_len units.old < vec_capacity units.old }
@@ -502,7 +502,7 @@ fn settle_unwatched(
     client: ClientId,
     event: u64,
 ) -> Result<NodeKey, NoMemory>
-    requires kept { IsKept table.old (shelves_of entries.old.items) }
+    requires kept { IsStored table.old (shelves_of entries.old.items) }
     requires counted { AreCounted table.old entries.old.items }
     requires change { MayChange (forest_of table.old (shelves_of entries.old.items)) id (Change.Birth parent attached client event) }
     requires pool { IsPoolOf pool.old (forest_of table.old (shelves_of entries.old.items)) }
@@ -510,7 +510,7 @@ fn settle_unwatched(
         table.new (shelves_of entries.new.items)
         (with_birth parent attached client event key (collection_or_new (forest_of table.old (shelves_of entries.old.items)) id))) }
     ensures keys { IfOk result (λ key. Gives table.old table.new key) }
-    ensures kept { OnOk result (IsKept table.new (shelves_of entries.new.items)) }
+    ensures kept { OnOk result (IsStored table.new (shelves_of entries.new.items)) }
     ensures counted { OnOk result (AreCounted table.new entries.new.items) }
     ensures err_counted { OnErr result (AreCounted table.old entries.new.items) }
     ensures pool { OnOk result (IsPoolOf pool.new (forest_of table.new (shelves_of entries.new.items))) }
@@ -548,7 +548,7 @@ pub(crate) fn settle_birth(
     client: ClientId,
     event: u64,
 ) -> Result<NodeKey, NoMemory>
-    requires kept { IsKept table.old (shelves_of entries.old.items) }
+    requires kept { IsStored table.old (shelves_of entries.old.items) }
     requires counted { AreCounted table.old entries.old.items }
     requires units { HaveUnits units.old.items table.old entries.old.items }
     requires change { MayChange (forest_of table.old (shelves_of entries.old.items)) id (Change.Birth parent attached client event) }
@@ -557,7 +557,7 @@ pub(crate) fn settle_birth(
         table.new (shelves_of entries.new.items)
         (with_birth parent attached client event key (collection_or_new (forest_of table.old (shelves_of entries.old.items)) id))) }
     ensures keys { IfOk result (λ key. Gives table.old table.new key) }
-    ensures kept { OnOk result (IsKept table.new (shelves_of entries.new.items)) }
+    ensures kept { OnOk result (IsStored table.new (shelves_of entries.new.items)) }
     ensures counted { OnOk result (AreCounted table.new entries.new.items) }
     ensures units { HaveUnits units.new.items table.new entries.new.items }
     ensures err_counted { OnErr result (AreCounted table.old entries.new.items) }

@@ -6,7 +6,7 @@ ghost use Rattle.alloc_event.specs.declared.change.Effect.{Effect as Effected};
 ghost use Rattle.alloc_event.specs.Calm.{AreCounted};
 ghost use Rattle.alloc_event.specs.Counts.{HaveUnits};
 ghost use Rattle.alloc_event.specs.Falling.{IsTaken};
-ghost use Rattle.alloc_event.specs.Kept.{Finishes, IsKept, SameTable, forest_of, shelves_of};
+ghost use Rattle.alloc_event.specs.Kept.{Finishes, IsStored, SameTable, forest_of, shelves_of};
 ghost use Rattle.alloc_event.specs.Settling.{Handles, MayChange, changed, collection_or_new, no_key};
 
 use crate::entry::Entry;
@@ -93,7 +93,7 @@ fn fail_fallen(
     fault: Fault,
     mut keys: Vec<NodeKey>,
 ) -> Result<bool, NoMemory>
-    requires kept { IsKept table.old (shelves_of entries.old.items) }
+    requires kept { IsStored table.old (shelves_of entries.old.items) }
     requires counted { AreCounted table.old entries.old.items }
     requires units { HaveUnits units.old.items table.old entries.old.items }
     requires change { MayChange (forest_of table.old (shelves_of entries.old.items)) id (Changed.Loss fault.origin fault.cause) }
@@ -106,7 +106,7 @@ fn fail_fallen(
         Finishes pool handles table.old (shelves_of entries.old.items) table.new (shelves_of entries.new.items)
         (changed (Changed.Loss fault.origin fault.cause) no_key (collection_or_new (forest_of table.old (shelves_of entries.old.items)) id))) }
     ensures shelves { shelves_of entries.new.items ≡ shelves_of entries.old.items }
-    ensures kept { IfOk result (λ made. made ≡ true → IsKept table.new (shelves_of entries.old.items)) }
+    ensures kept { IfOk result (λ made. made ≡ true → IsStored table.new (shelves_of entries.old.items)) }
     ensures counted { IfOk result (λ made. made ≡ true → AreCounted table.new entries.new.items) }
     ensures units { HaveUnits units.new.items table.new entries.new.items }
     ensures same { SameTable table.old table.new }
@@ -135,7 +135,7 @@ pub(crate) fn fail_in_place(
     id: CollectionId,
     fault: Fault,
 ) -> Result<bool, NoMemory>
-    requires kept { IsKept table.old (shelves_of entries.old.items) }
+    requires kept { IsStored table.old (shelves_of entries.old.items) }
     requires counted { AreCounted table.old entries.old.items }
     requires units { HaveUnits units.old.items table.old entries.old.items }
     requires change { MayChange (forest_of table.old (shelves_of entries.old.items)) id (Changed.Loss fault.origin fault.cause) }
@@ -147,7 +147,7 @@ pub(crate) fn fail_in_place(
         Finishes pool handles table.old (shelves_of entries.old.items) table.new (shelves_of entries.new.items)
         (changed (Changed.Loss fault.origin fault.cause) no_key (collection_or_new (forest_of table.old (shelves_of entries.old.items)) id))) }
     ensures shelves { shelves_of entries.new.items ≡ shelves_of entries.old.items }
-    ensures kept { IfOk result (λ made. made ≡ true → IsKept table.new (shelves_of entries.old.items)) }
+    ensures kept { IfOk result (λ made. made ≡ true → IsStored table.new (shelves_of entries.old.items)) }
     ensures counted { IfOk result (λ made. made ≡ true → AreCounted table.new entries.new.items) }
     ensures units { HaveUnits units.new.items table.new entries.new.items }
     ensures same { SameTable table.old table.new }
@@ -183,7 +183,7 @@ pub(crate) fn leave_in_place(
     id: CollectionId,
     key: NodeKey,
 ) -> Result<bool, NoMemory>
-    requires kept { IsKept table.old (shelves_of entries.old.items) }
+    requires kept { IsStored table.old (shelves_of entries.old.items) }
     requires counted { AreCounted table.old entries.old.items }
     requires units { HaveUnits units.old.items table.old entries.old.items }
     requires change { MayChange (forest_of table.old (shelves_of entries.old.items)) id (Changed.Effect key Effected.Released) }
@@ -195,7 +195,7 @@ pub(crate) fn leave_in_place(
         Finishes pool handles table.old (shelves_of entries.old.items) table.new (shelves_of entries.new.items)
         (changed (Changed.Effect key Effected.Released) no_key (collection_or_new (forest_of table.old (shelves_of entries.old.items)) id))) }
     ensures shelves { shelves_of entries.new.items ≡ shelves_of entries.old.items }
-    ensures kept { IfOk result (λ made. made ≡ true → IsKept table.new (shelves_of entries.old.items)) }
+    ensures kept { IfOk result (λ made. made ≡ true → IsStored table.new (shelves_of entries.old.items)) }
     ensures counted { IfOk result (λ made. made ≡ true → AreCounted table.new entries.new.items) }
     ensures units { HaveUnits units.new.items table.new entries.new.items }
     ensures same { SameTable table.old table.new }

@@ -9,7 +9,7 @@ ghost use Rattle.alloc_event.specs.Calm.{AreCounted, over_but};
 ghost use Rattle.alloc_event.specs.Counts.{AreUnitsBut, HaveUnits, unit_at};
 ghost use Rattle.alloc_event.specs.Falling.{IsFailing, IsLost, IsOrdered, IsTaken, IsTop, change_of, gone_by, is_first, is_kept_up, is_spared, key_order, lowered, may_go, stays_live, untallied, without_node};
 ghost use Rattle.alloc_event.specs.InPlace.{IsOpen};
-ghost use Rattle.alloc_event.specs.Kept.{Finishes, IsKept, SameTable, Shelf, all_of, collection_in, forest_of, nodes_with, shelves_of};
+ghost use Rattle.alloc_event.specs.Kept.{Finishes, IsStored, SameTable, Shelf, all_of, collection_in, forest_of, nodes_with, shelves_of};
 ghost use Rattle.alloc_event.specs.Settling.{Handles, MayChange, changed, collection_or_new, no_key};
 
 use crate::entry::{Entry, place_of};
@@ -299,7 +299,7 @@ fn lose_nodes(
     nodes: &mut [Node],
     going: &Going,
 ) -> bool
-    requires kept { IsKept table.old (shelves_of entries.old.items) }
+    requires kept { IsStored table.old (shelves_of entries.old.items) }
     requires counted { AreCounted table.old entries.old.items }
     requires units { HaveUnits units.old.items table.old entries.old.items }
     requires change { MayChange (forest_of table.old (shelves_of entries.old.items)) id (change_of going.now) }
@@ -313,7 +313,7 @@ fn lose_nodes(
         Finishes pool handles table.old (shelves_of entries.old.items) table.new (shelves_of entries.new.items)
         (changed (change_of going.now) no_key (collection_or_new (forest_of table.old (shelves_of entries.old.items)) id)) }
     ensures shelves { shelves_of entries.new.items ≡ shelves_of entries.old.items }
-    ensures kept { result ≡ true → IsKept table.new (shelves_of entries.old.items) }
+    ensures kept { result ≡ true → IsStored table.new (shelves_of entries.old.items) }
     ensures counted { result ≡ true → AreCounted table.new entries.new.items }
     ensures units { HaveUnits units.new.items table.new entries.new.items }
     ensures same { SameTable table.old table.new }
@@ -352,7 +352,7 @@ pub(crate) fn go_in_place(
     keys: &[NodeKey],
     going: &Going,
 ) -> Result<bool, NoMemory>
-    requires kept { IsKept table.old (shelves_of entries.old.items) }
+    requires kept { IsStored table.old (shelves_of entries.old.items) }
     requires counted { AreCounted table.old entries.old.items }
     requires units { HaveUnits units.old.items table.old entries.old.items }
     requires change { MayChange (forest_of table.old (shelves_of entries.old.items)) id (change_of going.now) }
@@ -367,7 +367,7 @@ pub(crate) fn go_in_place(
         Finishes pool handles table.old (shelves_of entries.old.items) table.new (shelves_of entries.new.items)
         (changed (change_of going.now) no_key (collection_or_new (forest_of table.old (shelves_of entries.old.items)) id))) }
     ensures shelves { shelves_of entries.new.items ≡ shelves_of entries.old.items }
-    ensures kept { IfOk result (λ made. made ≡ true → IsKept table.new (shelves_of entries.old.items)) }
+    ensures kept { IfOk result (λ made. made ≡ true → IsStored table.new (shelves_of entries.old.items)) }
     ensures counted { IfOk result (λ made. made ≡ true → AreCounted table.new entries.new.items) }
     ensures units { HaveUnits units.new.items table.new entries.new.items }
     ensures same { SameTable table.old table.new }
@@ -389,7 +389,7 @@ pub(crate) fn lose_in_place(
     origin: NodeKey,
     going: &Going,
 ) -> Result<bool, NoMemory>
-    requires kept { IsKept table.old (shelves_of entries.old.items) }
+    requires kept { IsStored table.old (shelves_of entries.old.items) }
     requires counted { AreCounted table.old entries.old.items }
     requires units { HaveUnits units.old.items table.old entries.old.items }
     requires change { MayChange (forest_of table.old (shelves_of entries.old.items)) id (change_of going.now) }
@@ -404,7 +404,7 @@ pub(crate) fn lose_in_place(
         Finishes pool handles table.old (shelves_of entries.old.items) table.new (shelves_of entries.new.items)
         (changed (change_of going.now) no_key (collection_or_new (forest_of table.old (shelves_of entries.old.items)) id))) }
     ensures shelves { shelves_of entries.new.items ≡ shelves_of entries.old.items }
-    ensures kept { IfOk result (λ made. made ≡ true → IsKept table.new (shelves_of entries.old.items)) }
+    ensures kept { IfOk result (λ made. made ≡ true → IsStored table.new (shelves_of entries.old.items)) }
     ensures counted { IfOk result (λ made. made ≡ true → AreCounted table.new entries.new.items) }
     ensures units { HaveUnits units.new.items table.new entries.new.items }
     ensures same { SameTable table.old table.new }

@@ -3,7 +3,7 @@ ghost use Rattle.std.specs.Prelude.{◌≡◌, true, reverse, OnOk, OnErr};
 ghost use Rattle.buffer_holds.specs.Counts.{total};
 ghost use Rattle.alloc_event.specs.Calm.{AreCounted, AreCountedBut};
 ghost use Rattle.alloc_event.specs.Forest.{IsPoolOf};
-ghost use Rattle.alloc_event.specs.Kept.{IsHung, IsKept, Finishes, SameTable, AreRising, all_of, shelf_in, shelves_of, put_shelf, forest_of};
+ghost use Rattle.alloc_event.specs.Kept.{IsHung, IsStored, Finishes, SameTable, AreRising, all_of, shelf_in, shelves_of, put_shelf, forest_of};
 ghost use Rattle.alloc_event.specs.Parted.{are_parted};
 ghost use Rattle.alloc_event.specs.Scenes.{IsSound, collection_of};
 ghost use Rattle.alloc_event.specs.Units.{are_united};
@@ -26,14 +26,14 @@ use std::alloc::Global;
 /// the collection back: into the table, where all its nodes have their places, and the entries.
 ///
 /// `NoMemory` leaves the table, the entries and the pool as they were.
-pub(crate) fn finish(
+pub(crate) fn store_settled(
     table: &mut NodeTable<Node>,
     entries: &mut Vec<Entry>,
     pool: &mut Pool,
     holds: &Holds,
     mut scene: Scene,
 ) -> Result<(), NoMemory>
-    requires kept { IsKept table.old (put_shelf (shelf_in scene) (shelves_of entries.old.items)) }
+    requires kept { IsStored table.old (put_shelf (shelf_in scene) (shelves_of entries.old.items)) }
     requires rising { AreRising (shelves_of entries.old.items) }
     requires sound { IsSound (collection_of scene) }
     requires own { all_of scene.id scene.nodes.items ≡ true }
@@ -43,7 +43,7 @@ pub(crate) fn finish(
     requires pool { IsPoolOf pool.old (forest_of table.old (put_shelf (shelf_in scene) (shelves_of entries.old.items))) }
     ensures ok { OnOk result (Finishes pool.old.size (total holds.now) table.old (shelves_of entries.old.items)
         table.new (shelves_of entries.new.items) (collection_of scene)) }
-    ensures kept { OnOk result (IsKept table.new (shelves_of entries.new.items)) }
+    ensures kept { OnOk result (IsStored table.new (shelves_of entries.new.items)) }
     ensures counted { OnOk result (AreCounted table.new entries.new.items) }
     ensures pool { OnOk result (IsPoolOf pool.new (forest_of table.new (shelves_of entries.new.items))) }
     ensures size { pool.new.size ≡ pool.old.size }

@@ -7,7 +7,7 @@ ghost use Rattle.sm_names.specs.declared.keys.Strength.{Strength};
 ghost use Rattle.buffer_holds.specs.Counts.{total};
 ghost use Rattle.std.specs.Option.{option_map, option_map_or};
 ghost use Rattle.sm_names.specs.Members.{some_strong_live};
-ghost use Rattle.alloc_event.specs.Forest.{Collection, IsPoolOf, SameKeys, collection_at, node_at, kept, empty_forest, summary_of, live_keys, held_by_page, held_buffer, on_collections, with_nodes, is_left, without_over_in};
+ghost use Rattle.alloc_event.specs.Forest.{Collection, IsPoolOf, SameKeys, collection_at, node_at, node_count, empty_forest, summary_of, live_keys, held_by_page, held_buffer, on_collections, with_nodes, is_left, without_over_in};
 ghost use Rattle.alloc_event.specs.Nodes.{members_of, with_end, is_of, is_over};
 ghost use Rattle.alloc_event.specs.Settling.{MayChange, Settled};
 
@@ -141,7 +141,7 @@ impl Forest {
 
     /// How many nodes are kept. It costs a constant.
     pub fn len(&self) -> usize
-        ensures { result ≡ kept self.now }
+        ensures { result ≡ node_count self.now }
     {
         self.table.len()
     }

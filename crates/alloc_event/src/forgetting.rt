@@ -12,7 +12,7 @@ ghost use Rattle.alloc_event.specs.declared.entry.Entry.{Entry as KeptEntry};
 ghost use Rattle.alloc_event.specs.Calm.{AreCounted, AreTidy};
 ghost use Rattle.alloc_event.specs.Forest.{without_over_in};
 ghost use Rattle.alloc_event.specs.Forgetting.{IsAlone, IsChild, IsMissing, IsNoted, IsNotedOr, IsPlace, Unlinks, TakesOut, is_found, left_at, thinned, thin_in, without_bare};
-ghost use Rattle.alloc_event.specs.Kept.{AreRising, IsKept, Shelf, collection_in, shelf_of, shelves_of};
+ghost use Rattle.alloc_event.specs.Kept.{AreRising, IsStored, Shelf, collection_in, shelf_of, shelves_of};
 ghost use Rattle.alloc_event.specs.Nodes.{is_over};
 
 use crate::entry::{Entry, entry_of, place_of};
@@ -68,7 +68,7 @@ fn is_over_at(table: &NodeTable<Node>, key: NodeKey) -> bool
 /// first. It takes no memory.
 fn take_out_over(table: &mut NodeTable<Node>, keys: &[NodeKey])
     ensures look { (k : Key) → node_at table.new k ≡ left_at table.old keys.now k }
-    ensures kept { (ss : List Shelf) → IsKept table.old ss → IsKept table.new (map (thinned table.new) ss) }
+    ensures kept { (ss : List Shelf) → IsStored table.old ss → IsStored table.new (map (thinned table.new) ss) }
     ensures keys { SameKeys table.old table.new }
 {
     let mut rest = keys;
@@ -158,7 +158,7 @@ fn take_out_noted(table: &mut NodeTable<Node>, keys: &[NodeKey], one: Option<(No
     requires named { (key : Key) (n : Kept) → node_at table.old key ≡ Some n → n.key ≡ key }
     requires one { IfSome one (λ one. IsAlone table.old keys.now one.0) }
     ensures look { (k : Key) → node_at table.new k ≡ left_at table.old keys.now k }
-    ensures kept { (ss : List Shelf) → IsKept table.old ss → IsKept table.new (map (thinned table.new) ss) }
+    ensures kept { (ss : List Shelf) → IsStored table.old ss → IsStored table.new (map (thinned table.new) ss) }
     ensures keys { SameKeys table.old table.new }
 {
     match one {
@@ -219,13 +219,13 @@ pub(crate) fn drop_bare(entries: &mut Vec<Entry>, id: CollectionId)
 /// known which one is over, it costs a binary search among them and a shift of their keys instead,
 /// and where it is known that none is, a binary search of the collection alone.
 fn forget_nodes(table: &mut NodeTable<Node>, entries: &mut Vec<Entry>, id: CollectionId)
-    requires kept { IsKept table.old (shelves_of entries.old.items) }
+    requires kept { IsStored table.old (shelves_of entries.old.items) }
     requires counted { AreCounted table.old entries.old.items }
     ensures shelves { shelves_of entries.new.items ≡ thin_in table.new id (shelves_of entries.old.items) }
     ensures look { (s : Shelf) → find (λ (x : Shelf). x.id == id) (shelves_of entries.old.items) ≡ Some s →
         (k : Key) → node_at table.new k ≡ left_at table.old s.keys k }
     ensures none { find (λ (x : Shelf). x.id == id) (shelves_of entries.old.items) ≡ None → table.new ≡ table.old }
-    ensures kept { IsKept table.new (map (thinned table.new) (shelves_of entries.old.items)) }
+    ensures kept { IsStored table.new (map (thinned table.new) (shelves_of entries.old.items)) }
     ensures counted { AreCounted table.new entries.new.items }
     ensures keys { SameKeys table.old table.new }
 {
@@ -243,11 +243,11 @@ fn forget_nodes(table: &mut NodeTable<Node>, entries: &mut Vec<Entry>, id: Colle
 /// Takes the nodes of the collection that are over out, and the collection where nothing is left
 /// of it. It takes no memory.
 pub(crate) fn forget_over(table: &mut NodeTable<Node>, entries: &mut Vec<Entry>, id: CollectionId)
-    requires kept { IsKept table.old (shelves_of entries.old.items) }
+    requires kept { IsStored table.old (shelves_of entries.old.items) }
     requires counted { AreCounted table.old entries.old.items }
     ensures collections { map (collection_in table.new) (shelves_of entries.new.items)
         ≡ without_over_in id (map (collection_in table.old) (shelves_of entries.old.items)) }
-    ensures kept { IsKept table.new (shelves_of entries.new.items) }
+    ensures kept { IsStored table.new (shelves_of entries.new.items) }
     ensures counted { AreCounted table.new entries.new.items }
     ensures keys { SameKeys table.old table.new }
 {

@@ -11,7 +11,7 @@ ghost use Rattle.alloc_event.specs.Calm.{AreCounted};
 ghost use Rattle.alloc_event.specs.Counts.{HasBelow, HaveUnits};
 ghost use Rattle.alloc_event.specs.Due.{is_due_at};
 ghost use Rattle.alloc_event.specs.InPlace.{IsMade, IsOpen, bit, is_plain as is_plain_effect};
-ghost use Rattle.alloc_event.specs.Kept.{Finishes, IsKept, SameTable, Shelf, forest_of, is_strong, shelves_of};
+ghost use Rattle.alloc_event.specs.Kept.{Finishes, IsStored, SameTable, Shelf, forest_of, is_strong, shelves_of};
 ghost use Rattle.alloc_event.specs.Nodes.{affected};
 ghost use Rattle.alloc_event.specs.Scenes.{has_tracker_room};
 ghost use Rattle.alloc_event.specs.Settling.{Handles, MayChange, changed, collection_or_new, no_key};
@@ -246,7 +246,7 @@ pub(crate) fn settle_in_place(
     id: CollectionId,
     change: &Change,
 ) -> bool
-    requires kept { IsKept table.old (shelves_of entries.old.items) }
+    requires kept { IsStored table.old (shelves_of entries.old.items) }
     requires counted { AreCounted table.old entries.old.items }
     requires units { HaveUnits units.old.items table.old entries.old.items }
     requires change { MayChange (forest_of table.old (shelves_of entries.old.items)) id change.now }
@@ -256,7 +256,7 @@ pub(crate) fn settle_in_place(
         Finishes pool handles table.old (shelves_of entries.old.items) table.new (shelves_of entries.new.items)
         (changed change.now no_key (collection_or_new (forest_of table.old (shelves_of entries.old.items)) id)) }
     ensures shelves { shelves_of entries.new.items ≡ shelves_of entries.old.items }
-    ensures kept { result ≡ true → IsKept table.new (shelves_of entries.old.items) }
+    ensures kept { result ≡ true → IsStored table.new (shelves_of entries.old.items) }
     ensures counted { result ≡ true → AreCounted table.new entries.new.items }
     ensures units { HaveUnits units.new.items table.new entries.new.items }
     ensures same { SameTable table.old table.new }

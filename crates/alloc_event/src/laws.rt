@@ -13,7 +13,7 @@ ghost use Rattle.alloc_event.specs.Forest.{Collection};
 ghost use Rattle.alloc_event.specs.Nodes.{after_loss, lost};
 ghost use Rattle.alloc_event.specs.Scenes.{are_distinct};
 ghost use Rattle.alloc_event.specs.Settling.{Handles, Settles, changed};
-ghost use Rattle.alloc_event.specs.Ties.{IsFall, IsFit, IsTied, are_rooted};
+ghost use Rattle.alloc_event.specs.Ties.{IsFall, FitsChange, IsTied, are_rooted};
 
 /// What a failure takes of a node table, as `failure_domains::fall` finds it, is what a loss takes of
 /// the collection whose nodes the table has.
@@ -26,7 +26,7 @@ pub fn falls_take_what_losses_take()
 /// A change and the forced steps after it leave each node that is not gone below a parent that is not
 /// gone and was born before it.
 pub fn collections_stay_rooted()
-    ensures changed { (change : Change) (key : NodeKey) (c : Collection) → IsFit change key c.nodes →
+    ensures changed { (change : Change) (key : NodeKey) (c : Collection) → FitsChange change key c.nodes →
         are_distinct c.nodes ≡ true → are_rooted (reverse c.nodes) ≡ true →
         are_rooted (reverse (changed change key c).nodes) ≡ true }
     ensures settled { (pool : ℕ) (handles : Handles) (others : List Interval) (c after : Collection) →

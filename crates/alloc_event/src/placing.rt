@@ -3,7 +3,7 @@ ghost use Rattle.std.specs.Prelude.{◌≡◌, ◌≤◌, ◌+◌, ◌^◌, ◌+
 ghost use Rattle.sm_names.specs.Pages.{pages_of as pages_taken};
 ghost use Rattle.alloc_event.specs.Decisions.{is_unplaced, IsMadeBy, IsPlacing};
 ghost use Rattle.alloc_event.specs.declared.decision.Decision.{Decision};
-ghost use Rattle.alloc_event.specs.Moves.{Moves};
+ghost use Rattle.alloc_event.specs.Progress.{Progress};
 ghost use Rattle.alloc_event.specs.Scenes.{collection_of, given_few, laid, IsSound, PoolFollows};
 
 use crate::allocating::allocate;
@@ -37,7 +37,7 @@ pub fn place_first(
 
     // The pool changes only where the root is allocated.
     ensures placed { OnOk result (is_unplaced scene.new.nodes.items ≡ true → pool.new ≡ pool.old) }
-    ensures moves { OnOk result (Moves scene.old.nodes.items scene.new.nodes.items) }
+    ensures moves { OnOk result (Progress scene.old.nodes.items scene.new.nodes.items) }
     ensures few { OnOk result (given_few scene.new.buffers ≡ true) }
     ensures id { OnOk result (scene.new.id ≡ scene.old.id) }
 {

@@ -4,7 +4,7 @@ ghost use Rattle.buffer_holds.specs.Counts.{total};
 ghost use Rattle.alloc_event.specs.Decisions.{is_unplaced, IsMadeBy, IsSized, IsStep, RestsIn, SettlesIn};
 ghost use Rattle.alloc_event.specs.InTurn.{GoesOn, IsGiven};
 ghost use Rattle.alloc_event.specs.Kept.{IsWhole};
-ghost use Rattle.alloc_event.specs.Moves.{Moves};
+ghost use Rattle.alloc_event.specs.Progress.{Progress};
 ghost use Rattle.alloc_event.specs.Scenes.{collection_of, frame_of, given_few, IsSound, PoolFollows};
 
 use crate::allocating::allocate;
@@ -53,7 +53,7 @@ pub fn settle_scene(
         (map frame_of scene.new.nodes.items ≡ map frame_of scene.old.nodes.items) }
 {
     'steps: while let Some(step) = decide(scene, marks, holds) {
-        make(scene, marks, pool, step)?;
+        make_step(scene, marks, pool, step)?;
         go_on(scene, step);
     }
     Ok(())
@@ -104,7 +104,7 @@ fn go_on(scene: &mut Scene, step: Decision)
 }
 
 /// Makes the step. `NoMemory` where a growth is refused, and the pool is then as it was.
-fn make(
+fn make_step(
     scene: &mut Scene,
     marks: &mut Marks,
     pool: &mut Pool,
@@ -125,7 +125,7 @@ fn make(
     // Memory is asked for, and the pool changes, only where a root waits for its buffers.
     ensures waits { OnErr result (is_unplaced scene.old.nodes.items ≡ true) }
     ensures placed { OnOk result (is_unplaced scene.new.nodes.items ≡ true → pool.new ≡ pool.old) }
-    ensures moves { OnOk result (Moves scene.old.nodes.items scene.new.nodes.items) }
+    ensures moves { OnOk result (Progress scene.old.nodes.items scene.new.nodes.items) }
     ensures few { OnOk result (given_few scene.new.buffers ≡ true) }
     ensures id { OnOk result (scene.new.id ≡ scene.old.id) }
 {

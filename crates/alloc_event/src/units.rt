@@ -2,7 +2,7 @@
 ghost use Rattle.std.specs.Prelude.{◌≡◌, ◌<◌, ◌≤◌, [], ◌∷◌, map, set, vec_len, vec_capacity};
 ghost use Rattle.node_table.specs.Table.{table_len};
 ghost use Rattle.alloc_event.specs.Counts.{AreUnitsBut, HaveUnits, cleared, is_unready, raised, started, tallied, unit_at, with_node};
-ghost use Rattle.alloc_event.specs.Kept.{IsKept, collection_in, nodes_with, shelves_of};
+ghost use Rattle.alloc_event.specs.Kept.{IsStored, collection_in, nodes_with, shelves_of};
 
 use crate::entry::{Entry, entry_of};
 use crate::node::Node;
@@ -142,7 +142,7 @@ pub(crate) fn recount(
     entries: &[Entry],
     id: CollectionId,
 )
-    requires kept { IsKept table.now (shelves_of entries.now) }
+    requires kept { IsStored table.now (shelves_of entries.now) }
     requires others { AreUnitsBut units.old.items id (map (collection_in table.now) (shelves_of entries.now)) }
     ensures { HaveUnits units.new.items table.now entries.now }
 {

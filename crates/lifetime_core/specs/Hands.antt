@@ -27,7 +27,7 @@ MayMove holds client Call.Collect (Reply.CollectedHandle buffer strength) = 0 < 
 MayMove holds client _ _ = ⊤
 
 -- each count goes by what the mark does to such handles
-pub record Moves (old new : Counts) (mark : Mark) : Type 0 where
+pub record MovesHandles (old new : Counts) (mark : Mark) : Type 0 where
   pub each : (client : ℕ) (buffer : BufferName) (strength : Strength) → GoesBy (of old client buffer strength)
       (of new client buffer strength) (gains (only client) buffer strength mark) (loses (only client) buffer strength mark)
   pub in_parcels : (buffer : BufferName) (strength : Strength) → GoesBy (moving old buffer strength)

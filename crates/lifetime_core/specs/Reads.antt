@@ -18,7 +18,7 @@ use Rattle.sm_names.specs.Views.{Views}
 use Rattle.buffer_holds.specs.Counts.{of, total}
 use Rattle.alloc_event.specs.declared.node.End.{End}
 use Rattle.alloc_event.specs.declared.node.Node.{Node}
-use Rattle.alloc_event.specs.Forest.{Collection, Forest, collection_at, node_at, kept, given, live_keys, held_by_page, all_held}
+use Rattle.alloc_event.specs.Forest.{Collection, Forest, collection_at, node_at, node_count, given, live_keys, held_by_page, all_held}
 use Rattle.alloc_event.specs.Nodes.{members_of, is_spent}
 use Rattle.alloc_event.specs.Settling.{Handles, buffer_names}
 use Rattle.lifetime_core.specs.State.{Client, State}
@@ -89,7 +89,7 @@ readings_of s = record {
   open_of = of s.holds;
   open_total = total s.holds;
   was_given = given s.forest;
-  kept_nodes = kept s.forest;
+  kept_nodes = node_count s.forest;
   kept_collections = length s.forest.collections;
   unfired = length s.trackers.unfired;
 }

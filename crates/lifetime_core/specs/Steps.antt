@@ -168,9 +168,9 @@ tracker_by f (Call.TrackWeak buffer) (Reply.Tracker id) =
 tracker_by f _ _ = None
 
 -- the trackers with one more, if one is made
-abbrev pub Gains : Table → Option Waiting → Table → Type 0
-Gains old None new = new ≡ old
-Gains old (Some tracker) new = Attaches old new tracker
+abbrev pub GainsTracker : Table → Option Waiting → Table → Type 0
+GainsTracker old None new = new ≡ old
+GainsTracker old (Some tracker) new = Attaches old new tracker
 
 -- the trackers, once those that are due in this world fired at this event
 abbrev pub swept : World → ℕ → Table → Table
@@ -191,5 +191,5 @@ pub record Follows (old new : State) (client : ℕ) (call : Call) (reply : Reply
   pub collections : new.forest.collections ≡ without_over (with_place (end_by client call reply) worked).collections
   pub keys : SameKeys worked new.forest
   pub attached : Table
-  pub gains : Gains old.trackers (tracker_by old.forest call reply) attached
+  pub gains : GainsTracker old.trackers (tracker_by old.forest call reply) attached
   pub trackers : new.trackers ≡ swept (world_in worked (total new.holds)) new.events attached

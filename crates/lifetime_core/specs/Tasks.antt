@@ -17,10 +17,10 @@ use Rattle.trackers.specs.declared.waiting.Waiting.{Waiting}
 use Rattle.trackers.specs.Table.{Table}
 use Rattle.lifetime_core.specs.declared.task.Place.{Place}
 use Rattle.lifetime_core.specs.declared.task.Task.{Task}
-use Rattle.lifetime_core.specs.Hands.{Moves}
+use Rattle.lifetime_core.specs.Hands.{MovesHandles}
 use Rattle.lifetime_core.specs.Kinds.{is_releasing, is_sync}
 use Rattle.lifetime_core.specs.State.{Client}
-use Rattle.lifetime_core.specs.Steps.{Gains, Work, clients_by}
+use Rattle.lifetime_core.specs.Steps.{GainsTracker, Work, clients_by}
 
 -- the change to this collection, if there is one
 abbrev pub work_on : ℕ → Option Change → Option Work
@@ -60,8 +60,8 @@ abbrev pub DoesSome : Task → Type 0
 DoesSome t = (is_some t.change || is_some t.spends) ≡ true
 
 -- where the event puts an end, by its task or by what it carries
-abbrev pub placed : Option Task → Option Place → Option Place
-placed task carried = option_or (spent_place (spent_in task)) carried
+abbrev pub end_placed : Option Task → Option Place → Option Place
+end_placed task carried = option_or (spent_place (spent_in task)) carried
 
 -- the task may be done: its change may be made, the end that it spends is one of its collection, and a release spends
 -- the end
@@ -76,9 +76,9 @@ Reworked pool handles f None key after = (after ≡ f) × (key ≡ None)
 Reworked pool handles f (Some work) key after = Settled pool handles f after work.collection work.change key
 
 -- the reply, where a new node has this key
-abbrev pub keyed : Reply → Option NodeKey → Reply
-keyed (Reply.Token key collection) (Some new) = Reply.Token new collection
-keyed reply new = reply
+abbrev pub with_key : Reply → Option NodeKey → Reply
+with_key (Reply.Token key collection) (Some new) = Reply.Token new collection
+with_key reply new = reply
 
 -- the event needs room for a client or a parcel more
 abbrev pub takes_room : Call → Reply → Bool
@@ -127,8 +127,8 @@ pub record Parts : Type 0 where
 pub record TakesEffect (pool : ℕ) (old new : Parts) (client : ℕ) (call : Call) (asked : Reply) (task : Option Task)
     (tracking : Option Waiting) (reply : Reply) : Type 0 where
   pub key : Option NodeKey
-  pub told : reply ≡ keyed asked key
+  pub told : reply ≡ with_key asked key
   pub clients : new.clients ≡ clients_by (Called client asked call) old.clients
-  pub handles : Moves old.holds new.holds (Called client asked call)
+  pub handles : MovesHandles old.holds new.holds (Called client asked call)
   pub work : Reworked pool (total new.holds) old.forest (work_in task) key new.forest
-  pub trackers : Gains old.trackers tracking new.trackers
+  pub trackers : GainsTracker old.trackers tracking new.trackers

@@ -34,7 +34,7 @@ is_leaving (Some leaving) key = same_key leaving key
 
 -- the node, of the collection with this id: its key is one of these, it failed or was released if it is gone, and its
 -- end is spent, or about to be, if it was released
-pub record IsFit (Known : NodeKey → Type 0) (id : ℕ) (leaving : Option NodeKey) (n : Node) : Type 0 where
+pub record IsNodeFit (Known : NodeKey → Type 0) (id : ℕ) (leaving : Option NodeKey) (n : Node) : Type 0 where
   pub key : Known n.key
   pub collection : n.collection ≡ id
   pub failed : n.gone ≡ true → (is_some n.fault || n.released) ≡ true
@@ -42,7 +42,7 @@ pub record IsFit (Known : NodeKey → Type 0) (id : ℕ) (leaving : Option NodeK
 
 -- each of these nodes is fit
 abbrev pub AreFit : (NodeKey → Type 0) → ℕ → Option NodeKey → List Node → Type 0
-AreFit Known id leaving nodes = (n : Node) → In n nodes → IsFit Known id leaving n
+AreFit Known id leaving nodes = (n : Node) → In n nodes → IsNodeFit Known id leaving n
 
 -- no two of these nodes have the same key
 abbrev pub AreOnce : List Node → Type 0

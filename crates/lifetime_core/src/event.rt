@@ -6,13 +6,13 @@ ghost use Rattle.alloc_event.specs.Forest.{IsPoolOf};
 ghost use Rattle.lifetime_core.specs.Hands.{MayMove};
 ghost use Rattle.lifetime_core.specs.State.{Client as Row, counts_of};
 ghost use Rattle.lifetime_core.specs.Tasks.{MayDo, TakesEffect, takes_room};
-ghost use Rattle.lifetime_core.specs.Tasks.{changes_nothing as is_idle, keyed};
+ghost use Rattle.lifetime_core.specs.Tasks.{changes_nothing as is_idle, with_key};
 ghost use Rattle.lifetime_core.specs.Whole.{Rise};
 
-use crate::clients::{Client, note};
+use crate::clients::{Client, note_client};
 use crate::hands::{hand_back, hand_over, tidy_up};
 use crate::sweeping::{attach, detach};
-use crate::task::{Task, make};
+use crate::task::{Task, make_change};
 use alloc_event::Forest;
 use buffer_holds::Holds;
 use buffer_pool::Pool;
@@ -84,7 +84,7 @@ pub(crate) fn take_effect(
           holds = contents.new.holds;
           trackers = contents.new.trackers;
         })
-        client call.now asked.now task.now tracking (keyed asked.now key)) }
+        client call.now asked.now task.now tracking (with_key asked.now key)) }
     ensures err { OnErr result ((contents.new.clients.items ≡ contents.old.clients.items)
         × (contents.new.forest ≡ contents.old.forest) × (contents.new.pool ≡ contents.old.pool)
         × (counts_of contents.new.holds ≡ counts_of contents.old.holds)
@@ -98,7 +98,7 @@ pub(crate) fn take_effect(
         hand_back(&mut contents.holds, client, call, asked);
         return Err(NoMemory);
     };
-    let Ok(key) = make(
+    let Ok(key) = make_change(
         &mut contents.forest,
         &mut contents.pool,
         &contents.holds,
@@ -108,7 +108,7 @@ pub(crate) fn take_effect(
         hand_back(&mut contents.holds, client, call, asked);
         return Err(NoMemory);
     };
-    let Ok(()) = note(&mut contents.clients, client, call, asked) else {
+    let Ok(()) = note_client(&mut contents.clients, client, call, asked) else {
         hand_back(&mut contents.holds, client, call, asked);
         return Err(NoMemory);
     };

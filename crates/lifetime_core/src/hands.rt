@@ -3,7 +3,7 @@ ghost use Rattle.std.specs.Prelude.{◌≡◌, ◌+◌, ◌<◌, ◌≤◌, OnOk
 ghost use Rattle.std.specs.Int.{bit_at};
 ghost use Rattle.sm_names.specs.Marks.{Called};
 ghost use Rattle.buffer_holds.specs.Counts.{Counts, of, total};
-ghost use Rattle.lifetime_core.specs.Hands.{MayMove, Moves, CanUndo, Opens, CanOpen, is_the, is_below};
+ghost use Rattle.lifetime_core.specs.Hands.{MayMove, MovesHandles, CanUndo, Opens, CanOpen, is_the, is_below};
 ghost use Rattle.lifetime_core.specs.State.{counts_of};
 
 use buffer_holds::{HoldFault, Holds, Spot};
@@ -20,7 +20,7 @@ pub(crate) fn hand_over(
     reply: &Reply,
 ) -> Result<(), NoMemory>
     requires { MayMove holds.old client call.now reply.now }
-    ensures ok { OnOk result (Moves holds.old holds.new (Called client reply.now call.now)) }
+    ensures ok { OnOk result (MovesHandles holds.old holds.new (Called client reply.now call.now)) }
     ensures room { OnOk result (CanUndo holds.new client call.now reply.now) }
     ensures err { OnErr result (counts_of holds.new ≡ counts_of holds.old) }
     ensures limit { holds.new.limit ≡ holds.old.limit }
@@ -66,7 +66,7 @@ pub(crate) fn hand_over(
 pub(crate) fn hand_back(holds: &mut Holds, client: ClientId, call: &Call, reply: &Reply)
     requires { CanUndo holds.old client call.now reply.now }
     ensures counts { (before : Counts) →
-        Moves before holds.old (Called client reply.now call.now) →
+        MovesHandles before holds.old (Called client reply.now call.now) →
         counts_of holds.new ≡ counts_of before }
     ensures limit { holds.new.limit ≡ holds.old.limit }
 {

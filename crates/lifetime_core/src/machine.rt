@@ -19,7 +19,7 @@ ghost use Rattle.std.specs.Option.{option_and_then, option_map_or};
 ghost use Rattle.trackers.specs.Table.{empty, is_untaken, reader_of, cell_of, without};
 ghost use Rattle.alloc_event.specs.declared.held.HeldBuffer.{HeldBuffer as Held};
 ghost use Rattle.alloc_event.specs.declared.node.Node.{Node as Kept};
-ghost use Rattle.alloc_event.specs.Forest.{empty_forest, kept, live_keys, node_at, held_by_page};
+ghost use Rattle.alloc_event.specs.Forest.{empty_forest, node_count, live_keys, node_at, held_by_page};
 ghost use Rattle.alloc_event.specs.Forest.{held_buffer};
 ghost use Rattle.alloc_event.specs.Forest.{Collection as Shelved, collection_at};
 ghost use Rattle.alloc_event.specs.Nodes.{is_spent, members_of};
@@ -38,8 +38,8 @@ ghost use Rattle.lifetime_core.specs.Traits.{key_in};
 use crate::clients::{count_waiting, first_waiting, has_joined, is_shut};
 use crate::event::{Contents, changes_nothing, take_effect};
 use crate::sweeping::{place_to_sweep, sweep, tracking_of};
-use crate::table::{answer, keyed};
-use crate::task::{carried_end, changed_by, finish, task_of};
+use crate::table::{answer, with_key};
+use crate::task::{carried_end, changed_by, put_end, task_of};
 use crate::traits::{Named, traits_of};
 use alloc_event::{End, Forest, HeldBuffer, Node};
 use buffer_holds::{Holds, Spot};
@@ -294,7 +294,7 @@ impl Core {
 
     // Whether as many nodes are kept as may be.
     pub(crate) fn has_all_nodes(&self) -> bool
-        ensures { result ≡ nat_le self.now.limits.nodes (kept self.now.forest) }
+        ensures { result ≡ nat_le self.now.limits.nodes (node_count self.now.forest) }
     {
         self.limits.nodes() as usize <= self.contents.forest.len()
     }
@@ -381,12 +381,12 @@ impl Core {
             &self.contents.forest,
             &self.contents.holds,
         );
-        finish(
+        put_end(
             &mut self.contents.forest,
             &task,
             carried_end(client, &call, &asked),
         );
-        Ok(keyed(asked, key))
+        Ok(with_key(asked, key))
     }
 
     /// Takes calls in order, each as `step` does, and answers their replies in this order.

@@ -4,7 +4,7 @@ ghost use Rattle.std.specs.List.{All};
 ghost use Rattle.trackers.specs.declared.waiting.Waiting.{Waiting};
 ghost use Rattle.trackers.specs.Table.{Cell, Table, is_due};
 ghost use Rattle.lifetime_core.specs.Reads.{node_named, world_in};
-ghost use Rattle.lifetime_core.specs.Steps.{Gains, swept, tracker_by};
+ghost use Rattle.lifetime_core.specs.Steps.{GainsTracker, swept, tracker_by};
 ghost use Rattle.lifetime_core.specs.Tasks.{looked_in};
 ghost use Rattle.buffer_holds.specs.Counts.{total};
 
@@ -53,7 +53,7 @@ pub(crate) fn tracking_of(
 pub(crate) fn attach(trackers: &mut Trackers, tracking: Option<Waiting>) -> Result<(), NoMemory>
     requires rising { IfSome tracking (λ t. All (λ (c : Cell). c.id < t.id) trackers.old.cells) }
     requires room { IfSome tracking (λ t. length trackers.old.unfired < trackers.old.limit) }
-    ensures ok { OnOk result (Gains trackers.old tracking trackers.new) }
+    ensures ok { OnOk result (GainsTracker trackers.old tracking trackers.new) }
     ensures err { OnErr result (trackers.new ≡ trackers.old) }
 {
     let Some(tracker) = tracking else {
@@ -67,9 +67,9 @@ pub(crate) fn attach(trackers: &mut Trackers, tracking: Option<Waiting>) -> Resu
 
 /// Takes the tracker out again that was attached just now, if one was. It takes no memory.
 pub(crate) fn detach(trackers: &mut Trackers, tracking: Option<Waiting>)
-    requires { (before : Table) × Gains before tracking trackers.old }
+    requires { (before : Table) × GainsTracker before tracking trackers.old }
     ensures { (before : Table) →
-        Gains before tracking trackers.old → trackers.new ≡ before }
+        GainsTracker before tracking trackers.old → trackers.new ≡ before }
 {
     if let Some(tracker) = tracking {
         trackers.detach(tracker.collection);

@@ -5,7 +5,7 @@ ghost use Rattle.sm_names.specs.Answers.{answer as answer_of, effect as effect_o
 ghost use Rattle.sm_names.specs.Answers.{collected, end_named};
 ghost use Rattle.alloc_event.specs.Nodes.{is_spent};
 ghost use Rattle.lifetime_core.specs.Reads.{end_in, open_end_of, readings_of};
-ghost use Rattle.lifetime_core.specs.Tasks.{keyed as keyed_by};
+ghost use Rattle.lifetime_core.specs.Tasks.{with_key as keyed_by};
 ghost use Rattle.lifetime_core.specs.Traits.{Describes};
 
 use crate::machine::Core;
@@ -133,7 +133,7 @@ pub(crate) fn answer(
 }
 
 /// The reply, where a new node got this key.
-pub(crate) fn keyed(reply: Reply, new: Option<NodeKey>) -> Reply
+pub(crate) fn with_key(reply: Reply, new: Option<NodeKey>) -> Reply
     ensures { result ≡ keyed_by reply new }
 {
     match (reply, new) {

@@ -11,7 +11,7 @@ ghost use Rattle.lifetime_core.specs.Reads.{node_named, readings_of};
 ghost use Rattle.lifetime_core.specs.Steps.{Work, at_node as change_at, birth_by, done_to, drop_at};
 ghost use Rattle.lifetime_core.specs.Steps.{work_of, with_place, without_over};
 ghost use Rattle.lifetime_core.specs.Tasks.{DoesSome, MayDo, Reworked, SpendsThere, carried_by};
-ghost use Rattle.lifetime_core.specs.Tasks.{placed, spent_by, spent_in, spent_place, work_in};
+ghost use Rattle.lifetime_core.specs.Tasks.{end_placed, spent_by, spent_in, spent_place, work_in};
 ghost use Rattle.lifetime_core.specs.Traits.{key_in as key_on};
 ghost use Rattle.lifetime_core.specs.Whole.{AreUpTo, CanCarry, CanFinish, IsSound};
 
@@ -83,7 +83,7 @@ fn dropped(core: &Core, buffer: BufferName, strength: Strength) -> Option<Task>
 }
 
 // A call on a node that was answered Done.
-fn done(core: &Core, call: &Call, node: Option<&Node>) -> Option<Task>
+fn done_task(core: &Core, call: &Call, node: Option<&Node>) -> Option<Task>
     requires node { option_copied node ≡ node_named core.now call.now }
     requires there { IfSome (key_in call.now) (λ key.
         is_some (node_at core.now.forest key) ≡ true) }
@@ -146,7 +146,7 @@ pub(crate) fn task_of(
 {
     match (*call, *reply) {
         (_, Reply::Token { collection, .. }) => birth(core, client, call, collection),
-        (_, Reply::Done) => done(core, call, node),
+        (_, Reply::Done) => done_task(core, call, node),
         (_, Reply::Misused(misuse)) => match on {
             Named::End(key) => {
                 at_node(core, key, node, Change::Loss(key, Cause::Misused(misuse)))
@@ -171,7 +171,7 @@ pub(crate) fn task_of(
 /// Makes the task's change, if it has one, with all that this forces.
 ///
 /// `NoMemory` where memory is refused; then the forest and the pool are as they were.
-pub(crate) fn make(
+pub(crate) fn make_change(
     forest: &mut Forest,
     pool: &mut Pool,
     holds: &Holds,
@@ -257,12 +257,12 @@ fn spend(forest: &mut Forest, end: Option<NodeKey>)
 
 /// Puts an end where the event puts it, and forgets what is over then. It takes no memory, and costs
 /// what `forget_over` does.
-pub(crate) fn finish(forest: &mut Forest, task: &Option<Task>, carried: Option<Place>)
+pub(crate) fn put_end(forest: &mut Forest, task: &Option<Task>, carried: Option<Place>)
     requires task { CanFinish forest.old task.now }
     requires carried { CanCarry forest.old carried }
     requires one { is_some task.now ≡ true → carried ≡ None }
     ensures collections { forest.new.collections
-        ≡ without_over (with_place (placed task.now carried) forest.old).collections }
+        ≡ without_over (with_place (end_placed task.now carried) forest.old).collections }
     ensures keys { SameKeys forest.old forest.new }
     ensures sound { IsSound forest.new }
     ensures held { all_held forest.new ≡ all_held forest.old }

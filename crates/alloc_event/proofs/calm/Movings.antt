@@ -11,7 +11,7 @@ use Rattle.sm_names.proofs.StandingLaws.{In-any}
 use Rattle.alloc_event.specs.declared.node.Node.{Node}
 use Rattle.alloc_event.specs.Decisions.{is_unplaced}
 use Rattle.alloc_event.specs.Forest.{Collection}
-use Rattle.alloc_event.specs.Moves.{Moves, Left, Lost, Given, moves_left, work}
+use Rattle.alloc_event.specs.Progress.{Progress, Left, Lost, Given, moves_left, work}
 use Rattle.alloc_event.specs.Nodes.{above_among, after_allocation, ended, given_buffers, is_of, is_taken, lost, node_of}
 use Rattle.alloc_event.specs.Questions.{is_below}
 use Rattle.alloc_event.specs.Scenes.{are_distinct, frame_of, given_few, heads_itself, IsSound}
@@ -111,7 +111,7 @@ origin_taken nodes n key on is = from (node_of nodes key) refl
         both_ways (is_some (node_of nodes key)) some none
 
 -- each step leaves fewer
-pub less_left : (old new : List Node) → Moves old new → work new < work old
+pub less_left : (old new : List Node) → Progress old new → work new < work old
 less_left old _ (Left top there) =
     less_work (ended old top) (λ n. is_of top n && not n.gone) old
     (λ n. gone_le n (ended old top n) (is_below old top n.key) refl refl)
@@ -133,7 +133,7 @@ less_left old _ (Given head there) =
 -- ---- what stays
 
 -- no step changes the frames
-pub same_frames : (old new : List Node) → Moves old new → map frame_of new ≡ map frame_of old
+pub same_frames : (old new : List Node) → Progress old new → map frame_of new ≡ map frame_of old
 same_frames old _ (Left top there) = map-kept (ended old top) frame_of old (λ n. refl)
 same_frames old _ (Lost fault there) = map-kept (lost (is_taken old fault.origin) fault) frame_of old (λ n. refl)
 same_frames old _ (Given head there) = map-kept (given_buffers head) frame_of old (λ n. refl)
@@ -158,7 +158,7 @@ going n m true p g a h =
     let bad : false ≡ true = sym (ap (λ (b : Bool). not b && not m.allocated) g)
     ∙ and_right (is_none m.parent) (not m.gone && not m.allocated) h in cc
 
-pub unplaced_before : (old new : List Node) → Moves old new → is_unplaced new ≡ true → is_unplaced old ≡ true
+pub unplaced_before : (old new : List Node) → Progress old new → is_unplaced new ≡ true → is_unplaced old ≡ true
 unplaced_before old _ (Left top there) =
     waited (ended old top) old (λ n. going n (ended old top n) (is_below old top n.key) refl refl refl)
 unplaced_before old _ (Lost fault there) =

@@ -12,12 +12,12 @@ use Rattle.alloc_event.specs.declared.change.Change.{Change}
 use Rattle.alloc_event.specs.declared.change.Effect.{Effect}
 use Rattle.alloc_event.specs.declared.node.Node.{Node}
 use Rattle.alloc_event.specs.Forest.{Collection, with_nodes, node_at as forest_node}
-use Rattle.alloc_event.specs.Kept.{Shelf, AreRising, IsHung, IsKept, IsWhole, put_shelf, collection_in, nodes_with, forest_of, all_keys, are_filed, is_filed, all_of, has_room}
+use Rattle.alloc_event.specs.Kept.{Shelf, AreRising, IsHung, IsStored, IsWhole, put_shelf, collection_in, nodes_with, forest_of, all_keys, are_filed, is_filed, all_of, has_room_for_tracker}
 use Rattle.alloc_event.specs.Nodes.{affected, lost, is_taken}
 use Rattle.alloc_event.specs.Scenes.{IsSound, has_tracker_room}
 use Rattle.alloc_event.specs.Ties.{IsTied}
 use Rattle.alloc_event.specs.Units.{are_united}
-use Rattle.alloc_event.specs.Settling.{MayChange, changed, collection_or_new, is_birth, no_key, fits, is_there, is_kept}
+use Rattle.alloc_event.specs.Settling.{MayChange, changed, collection_or_new, is_birth, no_key, fits, is_there, has_collection}
 use Rattle.alloc_event.proofs.changes.Finishing.{keys_in, looked-keys}
 use Rattle.alloc_event.proofs.tables.Hanging.{hung_changed, looked_hung, looked_tied}
 use Rattle.alloc_event.proofs.shelves.Putting.{cases_place, above-weaker}
@@ -165,7 +165,7 @@ kept_of t (s ∷ ss) key n filed is there = elim (or_cases _ _ (sym (any-append 
 ]
 
 -- by the node
-there_kept-by : (t : Table Node) (ss : List Shelf) → IsKept t ss → (id : ℕ) (key : NodeKey) (o : Option Node) → node_at t key ≡ o →
+there_kept-by : (t : Table Node) (ss : List Shelf) → IsStored t ss → (id : ℕ) (key : NodeKey) (o : Option Node) → node_at t key ≡ o →
     option_map_or (λ (n : Node). n.collection == id && not n.gone) o false ≡ true → is_some (find (λ (s : Shelf). s.id == id) ss) ≡ true
 there_kept-by t ss ok id key None is there = absurd (false≢true there)
 there_kept-by t ss ok id key (Some n) is there =
@@ -173,7 +173,7 @@ there_kept-by t ss ok id key (Some n) is there =
     subst (λ (i : ℕ). is_some (find (λ (s : Shelf). s.id == i) ss) ≡ true) own (kept_of t ss key n ok.filed is (ok.there key n is))
 
 -- a key that is in the collection, and its collection
-there_kept : (t : Table Node) (ss : List Shelf) → IsKept t ss → (id : ℕ) (key : NodeKey) → is_there (forest_of t ss) id key ≡ true →
+there_kept : (t : Table Node) (ss : List Shelf) → IsStored t ss → (id : ℕ) (key : NodeKey) → is_there (forest_of t ss) id key ≡ true →
     is_some (find (λ (s : Shelf). s.id == id) ss) ≡ true
 there_kept t ss ok id key there =
     there_kept-by t ss ok id key (node_at t key) refl (ap (λ o. option_map_or (λ (n : Node). n.collection == id && not n.gone) o false)
@@ -185,12 +185,12 @@ mapped_some t None = refl
 mapped_some t (Some s) = refl
 
 -- a collection that is kept has a shelf
-collection_kept : (t : Table Node) (ss : List Shelf) (id : ℕ) → is_kept (forest_of t ss) id ≡ true →
+collection_kept : (t : Table Node) (ss : List Shelf) (id : ℕ) → has_collection (forest_of t ss) id ≡ true →
     is_some (find (λ (s : Shelf). s.id == id) ss) ≡ true
 collection_kept t ss id fit = sym (mapped_some t (find (λ (s : Shelf). s.id == id) ss)) ∙ ap is_some (sym (collection_is t id ss)) ∙ fit
 
 -- a collection that is changed is there
-pub change_kept : (t : Table Node) (ss : List Shelf) → IsKept t ss → (id : ℕ) (change : Change) → is_birth change ≡ false →
+pub change_kept : (t : Table Node) (ss : List Shelf) → IsStored t ss → (id : ℕ) (change : Change) → is_birth change ≡ false →
     fits (forest_of t ss) id change ≡ true → is_some (find (λ (s : Shelf). s.id == id) ss) ≡ true
 change_kept t ss ok id (Change.Birth parent attached client event) h fit = absurd (false≢true (sym h))
 change_kept t ss ok id (Change.Effect key effect) h fit = there_kept t ss ok id key fit
@@ -216,7 +216,7 @@ tracker_room-by key n true same few = lt-ltb n.trackers 64 (few (true-same_key k
 tracker_room-by key n false same few = refl
 
 -- the node of a tracker has room for it
-pub tracker_room : (t : Table Node) (ss : List Shelf) → IsKept t ss → (asked : NodeKey) (effect : Effect) →
+pub tracker_room : (t : Table Node) (ss : List Shelf) → IsStored t ss → (asked : NodeKey) (effect : Effect) →
     ((n : Node) → effect ≡ Effect.Tracked → forest_node (forest_of t ss) asked ≡ Some n → n.trackers < 64) → (key : NodeKey) (n : Node) →
     node_at t key ≡ Some n → has_tracker_room asked effect n ≡ true
 tracker_room t ss ok asked Effect.Tracked few key n is = tracker_room-by asked n (same_key asked n.key) refl (λ same.
@@ -230,8 +230,8 @@ tracker_room t ss ok asked Effect.Taken few key n is = refl
 tracker_room t ss ok asked Effect.Released few key n is = refl
 
 -- so for the whole change
-pub change_room : (t : Table Node) (ss : List Shelf) → IsKept t ss → (id : ℕ) (change : Change) → MayChange (forest_of t ss) id change →
-    (keys : List NodeKey) → has_room change (nodes_with t keys) ≡ true
+pub change_room : (t : Table Node) (ss : List Shelf) → IsStored t ss → (id : ℕ) (change : Change) → MayChange (forest_of t ss) id change →
+    (keys : List NodeKey) → has_room_for_tracker change (nodes_with t keys) ≡ true
 change_room t ss ok id (Change.Effect on effect) may keys =
     looked-all t (has_tracker_room on effect) (tracker_room t ss ok on effect (λ n is. may.trackers on n (ap (Change.Effect on) is))) keys
 change_room t ss ok id _ may keys = refl
@@ -261,7 +261,7 @@ pub found_whole : (t : Table Node) (id : ℕ) (ss : List Shelf) (s : Shelf) → 
 found_whole t id [] s all found = absurd (cc)
 found_whole t id (x ∷ xs) s all found = found_whole-by t id x xs s (x.id == id) all found (found_whole t id xs s all.1)
 
-module _ (t : Table Node) (ss : List Shelf) (ok : IsKept t ss) (id : ℕ) (s : Shelf)
+module _ (t : Table Node) (ss : List Shelf) (ok : IsStored t ss) (id : ℕ) (s : Shelf)
     (found : find (λ (x : Shelf). x.id == id) ss ≡ Some s) (change : Change) (birth : is_birth change ≡ false)
     (c now : Collection) (loaded : c ≡ collection_in t s) (became : now ≡ changed change no_key c) where
   -- what is made of the nodes
@@ -297,8 +297,8 @@ module _ (t : Table Node) (ss : List Shelf) (ok : IsKept t ss) (id : ℕ) (s : S
       ∙ found_put s ss ok.rising (subst (λ (i : ℕ). find (λ (x : Shelf). x.id == i) ss ≡ Some s) (sym (found_id id ss s found)) found)
 
   -- all that holds of forests holds
-  pub altered-kept : IsKept t (put_shelf (shelf_by now) ss)
-  altered-kept = subst (IsKept t) (sym shelves_same) ok
+  pub altered-kept : IsStored t (put_shelf (shelf_by now) ss)
+  altered-kept = subst (IsStored t) (sym shelves_same) ok
 
   -- the forest is the same
   pub altered-forest : forest_of t (put_shelf (shelf_by now) ss) ≡ forest_of t ss

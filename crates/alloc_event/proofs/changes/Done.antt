@@ -14,7 +14,7 @@ use Rattle.alloc_event.specs.Counts.{AreUnits, HaveUnits}
 use Rattle.alloc_event.specs.Decisions.{has_strong}
 use Rattle.alloc_event.specs.Forest.{Collection, beside}
 use Rattle.alloc_event.specs.InPlace.{IsDone, IsOpen}
-use Rattle.alloc_event.specs.Kept.{Finishes, IsKept, Shelf, Stores, are_filed, collection_in, forest_of, is_filed, nodes_with, place_in, put_shelf, shelf_of, shelves_of}
+use Rattle.alloc_event.specs.Kept.{Finishes, IsStored, Shelf, Stores, are_filed, collection_in, forest_of, is_filed, nodes_with, place_in, put_shelf, shelf_of, shelves_of}
 use Rattle.alloc_event.specs.Settling.{Handles, MayChange, Rests, Settles, changed, collection_or_new, given_back, no_key, put, standing}
 use Rattle.alloc_event.proofs.changes.Altering.{found_put}
 use Rattle.alloc_event.proofs.calm.Calming.{rests_strong}
@@ -25,7 +25,7 @@ use Rattle.alloc_event.proofs.shelves.Showing.{shelf_found}
 use Rattle.alloc_event.proofs.calm.Watched.{found_counted, nothing_back, strong_lives}
 
 -- where nodes were written, and nothing is forced while a strong one lives
-module _ (t now : Table Node) (ss : List Shelf) (s : Shelf) (kept : IsKept t ss) (found : find (λ (x : Shelf). x.id == s.id) ss ≡ Some s)
+module _ (t now : Table Node) (ss : List Shelf) (s : Shelf) (kept : IsStored t ss) (found : find (λ (x : Shelf). x.id == s.id) ss ≡ Some s)
     (change : Change) (ns : List Node) (stores : Stores t now ns) (filed : list_all (is_filed t s.id) (keys_in ns) ≡ true) where
   -- it is put among the others
   put_is : map (collection_in now) ss ≡ put (collection_in now s) (map (collection_in t) ss)
@@ -36,7 +36,7 @@ module _ (t now : Table Node) (ss : List Shelf) (s : Shelf) (kept : IsKept t ss)
       (ap (are_filed t) placed ∙ kept.filed)
 
   -- the change leads to these nodes, and from them to those that are there now
-  pub done_led : IsKept now ss → (between : List Node) →
+  pub done_led : IsStored now ss → (between : List Node) →
       changed change no_key (collection_or_new (forest_of t ss) s.id) ≡ record (collection_in t s) { nodes = between } →
       ((pool : ℕ) (handles : Handles) (others : List Interval) → forced pool (standing handles others (collection_in now s)) ≡ None →
       Settles pool handles others (record (collection_in t s) { nodes = between }) (collection_in now s)) →
@@ -66,7 +66,7 @@ module _ (t now : Table Node) (ss : List Shelf) (s : Shelf) (kept : IsKept t ss)
         same = stores.same;
       }
 
-  pub done_by : IsKept now ss → changed change no_key (collection_or_new (forest_of t ss) s.id) ≡ collection_in now s →
+  pub done_by : IsStored now ss → changed change no_key (collection_or_new (forest_of t ss) s.id) ≡ collection_in now s →
       (after : List Unit) (lives : ℕ) → nat_lt 0 lives ≡ true → lives ≡ strong_count (nodes_with now s.keys) →
       IsCalm (collection_in now s) →
       AreUnits after (map (collection_in now) ss) → IsDone t now after ss s change lives
@@ -76,7 +76,7 @@ module _ (t now : Table Node) (ss : List Shelf) (s : Shelf) (kept : IsKept t ss)
 -- ---- the entry at its place
 
 module _ (t : Table Node) (es : List Entry) (id at : ℕ) (old : Entry) (place : IsPlace id es at) (is : old ≡ get_or es at old)
-    (kept : IsKept t (shelves_of es)) (all : AreCounted t es) (us : List Unit) (units : HaveUnits us t es) (change : Change)
+    (kept : IsStored t (shelves_of es)) (all : AreCounted t es) (us : List Unit) (units : HaveUnits us t es) (change : Change)
     (may : MayChange (forest_of t (shelves_of es)) id change) where
   pub own_id : old.id ≡ id
   own_id = ap (λ (e : Entry). e.id) is ∙ place.id_is old

@@ -25,7 +25,7 @@ use Rattle.alloc_event.specs.Decisions.{has_strong}
 use Rattle.alloc_event.specs.Due.{is_due_at, is_served_at}
 use Rattle.alloc_event.specs.Forest.{Collection, beside, with_nodes}
 use Rattle.alloc_event.specs.InPlace.{IsMade, IsOpen, bit, is_plain}
-use Rattle.alloc_event.specs.Kept.{Finishes, IsKept, IsWhole, Shelf, Stores, collection_in, forest_of, is_filed, is_strong, nodes_with}
+use Rattle.alloc_event.specs.Kept.{Finishes, IsStored, IsWhole, Shelf, Stores, collection_in, forest_of, is_filed, is_strong, nodes_with}
 use Rattle.alloc_event.specs.Nodes.{affected, is_over, is_of}
 use Rattle.alloc_event.specs.Questions.{is_allocated_node, is_live_node}
 use Rattle.alloc_event.specs.Settling.{Rests, changed, collection_or_new, given_back, is_there, no_key, put, standing}
@@ -200,7 +200,7 @@ module _ (t now : Table Node) (us : List Unit) (key : NodeKey) (effect : Effect)
   look : (k : NodeKey) → node_at now k ≡ option_map f (node_at t k)
   look = look-changed t now f key n (f n) (subst (λ (k : NodeKey). Writes t now k (f n)) own writes) was refl opens.kept.named apart
 
-  kept_now : IsKept now ss
+  kept_now : IsStored now ss
   kept_now = kept-map f same (λ m. (remains_affected key effect m).gone) t now (ap (λ (x : Table Node). x.first) becomes) writes.len look
       (parents-written t now (f n).key (f n) writes) ss opens.kept
 

@@ -13,7 +13,7 @@ use Rattle.alloc_event.specs.declared.node.Node.{Node}
 use Rattle.alloc_event.specs.declared.scene.Scene.{Scene}
 use Rattle.alloc_event.specs.Calm.{AreCounted, AreCountedBut, IsCalm, put_in, strong_count, over_but}
 use Rattle.alloc_event.specs.Forest.{Collection, all_held, pages_in, beside}
-use Rattle.alloc_event.specs.Kept.{Shelf, AreRising, IsHung, IsKept, IsWhole, Stores, put_shelf, shelf_in, collection_in, forest_of, is_filed, all_of, have_places, shelf_of, shelves_of, nodes_with}
+use Rattle.alloc_event.specs.Kept.{Shelf, AreRising, IsHung, IsStored, IsWhole, Stores, put_shelf, shelf_in, collection_in, forest_of, is_filed, all_of, have_places, shelf_of, shelves_of, nodes_with}
 use Rattle.alloc_event.specs.Nodes.{is_over}
 use Rattle.alloc_event.specs.Parted.{are_parted}
 use Rattle.alloc_event.specs.Scenes.{IsSound, collection_of, held_pages, frame_of}
@@ -32,7 +32,7 @@ sound-given_back : (handles : Handles) (c : Collection) → IsSound c → IsSoun
 sound-given_back handles c ok = record { distinct = ok.distinct; heads = ok.heads; one_root = ok.one_root; few = ok.few }
 
 module _ (handles : Handles) (t : Table Node) (ss : List Shelf) (start worked back : Scene)
-    (kept : IsKept t (put_shelf (shelf_in start) ss)) (rising : AreRising ss)
+    (kept : IsStored t (put_shelf (shelf_in start) ss)) (rising : AreRising ss)
     (own : all_of start.id start.nodes.items ≡ true) (sound : IsSound (collection_of worked))
     (same_id : worked.id ≡ start.id) (frames : map frame_of worked.nodes.items ≡ map frame_of start.nodes.items)
     (given : collection_of back ≡ given_back handles (collection_of worked)) where
@@ -96,7 +96,7 @@ module _ (handles : Handles) (t : Table Node) (ss : List Shelf) (start worked ba
         (record { sound = sound-given_back handles (collection_of worked) sound; rooted = hung.rooted; united = united_frames worked.nodes.items start.nodes.items frames united }) before))
 
     -- all that holds of forests holds
-    pub finished-kept : IsHung t worked.nodes.items → are_united (reverse start.nodes.items) ≡ true → IsKept now (put_shelf shelf_back ss)
+    pub finished-kept : IsHung t worked.nodes.items → are_united (reverse start.nodes.items) ≡ true → IsStored now (put_shelf shelf_back ss)
     finished-kept hung united =
         let linked = (subst (IsHung t) (sym back_nodes) hung).linked in
         kept-put t now start.id back.nodes.items stores kept.named back_filed back_of shelf_back (shelf_in start) ss (sym back_id)
@@ -112,7 +112,7 @@ module _ (handles : Handles) (t : Table Node) (ss : List Shelf) (start worked ba
 
 -- each entry is counted, once the scene is put back as this one
 pub finished-counted : (handles : Handles) (t : Table Node) (es : List Entry) (start worked back : Scene)
-    (kept : IsKept t (put_shelf (shelf_in start) (shelves_of es))) (rising : AreRising (shelves_of es))
+    (kept : IsStored t (put_shelf (shelf_in start) (shelves_of es))) (rising : AreRising (shelves_of es))
     (own : all_of start.id start.nodes.items ≡ true) (sound : IsSound (collection_of worked))
     (same_id : worked.id ≡ start.id) (frames : map frame_of worked.nodes.items ≡ map frame_of start.nodes.items)
     (given : collection_of back ≡ given_back handles (collection_of worked)) (now : Table Node) (stores : Stores t now back.nodes.items)

@@ -12,7 +12,7 @@ use Rattle.node_table.proofs.Keys.{true-same_key, same_key-true}
 use Rattle.alloc_event.specs.declared.node.Node.{Node}
 use Rattle.alloc_event.specs.Forest.{Collection}
 use Rattle.alloc_event.specs.Nodes.{is_of}
-use Rattle.alloc_event.specs.Kept.{Shelf, AreRising, IsKept, IsWhole, Stores, put_shelf, collection_in, nodes_with, all_keys, are_filed, is_filed, all_of, stored, written, have_places}
+use Rattle.alloc_event.specs.Kept.{Shelf, AreRising, IsStored, IsWhole, Stores, put_shelf, collection_in, nodes_with, all_keys, are_filed, is_filed, all_of, stored, written, have_places}
 use Rattle.alloc_event.specs.Scenes.{are_distinct, frame_of}
 use Rattle.alloc_event.specs.Settling.{put}
 use Rattle.alloc_event.proofs.tables.Hanging.{in_all}
@@ -243,8 +243,8 @@ module _ (t now : Table Node) (id : ℕ) (ns : List Node) (stores : Stores t now
 
   -- all stays so
   pub kept-put : all_of id ns ≡ true → (new old : Shelf) (ss : List Shelf) → old.id ≡ new.id → old.keys ≡ new.keys → AreRising ss →
-      IsKept t (put_shelf old ss) → AllByRecursion (λ (n : Node). n.gone ≡ false → parent_at t n.key ≡ n.parent) ns →
-      AllByRecursion (λ (s : Shelf). IsWhole (collection_in now s)) (put_shelf new ss) → IsKept now (put_shelf new ss)
+      IsStored t (put_shelf old ss) → AllByRecursion (λ (n : Node). n.gone ≡ false → parent_at t n.key ≡ n.parent) ns →
+      AllByRecursion (λ (s : Shelf). IsWhole (collection_in now s)) (put_shelf new ss) → IsStored now (put_shelf new ss)
   kept-put all new old ss ids keys rising ok linked whole =
       let same_keys : all_keys (put_shelf new ss) ≡ all_keys (put_shelf old ss) = sym (keys-put old new ss ids keys) in
       record {

@@ -9,7 +9,7 @@ use Rattle.node_table.specs.Table.{Table, was_given}
 use Rattle.alloc_event.specs.declared.change.Change.{Change}
 use Rattle.alloc_event.specs.declared.node.Node.{Node}
 use Rattle.alloc_event.specs.Forest.{Collection, given, beside}
-use Rattle.alloc_event.specs.Kept.{Shelf, IsKept, Finishes, Gives, SameTable, forest_of}
+use Rattle.alloc_event.specs.Kept.{Shelf, IsStored, Finishes, Gives, SameTable, forest_of}
 use Rattle.alloc_event.specs.Nodes.{node_of, new_child}
 use Rattle.alloc_event.specs.Settling.{Handles, Settled, Settles, changed, collection_or_new, given_back, is_birth, no_key, standing, with_birth}
 use Rattle.alloc_event.proofs.newborns.Newborn.{before_is}
@@ -34,7 +34,7 @@ changed_id (Change.Effect on effect) key c = refl
 changed_id (Change.Loss origin cause) key c = refl
 changed_id Change.Nothing key c = refl
 
-module _ (pool : ℕ) (handles : Handles) (t now : Table Node) (ss behind : List Shelf) (ok : IsKept t ss) (id : ℕ) where
+module _ (pool : ℕ) (handles : Handles) (t now : Table Node) (ss behind : List Shelf) (ok : IsStored t ss) (id : ℕ) where
   -- the collection has the id
   id_is : (change : Change) (key : NodeKey) → (changed change key (collection_or_new (forest_of t ss) id)).id ≡ id
   id_is change key = changed_id change key (collection_or_new (forest_of t ss) id) ∙ (before_is t ss ok id).id_is

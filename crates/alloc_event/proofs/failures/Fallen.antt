@@ -23,7 +23,7 @@ use Rattle.alloc_event.specs.Counts.{AreUnits, AreUnitsBut, HasUnits, lives_in, 
 use Rattle.alloc_event.specs.Falling.{change_of, gone_by, IsLost, IsTaken, IsTop, is_kept_up, untallied}
 use Rattle.alloc_event.specs.Forest.{Collection, with_nodes}
 use Rattle.alloc_event.specs.InPlace.{IsOpen}
-use Rattle.alloc_event.specs.Kept.{IsKept, IsWhole, Shelf, Stores, all_of, collection_in, forest_of, is_filed, is_strong, nodes_with, stored, written}
+use Rattle.alloc_event.specs.Kept.{IsStored, IsWhole, Shelf, Stores, all_of, collection_in, forest_of, is_filed, is_strong, nodes_with, stored, written}
 use Rattle.alloc_event.specs.Settling.{Handles, Settles, standing, changed, collection_or_new, no_key}
 use Rattle.alloc_event.specs.Ties.{are_rooted}
 use Rattle.alloc_event.specs.Units.{is_head}
@@ -453,7 +453,7 @@ module _ (t : Table Node) (us : List Unit) (ss : List Shelf) (s : Shelf) (going 
             (all_at (λ (y : Shelf). IsWhole (collection_in t y)) ss opens.kept.whole x on)
       ])
 
-      kept_now : IsKept now ss
+      kept_now : IsStored now ss
       kept_now = kept-with f same (λ n h. or_second (falls n.key) n.gone (sym (gone_of going keys n) ∙ h)) t now stores.same.first
           stores.same.len look stores.parents ss whole_now opens.kept
         where

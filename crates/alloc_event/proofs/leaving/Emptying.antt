@@ -9,7 +9,7 @@ use Rattle.node_table.specs.Table.{Table}
 use Rattle.alloc_event.specs.declared.entry.Entry.{Entry}
 use Rattle.alloc_event.specs.declared.node.Node.{Node}
 use Rattle.alloc_event.specs.Forest.{Collection, collection_at, is_left}
-use Rattle.alloc_event.specs.Kept.{Shelf, shelf_of, shelves_of, place_in, AreRising, IsKept, IsWhole, collection_in, nodes_with, forest_of, all_keys, are_filed, is_filed}
+use Rattle.alloc_event.specs.Kept.{Shelf, shelf_of, shelves_of, place_in, AreRising, IsStored, IsWhole, collection_in, nodes_with, forest_of, all_keys, are_filed, is_filed}
 use Rattle.alloc_event.proofs.shelves.Entries.{Some-inj}
 use Rattle.alloc_event.proofs.shelves.Showing.{filed-length, filed_found, collection_is}
 
@@ -103,8 +103,8 @@ keys-beside id [] rising none = refl
 keys-beside id (s ∷ ss) rising none = keys-beside-by id s ss (s.id == id) refl rising none (keys-beside id ss rising.1)
 
 -- all that holds of forests holds
-pub kept-beside : (t : Table Node) (id : ℕ) (ss : List Shelf) → IsKept t ss →
-    option_map_or (λ (x : Shelf). x.keys) (find (λ (x : Shelf). x.id == id) ss) [] ≡ [] → IsKept t (filter (is_beside id) ss)
+pub kept-beside : (t : Table Node) (id : ℕ) (ss : List Shelf) → IsStored t ss →
+    option_map_or (λ (x : Shelf). x.keys) (find (λ (x : Shelf). x.id == id) ss) [] ≡ [] → IsStored t (filter (is_beside id) ss)
 kept-beside t id ss ok none =
     let keys = keys-beside id ss ok.rising none in
     record {

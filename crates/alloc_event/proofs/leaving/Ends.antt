@@ -8,7 +8,7 @@ use Rattle.node_table.proofs.Keys.{same_key-true, same_key-false}
 use Rattle.alloc_event.specs.declared.node.End.{End}
 use Rattle.alloc_event.specs.declared.node.Node.{Node}
 use Rattle.alloc_event.specs.Forest.{with_nodes, on_collections}
-use Rattle.alloc_event.specs.Kept.{Shelf, forest_of, IsKept}
+use Rattle.alloc_event.specs.Kept.{Shelf, forest_of, IsStored}
 use Rattle.alloc_event.specs.Nodes.{with_end}
 use Rattle.alloc_event.proofs.tables.Writing.{IsSameNode, look-changed, kept-map, collections-map, parents-written}
 
@@ -34,13 +34,13 @@ module _ (key : NodeKey) (end : End) where
         Writes t now x (record n { end = end })) named w) was (ends-own n named) knows ends-others k
 
     -- the forest stays sound
-    pub ends-kept : (es : List Shelf) → now ≡ table_with_node t n.key (record n { end = end }) → IsKept t es → IsKept now es
+    pub ends-kept : (es : List Shelf) → now ≡ table_with_node t n.key (record n { end = end }) → IsStored t es → IsStored now es
     ends-kept es becomes ok =
         kept-map (with_end key end) same_node (λ m. refl) t now (ap (λ (x : Table Node). x.first) becomes) w.len (ends-look ok.named)
         (parents-written t now n.key (record n { end = end }) w) es ok
 
     -- and shows the end
-    pub ends-shown : (es : List Shelf) → now ≡ table_with_node t n.key (record n { end = end }) → IsKept t es →
+    pub ends-shown : (es : List Shelf) → now ≡ table_with_node t n.key (record n { end = end }) → IsStored t es →
         forest_of now es ≡ on_collections (with_nodes (map (with_end key end))) (forest_of t es)
     ends-shown es becomes ok = λ i. record {
       limit = (ap (λ (x : Table Node). x.limit) becomes) i;

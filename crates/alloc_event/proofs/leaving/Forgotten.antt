@@ -10,14 +10,14 @@ use Rattle.sm_names.proofs.StandingLaws.{In-any}
 use Rattle.alloc_event.specs.declared.node.Node.{Node}
 use Rattle.alloc_event.specs.Forest.{without_over_in}
 use Rattle.alloc_event.specs.Forgetting.{left_at, thin_in, thinned, unless_over, without_bare}
-use Rattle.alloc_event.specs.Kept.{Shelf, AreRising, IsKept, are_filed, collection_in, is_filed, nodes_with}
+use Rattle.alloc_event.specs.Kept.{Shelf, AreRising, IsStored, are_filed, collection_in, is_filed, nodes_with}
 use Rattle.alloc_event.specs.Nodes.{is_over}
 use Rattle.alloc_event.proofs.changes.Altering.{found_id}
 use Rattle.alloc_event.proofs.shelves.Showing.{filed_found}
 use Rattle.alloc_event.proofs.leaving.Thinning.{thinned-same}
 use Rattle.alloc_event.proofs.leaving.Tidying.{bare-kept, bare_others, none_others, over_none, thin_others, thinned_all, tidied_all}
 
-module _ (t now : Table Node) (id : ℕ) (ss : List Shelf) (s : Shelf) (ok : IsKept t ss)
+module _ (t now : Table Node) (id : ℕ) (ss : List Shelf) (s : Shelf) (ok : IsStored t ss)
     (found : find (λ (x : Shelf). x.id == id) ss ≡ Some s) (look : (k : NodeKey) → node_at now k ≡ left_at t s.keys k) where
   -- the shelf has the id
   own : s.id ≡ id
@@ -37,12 +37,12 @@ module _ (t now : Table Node) (id : ℕ) (ss : List Shelf) (s : Shelf) (ok : IsK
       (thinned_all t now s (filed_found t id ss ok.filed s found) look ss ok.rising ok.filed)
 
   -- the ids rise once the keys are dropped
-  pub forgot_rising : IsKept now (map (thinned now) ss) → AreRising (thin_in now id ss)
+  pub forgot_rising : IsStored now (map (thinned now) ss) → AreRising (thin_in now id ss)
   forgot_rising kept = subst AreRising (sym forgot_thinned) kept.rising
 
   -- all that holds of forests holds in the end
-  pub forgot_kept : IsKept now (map (thinned now) ss) → IsKept now (without_bare id (thin_in now id ss))
-  forgot_kept kept = bare-kept now id (thin_in now id ss) (subst (IsKept now) (sym forgot_thinned) kept)
+  pub forgot_kept : IsStored now (map (thinned now) ss) → IsStored now (without_bare id (thin_in now id ss))
+  forgot_kept kept = bare-kept now id (thin_in now id ss) (subst (IsStored now) (sym forgot_thinned) kept)
 
 -- ---- where nothing is over, and where there is no such collection
 
@@ -90,11 +90,11 @@ tidy_left t keys none k = elim (either_way (list_any (same_key k) keys)) [
       | inr e ↦ rw e refl
     ]
 
-module _ (t now : Table Node) (id : ℕ) (ss : List Shelf) (ok : IsKept t ss)
+module _ (t now : Table Node) (id : ℕ) (ss : List Shelf) (ok : IsStored t ss)
     (look : (s : Shelf) → find (λ (x : Shelf). x.id == id) ss ≡ Some s → (k : NodeKey) → node_at now k ≡ left_at t s.keys k)
     (none : find (λ (x : Shelf). x.id == id) ss ≡ None → now ≡ t) where
   -- the ids rise once the keys are dropped
-  pub forgotten_rising : IsKept now (map (thinned now) ss) → AreRising (thin_in now id ss)
+  pub forgotten_rising : IsStored now (map (thinned now) ss) → AreRising (thin_in now id ss)
   forgotten_rising kept = by (find (λ (x : Shelf). x.id == id) ss) refl
     where
       by : (o : Option Shelf) → find (λ (x : Shelf). x.id == id) ss ≡ o → AreRising (thin_in now id ss)
@@ -115,11 +115,11 @@ module _ (t now : Table Node) (id : ℕ) (ss : List Shelf) (ok : IsKept t ss)
       by (Some s) is = forgot_collections t now id ss s ok is (look s is)
 
   -- all that holds of forests holds in the end
-  pub forgotten_kept : IsKept now (map (thinned now) ss) → IsKept now (without_bare id (thin_in now id ss))
+  pub forgotten_kept : IsStored now (map (thinned now) ss) → IsStored now (without_bare id (thin_in now id ss))
   forgotten_kept kept = by (find (λ (x : Shelf). x.id == id) ss) refl
     where
-      by : (o : Option Shelf) → find (λ (x : Shelf). x.id == id) ss ≡ o → IsKept now (without_bare id (thin_in now id ss))
+      by : (o : Option Shelf) → find (λ (x : Shelf). x.id == id) ss ≡ o → IsStored now (without_bare id (thin_in now id ss))
       by None is = bare-kept now id (thin_in now id ss)
-          (subst (λ (l : List Shelf). IsKept now l) (sym (thin_others now id ss (none_others id ss is))) (subst (λ (x : Table Node).
-          IsKept x ss) (sym (none is)) ok))
+          (subst (λ (l : List Shelf). IsStored now l) (sym (thin_others now id ss (none_others id ss is))) (subst (λ (x : Table Node).
+          IsStored x ss) (sym (none is)) ok))
       by (Some s) is = forgot_kept t now id ss s ok is (look s is) kept

@@ -12,7 +12,7 @@ use Rattle.node_table.proofs.Keys.{true-same_key, same_key-true}
 use Rattle.alloc_event.specs.declared.entry.Entry.{Entry}
 use Rattle.alloc_event.specs.declared.node.Node.{Node}
 use Rattle.alloc_event.specs.Forest.{with_nodes}
-use Rattle.alloc_event.specs.Kept.{Shelf, shelf_of, shelves_of, place_in, AreRising, IsKept, IsWhole, TakesOut, collection_in, all_keys, are_filed, is_filed}
+use Rattle.alloc_event.specs.Kept.{Shelf, shelf_of, shelves_of, place_in, AreRising, IsStored, IsWhole, TakesOut, collection_in, all_keys, are_filed, is_filed}
 use Rattle.alloc_event.specs.Nodes.{is_of}
 use Rattle.alloc_event.proofs.changes.Altering.{filed_at, kept_of}
 use Rattle.alloc_event.proofs.shelves.Entries.{none_in, Some-inj}
@@ -128,7 +128,8 @@ module _ (t now : Table Node) (key : NodeKey) (node : Node) (out : TakesOut t no
   any-other k n is (x ∷ xs) there = any-other-by k n is x xs (same_key key x) refl (same_key k x) refl there (any-other k n is xs)
 
   -- a node that is not gone keeps its parent, where the other is gone
-  linked-without : node.gone ≡ true → (ss : List Shelf) → IsKept t ss → (k : NodeKey) (n : Node) → node_at now k ≡ Some n → n.gone ≡ false →
+  linked-without : node.gone ≡ true → (ss : List Shelf) → IsStored t ss → (k : NodeKey) (n : Node) → node_at now k ≡ Some n →
+      n.gone ≡ false →
       parent_at now k ≡ n.parent
   linked-without gone ss ok k n is here =
       let was = found-by k n (same_key key k) refl is in
@@ -136,7 +137,7 @@ module _ (t now : Table Node) (key : NodeKey) (node : Node) (out : TakesOut t no
       ∙ ok.linked k n was.1 here
 
   -- all that holds of forests holds
-  pub kept-without : node.gone ≡ true → (ss : List Shelf) → IsKept t ss → IsKept now (map (shelf_without key) ss)
+  pub kept-without : node.gone ≡ true → (ss : List Shelf) → IsStored t ss → IsStored now (map (shelf_without key) ss)
   kept-without gone ss ok =
       let keys = all_keys-without key ss in
       record {
@@ -206,7 +207,7 @@ set_without t key node new (x ∷ es) at was filed rising told is =
     (λ n on own. set_without t key node new es n was (and_right _ _ filed) rising.1 on own) told
 
 -- the collection of a node has its entry
-pub never_none : (t : Table Node) (es : List Entry) (key : NodeKey) (node : Node) → IsKept t (shelves_of es) → node_at t key ≡ Some node →
+pub never_none : (t : Table Node) (es : List Entry) (key : NodeKey) (node : Node) → IsStored t (shelves_of es) → node_at t key ≡ Some node →
     place_in node.collection es ≡ None → ⊥
 never_none t es key node ok was none =
     let some = kept_of t (shelves_of es) key node ok.filed was (ok.there key node was) in

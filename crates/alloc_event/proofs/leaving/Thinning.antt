@@ -13,7 +13,7 @@ use Rattle.node_table.proofs.Keys.{same_key-true, true-same_key}
 use Rattle.alloc_event.specs.declared.node.Node.{Node}
 use Rattle.alloc_event.specs.Forest.{Collection, with_nodes}
 use Rattle.alloc_event.specs.Forgetting.{TakesOut, is_found, thinned}
-use Rattle.alloc_event.specs.Kept.{Shelf, AreRising, IsKept, IsWhole, all_keys, are_apart, are_filed, collection_in, is_filed, nodes_with}
+use Rattle.alloc_event.specs.Kept.{Shelf, AreRising, IsStored, IsWhole, all_keys, are_apart, are_filed, collection_in, is_filed, nodes_with}
 use Rattle.alloc_event.specs.Nodes.{is_of}
 use Rattle.alloc_event.specs.Scenes.{IsSound, are_distinct, heads_itself}
 use Rattle.alloc_event.proofs.tables.Hanging.{looked_gone}
@@ -295,7 +295,7 @@ module _ (t now : Table Node) (key : NodeKey) (out : TakesOut t now key) where
       (rw (nodes_left named s.keys) (IsWhole-filter (λ n. not (is_of key n)) (collection_in t s) (looked_gone t named key goes s.keys) all.0), whole-kept goes named ss all.1)
 
   -- a node that is not gone keeps its parent, where the other is gone
-  linked-kept : ((m : Node) → node_at t key ≡ Some m → m.gone ≡ true) → (ss : List Shelf) → IsKept t ss → (k : NodeKey) (n : Node) →
+  linked-kept : ((m : Node) → node_at t key ≡ Some m → m.gone ≡ true) → (ss : List Shelf) → IsStored t ss → (k : NodeKey) (n : Node) →
       node_at now k ≡ Some n → n.gone ≡ false → parent_at now k ≡ n.parent
   linked-kept goes ss ok k n is here =
       let was = still k n is in
@@ -303,7 +303,7 @@ module _ (t now : Table Node) (key : NodeKey) (out : TakesOut t now key) where
       ∙ ok.linked k n was.1 here
 
   -- by the node that is gone
-  counted-by : (ss : List Shelf) → IsKept t ss → (o : Option Node) → node_at t key ≡ o → is_some o ≡ true →
+  counted-by : (ss : List Shelf) → IsStored t ss → (o : Option Node) → node_at t key ≡ o → is_some o ≡ true →
       length (all_keys (map (thinned now) ss)) ≡ table_len now
   counted-by ss ok None is was = absurd (false≢true was)
   counted-by ss ok (Some n) is was =
@@ -312,8 +312,8 @@ module _ (t now : Table Node) (key : NodeKey) (out : TakesOut t now key) where
       omega (arith, fewer, left, ok.counted, out.shorter)
 
   -- all that holds of forests holds of the shelves without the key
-  pub taken-kept : ((m : Node) → node_at t key ≡ Some m → m.gone ≡ true) → (ss : List Shelf) → IsKept t ss →
-      IsKept now (map (thinned now) ss)
+  pub taken-kept : ((m : Node) → node_at t key ≡ Some m → m.gone ≡ true) → (ss : List Shelf) → IsStored t ss →
+      IsStored now (map (thinned now) ss)
   taken-kept goes ss ok = record {
     first = same_first t now out.keys ∙ ok.first;
     rising = thinned-rising now ss ok.rising;

@@ -11,7 +11,7 @@ use Rattle.node_table.proofs.Keys.{same_key-true, true-same_key}
 use Rattle.alloc_event.specs.declared.node.Node.{Node}
 use Rattle.alloc_event.specs.Forest.{is_left, tidied, without_over_in}
 use Rattle.alloc_event.specs.Forgetting.{is_bare, is_found, left_at, thin_in, thinned, unless_over, without_bare}
-use Rattle.alloc_event.specs.Kept.{Shelf, AreRising, IsKept, IsWhole, all_keys, are_apart, are_filed, collection_in, is_filed, nodes_with}
+use Rattle.alloc_event.specs.Kept.{Shelf, AreRising, IsStored, IsWhole, all_keys, are_apart, are_filed, collection_in, is_filed, nodes_with}
 use Rattle.alloc_event.specs.Nodes.{is_over}
 use Rattle.alloc_event.proofs.leaving.Thinning.{all-filter, each-filter, filed_all}
 
@@ -272,7 +272,7 @@ bare-whole t id (s ∷ ss) all =
     ]
 
 -- all that holds of forests holds without a bare collection
-pub bare-kept : (t : Table Node) (id : ℕ) (ss : List Shelf) → IsKept t ss → IsKept t (without_bare id ss)
+pub bare-kept : (t : Table Node) (id : ℕ) (ss : List Shelf) → IsStored t ss → IsStored t (without_bare id ss)
 bare-kept t id ss ok = record {
   first = ok.first;
   rising = bare-rising id ss ok.rising;

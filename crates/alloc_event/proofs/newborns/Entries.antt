@@ -9,7 +9,7 @@ use Rattle.alloc_event.specs.declared.entry.Entry.{Entry}
 use Rattle.alloc_event.specs.declared.node.Node.{Node}
 use Rattle.alloc_event.specs.Calm.{AreCounted, IsCounted, put_in, strong_count, over_but}
 use Rattle.alloc_event.specs.Forest.{Collection}
-use Rattle.alloc_event.specs.Kept.{Bears, IsKept, Shelf, born, collection_in, forest_of, place_in, put_shelf, shelf_of, shelves_of, nodes_with}
+use Rattle.alloc_event.specs.Kept.{Bears, IsStored, Shelf, born, collection_in, forest_of, place_in, put_shelf, shelf_of, shelves_of, nodes_with}
 use Rattle.alloc_event.specs.Settling.{Handles, collection_or_new}
 use Rattle.alloc_event.specs.Still.{IsStill, no_shelf, shelf_before, shelf_with}
 use Rattle.alloc_event.proofs.newborns.Forest.{still_collection}
@@ -42,7 +42,7 @@ refused_two (Err e) x y all = all x y
 abbrev pub more_strong : Option Node → ℕ
 more_strong above = if option_map_or (λ (n : Node). n.weak) above false then 0 else 1
 
-module _ (t : Table Node) (es : List Entry) (ok : IsKept t (shelves_of es)) (all : AreCounted t es) (id : ℕ) where
+module _ (t : Table Node) (es : List Entry) (ok : IsStored t (shelves_of es)) (all : AreCounted t es) (id : ℕ) where
   -- the entry at its place
   module _ (at : ℕ) (told : place_in id es ≡ Some at) (place : IsPlace id es at) (old : Entry) (is : old ≡ get_or es at old) where
     found : find (λ (e : Entry). e.id == id) es ≡ Some old

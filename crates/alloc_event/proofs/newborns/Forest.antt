@@ -12,7 +12,7 @@ use Rattle.node_table.specs.Table.{Table, node_at, parent_at}
 use Rattle.node_table.proofs.Keys.{key_cases, true-same_key, same_key-true, same_key-false}
 use Rattle.alloc_event.specs.declared.node.Node.{Node}
 use Rattle.alloc_event.specs.Forest.{Collection, all_held}
-use Rattle.alloc_event.specs.Kept.{Shelf, AreRising, IsKept, IsWhole, Bears, put_shelf, collection_in, nodes_with, forest_of, all_keys, are_apart, are_filed, is_filed}
+use Rattle.alloc_event.specs.Kept.{Shelf, AreRising, IsStored, IsWhole, Bears, put_shelf, collection_in, nodes_with, forest_of, all_keys, are_apart, are_filed, is_filed}
 use Rattle.alloc_event.specs.Settling.{put}
 use Rattle.alloc_event.proofs.lists.SameIntervals.{or_swap, part_swap}
 use Rattle.alloc_event.proofs.changes.Altering.{none_above, any-append}
@@ -214,7 +214,7 @@ module _ (t now : Table Node) (node : Node) (bears : Bears t now node) where
       both_none (not_this id k (same_key node.key k) refl (and_left _ _ filed)) (none_there id ks (and_right _ _ filed))
 
   -- each node knows its key
-  named_more : {ss : List Shelf} → IsKept t ss → (key : NodeKey) (n : Node) → node_at now key ≡ Some n → n.key ≡ key
+  named_more : {ss : List Shelf} → IsStored t ss → (key : NodeKey) (n : Node) → node_at now key ≡ Some n → n.key ≡ key
   named_more ok key n is = elim (key_cases node.key key) [
     | inl same ↦
         let one : Some node ≡ Some n = sym (bears.look key ∙ rw (same_key-true node.key key same) refl) ∙ is in
@@ -226,7 +226,7 @@ module _ (t now : Table Node) (node : Node) (bears : Bears t now node) where
   ]
 
   -- each node has its key among all
-  there_more : {ss : List Shelf} → IsKept t ss → (key : NodeKey) (n : Node) → node_at now key ≡ Some n →
+  there_more : {ss : List Shelf} → IsStored t ss → (key : NodeKey) (n : Node) → node_at now key ≡ Some n →
       list_any (same_key key) (node.key ∷ all_keys ss) ≡ true
   there_more ok key n is = elim (key_cases node.key key) [
     | inl same ↦ rw (same_key-true key node.key (sym same)) refl
@@ -236,7 +236,7 @@ module _ (t now : Table Node) (node : Node) (bears : Bears t now node) where
   ]
 
   -- each node that is not gone has its parent
-  linked_more : {ss : List Shelf} → IsKept t ss → (key : NodeKey) (n : Node) → node_at now key ≡ Some n → n.gone ≡ false →
+  linked_more : {ss : List Shelf} → IsStored t ss → (key : NodeKey) (n : Node) → node_at now key ≡ Some n → n.gone ≡ false →
       parent_at now key ≡ n.parent
   linked_more ok key n is here = bears.parents key ∙ (elim (key_cases node.key key) [
     | inl same ↦
@@ -255,7 +255,7 @@ module _ (t now : Table Node) (node : Node) (bears : Bears t now node) where
       ∙ both_none (none_there s.id s.keys (and_left _ _ filed)) (none_yet ss (and_right _ _ filed))
 
   -- it stands apart
-  apart_more : {ss : List Shelf} → IsKept t ss → are_apart (node.key ∷ all_keys ss) ≡ true
+  apart_more : {ss : List Shelf} → IsStored t ss → are_apart (node.key ∷ all_keys ss) ≡ true
   apart_more {ss} ok = rw (none_yet ss ok.filed) ok.apart
 
   -- the shelf is filed
@@ -267,9 +267,9 @@ module _ (t now : Table Node) (node : Node) (bears : Bears t now node) where
       (rw (born_at, eq-eqb node.collection new.id of) refl))
 
   -- all that holds of forests holds
-  pub kept-born : (new : Shelf) (ss : List Shelf) → IsKept t ss → new.keys ≡ keys_before new.id ss ++ node.key ∷ [] →
+  pub kept-born : (new : Shelf) (ss : List Shelf) → IsStored t ss → new.keys ≡ keys_before new.id ss ++ node.key ∷ [] →
       list_all (is_filed t new.id) (keys_before new.id ss) ≡ true → node.collection ≡ new.id → IsWhole (collection_in now new) →
-      IsKept now (put_shelf new ss)
+      IsStored now (put_shelf new ss)
   kept-born new ss ok keys own of whole =
       let same = keys-born new node.key ss ok.rising keys in
       record {

@@ -16,10 +16,10 @@ use Rattle.alloc_event.specs.declared.change.Change.{Change}
 use Rattle.alloc_event.specs.declared.node.Node.{Node}
 use Rattle.alloc_event.specs.Decisions.{is_left_of}
 use Rattle.alloc_event.specs.Forest.{Collection, all_held, pages_in}
-use Rattle.alloc_event.specs.Kept.{Shelf, AreRising, IsHung, IsKept, IsWhole, Bears, Gives, SameTable, Finishes, born, put_shelf, collection_in, nodes_with, forest_of, all_keys, are_filed, is_filed, all_of}
+use Rattle.alloc_event.specs.Kept.{Shelf, AreRising, IsHung, IsStored, IsWhole, Bears, Gives, SameTable, Finishes, born, put_shelf, collection_in, nodes_with, forest_of, all_keys, are_filed, is_filed, all_of}
 use Rattle.alloc_event.specs.Nodes.{is_of, node_of, new_root}
 use Rattle.alloc_event.specs.Scenes.{IsSound, are_distinct, heads_itself}
-use Rattle.alloc_event.specs.Settling.{Handles, Settles, put, given_back, MayChange, collection_or_new, with_birth, is_kept}
+use Rattle.alloc_event.specs.Settling.{Handles, Settles, put, given_back, MayChange, collection_or_new, with_birth, has_collection}
 use Rattle.alloc_event.specs.Ties.{are_rooted}
 use Rattle.alloc_event.specs.Units.{are_united, shares_unit}
 use Rattle.alloc_event.proofs.changes.Altering.{any-append, filed_at, kept_of, found_id, found_filed, found_whole, shelf_by, looked-of, none_above}
@@ -51,7 +51,7 @@ whole-empty : (id : ℕ) → IsWhole (record { id = id; nodes = []; buffers = No
 whole-empty id = record { sound = record { distinct = refl; heads = refl; one_root = refl; few = refl }; rooted = refl; united = refl }
 
 -- by the shelf that is found
-before-by : (t : Table Node) (ss : List Shelf) → IsKept t ss → (id : ℕ) (o : Option Shelf) → find (λ (s : Shelf). s.id == id) ss ≡ o →
+before-by : (t : Table Node) (ss : List Shelf) → IsStored t ss → (id : ℕ) (o : Option Shelf) → find (λ (s : Shelf). s.id == id) ss ≡ o →
     IsBefore t ss id (unwrap_or (option_map (collection_in t) o) (record { id = id; nodes = []; buffers = None; held = [] }))
 before-by t ss ok id None is = record {
   id_is = refl;
@@ -72,7 +72,7 @@ before-by t ss ok id (Some s) is =
     }
 
 -- the collection with the id, or an empty one
-pub before_is : (t : Table Node) (ss : List Shelf) → IsKept t ss → (id : ℕ) → IsBefore t ss id (collection_or_new (forest_of t ss) id)
+pub before_is : (t : Table Node) (ss : List Shelf) → IsStored t ss → (id : ℕ) → IsBefore t ss id (collection_or_new (forest_of t ss) id)
 before_is t ss ok id =
     subst (λ (o : Option Collection). IsBefore t ss id (unwrap_or o (record { id = id; nodes = []; buffers = None; held = [] })))
     (sym (collection_is t id ss))
@@ -171,14 +171,14 @@ lacks_key t id named key ns keys is filed none =
     any-is_of key ns ∙ ap (list_any (same_key key)) (ap keys_in is ∙ looked-keys t id named keys filed) ∙ none
 
 -- the node above is found in the collection
-pub found_above : (t : Table Node) (ss : List Shelf) → IsKept t ss → (c : Collection) (up : NodeKey) (n : Node) → node_at t up ≡ Some n →
+pub found_above : (t : Table Node) (ss : List Shelf) → IsStored t ss → (c : Collection) (up : NodeKey) (n : Node) → node_at t up ≡ Some n →
     c.nodes ≡ nodes_with t (keys_before n.collection ss) → node_of c.nodes up ≡ Some n
 found_above t ss ok c up n is nodes =
     let own = in_own t ss up n ok.rising ok.filed is (ok.there up n is) in
     ap (λ ns. node_of ns up) nodes ∙ node_of-looked (node_at t) ok.named (keys_before n.collection ss) up ∙ rw (own, is) refl
 
 -- the collection with the birth
-birth_by : (t : Table Node) (ss : List Shelf) → IsKept t ss →
+birth_by : (t : Table Node) (ss : List Shelf) → IsStored t ss →
     (id : ℕ) (parent : Option NodeKey) (attached : Bool) (client event : ℕ) (above : Option Node) → Above t ss id parent above →
     (key : NodeKey) (c : Collection) → IsBefore t ss id c →
     with_birth parent attached client event key c ≡ grown c (born above attached id event client key)
@@ -190,7 +190,7 @@ birth_by t ss ok id (Some _) attached client event (Some _) (Child up n is own h
     rw found refl
 
 -- the node above is left in the collection
-above_left : (t : Table Node) (ss : List Shelf) → IsKept t ss →
+above_left : (t : Table Node) (ss : List Shelf) → IsStored t ss →
     (id : ℕ) (parent : Option NodeKey) (attached : Bool) (client event : ℕ) (above : Option Node) → Above t ss id parent above →
     (key : NodeKey) (c : Collection) → IsBefore t ss id c →
     option_map_or (is_left_of c.nodes) (born above attached id event client key).parent true ≡ true
@@ -202,7 +202,7 @@ above_left t ss ok id (Some _) attached client event (Some _) (Child up n is own
     left_in c.nodes n (In-find (is_of up) c.nodes n found).0 here
 
 -- and is the parent of the node, and of its unit where that heads none
-above_shares : (t : Table Node) (ss : List Shelf) → IsKept t ss →
+above_shares : (t : Table Node) (ss : List Shelf) → IsStored t ss →
     (id : ℕ) (parent : Option NodeKey) (attached : Bool) (client event : ℕ) (above : Option Node) → Above t ss id parent above →
     (key : NodeKey) (c : Collection) → IsBefore t ss id c → (q : Node) → In q c.nodes →
     shares_unit (born above attached id event client key) q ≡ true
@@ -221,14 +221,14 @@ above_shares t ss ok id (Some _) false client event (Some _) (Child up n is own 
     ]
 
 -- it has the key that is named
-pub above_key : (t : Table Node) (ss : List Shelf) → IsKept t ss → (id : ℕ) (parent : Option NodeKey) (above : Option Node) →
+pub above_key : (t : Table Node) (ss : List Shelf) → IsStored t ss → (id : ℕ) (parent : Option NodeKey) (above : Option Node) →
     Above t ss id parent above → option_map (λ (n : Node). n.key) above ≡ parent
 above_key t ss ok id None None (Root none) = refl
 above_key t ss ok id None (Some _) at = elim at [ ]
 above_key t ss ok id (Some _) None at = elim at [ ]
 above_key t ss ok id (Some _) (Some _) (Child up n is own here) = ap Some (ok.named up n is)
 
-module _ (t now : Table Node) (ss : List Shelf) (ok : IsKept t ss) (id : ℕ) (parent : Option NodeKey) (attached : Bool) (client event : ℕ)
+module _ (t now : Table Node) (ss : List Shelf) (ok : IsStored t ss) (id : ℕ) (parent : Option NodeKey) (attached : Bool) (client event : ℕ)
     (above : Option Node) (at : Above t ss id parent above) (key : NodeKey)
     (bears : Bears t now (born above attached id event client key)) where
   -- the node
@@ -300,7 +300,7 @@ module _ (t now : Table Node) (ss : List Shelf) (ok : IsKept t ss) (id : ℕ) (p
   }
 
   -- all that holds of forests holds
-  pub born_kept : IsKept now (put_shelf (shelf_by born_collection) ss)
+  pub born_kept : IsStored now (put_shelf (shelf_by born_collection) ss)
   born_kept = kept-born t now node bears (shelf_by born_collection) ss ok
       (subst (λ (i : ℕ). keys_in born_collection.nodes ≡ keys_before i ss ++ node.key ∷ []) (sym before.id_is) born_keys)
       (subst (λ (i : ℕ). list_all (is_filed t i) (keys_before i ss) ≡ true) (sym before.id_is) before.filed)
@@ -333,7 +333,7 @@ none_by t None h = refl
 none_by t (Some s) h = absurd (false≢true (sym h))
 
 -- a new collection is not there yet
-new_root_is : (t : Table Node) (ss : List Shelf) (id : ℕ) → not (is_kept (forest_of t ss) id) ≡ true →
+new_root_is : (t : Table Node) (ss : List Shelf) (id : ℕ) → not (has_collection (forest_of t ss) id) ≡ true →
     find (λ (s : Shelf). s.id == id) ss ≡ None
 new_root_is t ss id new =
     none_by t (find (λ (s : Shelf). s.id == id) ss) (not-true _ (ap (λ o. not (is_some o)) (sym (collection_is t id ss)) ∙ new))
@@ -345,7 +345,8 @@ child_is t ss id up None is fit = absurd (false≢true fit)
 child_is t ss id up (Some n) is fit = Child up n is (eqb-true _ _ (and_left _ _ fit)) (not-true _ (and_right _ _ fit))
 
 -- the node above, by what the change asks
-pub above_is : (t : Table Node) (ss : List Shelf) → IsKept t ss → (id : ℕ) (parent : Option NodeKey) (attached : Bool) (client event : ℕ) →
+pub above_is : (t : Table Node) (ss : List Shelf) → IsStored t ss → (id : ℕ) (parent : Option NodeKey) (attached : Bool)
+    (client event : ℕ) →
     MayChange (forest_of t ss) id (Change.Birth parent attached client event) → Above t ss id parent (option_and_then (node_at t) parent)
 above_is t ss ok id None attached client event may = Root (new_root_is t ss id may.named)
 above_is t ss ok id (Some up) attached client event may =

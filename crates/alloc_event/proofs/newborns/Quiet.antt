@@ -19,7 +19,7 @@ use Rattle.alloc_event.specs.declared.node.Node.{Node}
 use Rattle.alloc_event.specs.Calm.{IsCalm, IsCounted, strong_count, over_but}
 use Rattle.alloc_event.proofs.leaving.Noted.{not_over_but}
 use Rattle.alloc_event.specs.Forest.{Collection, all_held, beside}
-use Rattle.alloc_event.specs.Kept.{Shelf, IsKept, Bears, Finishes, born, put_shelf, collection_in, forest_of, is_strong, shelf_of}
+use Rattle.alloc_event.specs.Kept.{Shelf, IsStored, Bears, Finishes, born, put_shelf, collection_in, forest_of, is_strong, shelf_of}
 use Rattle.alloc_event.specs.Nodes.{is_of, member_of, members_of}
 use Rattle.alloc_event.specs.Settling.{Handles, collection_or_new, given_back, is_home_in, put, standing, with_birth}
 use Rattle.alloc_event.specs.Still.{IsStill, no_shelf, shelf_before, shelf_with}
@@ -92,7 +92,7 @@ born_here (Some above) attached id event client key = refl
 
 -- ---- the birth
 
-module _ (t now : Table Node) (ss : List Shelf) (ok : IsKept t ss) (id : ℕ) (parent : Option NodeKey) (attached : Bool) (client event : ℕ)
+module _ (t now : Table Node) (ss : List Shelf) (ok : IsStored t ss) (id : ℕ) (parent : Option NodeKey) (attached : Bool) (client event : ℕ)
     (above : Option Node) (at : Above t ss id parent above) (key : NodeKey) (bears : Bears t now (born above attached id event client key))
     (handles : Handles) (still : IsStill handles (collection_or_new (forest_of t ss) id)) where
   abbrev c0 : Collection
@@ -217,8 +217,8 @@ module _ (t now : Table Node) (ss : List Shelf) (ok : IsKept t ss) (id : ℕ) (p
     quiet_ok pool = subst (λ (b : List Shelf). Finishes pool handles t ss now b after) (sym behind_is) (quiet_finishes pool)
 
     -- all that holds of forests holds
-    pub quiet_kept : IsKept now behind
-    quiet_kept = subst (IsKept now) (sym behind_is) (born_kept t now ss ok id parent attached client event above at key bears)
+    pub quiet_kept : IsStored now behind
+    quiet_kept = subst (IsStored now) (sym behind_is) (born_kept t now ss ok id parent attached client event above at key bears)
 
     -- the pages stay
     pub quiet_held : all_held (forest_of now behind) ≡ all_held (forest_of t ss)

@@ -15,7 +15,7 @@ use Rattle.alloc_event.specs.declared.node.Node.{Node}
 use Rattle.alloc_event.specs.declared.units.Unit.{Unit}
 use Rattle.alloc_event.specs.Counts.{AreUnits, AreUnitsBut, HasUnits, lives_in, started, tallied, unit_at, unit_of, waits_in}
 use Rattle.alloc_event.specs.Forest.{Collection, collection_at}
-use Rattle.alloc_event.specs.Kept.{Bears, IsKept, IsWhole, Shelf, all_keys, born, collection_in, forest_of, is_filed, nodes_with, put_shelf}
+use Rattle.alloc_event.specs.Kept.{Bears, IsStored, IsWhole, Shelf, all_keys, born, collection_in, forest_of, is_filed, nodes_with, put_shelf}
 use Rattle.alloc_event.specs.Nodes.{is_of}
 use Rattle.alloc_event.specs.Settling.{Handles, collection_or_new, put}
 use Rattle.alloc_event.specs.Still.{IsStill, shelf_before, shelf_with}
@@ -34,7 +34,7 @@ times_zero test [] none = refl
 times_zero test (n ∷ ns) none = rw (none n (inl refl)) (times_zero test ns (λ m on. none m (inr on)))
 
 -- the table has the old nodes of the collection and the one that was born, and the others have their counts
-module _ (t : Table Node) (ss : List Shelf) (kept : IsKept t ss) (id : ℕ) (s : Shelf) (on : In s ss) (own : s.id ≡ id) (old : List Node)
+module _ (t : Table Node) (ss : List Shelf) (kept : IsStored t ss) (id : ℕ) (s : Shelf) (on : In s ss) (own : s.id ≡ id) (old : List Node)
     (node : Node)
     (grown : nodes_with t s.keys ≡ old ++ node ∷ []) (here : node.gone ≡ false) (fresh : list_any (is_of node.key) old ≡ false)
     (olds : (n : Node) → In n old → n.gone ≡ false → (h : Node) × In h old × (h.key ≡ n.head)) (of : (n : Node) →
@@ -195,7 +195,7 @@ keys_fewer s (x ∷ xs) (inr on) =
     let b = keys_fewer s xs on in
     omega arith
 
-module _ (t now : Table Node) (ss : List Shelf) (ok : IsKept t ss) (id : ℕ) (parent : Option NodeKey) (attached : Bool) (client event : ℕ)
+module _ (t now : Table Node) (ss : List Shelf) (ok : IsStored t ss) (id : ℕ) (parent : Option NodeKey) (attached : Bool) (client event : ℕ)
     (above : Option Node) (up : Above t ss id parent above) (key : NodeKey) (bears : Bears t now (born above attached id event client key))
     (handles : Handles) (still : IsStill handles (collection_or_new (forest_of t ss) id)) (behind : List Shelf)
     (placed : behind ≡ put_shelf (shelf_with (shelf_before id ss) key) ss) where
@@ -211,7 +211,7 @@ module _ (t now : Table Node) (ss : List Shelf) (ok : IsKept t ss) (id : ℕ) (p
   before_it : IsBefore t ss id c0
   before_it = before_is t ss ok id
 
-  kept_now : IsKept now behind
+  kept_now : IsStored now behind
   kept_now = quiet_kept t now ss ok id parent attached client event above up key bears handles still behind placed
 
   shelf_on : In (shelf_by with_it) behind

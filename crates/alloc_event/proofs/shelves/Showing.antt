@@ -15,7 +15,7 @@ use Rattle.alloc_event.specs.declared.node.Node.{Node}
 use Rattle.alloc_event.specs.Forest.{summary_of, all_nodes, node_at as forest_node, collection_at}
 use Rattle.alloc_event.specs.Nodes.{node_of}
 use Rattle.alloc_event.specs.Scenes.{held_pages, given_few}
-use Rattle.alloc_event.specs.Kept.{Shelf, shelf_of, shelves_of, nodes_with, collection_in, forest_of, all_keys, is_filed, are_filed, IsKept}
+use Rattle.alloc_event.specs.Kept.{Shelf, shelf_of, shelves_of, nodes_with, collection_in, forest_of, all_keys, is_filed, are_filed, IsStored}
 use Rattle.alloc_event.proofs.lists.Lookups.{nothing, node_of-looked}
 
 -- the nodes of all collections are those of all keys
@@ -26,13 +26,13 @@ nodes_of_all t (e ∷ es) =
     ∙ sym (filter_map-append (node_at t) e.keys (all_keys es))
 
 -- by what the table has there
-node_is-by : (t : Table Node) (es : List Shelf) → IsKept t es → (key : NodeKey) (o : Option Node) → node_at t key ≡ o →
+node_is-by : (t : Table Node) (es : List Shelf) → IsStored t es → (key : NodeKey) (o : Option Node) → node_at t key ≡ o →
     (if list_any (same_key key) (all_keys es) then o else None) ≡ o
 node_is-by t es ok key None is = nothing (list_any (same_key key) (all_keys es))
 node_is-by t es ok key (Some n) is = rw (ok.there key n is) refl
 
 -- a node of the forest is the table's
-pub node_is : (t : Table Node) (es : List Shelf) → IsKept t es → (key : NodeKey) → forest_node (forest_of t es) key ≡ node_at t key
+pub node_is : (t : Table Node) (es : List Shelf) → IsStored t es → (key : NodeKey) → forest_node (forest_of t es) key ≡ node_at t key
 node_is t es ok key =
     ap (λ ns. node_of ns key) (nodes_of_all t es)
     ∙ node_of-looked (node_at t) ok.named (all_keys es) key
@@ -104,7 +104,7 @@ shelf_found id (e ∷ es) =
     ]
 
 -- the summary of a collection whose entry is found
-pub collection_some : (t : Table Node) (es : List Entry) → IsKept t (shelves_of es) → (id : ℕ) (e : Entry) →
+pub collection_some : (t : Table Node) (es : List Entry) → IsStored t (shelves_of es) → (id : ℕ) (e : Entry) →
     find (λ (x : Entry). x.id == id) es ≡ Some e →
     option_map summary_of (collection_at (forest_of t (shelves_of es)) id) ≡ Some
     (record { nodes = length e.keys.items; buffers = e.buffers; held = length e.held.items })

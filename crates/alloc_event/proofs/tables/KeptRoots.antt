@@ -22,7 +22,7 @@ use Rattle.alloc_event.specs.Forest.{Collection}
 use Rattle.alloc_event.specs.Nodes.{above_among, affected, after_allocation, after_effect, after_end, after_loss, ended, given_buffers, is_of, is_taken, lost, member_of, members_of, new_child, new_root, node_of}
 use Rattle.alloc_event.specs.Settling.{Handles, Settles, Rests, Forces, changed, is_root_of, made}
 use Rattle.alloc_event.proofs.tables.Chains.{one_line}
-use Rattle.alloc_event.specs.Ties.{IsFit, are_rooted, hangs_on}
+use Rattle.alloc_event.specs.Ties.{FitsChange, are_rooted, hangs_on}
 use Rattle.alloc_event.proofs.tables.Rooted.{AreOne, HasLine, IsRooted, left_in, left_node, left_within, line_of}
 use mathlib.Core.List.{reverse_aux}
 
@@ -305,7 +305,7 @@ rooted_settled pool handles others _ _ old (Forces c after mark forces settles) 
     rooted_settled pool handles others (made pool others mark c) after (rooted_made pool others mark c old) settles
 
 -- so does a change
-pub rooted_changed : (change : Change) (key : NodeKey) (c : Collection) → IsFit change key c.nodes → IsRooted c.nodes →
+pub rooted_changed : (change : Change) (key : NodeKey) (c : Collection) → FitsChange change key c.nodes → IsRooted c.nodes →
     IsRooted (changed change key c).nodes
 rooted_changed (Change.Birth None attached client event) key c fit old =
     rooted_birth c.nodes old (new_root key c.id event client) fit.0 refl

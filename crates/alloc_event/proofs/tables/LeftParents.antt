@@ -11,7 +11,7 @@ use Rattle.alloc_event.specs.declared.change.Change.{Change}
 use Rattle.alloc_event.specs.declared.node.Node.{Node}
 use Rattle.alloc_event.specs.Decisions.{is_left_of}
 use Rattle.alloc_event.specs.Forest.{Collection}
-use Rattle.alloc_event.specs.Kept.{Shelf, IsKept, forest_of, loses_left, nodes_with}
+use Rattle.alloc_event.specs.Kept.{Shelf, IsStored, forest_of, loses_left, nodes_with}
 use Rattle.alloc_event.specs.Nodes.{is_of}
 use Rattle.alloc_event.specs.Settling.{MayChange, collection_or_new}
 use Rattle.alloc_event.proofs.tables.Hanging.{in_all, looked_there}
@@ -19,7 +19,7 @@ use Rattle.alloc_event.proofs.newborns.Newborn.{before_is, found_above}
 use Rattle.alloc_event.proofs.tables.Rooted.{left_in, left_node, left_parent}
 use Rattle.alloc_event.proofs.shelves.Showing.{node_is}
 
-module _ (t : Table Node) (ss : List Shelf) (ok : IsKept t ss) where
+module _ (t : Table Node) (ss : List Shelf) (ok : IsStored t ss) where
   -- the collection with this id
   abbrev at : ℕ → Collection
   at id = collection_or_new (forest_of t ss) id

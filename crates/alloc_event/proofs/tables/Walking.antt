@@ -11,7 +11,7 @@ use Rattle.node_table.specs.Changes.{SameKeys}
 use Rattle.node_table.proofs.Keys.{key_cases, same_key-true, same_key-false}
 use Rattle.alloc_event.specs.declared.node.Node.{Node}
 use Rattle.alloc_event.specs.Forgetting.{TakesOut, left_at, thinned, unless_over}
-use Rattle.alloc_event.specs.Kept.{Shelf, IsKept}
+use Rattle.alloc_event.specs.Kept.{Shelf, IsStored}
 use Rattle.alloc_event.specs.Nodes.{is_over, is_spent}
 use Rattle.alloc_event.proofs.tables.TakingOut.{SameKeys-refl, SameKeys-trans}
 use Rattle.alloc_event.proofs.leaving.Thinning.{all_thinned-same, found_before, taken-kept, thinned-twice}
@@ -19,14 +19,14 @@ use Rattle.alloc_event.proofs.leaving.Thinning.{all_thinned-same, found_before, 
 -- what was taken out so far: the walk over the rest ends where the whole does
 pub record Walks (old now : Table Node) (keys rest : List NodeKey) : Type 0 where
   pub look : (k : NodeKey) → left_at now rest k ≡ left_at old keys k
-  pub kept : (ss : List Shelf) → IsKept old ss → IsKept now (map (thinned now) ss)
+  pub kept : (ss : List Shelf) → IsStored old ss → IsStored now (map (thinned now) ss)
   pub given : SameKeys old now
 
 -- nothing so far
 pub Walks-none : (t : Table Node) (keys : List NodeKey) → Walks t t keys keys
 Walks-none t keys = record {
   look = λ k. refl;
-  kept = λ ss ok. subst (IsKept t) (sym (all_thinned-same t ss ok.filed)) ok;
+  kept = λ ss ok. subst (IsStored t) (sym (all_thinned-same t ss ok.filed)) ok;
   given = SameKeys-refl t;
 }
 
@@ -102,7 +102,7 @@ pub Walks-goes : (old t now : Table Node) (keys older : List NodeKey) (key : Nod
     TakesOut t now key → option_map_or is_over (node_at t key) false ≡ true → Walks old now keys older
 Walks-goes old t now keys older key walks out over = record {
   look = λ k. goes_look t now older key out over k ∙ walks.look k;
-  kept = λ ss ok. subst (IsKept now) (thinned-twice t now (found_before t now key out) ss)
+  kept = λ ss ok. subst (IsStored now) (thinned-twice t now (found_before t now key out) ss)
       (taken-kept t now key out (over_gone (node_at t key) over) (map (thinned t) ss) (walks.kept ss ok));
   given = SameKeys-trans old t now walks.given out.keys;
 }

@@ -9,7 +9,7 @@ use Rattle.node_table.specs.Changes.{Writes, with_node}
 use Rattle.node_table.proofs.Keys.{key_cases, same_key-true, same_key-false}
 use Rattle.alloc_event.specs.declared.node.Node.{Node}
 use Rattle.alloc_event.specs.Forest.{Collection, with_nodes}
-use Rattle.alloc_event.specs.Kept.{Shelf, collection_in, is_filed, are_filed, IsKept, IsWhole}
+use Rattle.alloc_event.specs.Kept.{Shelf, collection_in, is_filed, are_filed, IsStored, IsWhole}
 use Rattle.alloc_event.specs.Nodes.{is_of}
 use Rattle.alloc_event.specs.Scenes.{IsSound, are_distinct, heads_itself}
 use Rattle.alloc_event.proofs.tables.KeptRoots.{rooted_same}
@@ -115,7 +115,7 @@ module _ (f : Node → Node) (same : (n : Node) → IsSameNode (f n) n) where
   pub kept-with : ((n : Node) → (f n).gone ≡ false → n.gone ≡ false) → (t now : Table Node) → now.first ≡ t.first →
       table_len now ≡ table_len t → ((key : NodeKey) → node_at now key ≡ option_map f (node_at t key)) →
       ((key : NodeKey) → parent_at now key ≡ parent_at t key) → (es : List Shelf) →
-      AllByRecursion (λ (e : Shelf). IsWhole (collection_in now e)) es → IsKept t es → IsKept now es
+      AllByRecursion (λ (e : Shelf). IsWhole (collection_in now e)) es → IsStored t es → IsStored now es
   kept-with before t now first len each parents es whole ok = record {
     first = first ∙ ok.first;
     rising = ok.rising;
@@ -134,7 +134,7 @@ module _ (f : Node → Node) (same : (n : Node) → IsSameNode (f n) n) where
   -- so where no node goes
   pub kept-map : ((n : Node) → (f n).gone ≡ n.gone) → (t now : Table Node) → now.first ≡ t.first → table_len now ≡ table_len t →
       ((key : NodeKey) → node_at now key ≡ option_map f (node_at t key)) → ((key : NodeKey) → parent_at now key ≡ parent_at t key) →
-      (es : List Shelf) → IsKept t es → IsKept now es
+      (es : List Shelf) → IsStored t es → IsStored now es
   kept-map gone t now first len each parents es ok =
       kept-with (λ n h. sym (gone n) ∙ h) t now first len each parents es (whole-map gone t now each es ok.whole) ok
 

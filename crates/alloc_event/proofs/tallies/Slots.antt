@@ -17,7 +17,7 @@ use Rattle.alloc_event.specs.declared.node.Node.{Node}
 use Rattle.alloc_event.specs.declared.units.Unit.{Unit}
 use Rattle.alloc_event.specs.Counts.{AreUnits, AreUnitsBut, HasUnits, cleared, lives_in, no_unit, started, tallied, unit_at, unit_of, waits_in}
 use Rattle.alloc_event.specs.Forest.{Collection, Forest, beside, collection_at, is_left, tidied, with_nodes, without_over_in}
-use Rattle.alloc_event.specs.Kept.{AreRising, Finishes, Gives, IsKept, IsWhole, Shelf, are_filed, collection_in, forest_of, is_filed, nodes_with}
+use Rattle.alloc_event.specs.Kept.{AreRising, Finishes, Gives, IsStored, IsWhole, Shelf, are_filed, collection_in, forest_of, is_filed, nodes_with}
 use Rattle.alloc_event.specs.Nodes.{is_of, is_over, is_spent, new_child, node_of}
 use Rattle.alloc_event.specs.Settling.{Forces, Handles, Rests, Settles, changed, collection_or_new, given_back, is_birth, is_root_of, made, put, with_birth}
 use Rattle.alloc_event.proofs.changes.Altering.{found_filed, found_id, found_whole, looked-of}
@@ -119,7 +119,7 @@ but_join us id (c ∷ cs) but own = (
 )
 
 -- where the one has its counts and those of the others stay
-pub units_own : (t : Table Node) (ss : List Shelf) → IsKept t ss → (id : ℕ) (us new : List Unit) → Stays t id us new →
+pub units_own : (t : Table Node) (ss : List Shelf) → IsStored t ss → (id : ℕ) (us new : List Unit) → Stays t id us new →
     AreUnitsBut us id (map (collection_in t) ss) →
     (s : Shelf) → In s ss → s.id ≡ id → HasUnits new (nodes_with t s.keys) → AreUnits new (map (collection_in t) ss)
 units_own t ss kept id us new stays but s on own has =
@@ -234,7 +234,7 @@ in_put c d (e ∷ es) on differ = from (e.id == c.id) (nat_lt c.id e.id) (λ the
 -- so the others have their counts where the new key's slot is started
 pub but_started : (pool : ℕ) (handles : Handles) (old : Table Node) (before : List Shelf) (new : Table Node) (behind : List Shelf)
     (c : Collection) (id : ℕ) → c.id ≡ id →
-    IsKept old before → IsKept new behind → (key : NodeKey) → Gives old new key → Finishes pool handles old before new behind c →
+    IsStored old before → IsStored new behind → (key : NodeKey) → Gives old new key → Finishes pool handles old before new behind c →
     (us : List Unit) → AreUnits us (map (collection_in old) before) → AreUnitsBut (started key.slot us) id (map (collection_in new) behind)
 but_started pool handles old before new behind c id own kept_old kept_new key gives fin us all =
     all_of_shelves behind (λ x on. on) (but_finished pool handles old before new behind c id own fin us all)
@@ -307,7 +307,8 @@ units_filter us p nodes over has =
 
 -- ---- counting anew
 
-module _ (t : Table Node) (ss : List Shelf) (kept : IsKept t ss) (id : ℕ) (s : Shelf) (found : find (λ (x : Shelf). x.id == id) ss ≡ Some s)
+module _ (t : Table Node) (ss : List Shelf) (kept : IsStored t ss) (id : ℕ) (s : Shelf) (found : find (λ
+    (x : Shelf). x.id == id) ss ≡ Some s)
     (us : List Unit) (few : length s.keys ≤ 18446744073709551615) where
   abbrev nodes : List Node
   nodes = nodes_with t s.keys

@@ -18,7 +18,7 @@ use Rattle.alloc_event.specs.declared.node.Node.{Node}
 use Rattle.alloc_event.specs.Decisions.{decided, early_failure, first_step, has_strong, is_unplaced, late_failure, later_step, mark_of, waiting, wanted_by, IsAllocating, IsStep}
 use Rattle.alloc_event.specs.Forest.{Collection, pages_in}
 use Rattle.alloc_event.specs.InTurn.{GoesOn, IsGiven, Next, Same, Serves}
-use Rattle.alloc_event.specs.Moves.{Given, work}
+use Rattle.alloc_event.specs.Progress.{Given, work}
 use Rattle.alloc_event.specs.Nodes.{after_allocation, given_buffers}
 use Rattle.alloc_event.specs.Questions.{is_deserted_node, is_live_node, is_next_node, is_ready_node, is_root_left, lives_below}
 use Rattle.alloc_event.specs.Scenes.{IsSound, frame_of, heads_itself, is_held_strongly}

@@ -2,7 +2,7 @@
 ghost use Rattle.std.specs.Prelude.{◌≡◌, true};
 ghost use Rattle.alloc_event.specs.declared.change.Effect.{Effect as Effected};
 ghost use Rattle.alloc_event.specs.Forest.{Forest as Trees, IsPoolOf};
-ghost use Rattle.alloc_event.specs.Settling.{MayChange, is_kept, is_there};
+ghost use Rattle.alloc_event.specs.Settling.{MayChange, has_collection, is_there};
 ghost use Rattle.forest_trials.specs.declared.tests.ground.TheConstants.{LIMIT};
 
 use alloc_event::change::{Change, Effect};
@@ -101,7 +101,7 @@ impl Ground {
     }
 
     fn is_kept(&self) -> bool
-        ensures { result ≡ is_kept self.now.forest HERE }
+        ensures { result ≡ has_collection self.now.forest HERE }
     {
         self.forest.collection(HERE).is_some()
     }

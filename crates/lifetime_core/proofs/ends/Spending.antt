@@ -14,7 +14,7 @@ use Rattle.alloc_event.specs.Forest.{Collection, Forest, SameKeys, all_held, giv
 use Rattle.alloc_event.specs.Nodes.{is_over, is_spent, with_end}
 use Rattle.lifetime_core.specs.Steps.{with_place, without_over}
 use Rattle.lifetime_core.specs.Tasks.{spent_place}
-use Rattle.lifetime_core.specs.Whole.{AreFit, AreOnce, IsAmid, IsFit, IsSound, IsTidy, Rise}
+use Rattle.lifetime_core.specs.Whole.{AreFit, AreOnce, IsAmid, IsNodeFit, IsSound, IsTidy, Rise}
 use Rattle.lifetime_core.proofs.collections.ById.{ids, others_tidy}
 use Rattle.lifetime_core.proofs.collections.Replacing.{map-stays}
 
@@ -100,8 +100,8 @@ spent_from None c n there = (n, there, refl)
 spent_from (Some key) c n there = In-map (with_end key End.Spent) c.nodes n there
 
 -- a node is fit once its end is spent
-spent_fit : (Known : NodeKey → Type 0) (id : ℕ) (leaving : Option NodeKey) (n : Node) → IsFit Known id leaving n →
-    IsFit Known id None (spent_node leaving n)
+spent_fit : (Known : NodeKey → Type 0) (id : ℕ) (leaving : Option NodeKey) (n : Node) → IsNodeFit Known id leaving n →
+    IsNodeFit Known id None (spent_node leaving n)
 spent_fit Known id None n fit = fit
 spent_fit Known id (Some key) n fit = record {
   key = fit.key;
@@ -167,7 +167,7 @@ module _ (f : Forest) (id : ℕ) (leaving : Option NodeKey) (amid : IsAmid f id 
 
 -- a node is fit among keys of which more is known
 pub known_more : (Known More : NodeKey → Type 0) (id : ℕ) (leaving : Option NodeKey) (n : Node) → (Known n.key → More n.key) →
-    IsFit Known id leaving n → IsFit More id leaving n
+    IsNodeFit Known id leaving n → IsNodeFit More id leaving n
 known_more Known More id leaving n more fit =
     record { key = more fit.key; collection = fit.collection; failed = fit.failed; left = fit.left }
 
@@ -220,11 +220,11 @@ module _ (f g : Forest) (id : ℕ) (leaving : Option NodeKey) (amid : IsAmid f i
       let old = left_from c there in
       let m = node_from c old.0 old.2 n in_nodes in
       let fit = spent_fit (λ key. given f key ≡ true) old.0.id leaving m.0 (amid.fit old.0 old.1 m.0 m.1) in
-      let here : IsFit (λ key. given g key ≡ true) old.0.id None (spent_node leaving m.0) =
+      let here : IsNodeFit (λ key. given g key ≡ true) old.0.id None (spent_node leaving m.0) =
       known_more (λ key. given f key ≡ true) (λ key. given g key ≡ true) old.0.id None (spent_node leaving m.0)
       (still_given (spent_node leaving m.0).key) fit in
-      subst (λ (i : ℕ). IsFit (λ key. given g key ≡ true) i None n) (sym (left_id c old.0 old.2))
-      (subst (IsFit (λ key. given g key ≡ true) old.0.id None) (sym m.2) here)
+      subst (λ (i : ℕ). IsNodeFit (λ key. given g key ≡ true) i None n) (sym (left_id c old.0 old.2))
+      (subst (IsNodeFit (λ key. given g key ≡ true) old.0.id None) (sym m.2) here)
 
   -- no key stands in two collections that are left
   apart_left : (c d : Collection) → In c g.collections → In d g.collections → (n m : Node) → In n c.nodes → In m d.nodes → n.key ≡ m.key →

@@ -14,7 +14,7 @@ use Rattle.alloc_event.specs.Forest.{Collection, Forest, SameKeys, all_held, col
 use Rattle.alloc_event.specs.Nodes.{is_over, is_spent, with_end}
 use Rattle.lifetime_core.specs.declared.task.Place.{Place}
 use Rattle.lifetime_core.specs.Steps.{with_place, without_over}
-use Rattle.lifetime_core.specs.Whole.{AreOnce, AreUpTo, CanCarry, IsFit, IsSound, IsTidy}
+use Rattle.lifetime_core.specs.Whole.{AreOnce, AreUpTo, CanCarry, IsNodeFit, IsSound, IsTidy}
 use Rattle.lifetime_core.proofs.forced.Fitting.{mapped_once}
 use Rattle.lifetime_core.proofs.lists.Maps.{filter-all}
 use Rattle.lifetime_core.proofs.collections.ById.{all_tidy, found_by_id, ids}
@@ -81,7 +81,7 @@ module _ (f : Forest) (sound : IsSound f) (key : NodeKey) (end : End) (here : No
 
   -- each node is still fit
   carried_fit : (c : Collection) → In c f.collections → (n : Node) → In n c.nodes →
-      IsFit (λ k. given f k ≡ true) c.id None (with_end key end n)
+      IsNodeFit (λ k. given f k ≡ true) c.id None (with_end key end n)
   carried_fit c on n n_in =
       let fit = sound.fit c on n n_in in
       record {
@@ -106,11 +106,11 @@ module _ (f : Forest) (sound : IsSound f) (key : NodeKey) (end : End) (here : No
     fit = λ c on n n_in.
         let c_from = In-map (placed_in key end unspent) f.collections c on in
         let n_from = In-map (with_end key end) c_from.0.nodes n (subst (λ (x : Collection). In n x.nodes) c_from.2 n_in) in
-        let fit : IsFit (λ k. given f k ≡ true) c_from.0.id None (with_end key end n_from.0) =
+        let fit : IsNodeFit (λ k. given f k ≡ true) c_from.0.id None (with_end key end n_from.0) =
         carried_fit c_from.0 c_from.1 n_from.0 n_from.1 in
-        let here : IsFit (λ k. given f k ≡ true) c_from.0.id None n =
-        subst (IsFit (λ k. given f k ≡ true) c_from.0.id None) (sym n_from.2) fit in
-        subst (λ (x : Collection). IsFit (λ k. given f k ≡ true) x.id None n) (sym c_from.2) here;
+        let here : IsNodeFit (λ k. given f k ≡ true) c_from.0.id None n =
+        subst (IsNodeFit (λ k. given f k ≡ true) c_from.0.id None) (sym n_from.2) fit in
+        subst (λ (x : Collection). IsNodeFit (λ k. given f k ≡ true) x.id None n) (sym c_from.2) here;
     apart = λ c d c_on d_on n m n_in m_in keys.
         let c_from = In-map (placed_in key end unspent) f.collections c c_on in
         let d_from = In-map (placed_in key end unspent) f.collections d d_on in

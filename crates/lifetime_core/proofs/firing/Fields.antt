@@ -34,10 +34,10 @@ use Rattle.alloc_event.specs.Forest.{Collection, Forest, SameKeys, collection_at
 use Rattle.alloc_event.specs.Settling.{no_key}
 use Rattle.lifetime_core.specs.declared.task.Place.{Place}
 use Rattle.lifetime_core.specs.declared.task.Task.{Task}
-use Rattle.lifetime_core.specs.Hands.{Moves}
+use Rattle.lifetime_core.specs.Hands.{MovesHandles}
 use Rattle.lifetime_core.specs.Reads.{readings_of, world_in}
 use Rattle.lifetime_core.specs.State.{State}
-use Rattle.lifetime_core.specs.Steps.{Gains, Work, at_collection, drop_at, swept, tracker_by, with_place, without_over, work_of}
+use Rattle.lifetime_core.specs.Steps.{GainsTracker, Work, at_collection, drop_at, swept, tracker_by, with_place, without_over, work_of}
 use Rattle.lifetime_core.specs.Tasks.{MayDo, Reworked, looked_in, work_in}
 use Rattle.lifetime_core.specs.Whole.{CanFinish, Concerns, IsNodeOf, IsSound, StillWaits}
 use Rattle.lifetime_core.proofs.forced.Forest.{node_with_key}
@@ -125,7 +125,7 @@ module _ (s : State) (call : Call) (asked : Reply) (limits : Bound) (client : �
       by (Some t) is = rw limit (tracked told tracks t is).room
 
   -- the ids are still those of events
-  pub still_numbered : (attached : Table) → IsTold → Tracks → Gains s.trackers tracking attached →
+  pub still_numbered : (attached : Table) → IsTold → Tracks → GainsTracker s.trackers tracking attached →
       All (λ (c : Cell). c.id ≤ s.events) s.trackers.cells →
       All (λ (c : Cell). c.id ≤ s.events + 1) attached.cells
   still_numbered attached told tracks gains numbered = by tracking refl gains
@@ -134,7 +134,7 @@ module _ (s : State) (call : Call) (asked : Reply) (limits : Bound) (client : �
       before c on = let below : c.id ≤ s.events =
           In-all (λ (d : Cell). d.id ≤ s.events) s.trackers.cells numbered c on in omega (arith, below)
 
-      by : (o : Option Waiting) → tracking ≡ o → Gains s.trackers o attached →
+      by : (o : Option Waiting) → tracking ≡ o → GainsTracker s.trackers o attached →
           All (λ (c : Cell). c.id ≤ s.events + 1) attached.cells
       by None is gains = all-In (λ (c : Cell). c.id ≤ s.events + 1) attached.cells (λ c on.
           before c (subst (λ (t : Table). In c t.cells) gains on))
@@ -175,7 +175,7 @@ made_filed f sound (Call.TrackWeak buffer) (Reply.Tracker id) t is =
 made_filed f sound _ _ t is = cc
 
 -- the trackers that wait are those that waited, and the one that is attached
-attached_from : (old new : Table) (o : Option Waiting) → Gains old o new → (t : Waiting) → In t new.unfired →
+attached_from : (old new : Table) (o : Option Waiting) → GainsTracker old o new → (t : Waiting) → In t new.unfired →
     In t old.unfired ⊎ (o ≡ Some t)
 attached_from old new None gains t on = inl (subst (λ (x : Table). In t x.unfired) gains on)
 attached_from old new (Some w) gains t on = elim (In-append old.unfired (w ∷ []) t (subst (λ (x : Table). In t x.unfired) gains.next on)) [
@@ -261,9 +261,9 @@ new_elsewhere w None (Some n) t is here other =
 
 module _ (s : State) (client : ℕ) (call : Call) (asked : Reply) (task : Option Task) (tracking : Option Waiting)
     (starts : Starts s client call asked task tracking)
-    (holds : Counts) (moves : Moves s.holds holds (Called client asked call)) (worked : Forest) (key : Option NodeKey)
+    (holds : Counts) (moves : MovesHandles s.holds holds (Called client asked call)) (worked : Forest) (key : Option NodeKey)
     (work : Reworked s.pool (total holds) s.forest (work_in task) key worked)
-    (amid : CanFinish worked task) (attached : Table) (gains : Gains s.trackers tracking attached) where
+    (amid : CanFinish worked task) (attached : Table) (gains : GainsTracker s.trackers tracking attached) where
   -- the other collections are as they were
   rest : LeavesRest s.forest worked (changed_by task)
   rest = leaves_rest s.pool (total holds) s.forest worked task key starts.sound starts.may work

@@ -32,7 +32,7 @@ use Rattle.alloc_event.specs.Forest.{node_at}
 use Rattle.lifetime_core.specs.Reads.{world_in}
 use Rattle.lifetime_core.specs.Shown.{AreTrackers, IsAfter, node_after, tracked_as}
 use Rattle.lifetime_core.specs.State.{State}
-use Rattle.lifetime_core.specs.Steps.{Follows, Gains, swept, tracker_by}
+use Rattle.lifetime_core.specs.Steps.{Follows, GainsTracker, swept, tracker_by}
 use Rattle.lifetime_core.proofs.lists.Maps.{filter-map, map-map}
 use Rattle.lifetime_core.proofs.views.Nodes.{node_kept}
 use Rattle.lifetime_core.proofs.views.ForTrackers.{IsSeen, recalled}
@@ -91,7 +91,7 @@ module _ (s : State) (marks : Timeline) (shown : IsAfter s marks) (limits : Boun
   tracked_later o is = tracked_after s.pool marks entry ∙ ap (λ (x : Option Tracked). cons_option x (tracked marks)) (sym is)
 
   -- so it is once the new tracker is attached
-  are_asked : (t : Table) (o : Option Waiting) → Gains s.trackers o t →
+  are_asked : (t : Table) (o : Option Waiting) → GainsTracker s.trackers o t →
       option_map tracked_as o ≡ tracked_at marks (Called client reply call) → AreAsked t
   are_asked t None same is = record {
     fired = ap (λ (x : Table). x.fired) same ∙ shown.trackers.fired;

@@ -23,7 +23,7 @@ use Rattle.alloc_event.specs.Nodes.{affected, after_allocation, after_loss, ende
 use Rattle.alloc_event.specs.Settling.{Handles, Settles, Rests, Forces, changed, is_birth, is_root_of, made, standing, with_birth}
 use Rattle.alloc_event.proofs.changes.Altering.{same_affected}
 use Rattle.lifetime_core.specs.Tasks.{released_by}
-use Rattle.lifetime_core.specs.Whole.{AreFit, AreOnce, IsFit, is_leaving}
+use Rattle.lifetime_core.specs.Whole.{AreFit, AreOnce, IsNodeFit, is_leaving}
 
 -- ---- one mark on one node
 
@@ -46,7 +46,8 @@ ends false false released o before leaves now = cc
 
 module _ (Known : NodeKey → Type 0) (id : ℕ) (leaving : Option NodeKey) where
   -- a loss keeps a node fit
-  lost-fit : (taken : Node → Bool) (fault : Fault) (n : Node) → IsFit Known id leaving n → IsFit Known id leaving (lost taken fault n)
+  lost-fit : (taken : Node → Bool) (fault : Fault) (n : Node) → IsNodeFit Known id leaving n → IsNodeFit Known id leaving
+      (lost taken fault n)
   lost-fit taken fault n fit = record {
     key = fit.key;
     collection = fit.collection;
@@ -55,13 +56,13 @@ module _ (Known : NodeKey → Type 0) (id : ℕ) (leaving : Option NodeKey) wher
   }
 
   -- so does an allocation
-  given-fit : (head : NodeKey) (n : Node) → IsFit Known id leaving n → IsFit Known id leaving (given_buffers head n)
+  given-fit : (head : NodeKey) (n : Node) → IsNodeFit Known id leaving n → IsNodeFit Known id leaving (given_buffers head n)
   given-fit head n fit = record { key = fit.key; collection = fit.collection; failed = fit.failed; left = fit.left }
 
   -- and an end, where all that end were released
   ended-fit : (nodes : List Node) (top : NodeKey) (n : Node) → (is_under top (member_of nodes n) ≡ true → n.gone ≡ false →
       n.released ≡ true) →
-      IsFit Known id leaving n → IsFit Known id leaving (ended nodes top n)
+      IsNodeFit Known id leaving n → IsNodeFit Known id leaving (ended nodes top n)
   ended-fit nodes top n leaves fit = record {
     key = fit.key;
     collection = fit.collection;
@@ -70,8 +71,8 @@ module _ (Known : NodeKey → Type 0) (id : ℕ) (leaving : Option NodeKey) wher
   }
 
   -- a release does, where it spends the end
-  released-fit : (key : NodeKey) (n : Node) → leaving ≡ Some key → IsFit Known id leaving n →
-      IsFit Known id leaving (affected key Effect.Released n)
+  released-fit : (key : NodeKey) (n : Node) → leaving ≡ Some key → IsNodeFit Known id leaving n →
+      IsNodeFit Known id leaving (affected key Effect.Released n)
   released-fit key n spends fit = record {
     key = fit.key;
     collection = fit.collection;
@@ -92,7 +93,7 @@ module _ (Known : NodeKey → Type 0) (id : ℕ) (leaving : Option NodeKey) wher
   -- any other effect does
   affected-fit : (key : NodeKey) (effect : Effect) (n : Node) → ((k : NodeKey) → released_by (Change.Effect key effect) ≡ Some k →
       leaving ≡ Some k) →
-      IsFit Known id leaving n → IsFit Known id leaving (affected key effect n)
+      IsNodeFit Known id leaving n → IsNodeFit Known id leaving (affected key effect n)
   affected-fit key Effect.Released n spends fit = released-fit key n (spends key refl) fit
   affected-fit key Effect.Bound n spends fit = record { key = fit.key; collection = fit.collection; failed = fit.failed; left = fit.left }
   affected-fit key Effect.Dispensable n spends fit =
@@ -106,11 +107,12 @@ module _ (Known : NodeKey → Type 0) (id : ℕ) (leaving : Option NodeKey) wher
   affected-fit key Effect.Tracked n spends fit = record { key = fit.key; collection = fit.collection; failed = fit.failed; left = fit.left }
 
   -- nodes that a map keeps fit, one by one
-  map-fit : (f : Node → Node) (nodes : List Node) → ((n : Node) → In n nodes → IsFit Known id leaving n → IsFit Known id leaving (f n)) →
+  map-fit : (f : Node → Node) (nodes : List Node) → ((n : Node) → In n nodes → IsNodeFit Known id leaving n → IsNodeFit Known id leaving
+      (f n)) →
       AreFit Known id leaving nodes → AreFit Known id leaving (map f nodes)
   map-fit f nodes each fit n in_map =
       let from = In-map f nodes n in_map in
-      subst (IsFit Known id leaving) (sym from.2) (each from.0 from.1 (fit from.0 from.1))
+      subst (IsNodeFit Known id leaving) (sym from.2) (each from.0 from.1 (fit from.0 from.1))
 
 -- ---- what a collection's end says
 
@@ -281,7 +283,7 @@ in_front (z ∷ xs) ys x (inr on) = inr (in_front xs ys x on)
 
 module _ (Known : NodeKey → Type 0) (id : ℕ) (leaving : Option NodeKey) where
   -- one more node that is fit, with a key of its own
-  born : (c : Collection) (new : Node) → (AreFit Known id leaving c.nodes → IsFit Known id leaving new) →
+  born : (c : Collection) (new : Node) → (AreFit Known id leaving c.nodes → IsNodeFit Known id leaving new) →
       ((n : Node) → In n c.nodes → n.key ≡ new.key → ⊥) →
       Keeps Known id leaving c (with_nodes (λ nodes. nodes ++ new ∷ []) c)
   born c new fits own = record {
@@ -291,9 +293,9 @@ module _ (Known : NodeKey → Type 0) (id : ℕ) (leaving : Option NodeKey) wher
     once = λ once n m n_in m_in key. two once n m (In-append c.nodes (new ∷ []) n n_in) (In-append c.nodes (new ∷ []) m m_in) key;
   }
     where
-      by : AreFit Known id leaving c.nodes → (n : Node) → In n c.nodes ⊎ In n (new ∷ []) → IsFit Known id leaving n
+      by : AreFit Known id leaving c.nodes → (n : Node) → In n c.nodes ⊎ In n (new ∷ []) → IsNodeFit Known id leaving n
       by fit n (inl old) = fit n old
-      by fit n (inr (inl is)) = subst (IsFit Known id leaving) (sym is) (fits fit)
+      by fit n (inr (inl is)) = subst (IsNodeFit Known id leaving) (sym is) (fits fit)
       by fit n (inr (inr none)) = absurd none
 
       two : AreOnce c.nodes → (n m : Node) → In n c.nodes ⊎ In n (new ∷ []) → In m c.nodes ⊎ In m (new ∷ []) → n.key ≡ m.key → n ≡ m

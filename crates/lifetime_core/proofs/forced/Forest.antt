@@ -14,7 +14,7 @@ use Rattle.alloc_event.specs.Forest.{Collection, Forest, all_nodes, collection_a
 use Rattle.alloc_event.specs.Nodes.{is_of, is_spent}
 use Rattle.alloc_event.specs.Settling.{Handles, Settled, collection_or_new, given_back, is_birth, no_key}
 use Rattle.lifetime_core.specs.Tasks.{released_by}
-use Rattle.lifetime_core.specs.Whole.{AreFit, AreOnce, IsAmid, IsFit, IsSound, IsTidy, Rise, is_leaving}
+use Rattle.lifetime_core.specs.Whole.{AreFit, AreOnce, IsAmid, IsNodeFit, IsSound, IsTidy, Rise, is_leaving}
 use Rattle.lifetime_core.proofs.forced.Fitting.{Keeps, event_keeps, in_front}
 use Rattle.lifetime_core.proofs.ends.Spending.{known_more}
 use Rattle.lifetime_core.proofs.collections.ById.{ids, found_by_id, put_from, put_rises, put_there}
@@ -57,7 +57,8 @@ key_is_there f c n key c_on n_in is =
     same_key n.key k ≡ true) is (same_key-refl n.key))
 
 -- an end that was not about to be spent is none that is
-leaves_more : (Known : NodeKey → Type 0) (id : ℕ) (leaving : Option NodeKey) (n : Node) → IsFit Known id None n → IsFit Known id leaving n
+leaves_more : (Known : NodeKey → Type 0) (id : ℕ) (leaving : Option NodeKey) (n : Node) → IsNodeFit Known id None n →
+    IsNodeFit Known id leaving n
 leaves_more Known id leaving n fit = record {
   key = fit.key;
   collection = fit.collection;
@@ -110,8 +111,8 @@ or_new_fit f id leaving Known sound known = by (collection_at f id) refl
     by (Some c) is n n_in =
         let found = In-find (λ (x : Collection). x.id == id) f.collections c is in
         let here : c.id ≡ id = eqb-true c.id id found.1 in
-        let fit : IsFit (λ key. given f key ≡ true) id None n =
-        subst (λ (i : ℕ). IsFit (λ key. given f key ≡ true) i None n) here (sound.fit c found.0 n n_in) in
+        let fit : IsNodeFit (λ key. given f key ≡ true) id None n =
+        subst (λ (i : ℕ). IsNodeFit (λ key. given f key ≡ true) i None n) here (sound.fit c found.0 n n_in) in
         known_more (λ key. given f key ≡ true) Known id leaving n (λ before. known n.key (c, n, found.0, n_in, refl, here))
         (leaves_more (λ key. given f key ≡ true) id leaving n fit)
 
@@ -209,8 +210,8 @@ module _ (pool : ℕ) (handles : Handles) (f worked : Forest) (id : ℕ) (change
     where
       by : (c ≡ new) ⊎ In c f.collections → AreFit (λ k. given worked k ≡ true) c.id leaving c.nodes
       by (inl is) n n_in =
-          let fit : IsFit Known id leaving n = new_fit n (subst (λ (x : Collection). In n x.nodes) is n_in) in
-          subst (λ (i : ℕ). IsFit (λ k. given worked k ≡ true) i leaving n) (sym (ap (λ (x : Collection). x.id) is ∙ new_id))
+          let fit : IsNodeFit Known id leaving n = new_fit n (subst (λ (x : Collection). In n x.nodes) is n_in) in
+          subst (λ (i : ℕ). IsNodeFit (λ k. given worked k ≡ true) i leaving n) (sym (ap (λ (x : Collection). x.id) is ∙ new_id))
           (known_more Known (λ k. given worked k ≡ true) id leaving n (λ known. known.0) fit)
       by (inr old) n n_in =
           leaves_more (λ k. given worked k ≡ true) c.id leaving n

@@ -25,7 +25,7 @@ use Rattle.buffer_pool.specs.Holdings.{Holdings}
 use Rattle.alloc_event.specs.declared.change.Change.{Change}
 use Rattle.alloc_event.specs.declared.change.Effect.{Effect}
 use Rattle.alloc_event.specs.declared.node.Node.{Node}
-use Rattle.alloc_event.specs.Forest.{Collection, Forest, collection_at, kept, node_at}
+use Rattle.alloc_event.specs.Forest.{Collection, Forest, collection_at, node_count, node_at}
 use Rattle.alloc_event.specs.Nodes.{is_spent}
 use Rattle.alloc_event.specs.Settling.{MayChange, is_birth, is_there, no_key}
 use Rattle.lifetime_core.specs.Reads.{end_in, open_end_of, readings_of}
@@ -202,14 +202,14 @@ not_met true reply none = cc
 not_met false reply none = refl
 
 -- room for one more node
-has_room : (limits : Bound) (s : State) (client : ℕ) (call : Call) (asked : Reply) → Known limits s client call asked →
+node_fits : (limits : Bound) (s : State) (client : ℕ) (call : Call) (asked : Reply) → Known limits s client call asked →
     took_effect asked ≡ true → closing call ≡ None →
-    makes_node call ≡ true → kept s.forest < s.forest.limit
-has_room limits s client call asked known effective going makes =
+    makes_node call ≡ true → node_count s.forest < s.forest.limit
+node_fits limits s client call asked known effective going makes =
     let all = took_effect_all limits (readings_of s) client no_key call asked effective going known.told in
-    let test : nat_le limits.nodes (kept s.forest) ≡ false =
-    not_met (nat_le limits.nodes (kept s.forest)) (Reply.Refused Refusal.TooManyNodes) (rw makes at all.nodes_fit) in
-    let less : kept s.forest < limits.nodes = leb-false limits.nodes (kept s.forest) test in
+    let test : nat_le limits.nodes (node_count s.forest) ≡ false =
+    not_met (nat_le limits.nodes (node_count s.forest)) (Reply.Refused Refusal.TooManyNodes) (rw makes at all.nodes_fit) in
+    let less : node_count s.forest < limits.nodes = leb-false limits.nodes (node_count s.forest) test in
     rw known.whole.limit less
 
 -- a new collection
@@ -220,7 +220,7 @@ root_well limits s client key c known w work =
     let all = took_effect_all limits (readings_of s) client no_key Call.OpenRoot (Reply.Token key c) refl refl known.told in
     let new : c ≡ s.events + 1 = token_is all.answered in
     let none : collection_at s.forest c ≡ None = not_there s.forest s.events c known.whole.opened (omega arith) in
-    let room : kept s.forest < s.forest.limit = has_room limits s client Call.OpenRoot (Reply.Token key c) known refl refl refl in
+    let room : node_count s.forest < s.forest.limit = node_fits limits s client Call.OpenRoot (Reply.Token key c) known refl refl refl in
     subst (Well s Call.OpenRoot (Reply.Token key c)) (some_is work) (record {
       may = record { named = rw none refl; room = λ h. room; heads = refl; trackers = λ k n h. cc };
       within = omega arith;
@@ -253,7 +253,7 @@ child_well limits s client call attached above key c is going makes tells known 
     ∙ ap (λ (o : Option OpenEnd). option_map_or (λ (e : OpenEnd). Reply.Token no_key e.collection) o (Reply.Refused Refusal.NoSuchEnd))
     (read_end s above named_so.node named_so.at named_so.unspent) in
     let new : c ≡ on.0.collection = token_is told ∙ ap (λ (n : Node). n.collection) same in
-    let room : kept s.forest < s.forest.limit = has_room limits s client call (Reply.Token key c) known refl going makes in
+    let room : node_count s.forest < s.forest.limit = node_fits limits s client call (Reply.Token key c) known refl going makes in
     subst (Well s call (Reply.Token key c)) (some_is work) (record {
       may = record { named = rw new on.2; room = λ h. room; heads = no_root attached; trackers = λ k n h. cc };
       within = rw new on.3;

@@ -4,12 +4,13 @@ use Rattle.sm_names.specs.Handles.{opens, drops, lifts, lands}
 use Rattle.sm_names.specs.Marks.{Mark}
 use Rattle.event_laws.specs.ByEvent.{GoesBy, anyone, one_if, only, gains, loses}
 use Rattle.buffer_holds.specs.Counts.{Counts, of, moving, total}
-use Rattle.lifetime_core.specs.Hands.{Moves}
+use Rattle.lifetime_core.specs.Hands.{MovesHandles}
 use Rattle.lifetime_core.specs.State.{HandleCounts, counts_of}
 use Rattle.lifetime_core.specs.Steps.{handles_by}
 
 -- other rows with the same counts
-pub moves_to : (old new other : Counts) (mark : Mark) → Moves old new mark → counts_of other ≡ counts_of new → Moves old other mark
+pub moves_to : (old new other : Counts) (mark : Mark) → MovesHandles old new mark → counts_of other ≡ counts_of new →
+    MovesHandles old other mark
 moves_to old new other mark moves same = record {
   each = λ client buffer strength. subst (λ (h : HandleCounts). GoesBy (of old client buffer strength) (h.of client buffer strength)
       (gains (only client) buffer strength mark) (loses (only client) buffer strength mark)) (sym same) (moves.each client buffer strength);
@@ -24,7 +25,7 @@ goes : (before after : ℕ) (came went : Bool) → GoesBy before after came went
 goes before after came went by = let sum : after + one_if went ≡ before + one_if came = by.adds_up in omega arith
 
 -- the counts are those that the mark makes
-pub moved : (old new : Counts) (mark : Mark) → Moves old new mark → counts_of new ≡ handles_by mark (counts_of old)
+pub moved : (old new : Counts) (mark : Mark) → MovesHandles old new mark → counts_of new ≡ handles_by mark (counts_of old)
 moved old new mark moves = λ i. record {
   of = λ client buffer strength. goes (of old client buffer strength) (of new client buffer strength) (gains (only client) buffer strength
       mark) (loses (only client) buffer strength mark) (moves.each client buffer strength) i;

@@ -25,13 +25,13 @@ abbrev pub strong_live_in : State → ℕ → Bool
 strong_live_in s id = option_map_or (λ (c : Collection). some_strong_live (members_of c.nodes)) (collection_at s.forest id) false
 
 -- the buffer is not doomed
-abbrev pub is_kept : State → Bool → BufferName → Bool
-is_kept s strong_live b = not (is_doomed (total s.holds b Strength.Strong) strong_live)
+abbrev pub keeps_buffer : State → Bool → BufferName → Bool
+keeps_buffer s strong_live b = not (is_doomed (total s.holds b Strength.Strong) strong_live)
 
 -- those of n buffers that are not doomed, from this one on
 abbrev pub kept_from : State → ℕ → Bool → ℕ → ℕ → List BufferName
 kept_from s id strong_live i n =
-    filter (is_kept s strong_live) (map (λ i. record { collection = id; index = i }) (range_with_len i (n - i)))
+    filter (keeps_buffer s strong_live) (map (λ i. record { collection = id; index = i }) (range_with_len i (n - i)))
 
 -- all that are not doomed are opened
 pub all_to_open : (s : State) (id : ℕ) (given : Buffers) → buffers_in s id ≡ Some given →
@@ -42,7 +42,7 @@ all_to_open s id given there =
     by : (o : Option Collection) → ((c : Collection) → o ≡ Some c → c.id ≡ id) →
         option_map_or (λ (c : Collection). c.buffers) o None ≡ Some given →
         kept_from s id (option_map_or (λ (c : Collection). some_strong_live (members_of c.nodes)) o false) 0 given.count
-        ≡ option_map_or (λ (c : Collection). filter (is_kept s (some_strong_live (members_of c.nodes))) (buffer_names c)) o []
+        ≡ option_map_or (λ (c : Collection). filter (keeps_buffer s (some_strong_live (members_of c.nodes))) (buffer_names c)) o []
     by None found is = absurd (cc)
     by (Some c) found is = let whole : given.count - 0 ≡ given.count = omega arith in rw (is, found c refl, whole) refl
 
@@ -50,18 +50,18 @@ all_to_open s id given there =
 next_kept : (s : State) (id : ℕ) (strong_live : Bool) (i n : ℕ) → i < n →
     let name : BufferName = record { collection = id; index = i } in
     let on : List BufferName = kept_from s id strong_live (i + 1) n in
-    kept_from s id strong_live i n ≡ cond (is_kept s strong_live name) (name ∷ on) on
+    kept_from s id strong_live i n ≡ cond (keeps_buffer s strong_live name) (name ∷ on) on
 next_kept s id strong_live i n more =
     let left : n - i ≡ suc (n - (i + 1)) = omega arith in
-    ap (λ k. filter (is_kept s strong_live) (map (λ i. record { collection = id; index = i }) (range_with_len i k))) left
+    ap (λ k. filter (keeps_buffer s strong_live) (map (λ i. record { collection = id; index = i }) (range_with_len i k))) left
 
 -- one passes the test exactly if the next one does, or one of those after it
 pub next_passes : (test : BufferName → Bool) (s : State) (id : ℕ) (strong_live : Bool) (i n : ℕ) → i < n →
     let name : BufferName = record { collection = id; index = i } in
-    list_any test (kept_from s id strong_live i n) ≡ ((is_kept s strong_live name && test name) || list_any test
+    list_any test (kept_from s id strong_live i n) ≡ ((keeps_buffer s strong_live name && test name) || list_any test
     (kept_from s id strong_live (i + 1) n))
 next_passes test s id strong_live i n more =
-    ap (list_any test) (next_kept s id strong_live i n more) ∙ by (is_kept s strong_live (record { collection = id; index = i }))
+    ap (list_any test) (next_kept s id strong_live i n more) ∙ by (keeps_buffer s strong_live (record { collection = id; index = i }))
   where
     by : (b : Bool) → let name : BufferName =
         record { collection = id; index = i } in let on : List BufferName = kept_from s id strong_live (i + 1) n in
@@ -72,9 +72,9 @@ next_passes test s id strong_live i n more =
 -- the next one adds its bit, if it is not doomed
 pub next_bit : (s : State) (id : ℕ) (strong_live : Bool) (i n : ℕ) → i < n →
     set_of (kept_from s id strong_live i n)
-    ≡ cond (is_kept s strong_live (record { collection = id; index = i })) (2 ^ i) 0 + set_of (kept_from s id strong_live (i + 1) n)
+    ≡ cond (keeps_buffer s strong_live (record { collection = id; index = i })) (2 ^ i) 0 + set_of (kept_from s id strong_live (i + 1) n)
 next_bit s id strong_live i n more =
-    ap set_of (next_kept s id strong_live i n more) ∙ by (is_kept s strong_live (record { collection = id; index = i }))
+    ap set_of (next_kept s id strong_live i n more) ∙ by (keeps_buffer s strong_live (record { collection = id; index = i }))
   where
     by : (b : Bool) → let name : BufferName =
         record { collection = id; index = i } in let on : List BufferName = kept_from s id strong_live (i + 1) n in

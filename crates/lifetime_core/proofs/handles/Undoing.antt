@@ -19,7 +19,7 @@ use Rattle.buffer_holds.specs.declared.fault.HoldFault.{HoldFault}
 use Rattle.buffer_holds.specs.Kinds.{hold_of}
 use Rattle.buffer_holds.proofs.KindLemmas.{same_hold-refl}
 use Rattle.buffer_holds.specs.Counts.{Counts, of, moving, total}
-use Rattle.lifetime_core.specs.Hands.{Moves, Opens, is_the, is_below}
+use Rattle.lifetime_core.specs.Hands.{MovesHandles, Opens, is_the, is_below}
 use Rattle.lifetime_core.specs.State.{counts_of}
 use Rattle.lifetime_core.proofs.handles.Opening.{same_counts, up, down, still, one_hold, one_kind, of-le-total}
 
@@ -72,7 +72,7 @@ all_below collection strength set fits b s =
 module _ (client : ℕ) (key : NodeKey) (collection : ℕ) (strength : Strength) (set : ℕ) (fits : set < 2 ^ 64) where
   -- a Take opens one on each buffer of its set
   pub moves_taken : (old new : Counts) → Opens old new client (is_below collection strength set 64) →
-      Moves old new (Called client (Reply.Taken collection strength set) (Call.Take key))
+      MovesHandles old new (Called client (Reply.Taken collection strength set) (Call.Take key))
   moves_taken old new opened = record {
     each = λ c b s. goes_up (client == c && is_below collection strength set 64 b s) _ (or_false _
         ∙ ap (λ t. client == c && t) (all_below collection strength set fits b s)) (opened.counts c b s);
@@ -81,7 +81,7 @@ module _ (client : ℕ) (key : NodeKey) (collection : ℕ) (strength : Strength)
   }
 
   -- and no other
-  pub taken_opens : (old new : Counts) → Moves old new (Called client (Reply.Taken collection strength set) (Call.Take key)) →
+  pub taken_opens : (old new : Counts) → MovesHandles old new (Called client (Reply.Taken collection strength set) (Call.Take key)) →
       Opens old new client (is_below collection strength set 64)
   taken_opens old new moves = record {
     counts = λ c b s. gained (client == c && is_below collection strength set 64 b s) _ (or_false _
@@ -99,7 +99,7 @@ module _ (client : ℕ) (buffer : BufferName) (strength : Strength) where
 
   -- a DupHandle opens one
   pub moves_doubled : (old new : Counts) → Opens old new client (is_the buffer strength) →
-      Moves old new (Called client Reply.Done (Call.DupHandle buffer strength))
+      MovesHandles old new (Called client Reply.Done (Call.DupHandle buffer strength))
   moves_doubled old new opened = record {
     each = λ c b s. goes_up (is_its c b s) _ (or_false _) (opened.counts c b s);
     in_parcels = λ b s. goes_not (opened.parcels b s);
@@ -107,7 +107,7 @@ module _ (client : ℕ) (buffer : BufferName) (strength : Strength) where
   }
 
   -- and no other
-  pub doubled_opens : (old new : Counts) → Moves old new (Called client Reply.Done (Call.DupHandle buffer strength)) →
+  pub doubled_opens : (old new : Counts) → MovesHandles old new (Called client Reply.Done (Call.DupHandle buffer strength)) →
       Opens old new client (is_the buffer strength)
   doubled_opens old new moves = record {
     counts = λ c b s. gained (is_its c b s) _ (or_false _) (moves.each c b s);
@@ -118,7 +118,7 @@ module _ (client : ℕ) (buffer : BufferName) (strength : Strength) where
   -- a DropHandle drops one
   pub moves_dropped : (old new : Counts) → 0 < of old client buffer strength →
       Sets old new client buffer strength (of old client buffer strength - 1) (moving old buffer strength) (total old buffer strength - 1) →
-      Moves old new (Called client Reply.Done (Call.DropHandle buffer strength))
+      MovesHandles old new (Called client Reply.Done (Call.DropHandle buffer strength))
   moves_dropped old new some sets = record {
     each = λ c b s. goes_down (is_its c b s) _ (or_false _) (down (is_its c b s) some (sets.counts c b s) (one_hold client buffer strength
         (of old) c b s));
@@ -129,7 +129,7 @@ module _ (client : ℕ) (buffer : BufferName) (strength : Strength) where
   }
 
   -- and is undone by one more
-  pub undrops : (before old new : Counts) → Moves before old (Called client Reply.Done (Call.DropHandle buffer strength)) →
+  pub undrops : (before old new : Counts) → MovesHandles before old (Called client Reply.Done (Call.DropHandle buffer strength)) →
       Sets old new client buffer strength (of old client buffer strength + 1) (moving old buffer strength) (total old buffer strength + 1) →
       counts_of new ≡ counts_of before
   undrops before old new moves sets = same_counts before new
@@ -143,7 +143,7 @@ module _ (client : ℕ) (buffer : BufferName) (strength : Strength) where
   -- a GiveHandle puts one into a parcel
   pub moves_given : (to : ℕ) (old new : Counts) → 0 < of old client buffer strength →
       Sets old new client buffer strength (of old client buffer strength - 1) (moving old buffer strength + 1) (total old buffer strength) →
-      Moves old new (Called client Reply.Done (Call.GiveHandle buffer strength to))
+      MovesHandles old new (Called client Reply.Done (Call.GiveHandle buffer strength to))
   moves_given to old new some sets = record {
     each = λ c b s. goes_down (is_its c b s) _ refl (down (is_its c b s) some (sets.counts c b s) (one_hold client buffer strength (of old)
         c b s));
@@ -155,7 +155,7 @@ module _ (client : ℕ) (buffer : BufferName) (strength : Strength) where
 
   -- and is undone by taking one out
   pub ungives : (to : ℕ) (before old new : Counts) → 0 < moving old buffer strength →
-      Moves before old (Called client Reply.Done (Call.GiveHandle buffer strength to)) →
+      MovesHandles before old (Called client Reply.Done (Call.GiveHandle buffer strength to)) →
       Sets old new client buffer strength (of old client buffer strength + 1) (moving old buffer strength - 1) (total old buffer strength) →
       counts_of new ≡ counts_of before
   ungives to before old new some moves sets = same_counts before new
@@ -170,7 +170,7 @@ module _ (client : ℕ) (buffer : BufferName) (strength : Strength) where
   -- a Collect takes one out of a parcel
   pub moves_collected : (old new : Counts) → 0 < moving old buffer strength →
       Sets old new client buffer strength (of old client buffer strength + 1) (moving old buffer strength - 1) (total old buffer strength) →
-      Moves old new (Called client (Reply.CollectedHandle buffer strength) Call.Collect)
+      MovesHandles old new (Called client (Reply.CollectedHandle buffer strength) Call.Collect)
   moves_collected old new some sets = record {
     each = λ c b s. goes_up (is_its c b s) _ refl (up (is_its c b s) (sets.counts c b s) (one_hold client buffer strength (of old) c b s));
     in_parcels = λ b s. goes_down (is_the buffer strength b s) _ refl (down (is_the buffer strength b s) some (sets.parcels b s)
@@ -179,7 +179,7 @@ module _ (client : ℕ) (buffer : BufferName) (strength : Strength) where
   }
 
   -- the client has it then
-  pub got_one : (old new : Counts) → Moves old new (Called client (Reply.CollectedHandle buffer strength) Call.Collect) →
+  pub got_one : (old new : Counts) → MovesHandles old new (Called client (Reply.CollectedHandle buffer strength) Call.Collect) →
       0 < of new client buffer strength
   got_one old new moves =
       let it : one_if (is_its client buffer strength) ≡ 1 = ap one_if (same_hold-refl (hold_of client buffer strength)) in
@@ -187,7 +187,7 @@ module _ (client : ℕ) (buffer : BufferName) (strength : Strength) where
 
   -- and is undone by putting it back
   pub uncollects : (before old mid new : Counts) → 0 < of old client buffer strength →
-      Moves before old (Called client (Reply.CollectedHandle buffer strength) Call.Collect) →
+      MovesHandles before old (Called client (Reply.CollectedHandle buffer strength) Call.Collect) →
       Sets old mid client buffer strength (of old client buffer strength - 1) (moving old buffer strength + 1) (total old buffer strength) →
       Tidies mid new client buffer strength → counts_of new ≡ counts_of before
   uncollects before old mid new some moves sets tidies = same_counts before new
@@ -204,7 +204,7 @@ module _ (client : ℕ) (buffer : BufferName) (strength : Strength) where
 
 module _ (mark : Mark) (idle : is_about_handles mark ≡ false) where
   -- it moves none
-  pub moves_none : (holds : Counts) → Moves holds holds mark
+  pub moves_none : (holds : Counts) → MovesHandles holds holds mark
   moves_none holds = record {
     each = λ c b s. rw (idle_gains (only c) b s mark idle, idle_loses (only c) b s mark idle) (goes_not refl);
     in_parcels = λ b s. rw (idle_lifts anyone b s mark idle, idle_lands anyone b s mark idle) (goes_not refl);
@@ -212,7 +212,7 @@ module _ (mark : Mark) (idle : is_about_handles mark ≡ false) where
   }
 
   -- and leaves nothing to undo
-  pub moved_none : (before old : Counts) → Moves before old mark → counts_of old ≡ counts_of before
+  pub moved_none : (before old : Counts) → MovesHandles before old mark → counts_of old ≡ counts_of before
   moved_none before old moves = same_counts before old
       (λ c b s. unmoved (idle_gains (only c) b s mark idle) (idle_loses (only c) b s mark idle) (moves.each c b s))
       (λ b s. unmoved (idle_lifts anyone b s mark idle) (idle_lands anyone b s mark idle) (moves.in_parcels b s))

@@ -17,7 +17,7 @@ use Rattle.lifetime_core.specs.declared.task.Task.{Task}
 use Rattle.lifetime_core.specs.Reads.{readings_of}
 use Rattle.lifetime_core.specs.State.{Client, HandleCounts, State}
 use Rattle.lifetime_core.specs.Steps.{Work, Worked, clients_by, end_by, handles_by, tracker_by, work_of}
-use Rattle.lifetime_core.specs.Tasks.{MayDo, Reworked, SpendsThere, keyed, released_by, spent_by, spent_in, work_in, work_on}
+use Rattle.lifetime_core.specs.Tasks.{MayDo, Reworked, SpendsThere, with_key, released_by, spent_by, spent_in, work_in, work_on}
 use Rattle.lifetime_core.proofs.forced.Whole.{Known, Well, well}
 use Rattle.lifetime_core.proofs.answers.Kinds.{reply-fits}
 
@@ -142,7 +142,7 @@ is_keyed limits handles s client call asked task key worked known work done = by
 -- the reply is the answer
 pub is_answer : (limits : Bound) (s : State) (client : ℕ) (call : Call) (asked : Reply) (key : Option NodeKey) →
     Known limits s client call asked → IsKeyed s asked key →
-    IsAnswer limits (readings_of s) client call (keyed asked key)
+    IsAnswer limits (readings_of s) client call (with_key asked key)
 is_answer limits s client call (Reply.Token first c) None known made = both_ways false made.both refl
 is_answer limits s client call (Reply.Token first c) (Some key) known made = record {
   told = token_told limits s client call first key c known;
@@ -151,7 +151,7 @@ is_answer limits s client call (Reply.Token first c) (Some key) known made = rec
 is_answer limits s client call _ key known made = record { told = known.told; is_new = refl }
 
 -- the key that the reply tells of is the one that was made
-new_is : (s : State) (asked : Reply) (key : Option NodeKey) → IsKeyed s asked key → new_key (keyed asked key) ≡ key
+new_is : (s : State) (asked : Reply) (key : Option NodeKey) → IsKeyed s asked key → new_key (with_key asked key) ≡ key
 new_is s (Reply.Token first c) None made = both_ways false made.both refl
 new_is s (Reply.Token first c) (Some key) made = refl
 new_is s _ None made = refl
@@ -159,7 +159,7 @@ new_is s _ (Some key) made = both_ways true refl made.both
 
 -- what is done depends on no new key
 same_work : (s : State) (client : ℕ) (call : Call) (asked : Reply) (key : Option NodeKey) →
-    work_of s client call (keyed asked key) ≡ work_of s client call asked
+    work_of s client call (with_key asked key) ≡ work_of s client call asked
 same_work s client call (Reply.Token first c) None = refl
 same_work s client Call.OpenRoot (Reply.Token first c) (Some key) = refl
 same_work s client (Call.Duplicate above) (Reply.Token first c) (Some key) = refl
@@ -171,7 +171,7 @@ same_work s client call _ key = refl
 pub worked_is : (handles : Handles) (s : State) (client : ℕ) (call : Call) (asked : Reply) (task : Option Task) (key : Option NodeKey)
     (worked : Forest) →
     work_in task ≡ work_of s client call asked → IsKeyed s asked key → Reworked s.pool handles s.forest (work_in task) key worked →
-    Worked s handles (work_of s client call (keyed asked key)) (new_key (keyed asked key)) worked
+    Worked s handles (work_of s client call (with_key asked key)) (new_key (with_key asked key)) worked
 worked_is handles s client call asked task key worked work made done =
     rw (same_work s client call asked key, new_is s asked key made, ← work) (by (work_in task) done)
   where
@@ -181,7 +181,7 @@ worked_is handles s client call asked task key worked work made done =
 
 -- nor where an end goes
 pub same_end : (client : ℕ) (call : Call) (asked : Reply) (key : Option NodeKey) →
-    end_by client call (keyed asked key) ≡ end_by client call asked
+    end_by client call (with_key asked key) ≡ end_by client call asked
 same_end client call (Reply.Token first c) None = refl
 same_end client (Call.Close node) (Reply.Token first c) (Some key) = refl
 same_end client (Call.Release node) (Reply.Token first c) (Some key) = refl
@@ -192,21 +192,21 @@ same_end client call _ key = refl
 
 -- nor what becomes of clients
 pub same_clients : (client : ℕ) (call : Call) (asked : Reply) (key : Option NodeKey) (clients : List Client) →
-    clients_by (Called client (keyed asked key) call) clients ≡ clients_by (Called client asked call) clients
+    clients_by (Called client (with_key asked key) call) clients ≡ clients_by (Called client asked call) clients
 same_clients client call (Reply.Token first c) None clients = refl
 same_clients client call (Reply.Token first c) (Some key) clients = refl
 same_clients client call _ key clients = refl
 
 -- nor of handles
 pub same_handles : (client : ℕ) (call : Call) (asked : Reply) (key : Option NodeKey) (handles : HandleCounts) →
-    handles_by (Called client (keyed asked key) call) handles ≡ handles_by (Called client asked call) handles
+    handles_by (Called client (with_key asked key) call) handles ≡ handles_by (Called client asked call) handles
 same_handles client call (Reply.Token first c) None handles = refl
 same_handles client call (Reply.Token first c) (Some key) handles = refl
 same_handles client call _ key handles = refl
 
 -- nor which tracker is made
 pub same_tracker : (f : Forest) (call : Call) (asked : Reply) (key : Option NodeKey) →
-    tracker_by f call (keyed asked key) ≡ tracker_by f call asked
+    tracker_by f call (with_key asked key) ≡ tracker_by f call asked
 same_tracker f call (Reply.Token first c) None = refl
 same_tracker f (Call.TrackNode node) (Reply.Token first c) (Some key) = refl
 same_tracker f (Call.TrackLifetime node most) (Reply.Token first c) (Some key) = refl

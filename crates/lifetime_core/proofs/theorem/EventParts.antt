@@ -23,8 +23,8 @@ use Rattle.lifetime_core.specs.declared.task.Place.{Place}
 use Rattle.lifetime_core.specs.declared.task.Task.{Task}
 use Rattle.lifetime_core.specs.Reads.{open_end_of, readings_of, world_in}
 use Rattle.lifetime_core.specs.State.{State, counts_of}
-use Rattle.lifetime_core.specs.Steps.{Follows, Gains, end_by, swept, tracker_by, with_place, without_over, work_of}
-use Rattle.lifetime_core.specs.Tasks.{DoesSome, MayDo, Parts, Reworked, SpendsThere, TakesEffect, carried_by, keyed, placed, spent_by, spent_in, spent_place, takes_room, work_in, work_on}
+use Rattle.lifetime_core.specs.Steps.{Follows, GainsTracker, end_by, swept, tracker_by, with_place, without_over, work_of}
+use Rattle.lifetime_core.specs.Tasks.{DoesSome, MayDo, Parts, Reworked, SpendsThere, TakesEffect, carried_by, with_key, end_placed, spent_by, spent_in, spent_place, takes_room, work_in, work_on}
 use Rattle.lifetime_core.specs.Whole.{CanCarry, CanFinish, IsWhole}
 use Rattle.lifetime_core.proofs.forced.Change.{can_finish}
 use Rattle.lifetime_core.proofs.handles.Moves.{moved}
@@ -201,7 +201,7 @@ module _ (s : State) (client : ℕ) (call : Call) (asked reply : Reply) (task : 
               takes.work).0 in
               (there.0.0, rw same there.0.1, there.0.2, there.1)
 
-      module _ (forest : Forest) (trackers : Table) (collections : forest.collections ≡ without_over (with_place (placed task carried)
+      module _ (forest : Forest) (trackers : Table) (collections : forest.collections ≡ without_over (with_place (end_placed task carried)
           parts.forest).collections) (keys : SameKeys parts.forest forest)
           (sweeps : trackers ≡ swept (world_in parts.forest (total parts.holds)) (s.events + 1) parts.trackers) where
         -- the state after the event
@@ -209,7 +209,7 @@ module _ (s : State) (client : ℕ) (call : Call) (asked reply : Reply) (task : 
         after = record { pool = s.pool; limits = s.limits; events = s.events + 1; clients = parts.clients; forest = forest; holds = parts.holds; trackers = trackers }
 
         -- the end is where the event puts it
-        placed_is : placed task carried ≡ end_by client call (keyed asked takes.key)
+        placed_is : end_placed task carried ≡ end_by client call (with_key asked takes.key)
         placed_is =
             (λ i. option_or (spent_place (b.spends i)) (carries i)) ∙ (sym (end_split client call asked)
             ∙ sym (same_end client call asked takes.key))
@@ -228,7 +228,7 @@ module _ (s : State) (client : ℕ) (call : Call) (asked reply : Reply) (task : 
           collections = collections ∙ ap (λ (o : Option Place). without_over (with_place o parts.forest).collections) placed_is;
           keys = keys;
           attached = parts.trackers;
-          gains = subst (λ (o : Option Waiting). Gains s.trackers o parts.trackers) (b.tracks
+          gains = subst (λ (o : Option Waiting). GainsTracker s.trackers o parts.trackers) (b.tracks
               ∙ sym (same_tracker s.forest call asked takes.key)) takes.trackers;
           trackers = sweeps;
         })

@@ -23,7 +23,7 @@ use Rattle.lifetime_core.specs.declared.task.Task.{Task}
 use Rattle.lifetime_core.specs.Hands.{MayMove}
 use Rattle.lifetime_core.specs.Reads.{readings_of, world_in}
 use Rattle.lifetime_core.specs.State.{Client, HandleCounts, State, counts_of}
-use Rattle.lifetime_core.specs.Steps.{Gains, Work, clients_by, handles_by, new_client, swept, with_place, without_over}
+use Rattle.lifetime_core.specs.Steps.{GainsTracker, Work, clients_by, handles_by, new_client, swept, with_place, without_over}
 use Rattle.lifetime_core.specs.Tasks.{Parts, Reworked, TakesEffect, looked_in, work_in}
 use Rattle.lifetime_core.specs.Whole.{AreSent, AreUpTo, IsSound, IsWhole, Rise, StillWaits}
 use Rattle.lifetime_core.proofs.theorem.EventParts.{Begins, finishes}
@@ -142,7 +142,7 @@ same_limit pool handles f worked task key done = by (work_in task) done
     by (Some w) settled = settled.limit
 
 -- and that of trackers
-attached_limit : (old new : Table) (tracker : Option Waiting) → Gains old tracker new → new.limit ≡ old.limit
+attached_limit : (old new : Table) (tracker : Option Waiting) → GainsTracker old tracker new → new.limit ≡ old.limit
 attached_limit old new None gains = ap (λ (t : Table). t.limit) gains
 attached_limit old new (Some t) gains = ap (λ (x : Table). x.limit) gains.next
 

@@ -13,11 +13,11 @@ use Rattle.buffer_holds.specs.Counts.{Counts, moving, of, total}
 use Rattle.buffer_pool.specs.Holdings.{Holdings}
 use Rattle.alloc_event.specs.Forest.{Forest}
 use Rattle.alloc_event.specs.Settling.{no_key}
-use Rattle.lifetime_core.specs.Hands.{Moves}
+use Rattle.lifetime_core.specs.Hands.{MovesHandles}
 use Rattle.lifetime_core.specs.Reads.{readings_of, world_in}
 use Rattle.lifetime_core.specs.State.{Client, State}
 use Rattle.lifetime_core.specs.Steps.{Follows, client_by, clients_by, swept, tracker_by, without_over, work_of}
-use Rattle.lifetime_core.specs.Tasks.{Parts, TakesEffect, carried_by, changes_nothing, keyed, spent_by}
+use Rattle.lifetime_core.specs.Tasks.{Parts, TakesEffect, carried_by, changes_nothing, with_key, spent_by}
 use Rattle.lifetime_core.specs.Whole.{IsWhole, StillWaits}
 use Rattle.lifetime_core.proofs.collections.ById.{all_tidy}
 use Rattle.event_laws.proofs.NumberLaws.{In-all}
@@ -44,7 +44,7 @@ stays n gained lost none nothing = rw (none, nothing) (record { adds_up = refl; 
 
 module _ (mark : Mark) (unseen : IsUnseen mark) where
   -- no handle moves
-  no_moves : (holds : Counts) → Moves holds holds mark
+  no_moves : (holds : Counts) → MovesHandles holds holds mark
   no_moves holds = record {
     each = λ client b s. stays (of holds client b s) (gains (only client) b s mark) (loses (only client) b s mark)
         (rw (unseen.opened (only client) b s, unseen.landed (only client) b s) refl)
@@ -76,7 +76,7 @@ record IsIdle (s : State) (client : ℕ) (call : Call) (asked : Reply) : Type 0 
   spends : None ≡ spent_by call asked
   carries : None ≡ carried_by client call asked
   tracks : None ≡ tracker_by s.forest call asked
-  told : asked ≡ keyed asked None
+  told : asked ≡ with_key asked None
   unseen : IsUnseen (Called client asked call)
 
 no_work : (s : State) (client : ℕ) (call : Call) (asked : Reply) → changes_nothing call asked ≡ true → None ≡ work_of s client call asked
@@ -105,7 +105,7 @@ no_track f (Call.TrackLifetime key most) (Reply.Tracker id) idle = cc
 no_track f (Call.TrackWeak buffer) (Reply.Tracker id) idle = cc
 no_track f _ _ idle = refl
 
-no_key_told : (call : Call) (asked : Reply) → changes_nothing call asked ≡ true → asked ≡ keyed asked None
+no_key_told : (call : Call) (asked : Reply) → changes_nothing call asked ≡ true → asked ≡ with_key asked None
 no_key_told call (Reply.Token key collection) idle = cc
 no_key_told call _ idle = refl
 

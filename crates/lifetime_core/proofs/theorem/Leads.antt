@@ -16,7 +16,7 @@ use Rattle.alloc_event.specs.Settling.{no_key}
 use Rattle.lifetime_core.specs.Kinds.{fits_call}
 use Rattle.lifetime_core.specs.Reads.{readings_of}
 use Rattle.lifetime_core.specs.State.{IsSame, State}
-use Rattle.lifetime_core.specs.Steps.{Follows, Gains, tracker_by}
+use Rattle.lifetime_core.specs.Steps.{Follows, GainsTracker, tracker_by}
 use Rattle.lifetime_core.specs.Theorem.{Leads, Makes, Stops, entries, tracker_told, trackers_told}
 use Rattle.lifetime_core.proofs.answers.Kinds.{reply-fits}
 use Rattle.lifetime_core.proofs.theorem.Runs.{entries-none, entries-push}
@@ -44,7 +44,7 @@ tracker_id limits s client call (Reply.Tracker id) answer fits = cc
 tracker_id limits s client call reply answer fits = refl
 
 -- what is gained is to be taken
-gained : (old new : Table) (o : Option Waiting) → Gains old o new →
+gained : (old new : Table) (o : Option Waiting) → GainsTracker old o new →
     new.untaken ≡ old.untaken ++ cons_option (option_map (λ (w : Waiting). w.id) o) []
 gained old new None same = ap (λ (t : Table). t.untaken) same ∙ sym (append-nil old.untaken)
 gained old new (Some tracker) gains = ap (λ (t : Table). t.untaken) gains.next

@@ -21,7 +21,7 @@ use Rattle.sm_names.proofs.ListLaws.{is_some-find}
 use Rattle.sm_names.proofs.SamenessLaws.{either_way, both_ways}
 use Rattle.event_laws.proofs.ParcelEventLaws.{stranger_waits_for_none}
 use Rattle.event_laws.proofs.WaitingLaws.{counted}
-use Rattle.alloc_event.specs.Forest.{kept}
+use Rattle.alloc_event.specs.Forest.{node_count}
 use Rattle.lifetime_core.specs.Reads.{client_in, readings_of}
 use Rattle.lifetime_core.specs.Shown.{IsAfter, node_after, collection_after, kept_ids, client_after, tracked_as}
 use Rattle.lifetime_core.specs.State.{Client, State}
@@ -99,7 +99,7 @@ module _ (s : State) (marks : Timeline) (shown : IsAfter s marks) where
 
   module _ (limits : Bound) (grown : Grows s.pool limits [] marks) where
     -- how many nodes are kept
-    pub kept_is : kept s.forest ≡ kept_nodes marks
+    pub kept_is : node_count s.forest ≡ kept_nodes marks
     kept_is =
         ap length (all_nodes_are s marks shown)
         ∙ (length-map (kept_by_collection marks) (node_after marks)

@@ -6,7 +6,7 @@ use Rattle.buffer_holds.specs.Counts.{total}
 use Rattle.node_table.specs.Table.{Table, row_at}
 use Rattle.alloc_event.specs.declared.node.Node.{Node}
 use Rattle.alloc_event.specs.Forest.{Collection, all_held}
-use Rattle.alloc_event.specs.Kept.{Gives, shelf_of, shelves_of, IsHung, IsKept, put_shelf, forest_of, all_of}
+use Rattle.alloc_event.specs.Kept.{Gives, shelf_of, shelves_of, IsHung, IsStored, put_shelf, forest_of, all_of}
 use Rattle.alloc_event.specs.Scenes.{held_pages, IsSound}
 use Rattle.alloc_event.specs.Units.{are_united}
 use Rattle.alloc_event.proofs.lists.SameIntervals.{start_of}
@@ -31,20 +31,20 @@ bear-requires-clause-above c =
     (above_is c.args.table.now (shelves_of c.args.entries.now.items) c.requires.kept c.args.id c.args.parent c.args.attached c.args.client
     c.args.event c.requires.change)
 
-pub finish-requires-clause-kept : goal.finish-requires-clause-kept
-finish-requires-clause-kept c =
+pub store_settled-requires-clause-kept : goal.store_settled-requires-clause-kept
+store_settled-requires-clause-kept c =
     let bears = rw (c.in-Ok.ensures, c.above_in-above.ensures) at c.in_ok-key.ensures.ok in
     let newborn_is = rw c.above_in-above.ensures at c.newborn-node.ensures in
     let at = above_is c.args.table.now (shelves_of c.args.entries.now.items) c.requires.kept c.args.id c.args.parent c.args.attached
     c.args.client c.args.event c.requires.change in
     let made = grown_scene _ c.args.scene.id c.add.new.nodes.items c.args.scene.nodes.items c.args.scene.buffers
     (map held_pages c.args.scene.held.items) c.newborn-node.result _ c.requires.scene c.in-Ok-add.ensures newborn_is in
-    subst (λ (d : Collection). IsKept c.bear.new.table (put_shelf (shelf_by d) (shelves_of c.args.entries.now.items))) (sym made)
+    subst (λ (d : Collection). IsStored c.bear.new.table (put_shelf (shelf_by d) (shelves_of c.args.entries.now.items))) (sym made)
     (born_kept c.args.table.now c.bear.new.table (shelves_of c.args.entries.now.items) c.requires.kept c.args.id c.args.parent
     c.args.attached c.args.client c.args.event _ at c.in_ok-key.key bears)
 
-pub finish-requires-clause-sound : goal.finish-requires-clause-sound
-finish-requires-clause-sound c =
+pub store_settled-requires-clause-sound : goal.store_settled-requires-clause-sound
+store_settled-requires-clause-sound c =
     let bears = rw (c.in-Ok.ensures, c.above_in-above.ensures) at c.in_ok-key.ensures.ok in
     let newborn_is = rw c.above_in-above.ensures at c.newborn-node.ensures in
     let at = above_is c.args.table.now (shelves_of c.args.entries.now.items) c.requires.kept c.args.id c.args.parent c.args.attached
@@ -54,8 +54,8 @@ finish-requires-clause-sound c =
     subst IsSound (sym made) (born_sound c.args.table.now c.bear.new.table (shelves_of c.args.entries.now.items) c.requires.kept c.args.id
     c.args.parent c.args.attached c.args.client c.args.event _ at c.in_ok-key.key bears)
 
-pub finish-requires-clause-hung : goal.finish-requires-clause-hung
-finish-requires-clause-hung c =
+pub store_settled-requires-clause-hung : goal.store_settled-requires-clause-hung
+store_settled-requires-clause-hung c =
     let bears = rw (c.in-Ok.ensures, c.above_in-above.ensures) at c.in_ok-key.ensures.ok in
     let newborn_is = rw c.above_in-above.ensures at c.newborn-node.ensures in
     let at = above_is c.args.table.now (shelves_of c.args.entries.now.items) c.requires.kept c.args.id c.args.parent c.args.attached
@@ -66,8 +66,8 @@ finish-requires-clause-hung c =
     (shelves_of c.args.entries.now.items) c.requires.kept c.args.id c.args.parent c.args.attached c.args.client c.args.event _ at
     c.in_ok-key.key bears)
 
-pub finish-requires-clause-united : goal.finish-requires-clause-united
-finish-requires-clause-united c =
+pub store_settled-requires-clause-united : goal.store_settled-requires-clause-united
+store_settled-requires-clause-united c =
     let bears = rw (c.in-Ok.ensures, c.above_in-above.ensures) at c.in_ok-key.ensures.ok in
     let newborn_is = rw c.above_in-above.ensures at c.newborn-node.ensures in
     let at = above_is c.args.table.now (shelves_of c.args.entries.now.items) c.requires.kept c.args.id c.args.parent c.args.attached
@@ -78,8 +78,8 @@ finish-requires-clause-united c =
     (shelves_of c.args.entries.now.items) c.requires.kept c.args.id c.args.parent c.args.attached c.args.client c.args.event _ at
     c.in_ok-key.key bears)
 
-pub finish-requires-clause-own : goal.finish-requires-clause-own
-finish-requires-clause-own c =
+pub store_settled-requires-clause-own : goal.store_settled-requires-clause-own
+store_settled-requires-clause-own c =
     let bears = rw (c.in-Ok.ensures, c.above_in-above.ensures) at c.in_ok-key.ensures.ok in
     let newborn_is = rw c.above_in-above.ensures at c.newborn-node.ensures in
     let at = above_is c.args.table.now (shelves_of c.args.entries.now.items) c.requires.kept c.args.id c.args.parent c.args.attached
@@ -90,8 +90,8 @@ finish-requires-clause-own c =
     (shelves_of c.args.entries.now.items) c.requires.kept c.args.id c.args.parent c.args.attached c.args.client c.args.event _ at
     c.in_ok-key.key bears)
 
-pub finish-requires-clause-pool : goal.finish-requires-clause-pool
-finish-requires-clause-pool c =
+pub store_settled-requires-clause-pool : goal.store_settled-requires-clause-pool
+store_settled-requires-clause-pool c =
     let bears = rw (c.in-Ok.ensures, c.above_in-above.ensures) at c.in_ok-key.ensures.ok in
     let newborn_is = rw c.above_in-above.ensures at c.newborn-node.ensures in
     let at = above_is c.args.table.now (shelves_of c.args.entries.now.items) c.requires.kept c.args.id c.args.parent c.args.attached
@@ -114,19 +114,19 @@ returns-clause-ok c =
     let is = born_is c.args.table.now c.bear.new.table (shelves_of c.args.entries.now.items) c.requires.kept c.args.id c.args.parent
     c.args.attached c.args.client c.args.event _ at c.in_ok-key.key bears ∙ sym made in
     let still = still_collections c.args.table.now c.bear.new.table _ bears (shelves_of c.args.entries.now.items) c.requires.kept.filed in
-    rw is (Finishes-before c.args.pool.now.size (total c.args.holds.now) c.args.table.now c.bear.new.table c.finish.new.table
-    (shelves_of c.args.entries.now.items) (shelves_of c.finish.new.entries.items) _ still c.in_ok-finish.ensures.ok)
+    rw is (Finishes-before c.args.pool.now.size (total c.args.holds.now) c.args.table.now c.bear.new.table c.store_settled.new.table
+    (shelves_of c.args.entries.now.items) (shelves_of c.store_settled.new.entries.items) _ still c.in_ok-store_settled.ensures.ok)
 
 pub returns-clause-keys : goal.returns-clause-keys
 returns-clause-keys c =
     let bears = rw (c.in-Ok.ensures, c.above_in-above.ensures) at c.in_ok-key.ensures.ok in
-    Gives-same c.args.table.now c.bear.new.table c.finish.new.table c.in_ok-key.key
+    Gives-same c.args.table.now c.bear.new.table c.store_settled.new.table c.in_ok-key.key
     (subst (Gives c.args.table.now c.bear.new.table) (born_key _ c.args.attached c.args.id c.args.event c.args.client c.in_ok-key.key)
-    bears.gives) c.in_ok-finish.ensures.same
+    bears.gives) c.in_ok-store_settled.ensures.same
 
 -- the other collections stay, and so do their counts
-pub finish-requires-clause-counted : goal.finish-requires-clause-counted
-finish-requires-clause-counted c =
+pub store_settled-requires-clause-counted : goal.store_settled-requires-clause-counted
+store_settled-requires-clause-counted c =
     let bears = rw (c.in-Ok.ensures, c.above_in-above.ensures) at c.in_ok-key.ensures.ok in
     counted_but c.bear.new.table _ c.args.entries.now.items
     (moved_all c.args.table.now c.bear.new.table c.args.entries.now.items c.requires.kept.filed

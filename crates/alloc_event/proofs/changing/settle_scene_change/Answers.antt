@@ -39,43 +39,43 @@ change_scene-requires-clause-left c =
     (shelf_of c.in-Some.entry.now)
     (shelf_found c.args.id c.args.entries.now.items ∙ ap (option_map shelf_of) (sym (rw c.deref.ensures.value at c.in-Some.ensures))))
 
-pub finish-requires-clause-kept : goal.finish-requires-clause-kept
-finish-requires-clause-kept c =
+pub store_settled-requires-clause-kept : goal.store_settled-requires-clause-kept
+store_settled-requires-clause-kept c =
     altered-kept c.args.table.now (shelves_of c.args.entries.now.items) c.requires.kept c.args.id (shelf_of c.in-Some.entry.now)
     (shelf_found c.args.id c.args.entries.now.items ∙ ap (option_map shelf_of) (sym (rw c.deref.ensures.value at c.in-Some.ensures)))
     c.args.change.now c.requires.birth (collection_of c.in-Ok.scene) (collection_of c.change_scene.new.scene) c.in-Ok.ensures
     c.in_ok-change_scene.ensures
 
-pub finish-requires-clause-sound : goal.finish-requires-clause-sound
-finish-requires-clause-sound c =
+pub store_settled-requires-clause-sound : goal.store_settled-requires-clause-sound
+store_settled-requires-clause-sound c =
     altered-sound c.args.table.now (shelves_of c.args.entries.now.items) c.requires.kept c.args.id (shelf_of c.in-Some.entry.now)
     (shelf_found c.args.id c.args.entries.now.items ∙ ap (option_map shelf_of) (sym (rw c.deref.ensures.value at c.in-Some.ensures)))
     c.args.change.now c.requires.birth (collection_of c.in-Ok.scene) (collection_of c.change_scene.new.scene) c.in-Ok.ensures
     c.in_ok-change_scene.ensures
 
-pub finish-requires-clause-own : goal.finish-requires-clause-own
-finish-requires-clause-own c =
+pub store_settled-requires-clause-own : goal.store_settled-requires-clause-own
+store_settled-requires-clause-own c =
     altered-of c.args.table.now (shelves_of c.args.entries.now.items) c.requires.kept c.args.id (shelf_of c.in-Some.entry.now)
     (shelf_found c.args.id c.args.entries.now.items ∙ ap (option_map shelf_of) (sym (rw c.deref.ensures.value at c.in-Some.ensures)))
     c.args.change.now c.requires.birth (collection_of c.in-Ok.scene) (collection_of c.change_scene.new.scene) c.in-Ok.ensures
     c.in_ok-change_scene.ensures
 
-pub finish-requires-clause-hung : goal.finish-requires-clause-hung
-finish-requires-clause-hung c =
+pub store_settled-requires-clause-hung : goal.store_settled-requires-clause-hung
+store_settled-requires-clause-hung c =
     altered-hung c.args.table.now (shelves_of c.args.entries.now.items) c.requires.kept c.args.id (shelf_of c.in-Some.entry.now)
     (shelf_found c.args.id c.args.entries.now.items ∙ ap (option_map shelf_of) (sym (rw c.deref.ensures.value at c.in-Some.ensures)))
     c.args.change.now c.requires.birth (collection_of c.in-Ok.scene) (collection_of c.change_scene.new.scene) c.in-Ok.ensures
     c.in_ok-change_scene.ensures
 
-pub finish-requires-clause-united : goal.finish-requires-clause-united
-finish-requires-clause-united c =
+pub store_settled-requires-clause-united : goal.store_settled-requires-clause-united
+store_settled-requires-clause-united c =
     altered-united c.args.table.now (shelves_of c.args.entries.now.items) c.requires.kept c.args.id (shelf_of c.in-Some.entry.now)
     (shelf_found c.args.id c.args.entries.now.items ∙ ap (option_map shelf_of) (sym (rw c.deref.ensures.value at c.in-Some.ensures)))
     c.args.change.now c.requires.birth (collection_of c.in-Ok.scene) (collection_of c.change_scene.new.scene) c.in-Ok.ensures
     c.in_ok-change_scene.ensures
 
-pub finish-requires-clause-pool : goal.finish-requires-clause-pool
-finish-requires-clause-pool c =
+pub store_settled-requires-clause-pool : goal.store_settled-requires-clause-pool
+store_settled-requires-clause-pool c =
     let same = altered-forest c.args.table.now (shelves_of c.args.entries.now.items) c.requires.kept c.args.id
     (shelf_of c.in-Some.entry.now)
     (shelf_found c.args.id c.args.entries.now.items ∙ ap (option_map shelf_of) (sym (rw c.deref.ensures.value at c.in-Some.ensures)))
@@ -89,7 +89,8 @@ returns-clause-ok c =
     (shelf_found c.args.id c.args.entries.now.items ∙ ap (option_map shelf_of) (sym (rw c.deref.ensures.value at c.in-Some.ensures)))
     c.args.change.now c.requires.birth (collection_of c.in-Ok.scene) (collection_of c.change_scene.new.scene) c.in-Ok.ensures
     c.in_ok-change_scene.ensures in
-    rw is c.finish.ensures.ok
+    rw is c.store_settled.ensures.ok
 
-pub finish-requires-clause-counted : goal.finish-requires-clause-counted
-finish-requires-clause-counted c = counted_but c.args.table.now c.change_scene.new.scene.id c.args.entries.now.items c.requires.counted
+pub store_settled-requires-clause-counted : goal.store_settled-requires-clause-counted
+store_settled-requires-clause-counted c =
+    counted_but c.args.table.now c.change_scene.new.scene.id c.args.entries.now.items c.requires.counted

@@ -7,7 +7,7 @@ use Rattle.alloc_event.specs.declared.node.Node.{Node}
 use Rattle.alloc_event.specs.declared.entry.Entry.{Entry}
 use Rattle.alloc_event.specs.Calm.{AreCounted, over_but}
 use Rattle.alloc_event.specs.Forgetting.{IsAlone, IsMissing, IsNoted, left_at}
-use Rattle.alloc_event.specs.Kept.{IsKept, Shelf, nodes_with, shelf_of, shelves_of}
+use Rattle.alloc_event.specs.Kept.{IsStored, Shelf, nodes_with, shelf_of, shelves_of}
 use Rattle.alloc_event.specs.Nodes.{is_over}
 use Rattle.alloc_event.proofs.shelves.Counted.{dropped_all, drops_over, each_own, none_left, own_key, tidy_one}
 use Rattle.alloc_event.proofs.leaving.Alone.{alone_missing}
@@ -31,7 +31,7 @@ returns-in_default-clause-look c s found k =
 
 pub returns-in_default-clause-kept : goal.returns-in_default-clause-kept
 returns-in_default-clause-kept c =
-    subst (IsKept c.args.table.now) (sym (thinned_filed c.args.table.now (shelves_of c.args.entries.now.items) c.requires.kept.filed))
+    subst (IsStored c.args.table.now) (sym (thinned_filed c.args.table.now (shelves_of c.args.entries.now.items) c.requires.kept.filed))
     c.requires.kept
 
 pub returns-then-is_tidy-clause-shelves : goal.returns-then-is_tidy-clause-shelves
@@ -54,7 +54,7 @@ returns-then-is_tidy-clause-look c s found k =
 
 pub returns-then-is_tidy-clause-kept : goal.returns-then-is_tidy-clause-kept
 returns-then-is_tidy-clause-kept c =
-    subst (IsKept c.args.table.now) (sym (thinned_filed c.args.table.now (shelves_of c.args.entries.now.items) c.requires.kept.filed))
+    subst (IsStored c.args.table.now) (sym (thinned_filed c.args.table.now (shelves_of c.args.entries.now.items) c.requires.kept.filed))
     c.requires.kept
 
 -- the one node of the entry that is over
@@ -75,7 +75,7 @@ alone_if t id es entry counted found None noted = tt
 alone_if t id es entry counted found (Some one) noted = alone_of t id es entry counted found one.0 one.1 noted
 
 -- and then the table has all others of the entry
-missing_if : (t now : Table Node) (id : ℕ) (es : List Entry) (entry : Entry) → IsKept t (shelves_of es) → AreCounted t es →
+missing_if : (t now : Table Node) (id : ℕ) (es : List Entry) (entry : Entry) → IsStored t (shelves_of es) → AreCounted t es →
     find (λ (e : Entry). e.id == id) es ≡ Some entry →
     ((k : NodeKey) → node_at now k ≡ left_at t entry.keys.items k) →
     (o : Option (NodeKey × ℕ)) → IfSome o (λ one. IsNoted t entry one.0 one.1) →

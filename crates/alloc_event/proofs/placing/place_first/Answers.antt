@@ -13,7 +13,7 @@ use Rattle.alloc_event.specs.declared.held.HeldBuffer.{HeldBuffer}
 use Rattle.alloc_event.specs.declared.node.Node.{Node}
 use Rattle.alloc_event.specs.Forest.{Collection, pages_in}
 use Rattle.alloc_event.specs.Decisions.{is_unplaced}
-use Rattle.alloc_event.specs.Moves.{Moves, Given, Lost}
+use Rattle.alloc_event.specs.Progress.{Progress, Given, Lost}
 use Rattle.alloc_event.specs.Nodes.{after_allocation, after_loss, given_buffers, is_taken, lost}
 use Rattle.alloc_event.specs.Scenes.{by_page, collection_of, held_pages, laid}
 use Rattle.alloc_event.proofs.lists.Loops.{written}
@@ -120,7 +120,7 @@ returns-in-Ok-place-clause-moves c =
     let nodes : (with_items c.args.scene.now.nodes c.allocate.new.nodes).items ≡ after_allocation c.args.head old =
     written c.args.scene.now.nodes (given_buffers c.args.head) c.allocate.new.nodes
     (c.allocate.ensures ∙ ap (after_allocation c.args.head) c.deref_mut.ensures.value) in
-    subst (Moves old) (sym nodes) (Given c.args.head c.requires.step.waits)
+    subst (Progress old) (sym nodes) (Given c.args.head c.requires.step.waits)
 
 -- so that no root waits any longer
 pub returns-in-Ok-place-clause-placed : goal.returns-in-Ok-place-clause-placed
@@ -140,4 +140,4 @@ returns-in-Err-PoolFull-clause-moves c =
     let nodes : (with_items c.args.scene.now.nodes c.lose.new.nodes).items ≡ after_loss fault old =
     written c.args.scene.now.nodes (lost (is_taken old c.args.head) fault) c.lose.new.nodes
     (c.lose.ensures ∙ ap (after_loss fault) c.deref_mut-in-Err-PoolFull.ensures.value) in
-    subst (Moves old) (sym nodes) (Lost fault c.requires.step.left)
+    subst (Progress old) (sym nodes) (Lost fault c.requires.step.left)

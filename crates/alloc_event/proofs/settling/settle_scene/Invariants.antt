@@ -3,7 +3,7 @@ use Rattle.sm_names.specs.declared.keys.Interval.{Interval}
 use Rattle.buffer_holds.specs.Counts.{total}
 use Rattle.alloc_event.specs.Decisions.{is_unplaced}
 use Rattle.alloc_event.specs.Forest.{Collection}
-use Rattle.alloc_event.specs.Moves.{work}
+use Rattle.alloc_event.specs.Progress.{work}
 use Rattle.alloc_event.specs.Scenes.{collection_of, frame_of, IsPoolBeside, IsSound}
 use Rattle.alloc_event.specs.Settling.{Settles}
 use Rattle.alloc_event.proofs.settling.settle_scene.Given as goal

@@ -10,13 +10,14 @@ pub returns-clause-ok : goal.returns-clause-ok
 returns-clause-ok c =
     let same : counts_of c.tidy_up.new.holds ≡ counts_of c.hand_over.new.holds = c.tidy_up.ensures.counts in
     record {
-      key = c.in-Ok-make.key;
+      key = c.in-Ok-make_change.key;
       told = refl;
-      clients = c.in-Ok-note.ensures.ok;
+      clients = c.in-Ok-note_client.ensures.ok;
       handles = moves_to c.args.contents.now.holds c.hand_over.new.holds c.tidy_up.new.holds (Called c.args.client c.args.asked.now c.args.call.now)
           c.in_ok-hand_over.ensures.ok same;
-      work = subst (λ (h : Handles). Reworked c.args.contents.now.pool.size h c.args.contents.now.forest (work_in c.args.task.now) c.in-Ok-make.key
-          c.make.new.forest)
-          (ap (λ (h : HandleCounts). h.total) (sym same)) c.in-Ok-make.ensures.work;
+      work = subst (λ (h : Handles). Reworked c.args.contents.now.pool.size h c.args.contents.now.forest
+          (work_in c.args.task.now) c.in-Ok-make_change.key
+          c.make_change.new.forest)
+          (ap (λ (h : HandleCounts). h.total) (sym same)) c.in-Ok-make_change.ensures.work;
       trackers = c.in-Ok.ensures.ok;
     }

@@ -3,7 +3,7 @@ use Rattle.std.specs.List.{list_any}
 use Rattle.sm_names.specs.declared.keys.BufferName.{BufferName}
 use Rattle.sm_names.specs.Answers.{is_at_limit}
 use Rattle.lifetime_core.specs.Reads.{readings_of}
-use Rattle.lifetime_core.proofs.handles.ToOpen.{all_to_open, is_kept, kept_from, next_passes, none_kept}
+use Rattle.lifetime_core.proofs.handles.ToOpen.{all_to_open, keeps_buffer, kept_from, next_passes, none_kept}
 use Rattle.lifetime_core.proofs.opening.is_one_full.Goals.{else-not-is_doomed-via-then-not-is_doomed+else-has_all_handles, else-not-is_doomed-via-else-not-is_doomed}
 use Rattle.lifetime_core.proofs.opening.is_one_full.Goals as goal
 
@@ -29,7 +29,7 @@ loop-index-preserved c =
     let name : BufferName = record { collection = c.args.collection; index = c.loop-index.index } in
     let on : Bool = list_any full (kept_from c.args.core.now c.args.collection c.strong_live-strong_live.result (c.loop-index.index + 1)
     c.in-Some.buffers.count) in
-    let passes_not : (is_kept c.args.core.now c.strong_live-strong_live.result name && full name) ≡ false =
+    let passes_not : (keeps_buffer c.args.core.now c.strong_live-strong_live.result name && full name) ≡ false =
     elim c.else-not-is_doomed.branch [
       | else-not-is_doomed-via-then-not-is_doomed+else-has_all_handles w ↦
           rw (← w.if-not-is_doomed.ensures, ← w.if-has_all_handles.ensures) refl

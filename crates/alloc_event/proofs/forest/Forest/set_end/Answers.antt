@@ -4,7 +4,7 @@ use Rattle.std.proofs.lemmas.Bool.{false≢true}
 use Rattle.node_table.specs.Table.{node_at}
 use Rattle.alloc_event.specs.Counts.{AreUnits}
 use Rattle.alloc_event.specs.Forest.{Forest, node_at as forest_node, on_collections, with_nodes}
-use Rattle.alloc_event.specs.Kept.{IsKept, are_filed, collection_in, forest_of, shelves_of}
+use Rattle.alloc_event.specs.Kept.{IsStored, are_filed, collection_in, forest_of, shelves_of}
 use Rattle.alloc_event.specs.Nodes.{with_end}
 use Rattle.alloc_event.proofs.shelves.Counted.{ends_tidy, mapped_all}
 use Rattle.alloc_event.proofs.leaving.Ends.{ends-kept, ends-look, ends-shown}
@@ -28,7 +28,7 @@ shown c =
 
 pub invariant_of-self : goal.invariant_of-self
 invariant_of-self c = record {
-  kept = subst (IsKept c.write.new.table) (sym c.note_over.ensures.shelves)
+  kept = subst (IsStored c.write.new.table) (sym c.note_over.ensures.shelves)
       (ends-kept c.args.key c.args.end c.self.inside.table c.write.new.table c.in-Some.node (there c)
       (c.self.invariant.kept.named _ _ (there c)) c.write.ensures.writes (shelves_of c.self.inside.entries.items) c.write.ensures.becomes
       c.self.invariant.kept);

@@ -8,7 +8,7 @@ use Rattle.alloc_event.specs.Forest.{node_at}
 use Rattle.lifetime_core.specs.declared.traits.Named.{Named}
 use Rattle.lifetime_core.specs.Reads.{node_named, readings_of}
 use Rattle.lifetime_core.specs.State.{State}
-use Rattle.lifetime_core.specs.Tasks.{Parts, keyed, placed}
+use Rattle.lifetime_core.specs.Tasks.{Parts, with_key, end_placed}
 use Rattle.lifetime_core.specs.Traits.{key_in}
 use Rattle.lifetime_core.proofs.theorem.EventParts.{Begins, after, alone, begins, can_carry, finishes, one, step_answers, step_follows}
 use Rattle.lifetime_core.proofs.answers.Kinds.{reply-fits}
@@ -132,11 +132,15 @@ sweep-requires c =
     c.tracking_of-tracking.ensures in
     let parts : Parts =
     record { clients = c.take_effect.new.contents.clients.items; forest = c.take_effect.new.contents.forest; holds = c.take_effect.new.contents.holds; trackers = c.take_effect.new.contents.trackers } in
-    record { elsewhere = rw (c.place_to_sweep-place.ensures, c.changed_by.ensures) (none_elsewhere s c.args.client c.args.call c.answer-asked.result (keyed c.answer-asked.result c.in-Ok.key) c.task_of-task.result c.tracking_of-tracking.result b parts c.in-Ok.ensures.ok) }
+    record {
+      elsewhere = rw (c.place_to_sweep-place.ensures, c.changed_by.ensures)
+          (none_elsewhere s c.args.client c.args.call c.answer-asked.result
+          (with_key c.answer-asked.result c.in-Ok.key) c.task_of-task.result c.tracking_of-tracking.result b parts c.in-Ok.ensures.ok);
+    }
 
 -- what is over can be forgotten
-pub finish-requires : goal.finish-requires
-finish-requires c =
+pub put_end-requires : goal.put_end-requires
+put_end-requires c =
     let s : State =
     record { pool = c.self.inside.contents.pool.size; limits = c.self.inside.limits; events = c.self.inside.events; clients = c.self.inside.contents.clients.items; forest = c.self.inside.contents.forest; holds = c.self.inside.contents.holds; trackers = c.self.inside.contents.trackers } in
     let b : Begins s c.args.client c.args.call c.answer-asked.result c.task_of-task.result c.tracking_of-tracking.result =
@@ -147,11 +151,12 @@ finish-requires c =
     let parts : Parts =
     record { clients = c.take_effect.new.contents.clients.items; forest = c.take_effect.new.contents.forest; holds = c.take_effect.new.contents.holds; trackers = c.take_effect.new.contents.trackers } in
     record {
-      task = finishes s c.args.client c.args.call c.answer-asked.result (keyed c.answer-asked.result c.in-Ok.key) c.task_of-task.result
+      task = finishes s c.args.client c.args.call c.answer-asked.result (with_key c.answer-asked.result c.in-Ok.key) c.task_of-task.result
           c.tracking_of-tracking.result b parts c.in-Ok.ensures.ok;
-      carried = can_carry s c.args.client c.args.call c.answer-asked.result (keyed c.answer-asked.result c.in-Ok.key) c.task_of-task.result
+      carried = can_carry s c.args.client c.args.call c.answer-asked.result
+          (with_key c.answer-asked.result c.in-Ok.key) c.task_of-task.result
           c.tracking_of-tracking.result b parts c.in-Ok.ensures.ok c.carried_end.result c.carried_end.ensures;
-      one = one s c.args.client c.args.call c.answer-asked.result (keyed c.answer-asked.result c.in-Ok.key) c.task_of-task.result
+      one = one s c.args.client c.args.call c.answer-asked.result (with_key c.answer-asked.result c.in-Ok.key) c.task_of-task.result
           c.tracking_of-tracking.result b parts c.in-Ok.ensures.ok c.carried_end.result c.carried_end.ensures;
     }
 
@@ -167,11 +172,11 @@ invariant_of-self-2 c =
     c.tracking_of-tracking.ensures in
     let parts : Parts =
     record { clients = c.take_effect.new.contents.clients.items; forest = c.take_effect.new.contents.forest; holds = c.take_effect.new.contents.holds; trackers = c.take_effect.new.contents.trackers } in
-    whole_then s c.args.client c.args.call c.answer-asked.result (keyed c.answer-asked.result c.in-Ok.key) c.task_of-task.result
-    c.tracking_of-tracking.result b parts c.in-Ok.ensures.ok c.self.inside.contents.pool c.take_effect.new.contents.pool c.finish.new.forest
-    (placed c.task_of-task.result c.carried_end.result) c.sweep.new.trackers c.self.invariant c.take_effect.ensures.size
-    c.take_effect.ensures.pool c.finish.ensures.held c.take_effect.ensures.limit
-    (omega arith) (omega arith) c.finish.ensures.collections c.finish.ensures.keys c.finish.ensures.sound c.finish.ensures.ids
+    whole_then s c.args.client c.args.call c.answer-asked.result (with_key c.answer-asked.result c.in-Ok.key) c.task_of-task.result
+    c.tracking_of-tracking.result b parts c.in-Ok.ensures.ok c.self.inside.contents.pool c.take_effect.new.contents.pool c.put_end.new.forest
+    (end_placed c.task_of-task.result c.carried_end.result) c.sweep.new.trackers c.self.invariant c.take_effect.ensures.size
+    c.take_effect.ensures.pool c.put_end.ensures.held c.take_effect.ensures.limit
+    (omega arith) (omega arith) c.put_end.ensures.collections c.put_end.ensures.keys c.put_end.ensures.sound c.put_end.ensures.ids
     c.sweep.ensures
 
 -- the reply is the answer, and the new state follows
@@ -186,27 +191,27 @@ returns c =
     c.tracking_of-tracking.ensures in
     let parts : Parts =
     record { clients = c.take_effect.new.contents.clients.items; forest = c.take_effect.new.contents.forest; holds = c.take_effect.new.contents.holds; trackers = c.take_effect.new.contents.trackers } in
-    let answers = step_answers s c.args.client c.args.call c.answer-asked.result (keyed c.answer-asked.result c.in-Ok.key)
+    let answers = step_answers s c.args.client c.args.call c.answer-asked.result (with_key c.answer-asked.result c.in-Ok.key)
     c.task_of-task.result c.tracking_of-tracking.result b parts c.in-Ok.ensures.ok in
-    let follows = step_follows s c.args.client c.args.call c.answer-asked.result (keyed c.answer-asked.result c.in-Ok.key)
+    let follows = step_follows s c.args.client c.args.call c.answer-asked.result (with_key c.answer-asked.result c.in-Ok.key)
     c.task_of-task.result c.tracking_of-tracking.result b parts c.in-Ok.ensures.ok c.carried_end.result c.carried_end.ensures
-    c.finish.new.forest c.sweep.new.trackers
-    c.finish.ensures.collections c.finish.ensures.keys c.sweep.ensures in
+    c.put_end.new.forest c.sweep.new.trackers
+    c.put_end.ensures.collections c.put_end.ensures.keys c.sweep.ensures in
     let room : s.events < s.limits.events = omega arith in
-    rw c.keyed.ensures (record {
+    rw c.with_key.ensures (record {
       answer = rw (← c.self.view_is) answers;
-      kind = reply-fits s.limits (readings_of s) c.args.client (key_told (keyed c.answer-asked.result c.in-Ok.key)) c.args.call
-          (keyed c.answer-asked.result c.in-Ok.key) answers.told;
+      kind = reply-fits s.limits (readings_of s) c.args.client (key_told (with_key c.answer-asked.result c.in-Ok.key)) c.args.call
+          (with_key c.answer-asked.result c.in-Ok.key) answers.told;
       after = rw (← c.self.view_is, c.take_effect.ensures.size) follows;
       goes_on = rw (← c.self.view_is, c.take_effect.ensures.size) (goes_on s (after s c.args.client c.args.call c.answer-asked.result
-          (keyed c.answer-asked.result c.in-Ok.key) c.task_of-task.result c.tracking_of-tracking.result b parts c.in-Ok.ensures.ok
-          c.carried_end.result c.carried_end.ensures c.finish.new.forest c.sweep.new.trackers c.finish.ensures.collections
-          c.finish.ensures.keys c.sweep.ensures) c.args.client c.args.call (keyed c.answer-asked.result c.in-Ok.key) answers follows
+          (with_key c.answer-asked.result c.in-Ok.key) c.task_of-task.result c.tracking_of-tracking.result b parts c.in-Ok.ensures.ok
+          c.carried_end.result c.carried_end.ensures c.put_end.new.forest c.sweep.new.trackers c.put_end.ensures.collections
+          c.put_end.ensures.keys c.sweep.ensures) c.args.client c.args.call (with_key c.answer-asked.result c.in-Ok.key) answers follows
           room);
       untaken = rw (← c.self.view_is) (untaken_after s (after s c.args.client c.args.call c.answer-asked.result
-          (keyed c.answer-asked.result c.in-Ok.key) c.task_of-task.result c.tracking_of-tracking.result b parts c.in-Ok.ensures.ok
-          c.carried_end.result c.carried_end.ensures c.finish.new.forest c.sweep.new.trackers c.finish.ensures.collections
-          c.finish.ensures.keys c.sweep.ensures) c.args.client c.args.call (keyed c.answer-asked.result c.in-Ok.key) answers
+          (with_key c.answer-asked.result c.in-Ok.key) c.task_of-task.result c.tracking_of-tracking.result b parts c.in-Ok.ensures.ok
+          c.carried_end.result c.carried_end.ensures c.put_end.new.forest c.sweep.new.trackers c.put_end.ensures.collections
+          c.put_end.ensures.keys c.sweep.ensures) c.args.client c.args.call (with_key c.answer-asked.result c.in-Ok.key) answers
           follows);
       kept = search rules;
       equal = search rules;

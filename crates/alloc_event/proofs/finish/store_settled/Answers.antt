@@ -9,14 +9,18 @@ use Rattle.alloc_event.specs.Scenes.{collection_of}
 use Rattle.alloc_event.proofs.changes.Finished.{back_places, finished-collections, finished-counted, finished-kept, finished-pool}
 use Rattle.alloc_event.proofs.tables.Hanging.{hung_settled}
 use Rattle.alloc_event.proofs.intervals.Pools.{pool_beside}
-use Rattle.alloc_event.proofs.finish.finish.Goals as goal
+use Rattle.alloc_event.proofs.finish.store_settled.Goals as goal
 
 pub settle_whole-requires : goal.settle_whole-requires
 settle_whole-requires c = record { sound = c.requires.sound; rooted = c.requires.hung.rooted; united = c.requires.united }
 
 pub give_back-requires : goal.give_back-requires
-give_back-requires c =
-    (beside (forest_of c.args.table.now (shelves_of c.args.entries.now.items)) c.args.scene.id, c.in_ok-settle_whole.ensures.pool _ (pool_beside c.args.pool.now.held c.args.table.now (shelf_in c.args.scene) (shelves_of c.args.entries.now.items) c.requires.rising c.part.ensures c.requires.pool))
+give_back-requires c = (
+  beside (forest_of c.args.table.now (shelves_of c.args.entries.now.items)) c.args.scene.id,
+  c.in_ok-settle_whole.ensures.pool _
+      (pool_beside c.args.pool.now.held c.args.table.now (shelf_in c.args.scene)
+      (shelves_of c.args.entries.now.items) c.requires.rising c.part.ensures c.requires.pool),
+)
 
 pub store-requires-clause-places : goal.store-requires-clause-places
 store-requires-clause-places c =
@@ -75,7 +79,16 @@ returns-clause-counted c =
     let es = c.args.entries.now.items in
     let keys = rw c.deref.ensures.value at c.in-Ok.ensures in
     let new : Entry =
-    record { id = c.give_back.new.scene.id; keys = c.in-Ok.keys; buffers = c.give_back.new.scene.buffers; held = c.give_back.new.scene.held; strong = c.count_strong-strong.result; tidy = not c.is_some_over-tidy.result; one = None } in
+    record {
+      id = c.give_back.new.scene.id;
+      keys = c.in-Ok.keys;
+      buffers = c.give_back.new.scene.buffers;
+      held =
+          c.give_back.new.scene.held;
+      strong = c.count_strong-strong.result;
+      tidy = not c.is_some_over-tidy.result;
+      one = None;
+    } in
     let placed : c.put_entry.new.entries.items ≡ put_in new es = rw c.reserve.ensures.items at c.put_entry.ensures.items in
     rw placed (finished-counted (total c.args.holds.now) c.args.table.now es c.args.scene c.settle_whole.new.scene c.give_back.new.scene
     c.requires.kept c.requires.rising c.requires.own s.sound s.id s.frames c.give_back.ensures.scene c.store.new.table

@@ -7,10 +7,10 @@ use Rattle.alloc_event.specs.Decisions.{is_left_of, has_waiting}
 use Rattle.alloc_event.specs.Nodes.{after_allocation, after_end, after_loss}
 
 -- nodes that were there left, failed, or were allocated
-pub data Moves (nodes : List Node) : List Node → Type 0 where
-  Left : (top : NodeKey) → is_left_of nodes top ≡ true → Moves nodes (after_end top nodes)
-  Lost : (fault : Fault) → is_left_of nodes fault.origin ≡ true → Moves nodes (after_loss fault nodes)
-  Given : (head : NodeKey) → has_waiting nodes head ≡ true → Moves nodes (after_allocation head nodes)
+pub data Progress (nodes : List Node) : List Node → Type 0 where
+  Left : (top : NodeKey) → is_left_of nodes top ≡ true → Progress nodes (after_end top nodes)
+  Lost : (fault : Fault) → is_left_of nodes fault.origin ≡ true → Progress nodes (after_loss fault nodes)
+  Given : (head : NodeKey) → has_waiting nodes head ≡ true → Progress nodes (after_allocation head nodes)
 
 -- how often the node can still be moved: it is allocated once, and goes once
 abbrev pub moves_left : Node → ℕ

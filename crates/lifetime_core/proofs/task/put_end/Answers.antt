@@ -4,12 +4,12 @@ use Rattle.alloc_event.specs.Forest.{Forest, SameKeys, without_over_in}
 use Rattle.lifetime_core.specs.declared.task.Place.{Place}
 use Rattle.lifetime_core.specs.declared.task.Task.{Task}
 use Rattle.lifetime_core.specs.Steps.{with_place}
-use Rattle.lifetime_core.specs.Tasks.{placed, spent_place}
+use Rattle.lifetime_core.specs.Tasks.{end_placed, spent_place}
 use Rattle.lifetime_core.specs.Whole.{CanFinish, IsAmid, IsSound}
 use Rattle.lifetime_core.proofs.ends.Transfers.{carries}
 use Rattle.lifetime_core.proofs.ends.Spending.{are_left, id_from, same_held, same_worked, sound_left}
 use Rattle.lifetime_core.proofs.forced.Change.{ends_are_there}
-use Rattle.lifetime_core.proofs.task.finish.Goals as goal
+use Rattle.lifetime_core.proofs.task.put_end.Goals as goal
 
 -- there is no task
 pub returns-in_default : goal.returns-in_default
@@ -36,7 +36,7 @@ returns c =
     subst (λ (x : Forest). c.forget_over.new.self.collections ≡ without_over_in t.collection x.collections) c.spend.ensures
     c.forget_over.ensures.collections in
     let none : c.args.carried ≡ None = c.requires.one (ap is_some c.in-Some.is) in
-    let place : placed c.args.task.now c.args.carried ≡ spent_place t.spends =
+    let place : end_placed c.args.task.now c.args.carried ≡ spent_place t.spends =
     rw (c.in-Some.is, none) (first (spent_place t.spends)) in
     record {
       collections = rw place (are_left f c.forget_over.new.self t.collection t.spends amid same less);

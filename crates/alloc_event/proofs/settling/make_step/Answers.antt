@@ -7,11 +7,11 @@ use Rattle.alloc_event.specs.declared.decision.Decision.{Decision}
 use Rattle.alloc_event.specs.InTurn.{IsGiven}
 use Rattle.alloc_event.specs.Decisions.{IsStep, IsPlacing, IsAllocating}
 use Rattle.alloc_event.specs.Forest.{Collection}
-use Rattle.alloc_event.specs.Moves.{Moves, Left, Lost, Given}
+use Rattle.alloc_event.specs.Progress.{Progress, Left, Lost, Given}
 use Rattle.alloc_event.specs.Nodes.{after_allocation, after_end, after_loss, ended, given_buffers, is_taken, lost}
 use Rattle.alloc_event.specs.Scenes.{collection_of}
 use Rattle.alloc_event.proofs.lists.Loops.{written}
-use Rattle.alloc_event.proofs.settling.make.Goals as goal
+use Rattle.alloc_event.proofs.settling.make_step.Goals as goal
 
 -- what holds anyway holds at an error
 on_error : {A E : Type 0} (r : Result A E) (P : Type 0) → P → OnErr r P
@@ -30,7 +30,7 @@ returns-in-Ends-clause-moves c =
     let nodes : (with_items c.args.scene.now.nodes c.end.new.nodes).items ≡ after_end c.in-Ends.top old =
     written c.args.scene.now.nodes (ended old c.in-Ends.top) c.end.new.nodes
     (c.end.ensures ∙ ap (after_end c.in-Ends.top) c.deref_mut.ensures.value) in
-    subst (Moves old) (sym nodes) (Left c.in-Ends.top
+    subst (Progress old) (sym nodes) (Left c.in-Ends.top
     (subst (IsStep (collection_of c.args.scene.now)) c.in-Ends.is c.requires.step))
 
 pub returns-in-Loses-clause-moves : goal.returns-in-Loses-clause-moves
@@ -40,7 +40,7 @@ returns-in-Loses-clause-moves c =
     let nodes : (with_items c.args.scene.now.nodes c.lose.new.nodes).items ≡ after_loss fault old =
     written c.args.scene.now.nodes (lost (is_taken old fault.origin) fault) c.lose.new.nodes
     (c.lose.ensures ∙ ap (after_loss fault) c.deref_mut-in-Loses.ensures.value) in
-    subst (Moves old) (sym nodes) (Lost fault
+    subst (Progress old) (sym nodes) (Lost fault
     (subst (IsStep (collection_of c.args.scene.now)) c.in-Loses.is c.requires.step))
 
 pub returns-in-Allocates-clause-moves : goal.returns-in-Allocates-clause-moves
@@ -52,7 +52,7 @@ returns-in-Allocates-clause-moves c =
     written c.args.scene.now.nodes (given_buffers c.in-Allocates.head) c.allocate.new.nodes
     (c.allocate.ensures ∙ ap (after_allocation c.in-Allocates.head) c.deref_mut-in-Allocates.ensures.value) in
     let step : IsAllocating it c.in-Allocates.head = subst (IsStep it) c.in-Allocates.is c.requires.step in
-    subst (Moves old) (sym nodes) (Given c.in-Allocates.head step.waits)
+    subst (Progress old) (sym nodes) (Given c.in-Allocates.head step.waits)
 
 -- it is given, and no more
 on_ok : {A E : Type 0} (r : Result A E) → OnOk r (Unit {0})
