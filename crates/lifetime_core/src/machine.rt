@@ -381,11 +381,8 @@ impl Core {
             &self.contents.forest,
             &self.contents.holds,
         );
-        put_end(
-            &mut self.contents.forest,
-            &task,
-            carried_end(client, &call, &asked),
-        );
+        let carried = carried_end(client, &call, &asked);
+        put_end(&mut self.contents.forest, &task, carried);
         Ok(with_key(asked, key))
     }
 

@@ -23,7 +23,11 @@ fn bear_each(
 }
 
 // A root and so many children of its unit, or each of a unit of its own; the root's key comes first.
-fn family(alloc: Global, children: usize, attached: bool) -> Result<(Ground, Vec<NodeKey>), Fail> {
+pub(super) fn family(
+    alloc: Global,
+    children: usize,
+    attached: bool,
+) -> Result<(Ground, Vec<NodeKey>), Fail> {
     let mut ground = Ground::new(alloc)?;
     let mut keys = Vec::new(alloc);
     let root = ground.bear(None, false)?;
@@ -47,7 +51,7 @@ fn release_each(ground: &mut Ground, keys: &[NodeKey]) -> Result<(), Fail> {
     Ok(())
 }
 
-fn is_allocated(ground: &Ground, key: NodeKey) -> bool {
+pub(super) fn is_allocated(ground: &Ground, key: NodeKey) -> bool {
     match ground.forest().node(key) {
         Some(node) => node.allocated && !node.gone,
         None => false,
@@ -175,7 +179,7 @@ fn units_that_a_release_makes_ready_wait_for_the_root(rt: HostRuntime) -> Result
 }
 
 // Whether the node failed.
-fn failed(ground: &Ground, key: NodeKey) -> bool {
+pub(super) fn failed(ground: &Ground, key: NodeKey) -> bool {
     match ground.forest().node(key) {
         Some(node) => node.gone && node.fault.is_some(),
         None => false,
@@ -251,7 +255,11 @@ fn the_last_release_of_many_ends_the_collection(rt: HostRuntime) -> Result<(), F
 }
 
 // So many nodes, each below the one before, of one unit or each of a unit of its own.
-fn chain(alloc: Global, nodes: usize, attached: bool) -> Result<(Ground, Vec<NodeKey>), Fail> {
+pub(super) fn chain(
+    alloc: Global,
+    nodes: usize,
+    attached: bool,
+) -> Result<(Ground, Vec<NodeKey>), Fail> {
     let mut ground = Ground::new(alloc)?;
     let mut keys = Vec::new(alloc);
     let mut above = None;
@@ -547,68 +555,5 @@ fn many_that_fell_are_forgotten_from_the_middle(rt: HostRuntime) -> Result<(), F
     let middle = keys.len() / 2;
     keys.rotate_left(middle);
     assert!(rt; forget_in_turn(ground.into_forest(), &keys));
-    Ok(())
-}
-
-// Each of these asks for so much, and then the root, so that ten buffers of 4,096 bytes are placed.
-fn ask_before_root(ground: &mut Ground, keys: &[NodeKey], camping: u8) -> Result<(), Fail> {
-    if let Some((root, others)) = keys.split_first() {
-        for key in others {
-            if ground
-                .forest()
-                .node(*key)
-                .is_some_and(|node| node.constraints.is_none())
-            {
-                ground.ask(*key, demand(camping, 0, 4096)?)?;
-            }
-        }
-        ground.ask(*root, demand(0, 10, 4096)?)?;
-    }
-    Ok(())
-}
-
-// Whether those before this place are allocated, the one there failed, and those behind it too, or
-// are allocated.
-fn fails_at(ground: &Ground, keys: &[NodeKey], at: usize, all: bool) -> bool {
-    for place in 0..keys.len() {
-        let key = keys[place];
-        let fails = place == at || place > at && all;
-        if failed(ground, key) != fails || is_allocated(ground, key) == fails {
-            return false;
-        }
-    }
-    true
-}
-
-// The unit in the middle asks for larger buffers than there are.
-fn ask_too_much(ground: &mut Ground, keys: &[NodeKey]) -> Result<(), Fail> {
-    if let Some(key) = keys.get(30) {
-        ground.ask(*key, demand(0, 0, 9000)?)?;
-    }
-    ask_before_root(ground, keys, 0)
-}
-
-#[test]
-fn one_of_many_waiting_units_fails(rt: HostRuntime) -> Result<(), Fail> {
-    let (mut ground, keys) = family(rt.alloc(), 60, true)?;
-    ask_too_much(&mut ground, &keys)?;
-    assert!(rt; fails_at(&ground, &keys, 30, false));
-    Ok(())
-}
-
-#[test]
-fn one_of_a_chain_of_waiting_units_fails(rt: HostRuntime) -> Result<(), Fail> {
-    let (mut ground, keys) = chain(rt.alloc(), 60, true)?;
-    ask_too_much(&mut ground, &keys)?;
-    assert!(rt; fails_at(&ground, &keys, 30, true));
-    Ok(())
-}
-
-// Ten buffers are camped on, so the units that were born later get none.
-#[test]
-fn the_buffers_run_out_among_waiting_units(rt: HostRuntime) -> Result<(), Fail> {
-    let (mut ground, keys) = family(rt.alloc(), 20, true)?;
-    ask_before_root(&mut ground, &keys, 1)?;
-    assert!(rt; fails_at(&ground, &keys, 11, true));
     Ok(())
 }
