@@ -155,9 +155,9 @@ put_end-requires c =
           c.tracking_of-tracking.result b parts c.in-Ok.ensures.ok;
       carried = can_carry s c.args.client c.args.call c.answer-asked.result
           (with_key c.answer-asked.result c.in-Ok.key) c.task_of-task.result
-          c.tracking_of-tracking.result b parts c.in-Ok.ensures.ok c.carried_end.result c.carried_end.ensures;
+          c.tracking_of-tracking.result b parts c.in-Ok.ensures.ok c.carried_end-carried.result c.carried_end-carried.ensures;
       one = one s c.args.client c.args.call c.answer-asked.result (with_key c.answer-asked.result c.in-Ok.key) c.task_of-task.result
-          c.tracking_of-tracking.result b parts c.in-Ok.ensures.ok c.carried_end.result c.carried_end.ensures;
+          c.tracking_of-tracking.result b parts c.in-Ok.ensures.ok c.carried_end-carried.result c.carried_end-carried.ensures;
     }
 
 -- the fields are whole again
@@ -174,7 +174,7 @@ invariant_of-self-2 c =
     record { clients = c.take_effect.new.contents.clients.items; forest = c.take_effect.new.contents.forest; holds = c.take_effect.new.contents.holds; trackers = c.take_effect.new.contents.trackers } in
     whole_then s c.args.client c.args.call c.answer-asked.result (with_key c.answer-asked.result c.in-Ok.key) c.task_of-task.result
     c.tracking_of-tracking.result b parts c.in-Ok.ensures.ok c.self.inside.contents.pool c.take_effect.new.contents.pool c.put_end.new.forest
-    (end_placed c.task_of-task.result c.carried_end.result) c.sweep.new.trackers c.self.invariant c.take_effect.ensures.size
+    (end_placed c.task_of-task.result c.carried_end-carried.result) c.sweep.new.trackers c.self.invariant c.take_effect.ensures.size
     c.take_effect.ensures.pool c.put_end.ensures.held c.take_effect.ensures.limit
     (omega arith) (omega arith) c.put_end.ensures.collections c.put_end.ensures.keys c.put_end.ensures.sound c.put_end.ensures.ids
     c.sweep.ensures
@@ -194,7 +194,7 @@ returns c =
     let answers = step_answers s c.args.client c.args.call c.answer-asked.result (with_key c.answer-asked.result c.in-Ok.key)
     c.task_of-task.result c.tracking_of-tracking.result b parts c.in-Ok.ensures.ok in
     let follows = step_follows s c.args.client c.args.call c.answer-asked.result (with_key c.answer-asked.result c.in-Ok.key)
-    c.task_of-task.result c.tracking_of-tracking.result b parts c.in-Ok.ensures.ok c.carried_end.result c.carried_end.ensures
+    c.task_of-task.result c.tracking_of-tracking.result b parts c.in-Ok.ensures.ok c.carried_end-carried.result c.carried_end-carried.ensures
     c.put_end.new.forest c.sweep.new.trackers
     c.put_end.ensures.collections c.put_end.ensures.keys c.sweep.ensures in
     let room : s.events < s.limits.events = omega arith in
@@ -205,12 +205,12 @@ returns c =
       after = rw (← c.self.view_is, c.take_effect.ensures.size) follows;
       goes_on = rw (← c.self.view_is, c.take_effect.ensures.size) (goes_on s (after s c.args.client c.args.call c.answer-asked.result
           (with_key c.answer-asked.result c.in-Ok.key) c.task_of-task.result c.tracking_of-tracking.result b parts c.in-Ok.ensures.ok
-          c.carried_end.result c.carried_end.ensures c.put_end.new.forest c.sweep.new.trackers c.put_end.ensures.collections
+          c.carried_end-carried.result c.carried_end-carried.ensures c.put_end.new.forest c.sweep.new.trackers c.put_end.ensures.collections
           c.put_end.ensures.keys c.sweep.ensures) c.args.client c.args.call (with_key c.answer-asked.result c.in-Ok.key) answers follows
           room);
       untaken = rw (← c.self.view_is) (untaken_after s (after s c.args.client c.args.call c.answer-asked.result
           (with_key c.answer-asked.result c.in-Ok.key) c.task_of-task.result c.tracking_of-tracking.result b parts c.in-Ok.ensures.ok
-          c.carried_end.result c.carried_end.ensures c.put_end.new.forest c.sweep.new.trackers c.put_end.ensures.collections
+          c.carried_end-carried.result c.carried_end-carried.ensures c.put_end.new.forest c.sweep.new.trackers c.put_end.ensures.collections
           c.put_end.ensures.keys c.sweep.ensures) c.args.client c.args.call (with_key c.answer-asked.result c.in-Ok.key) answers
           follows);
       kept = search rules;
