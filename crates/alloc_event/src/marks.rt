@@ -12,6 +12,9 @@ use node_table::NodeTable;
 use sm_names::NodeKey;
 use std::alloc::{AllocError, Global};
 
+// Among so many nodes a walk costs no more than the room for marks.
+const FEW: usize = 8;
+
 /// Where the parent of each node of a collection stands, and room for a mark of each. So a pass over
 /// the nodes, in which parents stand before their children, goes from each to its parent at once.
 ///
@@ -37,12 +40,16 @@ pub fn no_marks(alloc: Global) -> Marks {
 }
 
 /// The places of the parents of these nodes, which stand by birth and are in the table, and room for
-/// a mark of each. It costs the nodes, and a binary search for each.
+/// a mark of each, unless they are few or none is live. It costs the nodes, and a binary search for
+/// each.
 pub(crate) fn marks_of(
     alloc: Global,
     table: &NodeTable<Node>,
     nodes: &[Node],
 ) -> Result<Marks, AllocError> {
+    if nodes.len() <= FEW || !nodes.iter().any(|node| is_live(node)) {
+        return Ok(no_marks(alloc));
+    }
     let mut above = Vec::with_capacity(alloc, nodes.len())?;
     let mut below = Vec::with_capacity(alloc, nodes.len())?;
     let mut living = Vec::with_capacity(alloc, nodes.len())?;
