@@ -11,7 +11,8 @@ use crate::questions::{is_allocated, is_ready};
 use sm_names::{Buffers, Failure, NodeKey};
 
 /// The head of the unit that is to be allocated next: of the attached units that are ready and not
-/// allocated, below an allocated unit, the one whose head was born first.
+/// allocated, below an allocated unit, the one whose head was born first. One walk, and two more for
+/// each attached unit before it that was not allocated.
 pub fn next_head(nodes: &[Node]) -> Option<NodeKey>
     ensures { result ≡ option_map (λ n. n.key) (find (is_next_node nodes.now) nodes.now) }
 {

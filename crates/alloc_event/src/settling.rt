@@ -27,9 +27,10 @@ use sm_names::{Fault, NoMemory};
 /// away. Only the allocation of a root unit is refused so. Attached units are allocated one by one
 /// where there is no memory to do more.
 ///
-/// There are at most two steps a node, each of some walks over the nodes; where a unit or the
-/// collection ends, of one for each live node besides. Attached units that are next one after
-/// another are allocated together, from the second on, which costs the nodes times a logarithm.
+/// There are at most two steps a node, each of some walks over the nodes, and of two more for each
+/// attached unit that waits; where a unit or the collection ends, of one for each live node besides.
+/// Attached units that are next one after another are allocated together, from the second on, which
+/// costs the nodes times a logarithm.
 ///
 /// The marks tell where parents stand. Without that a loss or an end costs a walk for each node, and
 /// each step one for each head of a unit that is released, and each live node.
