@@ -34,7 +34,7 @@ struct Claim {
 
 /// Where the node with this key stands.
 #[derive(Clone, Copy)]
-struct Place {
+struct KeyPlace {
     key: NodeKey,
     at: usize,
 }
@@ -51,18 +51,18 @@ enum Turn {
 }
 
 /// The places of the nodes in the order of their keys.
-fn places_of(alloc: Global, nodes: &[Node]) -> Option<Vec<Place>> {
+fn places_of(alloc: Global, nodes: &[Node]) -> Option<Vec<KeyPlace>> {
     let mut places = Vec::with_capacity(alloc, nodes.len()).ok()?;
     for at in 0..nodes.len() {
         let key = nodes[at].key;
-        places.push(Place { key, at }).ok()?;
+        places.push(KeyPlace { key, at }).ok()?;
     }
     places.sort_unstable_by_key(|place| place.key);
     Some(places)
 }
 
 /// The place of the node with this key, if it is found. A binary search.
-fn find_at(nodes: &[Node], places: &[Place], key: NodeKey) -> Option<usize>
+fn find_at(nodes: &[Node], places: &[KeyPlace], key: NodeKey) -> Option<usize>
     ensures here { IfSome result (IsKeyAt nodes.now key) }
     ensures within { IfSome result (λ at. at < length nodes.now) }
 {
@@ -100,7 +100,7 @@ fn joined(claim: Claim, node: &Node) -> Option<Claim>
 }
 
 /// Counts the node for its unit, if the place of its head is found and the sums have room.
-fn count(claims: &mut Vec<Claim>, nodes: &[Node], places: &[Place], node: &Node) -> bool
+fn count(claims: &mut Vec<Claim>, nodes: &[Node], places: &[KeyPlace], node: &Node) -> bool
     requires distinct { are_distinct nodes.now ≡ true }
     requires as_long { length claims.old.items ≡ length nodes.now }
     ensures counted { result ≡ true → (of : Key → Claimed) → claims.old.items ≡ map (λ n. of n.key) nodes.now →
@@ -140,7 +140,7 @@ fn no_claims(alloc: Global, nodes: &[Node]) -> Option<Vec<Claim>>
 }
 
 /// What the unit of each head asks for, in the place of the head.
-fn claims_of(alloc: Global, nodes: &[Node], places: &[Place]) -> Option<Vec<Claim>>
+fn claims_of(alloc: Global, nodes: &[Node], places: &[KeyPlace]) -> Option<Vec<Claim>>
     requires { are_distinct nodes.now ≡ true }
     ensures { IfSome result (λ claims. claims.items ≡ map (λ n. claim_of nodes.now n.key) nodes.now) }
 {
@@ -155,7 +155,7 @@ fn claims_of(alloc: Global, nodes: &[Node], places: &[Place]) -> Option<Vec<Clai
 
 /// Where the node's parent stands, and the head of the parent's unit, if that stands before this
 /// place.
-fn above_of(nodes: &[Node], places: &[Place], node: &Node, at: usize) -> Option<(usize, usize)>
+fn above_of(nodes: &[Node], places: &[KeyPlace], node: &Node, at: usize) -> Option<(usize, usize)>
     ensures above { IfSome result (λ found. IsAbove nodes.now node.now at found.0 found.1) }
     ensures up { IfSome result (λ found. found.0 < length nodes.now) }
     ensures head { IfSome result (λ found. found.1 < length nodes.now) }
@@ -199,7 +199,7 @@ fn room(claim: Claim, taken: u128, buffers: Buffers) -> Option<u128>
 /// What comes of the node here in its turn.
 fn next_turn(
     nodes: &[Node],
-    places: &[Place],
+    places: &[KeyPlace],
     claims: &[Claim],
     given: &[bool],
     node: &Node,
@@ -233,7 +233,7 @@ fn next_turn(
 }
 
 /// A mark for each node, none of which is set.
-fn no_marks(alloc: Global, nodes: &[Node]) -> Option<Vec<bool>>
+fn none_given(alloc: Global, nodes: &[Node]) -> Option<Vec<bool>>
     ensures { IfSome result (λ marks. marks.items ≡ map (λ n. false) nodes.now) }
 {
     let mut marks = Vec::with_capacity(alloc, nodes.len()).ok()?;
@@ -254,7 +254,7 @@ fn add_head(heads: &mut Vec<NodeKey>, key: NodeKey) -> bool
 fn served_heads(
     alloc: Global,
     nodes: &[Node],
-    places: &[Place],
+    places: &[KeyPlace],
     claims: &[Claim],
     buffers: Buffers,
 ) -> Option<Vec<NodeKey>>
@@ -264,7 +264,7 @@ fn served_heads(
     requires many { length claims.now ≡ length nodes.now }
     ensures { IfSome result (λ heads. Serves buffers nodes.now (map (given_all heads.items) nodes.now)) }
 {
-    let mut given = no_marks(alloc, nodes)?;
+    let mut given = none_given(alloc, nodes)?;
     let mut heads = Vec::new(alloc);
     let mut taken = reserved(nodes);
     for at in 0..nodes.len() {

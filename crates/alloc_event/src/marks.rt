@@ -1,5 +1,5 @@
 //! Marks of the nodes of a collection, made in one pass over them.
-ghost use Rattle.std.specs.Prelude.{◌≡◌, ◌<◌, false, true, length, set, slice_get, IfSome, Some};
+ghost use Rattle.std.specs.Prelude.{[], ◌≡◌, ◌<◌, false, true, length, set, slice_get, IfSome, Some};
 ghost use Rattle.std.specs.Option.{unwrap_or};
 ghost use Rattle.alloc_event.specs.declared.node.Node.{Node as Kept};
 ghost use Rattle.alloc_event.specs.Marks.{AreLiving, AreMarked, is_left_at};
@@ -30,8 +30,13 @@ pub struct Marks {
     living: Vec<bool>,
 }
 
-/// No places, and no room.
-pub fn no_marks(alloc: Global) -> Marks {
+/// No places, and no room: each question is then answered by a walk. It takes no memory, and a
+/// constant time.
+pub fn no_marks(alloc: Global) -> Marks
+    ensures above { result.above.items ≡ [] }
+    ensures below { result.below.items ≡ [] }
+    ensures living { result.living.items ≡ [] }
+{
     Marks {
         above: Vec::new(alloc),
         below: Vec::new(alloc),

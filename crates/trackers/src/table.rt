@@ -67,11 +67,12 @@ impl Trackers {
         }
     }
 
-    /// Attaches a tracker, under the number of this event. It is `Full` exactly where as many wait as may, whatever memory there
-    /// is; a fault changes nothing. All memory that the firing and the taking will need is taken here:
-    /// a cell, the room for its value, and a place in each table. It costs a binary search among the
-    /// nodes and the buffers that are waited for under the collection, the logarithm of how many wait
-    /// for the same, the shift of the others behind one that is new, and the growth of the tables.
+    /// Attaches a tracker, under the number of this event. It is `Full` exactly where as many wait as
+    /// may, whatever memory there is; a fault changes nothing. All memory that the firing and the
+    /// taking will need is taken here: a cell, the room for its value, and a place in each table. It
+    /// costs a binary search among the nodes and the buffers that are waited for under the collection,
+    /// the logarithm of how many wait for the same, the shift of the others behind one that is new,
+    /// and the growth of the tables.
     pub fn attach(&mut self, tracker: Waiting) -> Result<(), TrackFault>
         requires rising { All (λ (c : Cell). c.id < tracker.id) self.old.cells }
         ensures ok { OnOk result (Attaches self.old self.new tracker) }
