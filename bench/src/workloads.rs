@@ -56,6 +56,8 @@ pub const ALL: &[Row] = &[
     one("f2 attached failing", |_| trees::attached(1)),
     sized("f3 {} waiting units /unit", "units allocated at once, which divide", &[10, 100, 900], trees::waiting),
     sized("f4 {} released heads", "released heads with a live child", &[5, 50, 400], trees::released_heads),
+    sized("f5 allocated among {}", "attached units that have their buffers", &[10, 100, 900], trees::allocated_among),
+    sized("f6 {} failing units /unit", "units that fail at once, which divide", &[10, 100, 900], trees::failing),
     sized("g1 short life beside {}", "trackers on others", &[0, 64, 4096], trackers::unrelated),
     sized("g2 {} lifetimes, same", "lifetimes of one node", &[4, 64, 4096], trackers::lifetimes),
     sized("g3 {} numbers on 64 nodes", "lifetimes, each with a number", &[64, 512, 4096], |n| {

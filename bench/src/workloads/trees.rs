@@ -111,6 +111,49 @@ pub fn attached(at_least: u32) -> Stream {
     d.end()
 }
 
+/// An attached unit that is allocated, and goes, among attached units that have their buffers.
+pub fn allocated_among(n: u32) -> Stream {
+    let mut d = Driver::new(64, FULL);
+    let (r, _) = d.allocated(k(2, 8, 4096));
+    for _ in 0..n {
+        let (x, _) = d.token(Call::AttachToken(r));
+        d.done(Call::Bind(x));
+        d.done(Call::SetConstraints(x, k(0, 0, 1)));
+    }
+    d.timed(|d| {
+        for _ in 0..200 {
+            let (t, _) = d.token(Call::AttachToken(r));
+            d.call(Call::Bind(t));
+            d.call(Call::SetConstraints(t, k(1, 0, 4096)));
+            d.call(Call::Check(t));
+            d.call(Call::Close(t));
+        }
+    });
+    d.end()
+}
+
+/// Units that all fail by the one event for which they wait: each asks for too many buffers.
+pub fn failing(n: u32) -> Stream {
+    let mut d = Driver::new(64, FULL);
+    for _ in 0..2 {
+        let (r, _) = d.token(Call::OpenRoot);
+        d.done(Call::Bind(r));
+        let mut all = Vec::new();
+        for _ in 0..n {
+            let (x, _) = d.token(Call::AttachToken(r));
+            d.done(Call::Bind(x));
+            d.done(Call::SetConstraints(x, k(2, 0, 1)));
+            all.push(x);
+        }
+        d.timed_as(n as u64 + 1, |d| d.done(Call::SetConstraints(r, k(1, 1, 1))));
+        d.call(Call::Close(r));
+        for x in all {
+            d.call(Call::Close(x));
+        }
+    }
+    d.end()
+}
+
 /// Units that are all allocated by the one event for which they wait.
 pub fn waiting(n: u32) -> Stream {
     let mut d = Driver::new(64, FULL);
