@@ -1,6 +1,7 @@
 -- A change to a collection, and how it is put back.
 pub mod Altering
 pub mod Done
+pub mod Dropped
 pub mod Effecting
 pub mod Finished
 pub mod Finishing

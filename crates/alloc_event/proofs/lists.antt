@@ -6,5 +6,6 @@ pub mod Filters
 pub mod Lookups
 pub mod Loops
 pub mod Ranges
+pub mod Removed
 pub mod SameIntervals
 pub mod StableSort

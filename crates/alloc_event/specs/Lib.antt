@@ -1,6 +1,7 @@
 pub mod Calm
 pub mod Counts
 pub mod Decisions
+pub mod Dropped
 pub mod Due
 pub mod Effects
 pub mod Falling

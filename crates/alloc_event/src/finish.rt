@@ -84,8 +84,8 @@ pub(crate) fn store_settled(
     Ok(())
 }
 
-// No two intervals of a pool begin at one page, so that their order by page is one.
-fn part(pool: &Pool)
+/// No two intervals of a pool begin at one page, so that their order by page is one.
+pub(crate) fn part(pool: &Pool)
     ensures { are_parted pool.now.held ≡ true }
 {
     let _ = pool.free_pages();

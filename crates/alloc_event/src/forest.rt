@@ -7,12 +7,15 @@ ghost use Rattle.sm_names.specs.declared.keys.Strength.{Strength};
 ghost use Rattle.buffer_holds.specs.Counts.{total};
 ghost use Rattle.std.specs.Option.{option_map, option_map_or};
 ghost use Rattle.sm_names.specs.Members.{some_strong_live};
+ghost use Rattle.alloc_event.specs.declared.change.Change.{Change as Changed};
+ghost use Rattle.alloc_event.specs.Dropped.{are_others_out};
 ghost use Rattle.alloc_event.specs.Forest.{Collection, IsPoolOf, SameKeys, collection_at, node_at, node_count, empty_forest, summary_of, live_keys, held_by_page, held_buffer, on_collections, with_nodes, is_left, without_over_in};
 ghost use Rattle.alloc_event.specs.Nodes.{members_of, with_end, is_of, is_over};
 ghost use Rattle.alloc_event.specs.Settling.{MayChange, Settled};
 
 use crate::change::Change;
 use crate::changing::{settle_birth, settle_change};
+use crate::dropped::settle_dropped;
 use crate::entry::{Entry, entry_of, place_of};
 use crate::forgetting::{forget_key, forget_over, note_over, take_out};
 use crate::held::HeldBuffer;
@@ -24,7 +27,7 @@ use crate::units::Unit;
 use buffer_holds::Holds;
 use buffer_pool::Pool;
 use node_table::NodeTable;
-use sm_names::{CollectionId, NoMemory, NodeKey};
+use sm_names::{BufferName, CollectionId, NoMemory, NodeKey};
 use std::alloc::Global;
 use std::marker::Model;
 
@@ -115,6 +118,36 @@ impl Forest {
         }
         settle_change(table, entries, units, pool, holds, collection, &change)?;
         Ok(None)
+    }
+
+    /// Makes the steps that are forced because a handle of the buffer was dropped, and gives back the
+    /// pages of the buffer, if it is home. No other buffer of its collection may be home: none is
+    /// after `settle` or `settle_drop`, and none is brought home by a handle that is opened.
+    ///
+    /// `NoMemory` where a growth is refused. The forest and the pool are then as they were.
+    ///
+    /// Where a strong node of the collection is live, it costs a binary search. Else, where the root
+    /// is gone or has no buffers, it costs besides one look at the handles of the buffer, and where
+    /// that is home, a pass over the names of the collection's buffers, a shift of those behind it,
+    /// and what the pool takes. Where the root is not gone and has its buffers, it costs besides a
+    /// look at the strong handles of each buffer up to the first one of which one is open. None of
+    /// these takes memory. Where no strong handle of any is open then, the collection fails, and it
+    /// costs what `settle` does.
+    pub fn settle_drop(
+        &mut self,
+        pool: &mut Pool,
+        holds: &Holds,
+        buffer: BufferName,
+    ) -> Result<(), NoMemory>
+        requires others { option_map_or (are_others_out (total holds.now) buffer) (collection_at self.old buffer.collection) false ≡ true }
+        requires pool { IsPoolOf pool.old self.old }
+        ensures ok { OnOk result (Settled pool.old.size (total holds.now) self.old self.new buffer.collection Changed.Nothing None) }
+        ensures pool { IsPoolOf pool.new self.new }
+        ensures size { pool.new.size ≡ pool.old.size }
+        ensures kept { OnErr result ((self.new ≡ self.old) × (pool.new ≡ pool.old)) }
+    {
+        let (table, entries, units) = (&mut self.table, &mut self.entries, &mut self.units);
+        settle_dropped(table, entries, units, pool, holds, buffer)
     }
 
     /// The node with this key, unless it was never born or was forgotten. It costs a constant.

@@ -11,6 +11,7 @@ pub mod change;
 mod changing;
 pub mod deciding;
 pub mod decision;
+mod dropped;
 pub mod effects;
 mod emptied;
 pub mod ending;

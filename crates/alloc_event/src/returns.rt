@@ -73,7 +73,7 @@ fn return_one(
 }
 
 /// The pool's intervals lie apart.
-fn look_at(pool: &Pool)
+pub(crate) fn look_at(pool: &Pool)
     ensures { IsSoundPool pool.now }
 {
     let _free = pool.free_pages();

@@ -1,8 +1,7 @@
-use Rattle.std.proofs.Common.{◌≡◌, ◌∙◌, ◌++◌, refl, sym, ap, Bool, not, inl, inr, List, [], ◌∷◌, map}
+use Rattle.std.proofs.Common.{◌≡◌, ◌∙◌, ◌++◌, sym, ap, Bool, not, List, map}
 use Rattle.std.specs.List.{filter}
 use Rattle.sm_names.specs.Members.{some_strong_live}
 use Rattle.sm_names.specs.Timelines.{HeldPages}
-use Rattle.sm_names.proofs.SamenessLaws.{either_way}
 use Rattle.buffer_holds.specs.Counts.{total}
 use Rattle.alloc_event.specs.declared.held.HeldBuffer.{HeldBuffer}
 use Rattle.alloc_event.specs.Decisions.{has_strong}
@@ -11,16 +10,8 @@ use Rattle.alloc_event.specs.Nodes.{members_of}
 use Rattle.alloc_event.specs.Scenes.{by_page, collection_of, held_pages, is_out, pages_held}
 use Rattle.alloc_event.specs.Settling.{is_home_in}
 use Rattle.alloc_event.proofs.calm.Forcing.{strong_tie}
+use Rattle.alloc_event.proofs.lists.Removed.{filter-map}
 use Rattle.alloc_event.proofs.returns.give_back.Goals as goal
-
--- a filter before a map or after it
-filter-map : {A B : Type 0} (keep : B → Bool) (f : A → B) (xs : List A) →
-    map f (filter (λ x. keep (f x)) xs) ≡ filter keep (map f xs)
-filter-map keep f [] = refl
-filter-map keep f (x ∷ xs) = elim (either_way (keep (f x))) [
-  | inl e ↦ rw e (ap (λ ys. f x ∷ ys) (filter-map keep f xs))
-  | inr e ↦ rw e (filter-map keep f xs)
-]
 
 pub returns-clause-scene : goal.returns-clause-scene
 returns-clause-scene c =

@@ -1,0 +1,153 @@
+-- The buffer of the collection goes home, and nothing is forced in it.
+use Rattle.std.proofs.Common.{◌≡◌, ◌∙◌, ◌&&◌, ◌⊎◌, ◌++◌, ℕ, List, nat_lt, not, true, false, None, Some, inl, inr, refl, sym, ap, arith}
+use Rattle.std.proofs.lemmas.Bool.{lt-ltb}
+use Rattle.std.specs.List.{filter}
+use Rattle.buffer_holds.specs.Counts.{total}
+use Rattle.alloc_event.specs.declared.entry.Entry.{Entry}
+use Rattle.alloc_event.specs.Decisions.{decided}
+use Rattle.alloc_event.specs.Dropped.{are_rest_out, has_given_root}
+use Rattle.alloc_event.specs.Forest.{beside}
+use Rattle.alloc_event.specs.Kept.{forest_of, nodes_with, place_in, shelves_of}
+use Rattle.alloc_event.specs.Scenes.{by_page, is_held_strongly, is_out, pages_held}
+use Rattle.alloc_event.proofs.changes.Dropped.{IsReturned, decides_none, few_at, finishes_so, one_entry, pool_at, pool_so, rest_at, stored_so, units_so}
+use Rattle.alloc_event.proofs.shelves.Entries.{place_is}
+use Rattle.alloc_event.proofs.dropped.drop_in_place.Goals.{else-not-strong_live-via-then-not-strong_live+else-is_abandoned, else-not-strong_live-via-else-not-strong_live}
+use Rattle.alloc_event.proofs.dropped.drop_in_place.Goals as goal
+
+pub index-requires : goal.index-requires
+index-requires c =
+    let told : place_in c.args.buffer.collection c.args.entries.now.items ≡ Some c.in-Some.at =
+    sym (rw c.deref.ensures.value at c.place_of.ensures) ∙ c.in-Some.is in
+    omega (arith, (place_is c.args.buffer.collection c.args.entries.now.items c.in-Some.at told).within)
+
+pub index-requires-then-not-strong_live : goal.index-requires-then-not-strong_live
+index-requires-then-not-strong_live c =
+    let told : place_in c.args.buffer.collection c.args.entries.now.items ≡ Some c.in-Some.at =
+    sym (rw c.deref.ensures.value at c.place_of.ensures) ∙ c.in-Some.is in
+    omega (arith, (place_is c.args.buffer.collection c.args.entries.now.items c.in-Some.at told).within)
+
+pub index_mut-requires : goal.index_mut-requires
+index_mut-requires c =
+    let told : place_in c.args.buffer.collection c.args.entries.now.items ≡ Some c.in-Some.at =
+    sym (rw c.deref.ensures.value at c.place_of.ensures) ∙ c.in-Some.is in
+    omega (arith, (place_is c.args.buffer.collection c.args.entries.now.items c.in-Some.at told).within)
+
+pub is_abandoned-requires : goal.is_abandoned-requires
+is_abandoned-requires c =
+    let told : place_in c.args.buffer.collection c.args.entries.now.items ≡ Some c.in-Some.at =
+    sym (rw c.deref.ensures.value at c.place_of.ensures) ∙ c.in-Some.is in
+    few_at (total c.args.holds.now) c.args.table.now c.args.entries.now.items c.args.buffer.collection c.in-Some.at
+    c.index-then-not-strong_live.result.now told c.index-then-not-strong_live.ensures c.requires.kept c.requires.counted
+
+pub return_home-requires-clause-pool : goal.return_home-requires-clause-pool
+return_home-requires-clause-pool c =
+    let told : place_in c.args.buffer.collection c.args.entries.now.items ≡ Some c.in-Some.at =
+    sym (rw c.deref.ensures.value at c.place_of.ensures) ∙ c.in-Some.is in (
+      beside (forest_of c.args.table.now (shelves_of c.args.entries.now.items)) c.index_mut.result.now.id,
+      pool_at (total c.args.holds.now) c.args.table.now c.args.entries.now.items c.args.buffer.collection c.in-Some.at
+          c.index_mut.result.now told c.index_mut.ensures.value c.requires.kept c.requires.counted c.args.pool.now.held c.part.ensures
+          c.requires.pool,
+    )
+
+pub return_home-requires-clause-others : goal.return_home-requires-clause-others
+return_home-requires-clause-others c =
+    let told : place_in c.args.buffer.collection c.args.entries.now.items ≡ Some c.in-Some.at =
+    sym (rw c.deref.ensures.value at c.place_of.ensures) ∙ c.in-Some.is in
+    let read : c.index.result.now ≡ c.index_mut.result.now =
+    one_entry c.args.entries.now.items c.args.buffer.collection c.in-Some.at c.index.result.now c.index_mut.result.now told c.index.ensures
+    c.index_mut.ensures.value in
+    ap (λ (e : Entry). are_rest_out (total c.args.holds.now) c.args.buffer (nat_lt 0 e.strong) c.index_mut.result.now.held.items) read
+    ∙ rest_at (total c.args.holds.now) c.args.table.now c.args.entries.now.items c.args.buffer.collection c.in-Some.at
+    c.index_mut.result.now told c.index_mut.ensures.value c.requires.kept c.requires.counted c.args.buffer c.requires.others
+
+-- the entry that was read is the one that is changed
+module _ (c : goal.After-part-2) where
+  abbrev es : List Entry
+  es = c.args.entries.now.items
+
+  abbrev id : ℕ
+  id = c.args.buffer.collection
+
+  abbrev at : ℕ
+  at = c.in-Some.at
+
+  abbrev old : Entry
+  old = c.index_mut.result.now
+
+  abbrev new : Entry
+  new = record {
+    id = c.index_mut.result.now.id;
+    keys = c.index_mut.result.now.keys;
+    buffers = c.index_mut.result.now.buffers;
+    held = c.return_home.new.held;
+    strong = c.index_mut.result.now.strong;
+    tidy = c.index_mut.result.now.tidy;
+    one = c.index_mut.result.now.one;
+  }
+
+  told : place_in c.args.buffer.collection c.args.entries.now.items ≡ Some c.in-Some.at
+  told = sym (rw c.deref.ensures.value at c.place_of.ensures) ∙ c.in-Some.is
+
+  read : c.index.result.now ≡ c.index_mut.result.now
+  read = one_entry es id at c.index.result.now old told c.index.ensures c.index_mut.ensures.value
+
+  returned : IsReturned (total c.args.holds.now) old new
+  returned = record {
+    id = refl;
+    keys = refl;
+    buffers = refl;
+    held = c.return_home.ensures.held
+        ∙ ap (λ (e : Entry). filter (is_out (total c.args.holds.now) (nat_lt 0 e.strong)) old.held.items) read;
+  }
+
+  none : decided (nodes_with c.args.table.now c.index_mut.result.now.keys.items) c.index_mut.result.now.buffers
+      (is_held_strongly (total c.args.holds.now) c.index_mut.result.now.id c.index_mut.result.now.buffers) ≡ None
+  none =
+      decides_none (total c.args.holds.now) c.args.table.now es id at old told c.index_mut.ensures.value c.requires.kept c.requires.counted
+      why
+    where
+      why : (nat_lt 0 c.index_mut.result.now.strong ≡ true)
+          ⊎ ((has_given_root c.args.table.now c.index_mut.result.now.keys.items
+          && not (is_held_strongly (total c.args.holds.now) c.index_mut.result.now.id c.index_mut.result.now.buffers)) ≡ false)
+      why = elim c.else-not-strong_live.branch [
+        | else-not-strong_live-via-then-not-strong_live+else-is_abandoned w ↦
+            let same : w.index-then-not-strong_live.result.now ≡ c.index_mut.result.now =
+            one_entry es id at w.index-then-not-strong_live.result.now old told w.index-then-not-strong_live.ensures
+            c.index_mut.ensures.value in
+            inr (ap (λ (e : Entry). has_given_root c.args.table.now e.keys.items
+            && not (is_held_strongly (total c.args.holds.now) e.id e.buffers)) (sym same)
+            ∙ (sym w.is_abandoned.ensures ∙ w.if-is_abandoned.false))
+        | else-not-strong_live-via-else-not-strong_live w ↦
+            inl (ap (λ (e : Entry). nat_lt 0 e.strong) (sym read)
+            ∙ lt-ltb 0 c.index.result.now.strong w.if-not-strong_live.false)
+      ]
+
+  held_before : c.args.pool.now.held ≡ by_page (pages_held c.index_mut.result.now.held.items
+      ++ beside (forest_of c.args.table.now (shelves_of c.args.entries.now.items)) c.index_mut.result.now.id)
+  held_before =
+      pool_at (total c.args.holds.now) c.args.table.now es id at old told c.index_mut.ensures.value c.requires.kept c.requires.counted
+      c.args.pool.now.held c.part.ensures c.requires.pool
+
+pub returns-clause-ok : goal.returns-clause-ok
+returns-clause-ok c h =
+    finishes_so (total c.args.holds.now) c.args.table.now c.args.entries.now.items c.args.buffer.collection c.in-Some.at
+    c.index_mut.result.now (told c) c.index_mut.ensures.value c.requires.kept c.requires.counted (new c) (returned c) (none c)
+    c.args.pool.now.size
+
+pub returns-clause-kept : goal.returns-clause-kept
+returns-clause-kept c =
+    stored_so (total c.args.holds.now) c.args.table.now c.args.entries.now.items c.args.buffer.collection c.in-Some.at
+    c.index_mut.result.now (told c) c.index_mut.ensures.value c.requires.kept c.requires.counted (new c) (returned c)
+
+pub returns-clause-units : goal.returns-clause-units
+returns-clause-units c =
+    units_so (total c.args.holds.now) c.args.table.now c.args.entries.now.items c.args.buffer.collection c.in-Some.at
+    c.index_mut.result.now (told c) c.index_mut.ensures.value c.requires.kept c.requires.counted (new c) (returned c)
+
+pub returns-clause-pool : goal.returns-clause-pool
+returns-clause-pool c =
+    pool_so (total c.args.holds.now) c.args.table.now c.args.entries.now.items c.args.buffer.collection c.in-Some.at
+    c.index_mut.result.now (told c) c.index_mut.ensures.value c.requires.kept c.requires.counted (new c) (returned c)
+    c.return_home.new.pool.held c.part-2.ensures
+    (c.return_home.ensures.pool (beside (forest_of c.args.table.now (shelves_of c.args.entries.now.items)) c.index_mut.result.now.id)
+    (held_before c))

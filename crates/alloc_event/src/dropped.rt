@@ -1,0 +1,188 @@
+//! A handle that is dropped: no other buffer can be home by that, and no step is forced by it but
+//! that the buffers are abandoned.
+ghost use Rattle.std.specs.Prelude.{◌≡◌, ◌&&◌, ◌++◌, List, not, true, false, slice_get, OnOk, OnErr};
+ghost use Rattle.std.specs.List.{filter};
+ghost use Rattle.std.specs.Option.{option_map_or};
+ghost use Rattle.sm_names.specs.declared.keys.Interval.{Interval};
+ghost use Rattle.sm_names.specs.declared.keys.Strength.{Strength};
+ghost use Rattle.sm_names.specs.Handles.{is_home};
+ghost use Rattle.buffer_holds.specs.Counts.{total};
+ghost use Rattle.alloc_event.specs.declared.change.Change.{Change as Changed};
+ghost use Rattle.alloc_event.specs.declared.units.Unit.{Unit as Counts};
+ghost use Rattle.alloc_event.specs.Calm.{AreCounted};
+ghost use Rattle.alloc_event.specs.Counts.{HaveUnits};
+ghost use Rattle.alloc_event.specs.Dropped.{are_others_out, are_rest_out, has_given_root, is_given_root};
+ghost use Rattle.alloc_event.specs.Forest.{IsPoolOf, collection_at};
+ghost use Rattle.alloc_event.specs.Kept.{Finishes, IsStored, SameTable, forest_of, shelves_of};
+ghost use Rattle.alloc_event.specs.Scenes.{by_page, given_few, is_held_strongly, is_out, pages_held};
+ghost use Rattle.alloc_event.specs.Settling.{collection_or_new};
+
+use crate::change::Change;
+use crate::changing::settle_change;
+use crate::deciding::is_strong_open;
+use crate::entry::{Entry, place_of};
+use crate::finish::part;
+use crate::held::HeldBuffer;
+use crate::node::Node;
+use crate::returns::look_at;
+use crate::units::Unit;
+use buffer_holds::Holds;
+use buffer_pool::Pool;
+use node_table::NodeTable;
+use sm_names::{BufferName, NoMemory, NodeKey};
+
+/// Whether the key is of a root that is not gone and whose unit has its buffers.
+fn is_given_root(table: &NodeTable<Node>, key: NodeKey) -> bool
+    ensures { result ≡ is_given_root table.now key }
+{
+    match table.get(key) {
+        Some(node) => node.parent.is_none() && !node.gone && node.allocated,
+        None => false,
+    }
+}
+
+/// Whether the first of these keys is.
+fn has_given_root(table: &NodeTable<Node>, keys: &[NodeKey]) -> bool
+    ensures { result ≡ has_given_root table.now keys.now }
+{
+    match keys.first() {
+        Some(key) => is_given_root(table, *key),
+        None => false,
+    }
+}
+
+/// Whether the buffers of the collection are abandoned, where none of its strong nodes is live. It
+/// looks at the handles of its buffers only where the root is not gone.
+fn is_abandoned(table: &NodeTable<Node>, entry: &Entry, holds: &Holds) -> bool
+    requires { given_few entry.now.buffers ≡ true }
+    ensures { result ≡ (has_given_root table.now entry.now.keys.items
+        && not (is_held_strongly (total holds.now) entry.now.id entry.now.buffers)) }
+{
+    has_given_root(table, &entry.keys) && !is_strong_open(entry.id, entry.buffers, holds)
+}
+
+/// The buffer with this name is not held any longer, and gives its pages back. It costs a pass over
+/// the names.
+fn return_named(held: &mut Vec<HeldBuffer>, pool: &mut Pool, holds: &Holds, buffer: BufferName)
+    requires home { is_home (total holds.now buffer Strength.Strong) (total holds.now buffer Strength.Weak) false ≡ true }
+    requires pool { (others : List Interval) × (pool.old.held ≡ by_page (pages_held held.old.items ++ others)) }
+    requires others { are_rest_out (total holds.now) buffer false held.old.items ≡ true }
+    ensures held { held.new.items ≡ filter (is_out (total holds.now) false) held.old.items }
+    ensures pool { (others : List Interval) → pool.old.held ≡ by_page (pages_held held.old.items ++ others) →
+        pool.new.held ≡ by_page (pages_held held.new.items ++ others) }
+    ensures size { pool.new.size ≡ pool.old.size }
+{
+    look_at(pool);
+    let mut at = 0;
+    while at < held.len() {
+        let one = held[at];
+        if one.buffer == buffer {
+            pool.give_back(one.start, one.pages);
+            held.remove(at);
+        } else {
+            at += 1;
+        }
+    }
+}
+
+/// The buffer with this name gives its pages back, if it is home. No other one is home.
+fn return_home(
+    held: &mut Vec<HeldBuffer>,
+    pool: &mut Pool,
+    holds: &Holds,
+    buffer: BufferName,
+    strong_live: bool,
+)
+    requires pool { (others : List Interval) × (pool.old.held ≡ by_page (pages_held held.old.items ++ others)) }
+    requires others { are_rest_out (total holds.now) buffer strong_live held.old.items ≡ true }
+    ensures held { held.new.items ≡ filter (is_out (total holds.now) strong_live) held.old.items }
+    ensures pool { (others : List Interval) → pool.old.held ≡ by_page (pages_held held.old.items ++ others) →
+        pool.new.held ≡ by_page (pages_held held.new.items ++ others) }
+    ensures size { pool.new.size ≡ pool.old.size }
+{
+    if !strong_live && holds.home(buffer, strong_live) {
+        return_named(held, pool, holds, buffer);
+    }
+}
+
+/// What comes of a handle of the buffer that was dropped, if no step is forced by that: the buffer
+/// gives its pages back, if it is home. Answers whether none is; if one is, nothing changed. It takes
+/// no memory.
+fn drop_in_place(
+    table: &NodeTable<Node>,
+    entries: &mut Vec<Entry>,
+    pool: &mut Pool,
+    holds: &Holds,
+    buffer: BufferName,
+) -> bool
+    requires kept { IsStored table.now (shelves_of entries.old.items) }
+    requires counted { AreCounted table.now entries.old.items }
+    requires others { option_map_or (are_others_out (total holds.now) buffer)
+        (collection_at (forest_of table.now (shelves_of entries.old.items)) buffer.collection) false ≡ true }
+    requires pool { IsPoolOf pool.old (forest_of table.now (shelves_of entries.old.items)) }
+    ensures no_entries { result ≡ false → entries.new.items ≡ entries.old.items }
+    ensures no_pool { result ≡ false → pool.new ≡ pool.old }
+    ensures ok { result ≡ true → Finishes pool.old.size (total holds.now) table.now (shelves_of entries.old.items)
+        table.now (shelves_of entries.new.items)
+        (collection_or_new (forest_of table.now (shelves_of entries.old.items)) buffer.collection) }
+    ensures kept { IsStored table.now (shelves_of entries.new.items) }
+    ensures counted { AreCounted table.now entries.new.items }
+    ensures units { (us : List Counts) → HaveUnits us table.now entries.old.items → HaveUnits us table.now entries.new.items }
+    ensures pool { IsPoolOf pool.new (forest_of table.now (shelves_of entries.new.items)) }
+    ensures size { pool.new.size ≡ pool.old.size }
+{
+    let Some(at) = place_of(entries, buffer.collection) else {
+        return false;
+    };
+    let strong_live = entries[at].strong > 0;
+    if !strong_live && is_abandoned(table, &entries[at], holds) {
+        return false;
+    }
+    part(pool);
+    return_home(&mut entries[at].held, pool, holds, buffer, strong_live);
+    part(pool);
+    true
+}
+
+/// What comes of a handle of the buffer that was dropped. `NoMemory` leaves the table, the entries
+/// and the pool as they were.
+pub(crate) fn settle_dropped(
+    table: &mut NodeTable<Node>,
+    entries: &mut Vec<Entry>,
+    units: &mut Vec<Unit>,
+    pool: &mut Pool,
+    holds: &Holds,
+    buffer: BufferName,
+) -> Result<(), NoMemory>
+    requires kept { IsStored table.old (shelves_of entries.old.items) }
+    requires counted { AreCounted table.old entries.old.items }
+    requires units { HaveUnits units.old.items table.old entries.old.items }
+    requires others { option_map_or (are_others_out (total holds.now) buffer)
+        (collection_at (forest_of table.old (shelves_of entries.old.items)) buffer.collection) false ≡ true }
+    requires pool { IsPoolOf pool.old (forest_of table.old (shelves_of entries.old.items)) }
+    ensures ok { OnOk result (Finishes pool.old.size (total holds.now) table.old (shelves_of entries.old.items)
+        table.new (shelves_of entries.new.items)
+        (collection_or_new (forest_of table.old (shelves_of entries.old.items)) buffer.collection)) }
+    ensures kept { OnOk result (IsStored table.new (shelves_of entries.new.items)) }
+    ensures counted { OnOk result (AreCounted table.new entries.new.items) }
+    ensures units { HaveUnits units.new.items table.new entries.new.items }
+    ensures pool { OnOk result (IsPoolOf pool.new (forest_of table.new (shelves_of entries.new.items))) }
+    ensures size { pool.new.size ≡ pool.old.size }
+    ensures same { SameTable table.old table.new }
+    ensures err_table { OnErr result (table.new ≡ table.old) }
+    ensures err_entries { OnErr result (entries.new.items ≡ entries.old.items) }
+    ensures err_pool { OnErr result (pool.new ≡ pool.old) }
+{
+    if drop_in_place(table, entries, pool, holds, buffer) {
+        return Ok(());
+    }
+    settle_change(
+        table,
+        entries,
+        units,
+        pool,
+        holds,
+        buffer.collection,
+        &Change::Nothing,
+    )
+}
