@@ -5,4 +5,5 @@ pub mod Dropped
 pub mod Effecting
 pub mod Finished
 pub mod Finishing
+pub mod Reserving
 pub mod Tellings

@@ -2,6 +2,7 @@
 pub mod Amounts
 pub mod Holding
 pub mod Reckoning
+pub mod Reserved
 pub mod Slots
 pub mod Strong
 pub mod Untold

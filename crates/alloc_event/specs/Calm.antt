@@ -14,6 +14,7 @@ use Rattle.alloc_event.specs.Decisions.{decided}
 use Rattle.alloc_event.specs.Forest.{Collection}
 use Rattle.alloc_event.specs.Kept.{IsStored, collection_in, is_strong, nodes_with, shelf_of, shelves_of}
 use Rattle.alloc_event.specs.Nodes.{is_over}
+use Rattle.alloc_event.specs.Reserved.{reserved_count}
 
 -- no step would be forced in the collection, were a strong handle open
 abbrev pub IsCalm : Collection → Type 0
@@ -28,11 +29,12 @@ abbrev pub over_but : Option NodeKey → Node → Bool
 over_but None n = is_over n
 over_but (Some key) n = is_over n && not (same_key key n.key)
 
--- the collection of the entry is calm, its count is that of its nodes, and where it is tidy none of them is over but the one
--- that is noted
+-- the collection of the entry is calm, its counts are those of its nodes, and where it is tidy none of them is over but the
+-- one that is noted
 pub record IsCounted (t : Table Node) (e : Entry) : Type 0 where
   pub calm : IsCalm (collection_in t (shelf_of e))
   pub strong : e.strong ≡ strong_count (nodes_with t e.keys.items)
+  pub reserved : e.reserved ≡ reserved_count (nodes_with t e.keys.items)
   pub tidy : e.tidy ≡ true → list_any (over_but e.one) (nodes_with t e.keys.items) ≡ false
 
 -- so of each entry

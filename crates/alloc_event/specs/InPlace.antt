@@ -10,6 +10,7 @@ use Rattle.alloc_event.specs.declared.units.Unit.{Unit}
 use Rattle.alloc_event.specs.Calm.{IsCalm, over_but, strong_count}
 use Rattle.alloc_event.specs.Counts.{AreUnits}
 use Rattle.alloc_event.specs.Kept.{Finishes, IsStored, SameTable, Shelf, collection_in, forest_of, is_filed, nodes_with}
+use Rattle.alloc_event.specs.Reserved.{effected}
 use Rattle.alloc_event.specs.Settling.{Handles, MayChange, changed, collection_or_new, no_key}
 
 -- 1 where the test holds
@@ -48,7 +49,8 @@ pub record IsDone (t now : Table Node) (us : List Unit) (ss : List Shelf) (s : S
   pub units : AreUnits us (map (collection_in now) ss)
   pub same : SameTable t now
 
--- so it was, and as many nodes are over as before, also without one of them
+-- so it was, the nodes are as it makes them, and as many are over as before, also without one of them
 pub record IsMade (t now : Table Node) (us : List Unit) (ss : List Shelf) (s : Shelf) (change : Change) (lives : ℕ) : Type 0 where
   pub done : IsDone t now us ss s change lives
+  pub nodes : nodes_with now s.keys ≡ effected change (nodes_with t s.keys)
   pub over : (one : Option NodeKey) → list_any (over_but one) (nodes_with now s.keys) ≡ list_any (over_but one) (nodes_with t s.keys)

@@ -15,6 +15,7 @@ pub mod Progress
 pub mod Nodes
 pub mod Parted
 pub mod Questions
+pub mod Reserved
 pub mod Scenes
 pub mod Settling
 pub mod Still

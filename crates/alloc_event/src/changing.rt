@@ -340,6 +340,7 @@ fn bear_among(
         ≡ entry.old.strong + (if option_map_or (λ n. n.weak) (option_copied above.entry) false then 0 else 1)) }
     ensures err_shelf { OnErr result (shelf_of entry.new ≡ shelf_of entry.old) }
     ensures err_strong { OnErr result (entry.new.strong ≡ entry.old.strong) }
+    ensures reserved { entry.new.reserved ≡ entry.old.reserved }
     ensures id { entry.new.id ≡ entry.old.id }
     ensures tidy { entry.new.tidy ≡ entry.old.tidy }
     ensures one { entry.new.one ≡ entry.old.one }
@@ -375,7 +376,8 @@ fn bear_first(
     ensures err { OnErr result (table.new ≡ table.old) }
     ensures entries { IfOk result (λ key. (e : Kept) × (entries.new.items ≡ put_in e entries.old.items)
         × (shelf_of e ≡ shelf_with (no_shelf id) key)
-        × (e.strong ≡ (if option_map_or (λ n. n.weak) (option_copied above.entry) false then 0 else 1))) }
+        × (e.strong ≡ (if option_map_or (λ n. n.weak) (option_copied above.entry) false then 0 else 1))
+        × (e.reserved ≡ 0)) }
     ensures err_entries { OnErr result (entries.new.items ≡ entries.old.items) }
 {
     let alloc = *entries.allocator();
@@ -394,6 +396,7 @@ fn bear_first(
             buffers: None,
             held: Vec::new(alloc),
             strong,
+            reserved: 0,
             tidy: true,
             one: None,
         },

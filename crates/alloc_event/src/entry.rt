@@ -18,6 +18,8 @@ pub(crate) struct Entry {
     pub(crate) held: Vec<HeldBuffer>,
     /// How many of its nodes are live and strong.
     pub(crate) strong: usize,
+    /// How many buffers its nodes of allocated units camp on that are not gone.
+    pub(crate) reserved: u128,
     /// It is known that none of its nodes is over, but for the one that is noted.
     pub(crate) tidy: bool,
     /// The key of a node that may be over.

@@ -1,5 +1,5 @@
 //! Losses and ends in their places: what goes is found first, and then each node goes.
-ghost use Rattle.std.specs.Prelude.{◌≡◌, ◌⊎◌, ℕ, List, Some, None, true, false, IfOk, IfSome, IsSome, OnErr, map};
+ghost use Rattle.std.specs.Prelude.{◌≡◌, ◌⊎◌, ◌+◌, ℕ, List, Some, None, true, false, IfOk, IfSome, IsSome, OnErr, map};
 ghost use Rattle.std.specs.List.{list_any};
 ghost use Rattle.std.specs.List.Sorted.{IsSorted};
 ghost use Rattle.sm_names.specs.declared.keys.NodeKey.{NodeKey as Key};
@@ -10,8 +10,10 @@ ghost use Rattle.alloc_event.specs.Counts.{AreUnitsBut, HaveUnits, unit_at};
 ghost use Rattle.alloc_event.specs.Falling.{IsFailing, IsLost, IsOrdered, IsTaken, IsTop, change_of, gone_by, is_first, is_kept_up, is_spared, key_order, lowered, may_go, stays_live, untallied, without_node};
 ghost use Rattle.alloc_event.specs.InPlace.{IsOpen};
 ghost use Rattle.alloc_event.specs.Kept.{Finishes, IsStored, SameTable, Shelf, all_of, collection_in, forest_of, nodes_with, shelves_of};
+ghost use Rattle.alloc_event.specs.Reserved.{reserved_count};
 ghost use Rattle.alloc_event.specs.Settling.{Handles, MayChange, changed, collection_or_new, no_key};
 
+use crate::asks::reserved;
 use crate::entry::{Entry, place_of};
 use crate::forgetting::is_listed;
 use crate::in_place::is_served;
@@ -19,6 +21,7 @@ use crate::kept::{count_strong, is_over, is_some_over};
 use crate::losses::{fail, is_among, order};
 use crate::node::Node;
 use crate::questions::is_live;
+use crate::reserving::without;
 use crate::store::{load_nodes, store};
 use crate::units::{Unit, is_unready, put_unit, recount, unit_in};
 use failure_domains::fall;
@@ -241,6 +244,9 @@ fn fell(
     ensures some { IfSome result (λ left. (ss : List Shelf) (s : Shelf) →
         IsOpen table.old units.old.items ss s (change_of going.now) strong → s.id ≡ id →
         IsLost table.old table.new units.new.items ss s (change_of going.now) left nodes.new) }
+    ensures reserved { IfSome result (λ left. (ss : List Shelf) (s : Shelf) →
+        IsOpen table.old units.old.items ss s (change_of going.now) strong → s.id ≡ id →
+        reserved_count (nodes_with table.new s.keys) + reserved_count nodes.old ≡ reserved_count (nodes_with table.old s.keys)) }
 {
     let lost = count_strong(nodes);
     if strong <= lost || !are_of(nodes, id) {
@@ -322,6 +328,7 @@ fn lose_nodes(
         return false;
     };
     let strong = entries[at].strong;
+    let freed = reserved(nodes);
     let Some(left) = fell(table, units, strong, id, origin, keys, nodes, going) else {
         recount(units, table, entries, id);
         return false;
@@ -329,6 +336,7 @@ fn lose_nodes(
     let (tidy, one) = note_gone(entries[at].tidy, entries[at].one, nodes);
     let entry = &mut entries[at];
     entry.strong = left;
+    entry.reserved = without(entry.reserved, freed);
     entry.tidy = tidy;
     entry.one = one;
     true

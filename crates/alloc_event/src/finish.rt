@@ -8,6 +8,7 @@ ghost use Rattle.alloc_event.specs.Parted.{are_parted};
 ghost use Rattle.alloc_event.specs.Scenes.{IsSound, collection_of};
 ghost use Rattle.alloc_event.specs.Units.{are_united};
 
+use crate::asks::reserved;
 use crate::entry::Entry;
 use crate::kept::{count_strong, is_some_over};
 use crate::marks::marks_of;
@@ -68,6 +69,7 @@ pub(crate) fn store_settled(
     part(pool);
     store(table, &scene.nodes);
     let strong = count_strong(&scene.nodes);
+    let reserved = reserved(&scene.nodes);
     let tidy = !is_some_over(&scene.nodes);
     put_entry(
         entries,
@@ -77,6 +79,7 @@ pub(crate) fn store_settled(
             buffers: scene.buffers,
             held: scene.held,
             strong,
+            reserved,
             tidy,
             one: None,
         },

@@ -23,6 +23,7 @@ use crate::forgetting::first_child;
 use crate::kept::is_strong;
 use crate::node::Node;
 use crate::questions::is_live;
+use crate::reserving::reserved_after;
 use crate::store::write;
 use crate::units::{Unit, is_unready, put_unit, unit_in};
 use node_table::NodeTable;
@@ -264,10 +265,16 @@ pub(crate) fn settle_in_place(
     let Some(at) = place_of(entries, id) else {
         return false;
     };
-    let strong = entries[at].strong;
+    let entry = &entries[at];
+    let strong = entry.strong;
+    let Some(reserved) = reserved_after(table, change, entry.reserved) else {
+        return false;
+    };
     let Some(left) = change_in_place(table, units, strong, change) else {
         return false;
     };
-    entries[at].strong = left;
+    let entry = &mut entries[at];
+    entry.strong = left;
+    entry.reserved = reserved;
     true
 }

@@ -32,6 +32,7 @@ pub mod marks;
 pub mod node;
 pub mod placing;
 pub mod questions;
+mod reserving;
 pub mod returns;
 pub mod scene;
 pub mod settling;

@@ -15,6 +15,7 @@ use Rattle.alloc_event.specs.Decisions.{has_strong}
 use Rattle.alloc_event.specs.Forest.{Collection, beside}
 use Rattle.alloc_event.specs.InPlace.{IsDone, IsOpen}
 use Rattle.alloc_event.specs.Kept.{Finishes, IsStored, Shelf, Stores, are_filed, collection_in, forest_of, is_filed, nodes_with, place_in, put_shelf, shelf_of, shelves_of}
+use Rattle.alloc_event.specs.Reserved.{reserved_count}
 use Rattle.alloc_event.specs.Settling.{Handles, MayChange, Rests, Settles, changed, collection_or_new, given_back, no_key, put, standing}
 use Rattle.alloc_event.proofs.changes.Altering.{found_put}
 use Rattle.alloc_event.proofs.calm.Calming.{rests_strong}
@@ -101,6 +102,10 @@ module _ (t : Table Node) (es : List Entry) (id at : ℕ) (old : Entry) (place :
   pub tidy_at : old.tidy ≡ true → list_any (over_but old.one) (nodes_with t old.keys.items) ≡ false
   tidy_at h = (found_counted t id es old all found).tidy h
 
+  -- what was reserved was counted
+  pub reserved_at : old.reserved ≡ reserved_count (nodes_with t old.keys.items)
+  reserved_at = (found_counted t id es old all found).reserved
+
   module _ (now : Table Node) (after : List Unit) (left : ℕ) (made : IsDone t now after (shelves_of es) (shelf_of old) change left)
       (new : Entry) (same : shelf_of new ≡ shelf_of old) (strong : new.strong ≡ left)
       (tidy : new.tidy ≡ true → list_any (over_but new.one) (nodes_with now old.keys.items) ≡ false) where
@@ -118,8 +123,9 @@ module _ (t : Table Node) (es : List Entry) (id at : ℕ) (old : Entry) (place :
     new_id = ap (λ (s : Shelf). s.id) same ∙ own_id
 
     -- each entry is counted then
-    pub counted_at : place_in id es ≡ Some at → AreCounted now (set es at new)
-    counted_at told =
+    pub counted_at : place_in id es ≡ Some at → new.reserved ≡ reserved_count (nodes_with now old.keys.items) →
+        AreCounted now (set es at new)
+    counted_at told reserved =
         subst (AreCounted now) (sym (set_put new es at kept.rising (subst (λ (i : ℕ). place_in i es ≡ Some at) (sym new_id) told)))
         (counted_put now new es kept.rising
         (moved_but t now new.id es (filed_every t new.id es kept.filed)
@@ -128,5 +134,6 @@ module _ (t : Table Node) (es : List Entry) (id at : ℕ) (old : Entry) (place :
         (record {
           calm = subst (λ (s : Shelf). IsCalm (collection_in now s)) (sym same) made.calm;
           strong = strong ∙ made.strong ∙ ap (λ (s : Shelf). strong_count (nodes_with now s.keys)) (sym same);
+          reserved = reserved ∙ ap (λ (s : Shelf). reserved_count (nodes_with now s.keys)) (sym same);
           tidy = λ h. ap (λ (s : Shelf). list_any (over_but new.one) (nodes_with now s.keys)) same ∙ tidy h;
         }))

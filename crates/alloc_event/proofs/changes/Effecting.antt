@@ -276,6 +276,7 @@ module _ (t now : Table Node) (us : List Unit) (key : NodeKey) (effect : Effect)
       done = done_by t now ss s opens.kept opens.found (Change.Effect key effect) (f n ∷ []) stores (and_both (is_filed t s.id (f n).key)
           true filed refl)
           kept_now change_is after lives some count_now calm_now units_now;
+      nodes = nodes_now;
       over = λ one. ap (list_any (over_but one)) nodes_now ∙ any_map (over_but one) (over_but one) f nodes (λ m. over_same one m);
     }
 
@@ -513,5 +514,6 @@ made_nothing t us ss s strong some opens =
         units = opens.units;
         same = record { first = refl; nexts = refl; limit = refl; len = refl };
       };
+      nodes = refl;
       over = λ one. refl;
     }

@@ -15,6 +15,7 @@ use Rattle.alloc_event.specs.Calm.{AreCounted, AreCountedBut, IsCalm, put_in, st
 use Rattle.alloc_event.specs.Forest.{Collection, all_held, pages_in, beside}
 use Rattle.alloc_event.specs.Kept.{Shelf, AreRising, IsHung, IsStored, IsWhole, Stores, put_shelf, shelf_in, collection_in, forest_of, is_filed, all_of, have_places, shelf_of, shelves_of, nodes_with}
 use Rattle.alloc_event.specs.Nodes.{is_over}
+use Rattle.alloc_event.specs.Reserved.{reserved_count}
 use Rattle.alloc_event.specs.Parted.{are_parted}
 use Rattle.alloc_event.specs.Scenes.{IsSound, collection_of, held_pages, frame_of}
 use Rattle.alloc_event.specs.Settling.{Handles, put, given_back, standing}
@@ -117,11 +118,12 @@ pub finished-counted : (handles : Handles) (t : Table Node) (es : List Entry) (s
     (same_id : worked.id ≡ start.id) (frames : map frame_of worked.nodes.items ≡ map frame_of start.nodes.items)
     (given : collection_of back ≡ given_back handles (collection_of worked)) (now : Table Node) (stores : Stores t now back.nodes.items)
     (new : Entry) → new.keys.items ≡ keys_in start.nodes.items → new.id ≡ back.id → new.buffers ≡ back.buffers → new.held ≡ back.held →
-    new.strong ≡ strong_count back.nodes.items → new.tidy ≡ not (list_any is_over back.nodes.items) → new.one ≡ None → (pool : ℕ) →
+    new.strong ≡ strong_count back.nodes.items → new.reserved ≡ reserved_count back.nodes.items →
+    new.tidy ≡ not (list_any is_over back.nodes.items) → new.one ≡ None → (pool : ℕ) →
     ((others : List Interval) → forced pool (standing handles others (given_back handles (collection_of worked))) ≡ None) →
     AreCountedBut t start.id es → AreCounted now (put_in new es)
 finished-counted handles t es start worked back kept rising own sound same_id frames given now stores new keys_are id_is buffers_are
-    held_are strong tidy one pool rests but =
+    held_are strong reserved tidy one pool rests but =
     let ss : List Shelf = shelves_of es in
     let shelf_is : shelf_of new ≡ shelf_back handles t ss start worked back kept rising own sound same_id frames given now stores
     new.keys.items keys_are =
@@ -138,6 +140,7 @@ finished-counted handles t es start worked back kept rising own sound same_id fr
     (record {
       calm = subst IsCalm (sym shown) (calm_rested pool handles [] (given_back handles (collection_of worked)) (rests []));
       strong = strong ∙ ap (λ (c : Collection). strong_count c.nodes) (given ∙ sym shown);
+      reserved = reserved ∙ ap (λ (c : Collection). reserved_count c.nodes) (given ∙ sym shown);
       tidy = λ h. ap (λ (o : Option NodeKey). list_any (over_but o) (nodes_with now new.keys.items)) one
           ∙ (ap (λ (c : Collection). list_any is_over c.nodes) (shown ∙ sym given) ∙ not-true (list_any is_over back.nodes.items) (sym tidy
           ∙ h));

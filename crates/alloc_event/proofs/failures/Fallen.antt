@@ -24,6 +24,7 @@ use Rattle.alloc_event.specs.Falling.{change_of, gone_by, IsLost, IsTaken, IsTop
 use Rattle.alloc_event.specs.Forest.{Collection, with_nodes}
 use Rattle.alloc_event.specs.InPlace.{IsOpen}
 use Rattle.alloc_event.specs.Kept.{IsStored, IsWhole, Shelf, Stores, all_of, collection_in, forest_of, is_filed, is_strong, nodes_with, stored, written}
+use Rattle.alloc_event.specs.Reserved.{camped, reserved_count}
 use Rattle.alloc_event.specs.Settling.{Handles, Settles, standing, changed, collection_or_new, no_key}
 use Rattle.alloc_event.specs.Ties.{are_rooted}
 use Rattle.alloc_event.specs.Units.{is_head}
@@ -38,6 +39,7 @@ use Rattle.alloc_event.proofs.tallies.Holding.{head_there}
 use Rattle.alloc_event.proofs.tables.LeftParents.{in_shelf}
 use Rattle.alloc_event.proofs.lists.Lookups.{looked-map, same_key-swap}
 use Rattle.alloc_event.proofs.tallies.Reckoning.{lives_gone, waits_gone}
+use Rattle.alloc_event.proofs.tallies.Reserved.{camped_but, camped_gone, reserved_left}
 use Rattle.alloc_event.proofs.tables.Rooted.{left_node, left_parent}
 use Rattle.alloc_event.proofs.tallies.Slots.{Stays, all_at, but_all, but_join, but_moved, but_stays, one_shelf, one_slot}
 use Rattle.alloc_event.proofs.calm.Steps.{all-In}
@@ -122,6 +124,13 @@ lives_but k keys going n = but_is (lives_in k) (lives_gone k) going keys n
 
 waits_but : (k : NodeKey) (keys : List NodeKey) (going : Going) (n : Node) → waits_in k (goes_of going keys n) ≡ but (waits_in k) keys n
 waits_but k keys going n = but_is (waits_in k) (waits_gone k) going keys n
+
+camped_of : (keys : List NodeKey) (going : Going) (n : Node) → camped (goes_of going keys n) ≡ camped_but keys n
+camped_of keys going n = elim (either_way (list_any (same_key n.key) keys)) [
+  | inl e ↦ ap camped (goes_in going keys n e) ∙ camped_gone (gone_by going n) (gone_is going n)
+      ∙ sym (ap (λ (b : Bool). if b then 0 else camped n) e)
+  | inr e ↦ ap camped (goes_not going keys n e) ∙ sym (ap (λ (b : Bool). if b then 0 else camped n) e)
+]
 
 -- ---- nodes that are written as they go
 
@@ -260,6 +269,10 @@ module _ (t : Table Node) (us : List Unit) (ss : List Shelf) (s : Shelf) (going 
   pub strong_is : strong_count (map f nodes) + strong_count fallen ≡ strong
   strong_is = count_is is_strong (strong_but keys going) ∙ sym opens.strong
 
+  -- what falls camps on nothing any more
+  pub reserved_is : reserved_count (map f nodes) + reserved_count fallen ≡ reserved_count nodes
+  reserved_is = reserved_left t nodes whole.sound.distinct at_key opens.kept.named f keys (camped_of keys going) taken.once within
+
   -- ---- the units
 
   unit_has : HasUnits us nodes
@@ -315,6 +328,21 @@ module _ (t : Table Node) (us : List Unit) (ss : List Shelf) (s : Shelf) (going 
   -- the other collections have their counts in any case
   pub units_but : AreUnitsBut new s.id (map (collection_in t) ss)
   units_but = but_stays t opens.kept.named us new s.id stays ss opens.kept.filed (but_all us s.id (map (collection_in t) ss) opens.units)
+
+  -- ---- what is found, where they are written as they went
+
+  module _ (now : Table Node) (stores : Stores t now (map (gone_by going) fallen)) where
+    pub look_then : (k : NodeKey) → node_at now k ≡ option_map f (node_at t k)
+    look_then k = stores.look k ∙ by (node_at t k) refl
+      where
+        by : (o : Option Node) → node_at t k ≡ o → option_map (stored (map (gone_by going) fallen)) o ≡ option_map f o
+        by None is = refl
+        by (Some n) is =
+            let at : node_at t n.key ≡ Some n = ap (node_at t) (opens.kept.named k n is) ∙ is in
+            ap Some (stored_goes t opens.kept.named going keys n at n (inl refl))
+
+    pub nodes_then : nodes_with now s.keys ≡ map f nodes
+    nodes_then = looked-map f (node_at t) (node_at now) look_then s.keys
 
   -- ---- the unit above
 
@@ -410,19 +438,13 @@ module _ (t : Table Node) (us : List Unit) (ss : List Shelf) (s : Shelf) (going 
     module _ (now : Table Node) (stores : Stores t now (map (gone_by going) fallen))
         (rooted_now : are_rooted (reverse (map f nodes)) ≡ true) where
       look : (k : NodeKey) → node_at now k ≡ option_map f (node_at t k)
-      look k = stores.look k ∙ by (node_at t k) refl
-        where
-          by : (o : Option Node) → node_at t k ≡ o → option_map (stored (map (gone_by going) fallen)) o ≡ option_map f o
-          by None is = refl
-          by (Some n) is =
-              let at : node_at t n.key ≡ Some n = ap (node_at t) (opens.kept.named k n is) ∙ is in
-              ap Some (stored_goes t opens.kept.named going keys n at n (inl refl))
+      look = look_then now stores
 
       filed : list_all (is_filed t s.id) (keys_in (map (gone_by going) fallen)) ≡ true
       filed = filed_fallen t opens.kept.named going s.id keys own
 
       nodes_now : nodes_with now s.keys ≡ map f nodes
-      nodes_now = looked-map f (node_at t) (node_at now) look s.keys
+      nodes_now = nodes_then now stores
 
       pub now_is : collection_in now s ≡ with_nodes (map f) (collection_in t s)
       now_is = λ i. record (collection_in t s) { nodes = nodes_now i }

@@ -10,6 +10,7 @@ use Rattle.alloc_event.specs.declared.node.Node.{Node}
 use Rattle.alloc_event.specs.Calm.{AreCounted, IsCounted, put_in, strong_count, over_but}
 use Rattle.alloc_event.specs.Forest.{Collection}
 use Rattle.alloc_event.specs.Kept.{Bears, IsStored, Shelf, born, collection_in, forest_of, place_in, put_shelf, shelf_of, shelves_of, nodes_with}
+use Rattle.alloc_event.specs.Reserved.{reserved_count}
 use Rattle.alloc_event.specs.Settling.{Handles, collection_or_new}
 use Rattle.alloc_event.specs.Still.{IsStill, no_shelf, shelf_before, shelf_with}
 use Rattle.alloc_event.proofs.newborns.Forest.{still_collection}
@@ -63,14 +64,14 @@ module _ (t : Table Node) (es : List Entry) (ok : IsStored t (shelves_of es)) (a
         (collection_is t id (shelves_of es) ∙ ap (option_map (collection_in t)) (shelf_found id es ∙ ap (option_map shelf_of) found))
 
     -- where memory was refused
-    module _ (new : Entry) (same : shelf_of new ≡ shelf_of old) (strong : new.strong ≡ old.strong) (tidy : new.tidy ≡ old.tidy)
-        (one : new.one ≡ old.one) where
+    module _ (new : Entry) (same : shelf_of new ≡ shelf_of old) (strong : new.strong ≡ old.strong)
+        (reserved : new.reserved ≡ old.reserved) (tidy : new.tidy ≡ old.tidy) (one : new.one ≡ old.one) where
       pub refused_shelves : shelves_of (set es at new) ≡ shelves_of es
       refused_shelves = set_shelves es at new (λ within. same ∙ ap shelf_of (is ∙ get_or_default es at old new within))
 
       pub refused_counted : AreCounted t (set es at new)
       refused_counted = counted_set t es at new
-          (λ within was. recounted t old new (ap (collection_in t) same) strong (λ h.
+          (λ within was. recounted t old new (ap (collection_in t) same) strong reserved (λ h.
           ap (λ (o : Option NodeKey). list_any (over_but o) (nodes_with t old.keys.items)) one ∙ counted.tidy (sym tidy ∙ h)) counted)
           all
 
@@ -89,13 +90,15 @@ module _ (t : Table Node) (es : List Entry) (ok : IsStored t (shelves_of es)) (a
           (over : Above t (shelves_of es) id parent above)
           (bears : Bears t now (born above attached id event client key)) (handles : Handles)
           (still : IsStill handles (collection_or_new (forest_of t (shelves_of es)) id))
-          (strong : new.strong ≡ old.strong + more_strong above) (tidy : new.tidy ≡ old.tidy) (one : new.one ≡ old.one) where
+          (strong : new.strong ≡ old.strong + more_strong above) (reserved : new.reserved ≡ old.reserved) (tidy : new.tidy ≡ old.tidy)
+          (one : new.one ≡ old.one) where
         pub among_counted : AreCounted now (set es at new)
         among_counted = subst (AreCounted now) (sym put_is)
             (counted_put now new es ok.rising
             (counted_but now new.id es (moved_all t now es ok.filed (λ e filed. still_collection t now _ bears (shelf_of e) filed) all))
             (counted_born t now (shelves_of es) ok id parent attached client event above over key bears handles still new shelf_is
             (strong ∙ ap (λ (n : ℕ). n + more_strong above) (counted.strong ∙ ap (λ (c : Collection). strong_count c.nodes) (sym at_is)))
+            (reserved ∙ counted.reserved ∙ ap (λ (c : Collection). reserved_count c.nodes) (sym at_is))
             (λ h. (λ i. list_any (over_but (one i)) (at_is i).nodes) ∙ counted.tidy (sym tidy ∙ h))))
 
   -- the first node of a collection
@@ -117,7 +120,8 @@ module _ (t : Table Node) (es : List Entry) (ok : IsStored t (shelves_of es)) (a
     module _ (now : Table Node) (parent : Option NodeKey) (attached : Bool) (client event : ℕ) (above : Option Node)
         (over : Above t (shelves_of es) id parent above)
         (bears : Bears t now (born above attached id event client key)) (handles : Handles)
-        (still : IsStill handles (collection_or_new (forest_of t (shelves_of es)) id)) (strong : new.strong ≡ more_strong above) where
+        (still : IsStill handles (collection_or_new (forest_of t (shelves_of es)) id)) (strong : new.strong ≡ more_strong above)
+        (reserved : new.reserved ≡ 0) where
       pub first_counted : AreCounted now (put_in new es)
       first_counted =
           counted_put now new es ok.rising
@@ -126,4 +130,5 @@ module _ (t : Table Node) (es : List Entry) (ok : IsStored t (shelves_of es)) (a
           (let base : strong_count (collection_or_new (forest_of t (shelves_of es)) id).nodes ≡ 0 =
           ap (λ (c : Collection). strong_count c.nodes) empty_is in
           omega (arith, strong, base))
+          (reserved ∙ sym (ap (λ (c : Collection). reserved_count c.nodes) empty_is))
           (λ h. ap (λ (c : Collection). list_any (over_but new.one) c.nodes) empty_is))

@@ -1,5 +1,5 @@
 -- A birth in a collection where nothing else changes with it.
-use Rattle.std.proofs.Common.{◌≡◌, ℕ, ◌+◌, Bool, true, false, ◌||◌, ◌&&◌, ◌==◌, not, if◌then◌else◌, List, [], ◌∷◌, ◌++◌, map, reverse, Option, Some, None, option_map, refl, sym, ap, subst, ◌∙◌, inl, inr}
+use Rattle.std.proofs.Common.{◌≡◌, ℕ, ◌+◌, Bool, true, false, ◌||◌, ◌&&◌, ◌==◌, not, if◌then◌else◌, List, [], ◌∷◌, ◌++◌, map, reverse, Option, Some, None, option_map, refl, sym, ap, subst, ◌∙◌, inl, inr, arith}
 use Rattle.std.specs.List.{filter, find, list_all, list_any}
 use Rattle.std.specs.Option.{option_map_or, unwrap_or}
 use Rattle.std.proofs.lemmas.List.{map-append}
@@ -21,6 +21,7 @@ use Rattle.alloc_event.proofs.leaving.Noted.{not_over_but}
 use Rattle.alloc_event.specs.Forest.{Collection, all_held, beside}
 use Rattle.alloc_event.specs.Kept.{Shelf, IsStored, Bears, Finishes, born, put_shelf, collection_in, forest_of, is_strong, shelf_of}
 use Rattle.alloc_event.specs.Nodes.{is_of, member_of, members_of}
+use Rattle.alloc_event.specs.Reserved.{reserved_count}
 use Rattle.alloc_event.specs.Settling.{Handles, collection_or_new, given_back, is_home_in, put, standing, with_birth}
 use Rattle.alloc_event.specs.Still.{IsStill, no_shelf, shelf_before, shelf_with}
 use Rattle.alloc_event.specs.Ties.{are_rooted}
@@ -28,6 +29,7 @@ use Rattle.alloc_event.proofs.changes.Altering.{any-append, shelf_by}
 use Rattle.alloc_event.proofs.newborns.NothingForced.{HaveOthers, births_force_nothing, birth_settles, members_more}
 use Rattle.alloc_event.proofs.newborns.Forest.{still_collections}
 use Rattle.alloc_event.proofs.calm.Calming.{calm_rested}
+use Rattle.alloc_event.proofs.tallies.Reserved.{reserved_append, reserved_one}
 use Rattle.alloc_event.proofs.changes.Finishing.{keys_in, looked-keys}
 use Rattle.alloc_event.proofs.newborns.Newborn.{Above, before_is, born_collection, born_fresh, born_held, born_is, born_kept, born_shown, key_is}
 use Rattle.alloc_event.proofs.shelves.Putting.{put-map}
@@ -183,17 +185,30 @@ module _ (t now : Table Node) (ss : List Shelf) (ok : IsStored t ss) (id : ℕ) 
       from true = refl
       from false = refl
 
-  -- an entry with the key and the count is counted
+  -- it camps on nothing
+  reserved_more : reserved_count c0.nodes ≡ reserved_count (c0.nodes ++ node ∷ [])
+  reserved_more =
+      let all = reserved_append c0.nodes (node ∷ []) in
+      let one : reserved_count (node ∷ []) ≡ 0 = reserved_one node (asks_none above) in
+      omega (arith, all, one)
+    where
+      asks_none : (up : Option Node) → (born up attached id event client key).constraints ≡ None
+      asks_none None = refl
+      asks_none (Some up) = refl
+
+  -- an entry with the key and the counts is counted
   pub counted_born : (e : Entry) → shelf_of e ≡ shelf_with (shelf_before id ss) key →
       e.strong ≡ strong_count c0.nodes + (if option_map_or (λ (n : Node). n.weak) above false then 0 else 1) →
+      e.reserved ≡ reserved_count c0.nodes →
       (e.tidy ≡ true → list_any (over_but e.one) c0.nodes ≡ false) → IsCounted now e
-  counted_born e is strong tidy =
+  counted_born e is strong reserved tidy =
       let shown : collection_in now (shelf_of e) ≡ born_collection t now ss ok id parent attached client event above at key bears =
       ap (collection_in now) (is ∙ shelf_is) ∙ born_shown t now ss ok id parent attached client event above at key bears in
       record {
         calm = subst IsCalm (sym (shown ∙ sym grown_is)) calm_after;
         strong = strong ∙ ap (λ (n : ℕ). strong_count c0.nodes + n) (sym (strong_more above))
             ∙ sym (times-append is_strong c0.nodes (node ∷ [])) ∙ ap (λ (c : Collection). strong_count c.nodes) (sym shown);
+        reserved = reserved ∙ reserved_more ∙ ap (λ (c : Collection). reserved_count c.nodes) (sym shown);
         tidy = λ h. ap (λ (c : Collection). list_any (over_but e.one) c.nodes) shown ∙ any-append (over_but e.one) c0.nodes (node ∷ [])
             ∙ or_both (list_any (over_but e.one) c0.nodes) _ (tidy h)
             (ap (λ (b : Bool). b || false) (not_over_but e.one node (rw (born_here above attached id event client key) refl)));

@@ -17,6 +17,7 @@ use Rattle.alloc_event.specs.Forest.{Collection}
 use Rattle.alloc_event.specs.Forgetting.{is_found, left_at, unless_over}
 use Rattle.alloc_event.specs.Kept.{AreRising, IsWhole, Shelf, are_filed, collection_in, is_filed, is_strong, nodes_with, place_in, put_shelf, shelf_of, shelves_of}
 use Rattle.alloc_event.specs.Nodes.{is_over, is_spent, with_end}
+use Rattle.alloc_event.specs.Reserved.{camped, reserved_count}
 use Rattle.alloc_event.proofs.changes.Altering.{looked-of}
 use Rattle.alloc_event.proofs.calm.Calming.{IsPlain, calm_filter, calm_map, strong_filter, times_map}
 use Rattle.alloc_event.proofs.shelves.Entries.{Some-inj}
@@ -27,6 +28,7 @@ use Rattle.alloc_event.proofs.shelves.Putting.{cases_place}
 use Rattle.alloc_event.proofs.shelves.Showing.{filed-length}
 use Rattle.alloc_event.proofs.calm.Steps.{all-In}
 use Rattle.alloc_event.proofs.leaving.Thinning.{none-filter}
+use Rattle.alloc_event.proofs.tallies.Reserved.{reserved_filter, reserved_map}
 
 -- what is told of the collection of an entry by one table is told by another that shows the same
 pub moved : (t now : Table Node) (e : Entry) → collection_in now (shelf_of e) ≡ collection_in t (shelf_of e) → IsCounted t e →
@@ -34,15 +36,18 @@ pub moved : (t now : Table Node) (e : Entry) → collection_in now (shelf_of e) 
 moved t now e same counted = record {
   calm = subst IsCalm (sym same) counted.calm;
   strong = counted.strong ∙ ap (λ (c : Collection). strong_count c.nodes) (sym same);
+  reserved = counted.reserved ∙ ap (λ (c : Collection). reserved_count c.nodes) (sym same);
   tidy = λ h. ap (λ (c : Collection). list_any (over_but e.one) c.nodes) same ∙ counted.tidy h;
 }
 
--- an entry that shows the same with the same count
+-- an entry that shows the same with the same counts
 pub recounted : (t : Table Node) (e new : Entry) → collection_in t (shelf_of new) ≡ collection_in t (shelf_of e) → new.strong ≡ e.strong →
+    new.reserved ≡ e.reserved →
     (new.tidy ≡ true → list_any (over_but new.one) (nodes_with t e.keys.items) ≡ false) → IsCounted t e → IsCounted t new
-recounted t e new same count tidy counted = record {
+recounted t e new same count sum tidy counted = record {
   calm = subst IsCalm (sym same) counted.calm;
   strong = count ∙ counted.strong ∙ ap (λ (c : Collection). strong_count c.nodes) (sym same);
+  reserved = sum ∙ counted.reserved ∙ ap (λ (c : Collection). reserved_count c.nodes) (sym same);
   tidy = λ h. ap (λ (c : Collection). list_any (over_but new.one) c.nodes) same ∙ tidy h;
 }
 
@@ -146,7 +151,7 @@ module _ (t now : Table Node) (named : (k : NodeKey) (n : Node) → node_at t k 
     | inr gone ↦ gone.1 n is
   ]
 
-  -- a collection stays calm, and its count what it is
+  -- a collection stays calm, and its counts what they are
   dropped : (e : Entry) → IsWhole (collection_in t (shelf_of e)) → IsCounted t e → IsCounted now e
   dropped e whole counted =
       let nodes : List Node = nodes_with t e.keys.items in
@@ -156,6 +161,7 @@ module _ (t now : Table Node) (named : (k : NodeKey) (n : Node) → node_at t k 
         calm = subst IsCalm (λ i. record (collection_in t (shelf_of e)) { nodes = sym (dropped_nodes e.keys.items) i })
             (calm_filter (collection_in t (shelf_of e)) whole stays over counted.calm);
         strong = counted.strong ∙ sym (strong_filter stays nodes over) ∙ ap strong_count (sym (dropped_nodes e.keys.items));
+        reserved = counted.reserved ∙ sym (reserved_filter stays nodes over) ∙ ap reserved_count (sym (dropped_nodes e.keys.items));
         tidy = λ h. ap (list_any (over_but e.one)) (dropped_nodes e.keys.items) ∙ none-filter stays (over_but e.one) nodes (counted.tidy h);
       }
 
@@ -168,20 +174,22 @@ module _ (t now : Table Node) (named : (k : NodeKey) (n : Node) → node_at t k 
 
 -- where each node is as f makes it, which keeps what the counts read
 pub mapped_all : (t now : Table Node) (f : Node → Node) → ((n : Node) → IsPlain (f n) n) → ((n : Node) → is_strong (f n) ≡ is_strong n) →
+    ((n : Node) → camped (f n) ≡ camped n) →
     ((key : NodeKey) → node_at now key ≡ option_map f (node_at t key)) → (es : List Entry) →
     AllByRecursion (λ (e : Entry). e.tidy ≡ true → list_any (over_but e.one) (map f (nodes_with t e.keys.items)) ≡ false) es →
     AreCounted t es → AreCounted now es
-mapped_all t now f plain strong look [] tidy all = tt
-mapped_all t now f plain strong look (e ∷ es) tidy all =
+mapped_all t now f plain strong camps look [] tidy all = tt
+mapped_all t now f plain strong camps look (e ∷ es) tidy all =
     let nodes : nodes_with now e.keys.items ≡ map f (nodes_with t e.keys.items) =
     looked-map f (node_at t) (node_at now) look e.keys.items in (
       record {
         calm = subst IsCalm (λ i. record (collection_in t (shelf_of e)) { nodes = sym nodes i }) (calm_map (collection_in t (shelf_of e)) f
             plain all.0.calm);
         strong = all.0.strong ∙ sym (times_map is_strong is_strong f (nodes_with t e.keys.items) strong) ∙ ap strong_count (sym nodes);
+        reserved = all.0.reserved ∙ sym (reserved_map f camps (nodes_with t e.keys.items)) ∙ ap reserved_count (sym nodes);
         tidy = λ h. ap (list_any (over_but e.one)) nodes ∙ tidy.0 h;
       },
-      mapped_all t now f plain strong look es tidy.1 all.1,
+      mapped_all t now f plain strong camps look es tidy.1 all.1,
     )
 
 -- ---- entries that are left out
@@ -377,11 +385,11 @@ module _ (t : Table Node) (named : (k : NodeKey) (n : Node) → node_at t k ≡ 
 
 -- an entry that notes a node where it noted none
 pub noted : (t : Table Node) (es : List Entry) (at : ℕ) (new : Entry) → (at < length es → shelf_of new ≡ shelf_of (get_or es at new)) →
-    (at < length es → new.strong ≡ (get_or es at new).strong) →
+    (at < length es → new.strong ≡ (get_or es at new).strong) → (at < length es → new.reserved ≡ (get_or es at new).reserved) →
     (at < length es → new.tidy ≡ true → ((get_or es at new).tidy ≡ true) × ((get_or es at new).one ≡ None)) → AreCounted t es →
     AreCounted t (set es at new)
-noted t es at new same strong known all = counted_set t es at new
-    (λ within counted. recounted t (get_or es at new) new (ap (collection_in t) (same within)) (strong within)
+noted t es at new same strong reserved known all = counted_set t es at new
+    (λ within counted. recounted t (get_or es at new) new (ap (collection_in t) (same within)) (strong within) (reserved within)
     (λ tidy.
     let was = known within tidy in
     fewer_over new.one (nodes_with t (get_or es at new).keys.items)

@@ -14,7 +14,7 @@ use Rattle.alloc_event.specs.Nodes.{is_of}
 use Rattle.alloc_event.specs.Scenes.{are_distinct}
 
 -- how much of all
-abbrev amount_of : (Node → ℕ) → List Node → ℕ
+abbrev pub amount_of : (Node → ℕ) → List Node → ℕ
 amount_of amount [] = 0
 amount_of amount (n ∷ ns) = amount n + amount_of amount ns
 
@@ -38,7 +38,7 @@ module _ (amount : Node → ℕ) (f : Node → Node) where
       omega arith
 
   -- where one changed, the difference that it makes
-  amount_changed : (ns : List Node) (n : Node) → are_distinct ns ≡ true → In n ns →
+  pub amount_changed : (ns : List Node) (n : Node) → are_distinct ns ≡ true → In n ns →
       ((m : Node) → In m ns → same_key n.key m.key ≡ false → amount (f m) ≡ amount m) →
       amount_of amount (map f ns) + amount n ≡ amount_of amount ns + amount (f n)
   amount_changed [] n distinct on same = absurd on

@@ -1,5 +1,5 @@
 -- The entry of the new collection has the key alone.
-use Rattle.std.proofs.Common.{◌≡◌, rules, true, None, [], ◌∷◌, map, ap, ◌∙◌}
+use Rattle.std.proofs.Common.{◌≡◌, refl, rules, true, None, [], ◌∷◌, map, ap, ◌∙◌}
 use Rattle.alloc_event.specs.declared.entry.Entry.{Entry}
 use Rattle.alloc_event.specs.Calm.{put_in}
 use Rattle.alloc_event.specs.Kept.{shelf_of}
@@ -9,10 +9,18 @@ use Rattle.alloc_event.proofs.changing.bear_first.Goals as goal
 
 pub returns-clause-entries : goal.returns-clause-entries
 returns-clause-entries c =
-    let new : Entry =
-    record { id = c.args.id; keys = c.push.new.self; buffers = None; held = c.new.result; strong = c.strong_below-strong.result; tidy = true; one = None } in
+    let new : Entry = record {
+      id = c.args.id;
+      keys = c.push.new.self;
+      buffers = None;
+      held = c.new.result;
+      strong = c.strong_below-strong.result;
+      reserved = 0;
+      tidy = true;
+      one = None;
+    } in
     let items : c.push.new.self.items ≡ c.in_ok-key.key ∷ [] = search rules in
     let held : c.new.result.items ≡ [] = c.new.ensures.items in
     let shelf : shelf_of new ≡ shelf_with (no_shelf c.args.id) c.in_ok-key.key =
     λ i. record { id = c.args.id; keys = items i; buffers = None; held = map held_pages (held i) } in
-    (new, c.put_entry.ensures.items ∙ ap (put_in new) c.reserve-else-is_err.ensures.items, shelf, c.strong_below-strong.ensures)
+    (new, c.put_entry.ensures.items ∙ ap (put_in new) c.reserve-else-is_err.ensures.items, shelf, c.strong_below-strong.ensures, refl)

@@ -82,6 +82,7 @@ module _ (c : goal.After-part-2) where
     held = c.return_home.new.held;
     strong = c.index_mut.result.now.strong;
     tidy = c.index_mut.result.now.tidy;
+    reserved = c.index_mut.result.now.reserved;
     one = c.index_mut.result.now.one;
   }
 

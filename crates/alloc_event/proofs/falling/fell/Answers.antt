@@ -7,7 +7,8 @@ use Rattle.alloc_event.specs.Calm.{strong_count}
 use Rattle.alloc_event.specs.Counts.{AreUnitsBut, unit_at}
 use Rattle.alloc_event.specs.Falling.{IsLost, change_of, gone_by, is_kept_up, may_go, untallied}
 use Rattle.alloc_event.specs.Kept.{Stores, all_of, collection_in, have_places, nodes_with}
-use Rattle.alloc_event.proofs.failures.Fallen.{filed_fallen, units_but}
+use Rattle.alloc_event.specs.Reserved.{reserved_count}
+use Rattle.alloc_event.proofs.failures.Fallen.{filed_fallen, nodes_then, reserved_is, units_but}
 use Rattle.alloc_event.proofs.changes.Finishing.{places-filed}
 use Rattle.alloc_event.proofs.failures.Goings.{lost_made}
 use Rattle.alloc_event.proofs.falling.fell.Goals as goal
@@ -70,3 +71,19 @@ returns-clause-some c ss s opens id =
     (lost_made t us ss s c.args.going.now c.args.strong opens c.args.origin keys c.requires.taken own
     c.in-Some.head c.in-Some.attached c.in-Some.ensures inside kept_up may c.requires.failing c.store.new.table stores
     (c.args.strong - c.count_strong-lost.result) (lt-ltb 0 (c.args.strong - c.count_strong-lost.result) some) count))
+
+pub returns-clause-reserved : goal.returns-clause-reserved
+returns-clause-reserved c ss s opens id =
+    let t = c.args.table.now in
+    let us = c.args.units.now.items in
+    let keys = c.args.keys.now in
+    let own : all_of s.id (nodes_with t keys) ≡ true =
+    subst (λ (i : ℕ). all_of i (nodes_with t keys) ≡ true) (sym id)
+    (subst (λ (ns : List Node). all_of c.args.id ns ≡ true) c.requires.nodes (sym c.are_of.ensures ∙ c.if-not-are_of.false)) in
+    let nodes : c.go_each.new.nodes ≡ map (gone_by c.args.going.now) (nodes_with t keys) =
+    c.go_each.ensures ∙ ap (map (gone_by c.args.going.now)) c.requires.nodes in
+    let stores : Stores t c.store.new.table (map (gone_by c.args.going.now) (nodes_with t keys)) =
+    subst (Stores t c.store.new.table) nodes c.store.ensures in
+    (λ i. reserved_count (nodes_then t us ss s c.args.going.now c.args.strong opens c.args.origin keys c.requires.taken own
+    c.store.new.table stores i) + reserved_count (c.requires.nodes i))
+    ∙ reserved_is t us ss s c.args.going.now c.args.strong opens c.args.origin keys c.requires.taken own

@@ -1,5 +1,5 @@
 -- The change is made in its place, and the entry of the collection has the count.
-use Rattle.std.proofs.Common.{◌≡◌, true, false, inl, inr, List, Option, Some, map, get_or, set, refl, sym, ◌∙◌, ap, subst, arith}
+use Rattle.std.proofs.Common.{◌≡◌, ℕ, ◌+◌, true, false, inl, inr, List, Option, Some, map, get_or, set, refl, sym, ◌∙◌, ap, subst, arith}
 use Rattle.std.proofs.lemmas.List.{get_or_default}
 use Rattle.std.specs.List.{list_any}
 use Rattle.alloc_event.specs.declared.change.Change.{Change}
@@ -11,9 +11,10 @@ use Rattle.alloc_event.specs.InPlace.{IsOpen}
 use Rattle.alloc_event.specs.Kept.{Finishes, Shelf, collection_in, nodes_with, place_in, shelf_of, shelves_of, forest_of}
 use Rattle.sm_names.specs.declared.keys.NodeKey.{NodeKey}
 use Rattle.alloc_event.specs.Calm.{over_but}
+use Rattle.alloc_event.specs.Reserved.{reserved_count}
 use Rattle.alloc_event.proofs.leaving.Noted.{fewer_over}
 use Rattle.alloc_event.specs.Settling.{changed, collection_or_new, no_key}
-use Rattle.alloc_event.proofs.changes.Done.{counted_at, finishes_at, opens_at, own_id, shelves_at, tidy_at}
+use Rattle.alloc_event.proofs.changes.Done.{counted_at, finishes_at, opens_at, own_id, reserved_at, shelves_at, tidy_at}
 use Rattle.alloc_event.proofs.shelves.Entries.{IsPlace, place_is}
 use Rattle.alloc_event.proofs.falling.lose_nodes.Goals as goal
 
@@ -79,6 +80,7 @@ module _ (c : goal.After-entries-1) where
     buffers = c.index_mut-entry.result.now.buffers;
     held = c.index_mut-entry.result.now.held;
     strong = c.in-Some-fell.left;
+    reserved = c.without-entry.result;
     tidy = c.note_gone-tidy.result.0;
     one = c.note_gone-tidy.result.1;
   }
@@ -128,6 +130,14 @@ module _ (c : goal.After-entries-1) where
             (sym (sym (ap (λ (x : Entry). x.one) thrice) ∙ none)) ∙ was)
       ])
 
+  reserved_now : new.reserved ≡ reserved_count (nodes_with c.fell.new.table old.keys.items)
+  reserved_now = c.without-entry.ensures (reserved_count (nodes_with c.fell.new.table old.keys.items))
+      (ap (λ (x : ℕ). reserved_count (nodes_with c.fell.new.table old.keys.items) + x) c.reserved-freed.ensures.value
+      ∙ (c.in-Some-fell.ensures.reserved (shelves_of es) (shelf_of old) opens own
+      ∙ (sym (reserved_at c.args.table.now es c.args.id c.in-Some.at old place is c.requires.kept c.requires.counted us c.requires.units
+      loss c.requires.change)
+      ∙ sym (ap (λ (x : Entry). x.reserved) again))))
+
   same_shelves : shelves_of (set es c.in-Some.at new) ≡ shelves_of es
   same_shelves = shelves_at c.args.table.now es c.args.id c.in-Some.at old place is c.requires.kept c.requires.counted us c.requires.units
       loss c.requires.change
@@ -153,6 +163,7 @@ returns-clause-counted c h =
     counted_at c.args.table.now c.args.entries.now.items c.args.id c.in-Some.at (old c) (place c) (is c) c.requires.kept c.requires.counted
     (us c) c.requires.units (loss c) c.requires.change
     c.fell.new.table c.fell.new.units.items c.in-Some-fell.left (lost c).done (new c) (ap shelf_of (again c)) refl (tidies c) (told c)
+    (reserved_now c)
 
 pub returns-clause-same : goal.returns-clause-same
 returns-clause-same c = (lost c).done.same

@@ -86,6 +86,7 @@ returns-clause-counted c =
       held =
           c.give_back.new.scene.held;
       strong = c.count_strong-strong.result;
+      reserved = c.reserved-reserved.result;
       tidy = not c.is_some_over-tidy.result;
       one = None;
     } in
@@ -94,4 +95,5 @@ returns-clause-counted c =
     c.requires.kept c.requires.rising c.requires.own s.sound s.id s.frames c.give_back.ensures.scene c.store.new.table
     (rw c.deref-3.ensures.value at c.store.ensures)
     new keys refl refl refl (rw c.deref-4.ensures.value at c.count_strong-strong.ensures)
-    (ap not (rw c.deref-5.ensures.value at c.is_some_over-tidy.ensures)) refl c.args.pool.now.size s.rests c.requires.counted)
+    (rw c.deref-5.ensures.value at c.reserved-reserved.ensures.value)
+    (ap not (rw c.deref-6.ensures.value at c.is_some_over-tidy.ensures)) refl c.args.pool.now.size s.rests c.requires.counted)

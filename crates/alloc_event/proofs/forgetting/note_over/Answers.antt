@@ -23,8 +23,16 @@ index_mut-entry-requires c =
 pub returns-in-Some-clause-shelves : goal.returns-in-Some-clause-shelves
 returns-in-Some-clause-shelves c =
     let old : Entry = c.index_mut-entry.result.now in
-    let e : Entry =
-    record { id = old.id; keys = old.keys; buffers = old.buffers; held = old.held; strong = old.strong; tidy = c.is_tidy-tidy.result; one = Some c.args.key } in
+    let e : Entry = record {
+      id = old.id;
+      keys = old.keys;
+      buffers = old.buffers;
+      held = old.held;
+      strong = old.strong;
+      reserved = old.reserved;
+      tidy = c.is_tidy-tidy.result;
+      one = Some c.args.key;
+    } in
     set_shelves c.args.entries.now.items c.in-Some.at e
     (λ within. ap shelf_of (c.index_mut-entry.ensures.value ∙ get_or_default c.args.entries.now.items c.in-Some.at old e within))
 
@@ -32,11 +40,20 @@ pub returns-in-Some-clause-counted : goal.returns-in-Some-clause-counted
 returns-in-Some-clause-counted c t all =
     let es = c.args.entries.now.items in
     let old : Entry = c.index_mut-entry.result.now in
-    let e : Entry =
-    record { id = old.id; keys = old.keys; buffers = old.buffers; held = old.held; strong = old.strong; tidy = c.is_tidy-tidy.result; one = Some c.args.key } in
+    let e : Entry = record {
+      id = old.id;
+      keys = old.keys;
+      buffers = old.buffers;
+      held = old.held;
+      strong = old.strong;
+      reserved = old.reserved;
+      tidy = c.is_tidy-tidy.result;
+      one = Some c.args.key;
+    } in
     noted t es c.in-Some.at e
     (λ within. ap shelf_of (c.index_mut-entry.ensures.value ∙ get_or_default es c.in-Some.at old e within))
     (λ within. ap (λ (x : Entry). x.strong) (c.index_mut-entry.ensures.value ∙ get_or_default es c.in-Some.at old e within))
+    (λ within. ap (λ (x : Entry). x.reserved) (c.index_mut-entry.ensures.value ∙ get_or_default es c.in-Some.at old e within))
     (λ within tidy.
     let first : get_or es c.in-Some.at e ≡ c.index.result.now =
     sym (c.index.ensures ∙ get_or_default es c.in-Some.at c.index.result.now e within) in

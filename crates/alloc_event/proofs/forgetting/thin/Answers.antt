@@ -55,6 +55,7 @@ returns-in-Some-clause-shelves c =
       buffers = c.index_mut-entry.result.now.buffers;
       held = c.index_mut-entry.result.now.held;
       strong = c.index_mut-entry.result.now.strong;
+      reserved = c.index_mut-entry.result.now.reserved;
       tidy = true;
       one = None;
     } in
@@ -71,8 +72,16 @@ returns-in-Some-clause-counted c all tidy =
     let told : place_in c.args.id c.args.entries.now.items ≡ Some c.in-Some.at =
     sym (rw c.deref.ensures.value at c.place_of.ensures) ∙ c.in-Some.is in
     let old : Entry = c.index_mut-entry.result.now in
-    let e : Entry =
-    record { id = old.id; keys = c.keep.new.keys; buffers = old.buffers; held = old.held; strong = old.strong; tidy = true; one = None } in
+    let e : Entry = record {
+      id = old.id;
+      keys = c.keep.new.keys;
+      buffers = old.buffers;
+      held = old.held;
+      strong = old.strong;
+      reserved = old.reserved;
+      tidy = true;
+      one = None;
+    } in
     let place = place_is c.args.id c.args.entries.now.items c.in-Some.at told in
     let was : old ≡ get_or c.args.entries.now.items c.in-Some.at e =
     c.index_mut-entry.ensures.value ∙ get_or_default _ _ _ e place.within in
@@ -82,7 +91,8 @@ returns-in-Some-clause-counted c all tidy =
     } in
     tidied_set c.args.table.now c.args.id c.args.entries.now.items c.in-Some.at e tidy
     (λ within is none counted.
-    recounted c.args.table.now old e same refl (λ h. ap (λ (x : Entry). list_any is_over (nodes_with c.args.table.now x.keys.items)) was
+    recounted c.args.table.now old e same refl refl (λ h.
+    ap (λ (x : Entry). list_any is_over (nodes_with c.args.table.now x.keys.items)) was
     ∙ none)
     (subst (IsCounted c.args.table.now) (sym was) counted))
     (λ within. place.id_is e) all

@@ -8,20 +8,21 @@ use Rattle.alloc_event.specs.Counts.{AreUnits}
 use Rattle.alloc_event.specs.InPlace.{IsMade, IsOpen}
 use Rattle.alloc_event.specs.Kept.{Finishes, Shelf, collection_in, nodes_with, place_in, shelf_of, shelves_of, forest_of}
 use Rattle.alloc_event.specs.Calm.{over_but}
+use Rattle.alloc_event.specs.Reserved.{reserved_count}
 use Rattle.alloc_event.specs.Settling.{changed, collection_or_new, no_key}
 use Rattle.alloc_event.proofs.changes.Altering.{tracker_room}
-use Rattle.alloc_event.proofs.changes.Done.{counted_at, finishes_at, opens_at, shelves_at, tidy_at}
+use Rattle.alloc_event.proofs.changes.Done.{counted_at, finishes_at, opens_at, reserved_at, shelves_at, tidy_at}
 use Rattle.alloc_event.proofs.shelves.Entries.{IsPlace, place_is}
 use Rattle.alloc_event.proofs.in_place.settle_in_place.Goals as goal
 
-pub index-requires : goal.index-requires
-index-requires c =
+pub index-entry-requires : goal.index-entry-requires
+index-entry-requires c =
     let told : place_in c.args.id c.args.entries.now.items ≡ Some c.in-Some.at =
     sym (rw c.deref.ensures.value at c.place_of.ensures) ∙ c.in-Some.is in
     omega (arith, (place_is c.args.id c.args.entries.now.items c.in-Some.at told).within)
 
-pub index_mut-requires : goal.index_mut-requires
-index_mut-requires c =
+pub index_mut-entry-requires : goal.index_mut-entry-requires
+index_mut-entry-requires c =
     let told : place_in c.args.id c.args.entries.now.items ≡ Some c.in-Some.at =
     sym (rw c.deref.ensures.value at c.place_of.ensures) ∙ c.in-Some.is in
     omega (arith, (place_is c.args.id c.args.entries.now.items c.in-Some.at told).within)
@@ -37,17 +38,18 @@ module _ (c : goal.After-entries-1) where
   es = c.args.entries.now.items
 
   abbrev old : Entry
-  old = c.index.result.now
+  old = c.index-entry.result.now
 
   abbrev new : Entry
   new = record {
-    id = c.index_mut.result.now.id;
-    keys = c.index_mut.result.now.keys;
-    buffers = c.index_mut.result.now.buffers;
-    held = c.index_mut.result.now.held;
+    id = c.index_mut-entry.result.now.id;
+    keys = c.index_mut-entry.result.now.keys;
+    buffers = c.index_mut-entry.result.now.buffers;
+    held = c.index_mut-entry.result.now.held;
     strong = c.in-Some-change_in_place.left;
-    tidy = c.index_mut.result.now.tidy;
-    one = c.index_mut.result.now.one;
+    reserved = c.in-Some-reserved_after.reserved;
+    tidy = c.index_mut-entry.result.now.tidy;
+    one = c.index_mut-entry.result.now.one;
   }
 
   told : place_in c.args.id es ≡ Some c.in-Some.at
@@ -57,10 +59,10 @@ module _ (c : goal.After-entries-1) where
   place = place_is c.args.id es c.in-Some.at told
 
   is : old ≡ get_or es c.in-Some.at old
-  is = c.index.ensures
+  is = c.index-entry.ensures
 
-  again : c.index_mut.result.now ≡ old
-  again = c.index_mut.ensures.value ∙ get_or_default es c.in-Some.at c.index_mut.result.now old place.within ∙ sym is
+  again : c.index_mut-entry.result.now ≡ old
+  again = c.index_mut-entry.ensures.value ∙ get_or_default es c.in-Some.at c.index_mut-entry.result.now old place.within ∙ sym is
 
   opens : IsOpen c.args.table.now c.args.units.now.items (shelves_of es) (shelf_of old) c.args.change.now old.strong
   opens = opens_at c.args.table.now es c.args.id c.in-Some.at old place is c.requires.kept c.requires.counted c.args.units.now.items
@@ -75,6 +77,12 @@ module _ (c : goal.After-entries-1) where
       ∙ tidy_at c.args.table.now es c.args.id c.in-Some.at old place is c.requires.kept c.requires.counted c.args.units.now.items
       c.requires.units c.args.change.now c.requires.change
       (sym (ap (λ (x : Entry). x.tidy) again) ∙ h)
+
+  reserved_now : new.reserved ≡ reserved_count (nodes_with c.change_in_place.new.table old.keys.items)
+  reserved_now = c.in-Some-reserved_after.ensures c.args.units.now.items (shelves_of es) (shelf_of old) old.strong opens
+      (reserved_at c.args.table.now es c.args.id c.in-Some.at old place is c.requires.kept c.requires.counted c.args.units.now.items
+      c.requires.units c.args.change.now c.requires.change)
+      ∙ ap reserved_count (sym made.nodes)
 
   same_shelves : shelves_of (set es c.in-Some.at new) ≡ shelves_of es
   same_shelves = shelves_at c.args.table.now es c.args.id c.in-Some.at old place is c.requires.kept c.requires.counted
@@ -103,7 +111,7 @@ returns-clause-counted c h =
     counted_at c.args.table.now c.args.entries.now.items c.args.id c.in-Some.at (old c) (place c) (is c) c.requires.kept c.requires.counted
     c.args.units.now.items c.requires.units c.args.change.now c.requires.change
     c.change_in_place.new.table c.change_in_place.new.units.items c.in-Some-change_in_place.left (made c).done (new c)
-    (ap shelf_of (again c)) refl (tidies c) (told c)
+    (ap shelf_of (again c)) refl (tidies c) (told c) (reserved_now c)
 
 pub returns-clause-same : goal.returns-clause-same
 returns-clause-same c = (made c).done.same

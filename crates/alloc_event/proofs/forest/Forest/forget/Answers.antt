@@ -34,8 +34,16 @@ pub invariant_of-self : goal.invariant_of-self
 invariant_of-self c =
     let told : place_in c.take_out-node.result.collection c.self.inside.entries.items ≡ Some c.in-Some.at =
     sym (rw c.deref.ensures.value at c.place_of.ensures) ∙ c.in-Some.is in
-    let e : Entry =
-    record { id = c.index_mut.result.now.id; keys = c.forget_key.new.keys; buffers = c.index_mut.result.now.buffers; held = c.index_mut.result.now.held; strong = c.index_mut.result.now.strong; tidy = c.index_mut.result.now.tidy; one = c.index_mut.result.now.one } in
+    let e : Entry = record {
+      id = c.index_mut.result.now.id;
+      keys = c.forget_key.new.keys;
+      buffers = c.index_mut.result.now.buffers;
+      held = c.index_mut.result.now.held;
+      strong = c.index_mut.result.now.strong;
+      reserved = c.index_mut.result.now.reserved;
+      tidy = c.index_mut.result.now.tidy;
+      one = c.index_mut.result.now.one;
+    } in
     let within = (place_is c.take_out-node.result.collection c.self.inside.entries.items c.in-Some.at told).within in
     let was : c.index_mut.result.now ≡ get_or c.self.inside.entries.items c.in-Some.at e =
     c.index_mut.ensures.value ∙ get_or_default c.self.inside.entries.items c.in-Some.at c.index_mut.result.now e within in
@@ -69,7 +77,7 @@ invariant_of-self c =
       counted = counted_set c.take_out-node.new.table c.self.inside.entries.items c.in-Some.at e
           (λ there counted. let own : IsCounted c.take_out-node.new.table old =
           subst (IsCounted c.take_out-node.new.table) (sym was) counted in
-          recounted c.take_out-node.new.table old e shown refl own.tidy own)
+          recounted c.take_out-node.new.table old e shown refl refl own.tidy own)
           (dropped_all c.self.inside.table c.take_out-node.new.table c.self.invariant.kept.named drops c.self.inside.entries.items
           c.self.invariant.kept.whole c.self.invariant.counted);
       units = rw same (subst (AreUnits c.self.inside.units.items) (sym (collections-without c.self.inside.table c.take_out-node.new.table
@@ -88,8 +96,16 @@ pub returns-in-Some-clause-nodes : goal.returns-in-Some-clause-nodes
 returns-in-Some-clause-nodes c =
     let told : place_in c.take_out-node.result.collection c.self.inside.entries.items ≡ Some c.in-Some.at =
     sym (rw c.deref.ensures.value at c.place_of.ensures) ∙ c.in-Some.is in
-    let e : Entry =
-    record { id = c.index_mut.result.now.id; keys = c.forget_key.new.keys; buffers = c.index_mut.result.now.buffers; held = c.index_mut.result.now.held; strong = c.index_mut.result.now.strong; tidy = c.index_mut.result.now.tidy; one = c.index_mut.result.now.one } in
+    let e : Entry = record {
+      id = c.index_mut.result.now.id;
+      keys = c.forget_key.new.keys;
+      buffers = c.index_mut.result.now.buffers;
+      held = c.index_mut.result.now.held;
+      strong = c.index_mut.result.now.strong;
+      reserved = c.index_mut.result.now.reserved;
+      tidy = c.index_mut.result.now.tidy;
+      one = c.index_mut.result.now.one;
+    } in
     let within = (place_is c.take_out-node.result.collection c.self.inside.entries.items c.in-Some.at told).within in
     let was : c.index_mut.result.now ≡ get_or c.self.inside.entries.items c.in-Some.at e =
     c.index_mut.ensures.value ∙ get_or_default c.self.inside.entries.items c.in-Some.at c.index_mut.result.now e within in

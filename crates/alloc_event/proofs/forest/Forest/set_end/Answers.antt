@@ -34,7 +34,7 @@ invariant_of-self c = record {
       c.self.invariant.kept);
   counted = mapped_all c.self.inside.table c.write.new.table (with_end c.args.key c.args.end)
       (λ n. record { key = refl; parent = refl; attached = refl; head = refl; allocated = refl; gone = refl; released = refl; asks = refl })
-      (λ n. refl)
+      (λ n. refl) (λ n. refl)
       (ends-look c.args.key c.args.end c.self.inside.table c.write.new.table c.in-Some.node (there c)
       (c.self.invariant.kept.named _ _ (there c)) c.write.ensures.writes c.self.invariant.kept.named)
       c.note_over.new.entries.items

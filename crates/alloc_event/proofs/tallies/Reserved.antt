@@ -1,0 +1,191 @@
+-- What is reserved, node by node: what each camps on is added up.
+use Rattle.std.proofs.Common.{◌≡◌, ◌≢◌, ℕ, ◌+◌, Bool, true, false, ◌&&◌, not, if◌then◌else◌, inl, inr, List, [], ◌∷◌, ◌++◌, map, Option, Some, None, refl, sym, ap, subst, ◌∙◌, arith}
+use Rattle.std.proofs.lemmas.Bool.{not-true}
+use Rattle.std.specs.List.{AllPairs, cons_option, filter, fold, list_any}
+use Rattle.std.specs.Option.{option_map_or}
+use Rattle.sm_names.specs.declared.keys.NodeKey.{NodeKey}
+use Rattle.sm_names.specs.Demands.{Demand}
+use Rattle.sm_names.specs.Sameness.{same_key}
+use Rattle.sm_names.proofs.ListLaws.{In}
+use Rattle.sm_names.proofs.SamenessLaws.{and_left, and_right, both_ways, either_way, same_key-refl, same_key-true}
+use Rattle.sm_names.proofs.StandingLaws.{In-any}
+use Rattle.node_table.specs.Table.{Table, node_at}
+use Rattle.alloc_event.specs.declared.node.Node.{Node}
+use Rattle.alloc_event.specs.Kept.{nodes_with}
+use Rattle.alloc_event.specs.Nodes.{is_of}
+use Rattle.alloc_event.specs.Questions.{demands_of, is_served}
+use Rattle.alloc_event.specs.Reserved.{camped, reserved_count}
+use Rattle.alloc_event.specs.Scenes.{are_distinct}
+use Rattle.alloc_event.proofs.lists.Lookups.{same_key-swap}
+use Rattle.alloc_event.proofs.tallies.Amounts.{amount_changed, amount_of}
+use Rattle.alloc_event.proofs.tallies.Untold.{first_once, rest_once}
+
+-- ---- the sum, node by node
+
+-- one more, if any
+abbrev with_demand : ℕ → Option Demand → ℕ
+with_demand x o = x + option_map_or (λ (d : Demand). d.camping) o 0
+
+folded : (x : ℕ) (o : Option Demand) (rest : List Demand) →
+    fold (λ (a : ℕ) (d : Demand). a + d.camping) x (cons_option o rest)
+    ≡ fold (λ (a : ℕ) (d : Demand). a + d.camping) (with_demand x o) rest
+folded x None rest = ap (λ (y : ℕ). fold (λ (a : ℕ) (d : Demand). a + d.camping) y rest) (omega arith)
+folded x (Some d) rest = refl
+
+reserved_on : (ns : List Node) (x : ℕ) →
+    fold (λ (a : ℕ) (d : Demand). a + d.camping) x (demands_of is_served ns) ≡ x + amount_of camped ns
+reserved_on [] x = omega arith
+reserved_on (n ∷ ns) x =
+    let first = folded x (if is_served n then n.constraints else None) (demands_of is_served ns) in
+    let rest = reserved_on ns (x + camped n) in
+    first ∙ (rest ∙ omega arith)
+
+pub reserved_is : (ns : List Node) → reserved_count ns ≡ amount_of camped ns
+reserved_is ns = reserved_on ns 0 ∙ omega arith
+
+-- a node that is gone camps on nothing
+pub camped_gone : (n : Node) → n.gone ≡ true → camped n ≡ 0
+camped_gone n e = rw e refl
+
+pub reserved_one : (n : Node) → n.constraints ≡ None → reserved_count (n ∷ []) ≡ 0
+reserved_one n none = reserved_is (n ∷ []) ∙ rw none (from (is_served n))
+  where
+    from : (b : Bool) → option_map_or (λ (d : Demand). d.camping) (if b then None else None) 0 + 0 ≡ 0
+    from true = refl
+    from false = refl
+
+-- what all of two lists camp on
+amount_append : (amount : Node → ℕ) (xs ys : List Node) → amount_of amount (xs ++ ys) ≡ amount_of amount xs + amount_of amount ys
+amount_append amount [] ys = omega arith
+amount_append amount (x ∷ xs) ys = let rest = amount_append amount xs ys in omega arith
+
+pub reserved_append : (xs ys : List Node) → reserved_count (xs ++ ys) ≡ reserved_count xs + reserved_count ys
+reserved_append xs ys =
+    reserved_is (xs ++ ys) ∙ (amount_append camped xs ys ∙ (λ i. sym (reserved_is xs) i + sym (reserved_is ys) i))
+
+-- ---- nodes that are changed
+
+amount_mapped : (f : Node → Node) (amount : Node → ℕ) → ((n : Node) → camped (f n) ≡ amount n) → (ns : List Node) →
+    amount_of camped (map f ns) ≡ amount_of amount ns
+amount_mapped f amount same [] = refl
+amount_mapped f amount same (n ∷ ns) =
+    let here = same n in
+    let rest = amount_mapped f amount same ns in
+    omega arith
+
+-- where each camps on as much as before
+pub reserved_map : (f : Node → Node) → ((n : Node) → camped (f n) ≡ camped n) → (ns : List Node) →
+    reserved_count (map f ns) ≡ reserved_count ns
+reserved_map f same ns = reserved_is (map f ns) ∙ (amount_mapped f camped same ns ∙ sym (reserved_is ns))
+
+-- and where one alone changed
+pub reserved_changed : (f : Node → Node) (ns : List Node) (n : Node) → are_distinct ns ≡ true → In n ns →
+    ((m : Node) → In m ns → same_key n.key m.key ≡ false → f m ≡ m) →
+    reserved_count (map f ns) + camped n ≡ reserved_count ns + camped (f n)
+reserved_changed f ns n distinct on alone =
+    let a = reserved_is (map f ns) in
+    let b = reserved_is ns in
+    let c = amount_changed camped f ns n distinct on (λ m there other. ap camped (alone m there other)) in
+    omega arith
+
+-- nodes that are gone are not missed
+pub reserved_filter : (p : Node → Bool) (ns : List Node) → ((n : Node) → In n ns → p n ≡ false → n.gone ≡ true) →
+    reserved_count (filter p ns) ≡ reserved_count ns
+reserved_filter p ns over = reserved_is (filter p ns) ∙ (each ns over ∙ sym (reserved_is ns))
+  where
+    each : (ns : List Node) → ((n : Node) → In n ns → p n ≡ false → n.gone ≡ true) →
+        amount_of camped (filter p ns) ≡ amount_of camped ns
+    each [] over = refl
+    each (n ∷ ns) over =
+        let rest = each ns (λ m on. over m (inr on)) in
+        elim (either_way (p n)) [
+          | inl e ↦ rw (e, rest) refl
+          | inr e ↦ let none = camped_gone n (over n (inl refl) e) in rw (e, none) (rest ∙ omega arith)
+        ]
+
+-- ---- nodes that fall
+
+amount_same : (p q : Node → ℕ) (ns : List Node) → ((n : Node) → In n ns → p n ≡ q n) → amount_of p ns ≡ amount_of q ns
+amount_same p q [] same = refl
+amount_same p q (n ∷ ns) same =
+    let here = same n (inl refl) in
+    let rest = amount_same p q ns (λ m on. same m (inr on)) in
+    omega arith
+
+-- amounts that differ on one node alone
+amount_differ : (p q : Node → ℕ) (ns : List Node) (m : Node) → are_distinct ns ≡ true → In m ns →
+    ((n : Node) → In n ns → same_key m.key n.key ≡ false → p n ≡ q n) → amount_of p ns + q m ≡ amount_of q ns + p m
+amount_differ p q [] m distinct on same = absurd on
+amount_differ p q (x ∷ xs) m distinct (inl is) same =
+    let none : list_any (is_of x.key) xs ≡ false = not-true (list_any (is_of x.key) xs) (and_left _ (are_distinct xs) distinct) in
+    let rest : amount_of p xs ≡ amount_of q xs = amount_same p q xs (λ n on. same n (inr on) (elim (either_way (same_key m.key n.key)) [
+      | inl e ↦ both_ways (list_any (is_of x.key) xs)
+          (In-any (is_of x.key) xs n on
+          (subst (λ (k : NodeKey). same_key n.key k ≡ true) (sym (same_key-true m.key n.key e)
+          ∙ ap (λ (y : Node). y.key) is) (same_key-refl n.key)))
+          none
+      | inr e ↦ e
+    ])) in
+    let one : p m ≡ p x = ap p is in
+    let two : q m ≡ q x = ap q is in
+    omega arith
+amount_differ p q (x ∷ xs) m distinct (inr on) same =
+    let none : list_any (is_of x.key) xs ≡ false = not-true (list_any (is_of x.key) xs) (and_left _ (are_distinct xs) distinct) in
+    let other : same_key m.key x.key ≡ false = elim (either_way (same_key m.key x.key)) [
+      | inl e ↦ both_ways (list_any (is_of x.key) xs) (In-any (is_of x.key) xs m on e) none
+      | inr e ↦ e
+    ] in
+    let here : p x ≡ q x = same x (inl refl) other in
+    let rest = amount_differ p q xs m (and_right _ (are_distinct xs) distinct) on (λ n there. same n (inr there)) in
+    omega arith
+
+-- what the node camps on, unless its key is one of these
+abbrev pub camped_but : List NodeKey → Node → ℕ
+camped_but ks n = if list_any (same_key n.key) ks then 0 else camped n
+
+module _ (t : Table Node) (nodes : List Node) (distinct : are_distinct nodes ≡ true) (at_key : (n : Node) → In n nodes →
+    node_at t n.key ≡ Some n)
+    (named : (key : NodeKey) (n : Node) → node_at t key ≡ Some n → n.key ≡ key) where
+  -- those with other keys, and those of these keys, are all
+  taken_amount : (ks : List NodeKey) → AllPairs (λ (a b : NodeKey). a ≢ b) ks → ((n : Node) → In n (nodes_with t ks) → In n nodes) →
+      amount_of (camped_but ks) nodes + amount_of camped (nodes_with t ks) ≡ amount_of camped nodes
+  taken_amount [] once within = omega arith
+  taken_amount (k ∷ ks) once within = by (λ fewer. taken_amount ks (rest_once k ks once) fewer) (node_at t k) refl within
+    where
+      skip : (n : Node) → same_key n.key k ≡ false → camped_but (k ∷ ks) n ≡ camped_but ks n
+      skip n other = rw other refl
+
+      by : (((n : Node) → In n (nodes_with t ks) → In n nodes) →
+          amount_of (camped_but ks) nodes + amount_of camped (nodes_with t ks) ≡ amount_of camped nodes) →
+          (o : Option Node) → node_at t k ≡ o → ((n : Node) → In n (cons_option o (nodes_with t ks)) → In n nodes) →
+          amount_of (camped_but (k ∷ ks)) nodes + amount_of camped (cons_option o (nodes_with t ks)) ≡ amount_of camped nodes
+      by on None is fewer =
+          let a : amount_of (camped_but (k ∷ ks)) nodes ≡ amount_of (camped_but ks) nodes =
+          amount_same (camped_but (k ∷ ks)) (camped_but ks) nodes (λ n there. skip n (elim (either_way (same_key n.key k)) [
+            | inl e ↦ let both : Some n ≡ None = sym (at_key n there) ∙ (ap (node_at t) (same_key-true n.key k e) ∙ is) in cc
+            | inr e ↦ e
+          ])) in
+          let b = on fewer in
+          omega arith
+      by on (Some m) is fewer =
+          let key : m.key ≡ k = named k m is in
+          let own : same_key m.key k ≡ true = ap (λ (j : NodeKey). same_key j k) key ∙ same_key-refl k in
+          let other : list_any (same_key m.key) ks ≡ false = ap (λ (j : NodeKey). list_any (same_key j) ks) key ∙ first_once k ks once in
+          let a = amount_differ (camped_but (k ∷ ks)) (camped_but ks) nodes m distinct (fewer m (inl refl)) (λ n there differ. skip n
+          (same_key-swap n.key k ∙ (ap (λ (j : NodeKey). same_key j n.key) (sym key) ∙ differ))) in
+          let b : camped_but (k ∷ ks) m ≡ 0 = rw own refl in
+          let c : camped_but ks m ≡ camped m = rw other refl in
+          let e = on (λ n there. fewer n (inr there)) in
+          omega arith
+
+  -- where those of these keys camp on nothing any more
+  pub reserved_left : (f : Node → Node) (ks : List NodeKey) → ((n : Node) → camped (f n) ≡ camped_but ks n) →
+      AllPairs (λ (a b : NodeKey). a ≢ b) ks → ((n : Node) → In n (nodes_with t ks) → In n nodes) →
+      reserved_count (map f nodes) + reserved_count (nodes_with t ks) ≡ reserved_count nodes
+  reserved_left f ks is once within =
+      let a = reserved_is (map f nodes) in
+      let b = amount_mapped f (camped_but ks) is nodes in
+      let c = reserved_is (nodes_with t ks) in
+      let d = reserved_is nodes in
+      let e = taken_amount ks once within in
+      omega arith
