@@ -5,9 +5,8 @@ use Rattle.std.specs.Option.{option_map_or}
 use Rattle.sm_names.specs.declared.keys.BufferName.{BufferName}
 use Rattle.sm_names.specs.declared.keys.NodeKey.{NodeKey}
 use Rattle.sm_names.specs.Sameness.{same_buffer}
-use Rattle.sm_names.specs.Timelines.{HeldPages}
+use Rattle.sm_names.specs.declared.keys.HeldBuffer.{HeldBuffer}
 use Rattle.node_table.specs.Table.{Table, node_at}
-use Rattle.alloc_event.specs.declared.held.HeldBuffer.{HeldBuffer}
 use Rattle.alloc_event.specs.declared.node.Node.{Node}
 use Rattle.alloc_event.specs.Forest.{Collection}
 use Rattle.alloc_event.specs.Questions.{is_root_left}
@@ -16,7 +15,7 @@ use Rattle.alloc_event.specs.Settling.{Handles, is_home_in}
 
 -- no buffer of the collection but this one is home
 abbrev pub are_others_out : Handles → BufferName → Collection → Bool
-are_others_out handles buffer c = list_all (λ (h : HeldPages). same_buffer h.buffer buffer || not (is_home_in handles c h.buffer)) c.held
+are_others_out handles buffer c = list_all (λ (h : HeldBuffer). same_buffer h.buffer buffer || not (is_home_in handles c h.buffer)) c.held
 
 -- the same of its buffers as they are kept
 abbrev pub are_rest_out : Handles → BufferName → Bool → List HeldBuffer → Bool

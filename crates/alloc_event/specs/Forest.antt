@@ -4,10 +4,9 @@ use Rattle.std.specs.List.{find, filter, flat_map}
 use Rattle.sm_names.specs.declared.keys.Interval.{Interval}
 use Rattle.sm_names.specs.declared.keys.NodeKey.{NodeKey}
 use Rattle.sm_names.specs.declared.outcomes.Buffers.{Buffers}
-use Rattle.sm_names.specs.Timelines.{HeldPages}
+use Rattle.sm_names.specs.declared.keys.HeldBuffer.{HeldBuffer}
 use Rattle.sm_names.specs.Words.{sorted_by}
 use Rattle.buffer_pool.specs.Holdings.{Holdings}
-use Rattle.alloc_event.specs.declared.held.HeldBuffer.{HeldBuffer}
 use Rattle.alloc_event.specs.declared.node.Node.{Node}
 use Rattle.alloc_event.specs.declared.summary.Summary.{Summary}
 use Rattle.alloc_event.specs.Nodes.{node_of, is_over}
@@ -18,7 +17,7 @@ pub record Collection : Type 0 where
   pub id : ℕ
   pub nodes : List Node
   pub buffers : Option Buffers
-  pub held : List HeldPages
+  pub held : List HeldBuffer
 
 -- at most `limit` nodes; the collections by id; the generation that each slot gives next to a node
 pub record Forest : Type 0 where
@@ -52,19 +51,19 @@ node_count f = length (all_nodes f)
 
 -- the pages of a collection
 abbrev pub pages_in : Collection → List Interval
-pages_in c = map (λ (h : HeldPages). h.pages) c.held
+pages_in c = map (λ (h : HeldBuffer). h.pages) c.held
 
 -- the pages of the other collections
 abbrev pub beside : Forest → ℕ → List Interval
 beside f id = flat_map pages_in (filter (λ (c : Collection). not (c.id == id)) f.collections)
 
 -- the buffers of all collections whose pages were not given back
-abbrev pub all_held : Forest → List HeldPages
+abbrev pub all_held : Forest → List HeldBuffer
 all_held f = flat_map (λ (c : Collection). c.held) f.collections
 
 -- the pool holds the pages of the forest's buffers that were not given back, and no others
 abbrev pub IsPoolOf : Holdings → Forest → Type 0
-IsPoolOf pool f = pool.held ≡ sorted_by (λ i. i.start) (map (λ (h : HeldPages). h.pages) (all_held f))
+IsPoolOf pool f = pool.held ≡ sorted_by (λ i. i.start) (map (λ (h : HeldBuffer). h.pages) (all_held f))
 
 -- the collection with other nodes
 abbrev pub with_nodes : (List Node → List Node) → Collection → Collection
@@ -74,18 +73,14 @@ with_nodes f c = record c { nodes = f c.nodes }
 abbrev pub summary_of : Collection → Summary
 summary_of c = record { nodes = length c.nodes; buffers = c.buffers; held = length c.held }
 
--- the buffer with its pages, as a value of code
-abbrev pub held_buffer : HeldPages → HeldBuffer
-held_buffer h = record { buffer = h.buffer; start = h.pages.start; pages = h.pages.pages }
-
 -- the keys of the live nodes of all collections, by birth
 abbrev pub live_keys : Forest → List NodeKey
 live_keys f = map (λ (n : Node). n.key)
     (sorted_by (λ (n : Node). n.event) (filter (λ (n : Node). not n.gone && not n.released) (all_nodes f)))
 
 -- the buffers of all collections whose pages were not given back, by page
-abbrev pub held_by_page : Forest → List HeldPages
-held_by_page f = sorted_by (λ (h : HeldPages). h.pages.start) (all_held f)
+abbrev pub held_by_page : Forest → List HeldBuffer
+held_by_page f = sorted_by (λ (h : HeldBuffer). h.pages.start) (all_held f)
 
 -- each collection as the function makes it
 abbrev pub on_collections : (Collection → Collection) → Forest → Forest

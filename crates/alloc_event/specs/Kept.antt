@@ -5,7 +5,7 @@ use Rattle.std.specs.Option.{option_map_or}
 use Rattle.sm_names.specs.declared.keys.NodeKey.{NodeKey}
 use Rattle.sm_names.specs.declared.outcomes.Buffers.{Buffers}
 use Rattle.sm_names.specs.Sameness.{same_key}
-use Rattle.sm_names.specs.Timelines.{HeldPages}
+use Rattle.sm_names.specs.declared.keys.HeldBuffer.{HeldBuffer}
 use Rattle.node_table.specs.Table.{Table, node_at, parent_at, was_given, table_len}
 use Rattle.alloc_event.specs.declared.change.Change.{Change}
 use Rattle.alloc_event.specs.declared.entry.Entry.{Entry}
@@ -16,7 +16,7 @@ use Rattle.alloc_event.specs.Forest.{Collection, Forest, beside}
 use Rattle.alloc_event.specs.Settling.{Handles, Settles, put, given_back, standing}
 use Rattle.alloc_event.specs.Nodes.{new_root, new_child}
 use Rattle.alloc_event.specs.Questions.{is_live_node}
-use Rattle.alloc_event.specs.Scenes.{held_pages, IsSound, has_tracker_room}
+use Rattle.alloc_event.specs.Scenes.{IsSound, has_tracker_room}
 use Rattle.alloc_event.specs.Decisions.{is_left_of}
 use Rattle.alloc_event.specs.Ties.{are_rooted}
 use Rattle.alloc_event.specs.Units.{are_united}
@@ -26,11 +26,11 @@ pub record Shelf : Type 0 where
   pub id : ℕ
   pub keys : List NodeKey
   pub buffers : Option Buffers
-  pub held : List HeldPages
+  pub held : List HeldBuffer
 
 -- what an entry keeps
 abbrev pub shelf_of : Entry → Shelf
-shelf_of e = record { id = e.id; keys = e.keys.items; buffers = e.buffers; held = map held_pages e.held.items }
+shelf_of e = record { id = e.id; keys = e.keys.items; buffers = e.buffers; held = e.held.items }
 
 -- what the entries keep
 abbrev pub shelves_of : List Entry → List Shelf
@@ -42,7 +42,7 @@ shelf_in scene = record {
   id = scene.id;
   keys = map (λ (n : Node). n.key) scene.nodes.items;
   buffers = scene.buffers;
-  held = map held_pages scene.held.items;
+  held = scene.held.items;
 }
 
 -- the place of the first entry with this id

@@ -9,19 +9,14 @@ use Rattle.sm_names.specs.declared.keys.Strength.{Strength}
 use Rattle.sm_names.specs.declared.outcomes.Buffers.{Buffers}
 use Rattle.sm_names.specs.Handles.{is_home, names}
 use Rattle.sm_names.specs.Sameness.{same_key}
-use Rattle.sm_names.specs.Timelines.{HeldPages}
+use Rattle.sm_names.specs.declared.keys.HeldBuffer.{HeldBuffer}
 use Rattle.sm_names.specs.Words.{sorted_by}
 use Rattle.buffer_pool.specs.Holdings.{Holdings}
 use Rattle.alloc_event.specs.declared.change.Effect.{Effect}
-use Rattle.alloc_event.specs.declared.held.HeldBuffer.{HeldBuffer}
 use Rattle.alloc_event.specs.declared.node.Node.{Node}
 use Rattle.alloc_event.specs.declared.scene.Scene.{Scene}
 use Rattle.alloc_event.specs.Forest.{Collection, pages_in}
 use Rattle.alloc_event.specs.Nodes.{is_of}
-
--- the buffer with its pages, as the definitions see it
-abbrev pub held_pages : HeldBuffer → HeldPages
-held_pages h = record { buffer = h.buffer; pages = record { start = h.start; pages = h.pages } }
 
 -- the collection of the scene
 abbrev pub collection_of : Scene → Collection
@@ -29,7 +24,7 @@ collection_of scene = record {
   id = scene.id;
   nodes = scene.nodes.items;
   buffers = scene.buffers;
-  held = map held_pages scene.held.items;
+  held = scene.held.items;
 }
 
 -- the collection's buffer with this index
@@ -40,12 +35,12 @@ name_of collection index = record { collection = collection; index = index }
 abbrev pub laid : ℕ → ℕ → ℕ → List ℕ → List HeldBuffer
 laid collection pages index [] = []
 laid collection pages index (start ∷ starts) =
-    record { buffer = record { collection = collection; index = index }; start = start; pages = pages }
+    record { buffer = record { collection = collection; index = index }; pages = record { start = start; pages = pages } }
     ∷ laid collection pages (index + 1) starts
 
 -- their pages
 abbrev pub pages_held : List HeldBuffer → List Interval
-pages_held held = map (λ (h : HeldPages). h.pages) (map held_pages held)
+pages_held held = map (λ (h : HeldBuffer). h.pages) held
 
 -- the intervals in order of page
 abbrev pub by_page : List Interval → List Interval

@@ -12,7 +12,8 @@ use Rattle.sm_names.specs.Handles.{names, is_home}
 use Rattle.sm_names.specs.Marks.{Mark, Called, Loss, Allocated, Ended}
 use Rattle.sm_names.specs.Members.{asked, some_strong_live}
 use Rattle.sm_names.specs.Sameness.{same_key}
-use Rattle.sm_names.specs.Timelines.{HeldPages, layout}
+use Rattle.sm_names.specs.declared.keys.HeldBuffer.{HeldBuffer}
+use Rattle.sm_names.specs.Timelines.{layout}
 use Rattle.alloc_event.specs.declared.change.Change.{Change}
 use Rattle.alloc_event.specs.declared.change.Effect.{Effect}
 use Rattle.alloc_event.specs.declared.node.Node.{Node}
@@ -72,7 +73,7 @@ is_home_in handles c buffer =
 
 -- the collection, once the buffers that are home gave their pages back
 abbrev pub given_back : Handles → Collection → Collection
-given_back handles c = record c { held = filter (λ (h : HeldPages). not (is_home_in handles c h.buffer)) c.held }
+given_back handles c = record c { held = filter (λ (h : HeldBuffer). not (is_home_in handles c h.buffer)) c.held }
 
 -- ---- the change
 

@@ -5,7 +5,7 @@ use Rattle.std.specs.Option.{unwrap_or}
 use Rattle.sm_names.specs.declared.keys.Interval.{Interval}
 use Rattle.sm_names.specs.declared.keys.NodeKey.{NodeKey}
 use Rattle.sm_names.specs.Forced.{forced}
-use Rattle.sm_names.specs.Timelines.{HeldPages}
+use Rattle.sm_names.specs.declared.keys.HeldBuffer.{HeldBuffer}
 use Rattle.alloc_event.specs.Forest.{Collection}
 use Rattle.alloc_event.specs.Kept.{Shelf}
 use Rattle.alloc_event.specs.Settling.{Handles, is_home_in, standing}
@@ -13,7 +13,7 @@ use Rattle.alloc_event.specs.Settling.{Handles, is_home_in, standing}
 -- no step is forced, and no buffer that is held is home
 pub record IsStill (handles : Handles) (c : Collection) : Type 0 where
   pub rest : (pool : ℕ) (others : List Interval) → forced pool (standing handles others c) ≡ None
-  pub out : list_all (λ (h : HeldPages). not (is_home_in handles c h.buffer)) c.held ≡ true
+  pub out : list_all (λ (h : HeldBuffer). not (is_home_in handles c h.buffer)) c.held ≡ true
 
 -- the shelf of a collection that is not there yet
 abbrev pub no_shelf : ℕ → Shelf

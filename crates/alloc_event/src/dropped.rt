@@ -22,14 +22,13 @@ use crate::changing::settle_change;
 use crate::deciding::is_strong_open;
 use crate::entry::{Entry, place_of};
 use crate::finish::part;
-use crate::held::HeldBuffer;
 use crate::node::Node;
 use crate::returns::look_at;
 use crate::units::Unit;
 use buffer_holds::Holds;
 use buffer_pool::Pool;
 use node_table::NodeTable;
-use sm_names::{BufferName, NoMemory, NodeKey};
+use sm_names::{BufferName, HeldBuffer, NoMemory, NodeKey};
 
 /// Whether the key is of a root that is not gone and whose unit has its buffers.
 fn is_given_root(table: &NodeTable<Node>, key: NodeKey) -> bool
@@ -77,7 +76,7 @@ fn return_named(held: &mut Vec<HeldBuffer>, pool: &mut Pool, holds: &Holds, buff
     while at < held.len() {
         let one = held[at];
         if one.buffer == buffer {
-            pool.give_back(one.start, one.pages);
+            pool.give_back(one.pages.start, one.pages.pages);
             held.remove(at);
         } else {
             at += 1;

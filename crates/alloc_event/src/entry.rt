@@ -3,8 +3,7 @@ ghost use Rattle.std.specs.Prelude.{◌≡◌, ◌==◌, nat_lt, option_copied};
 ghost use Rattle.std.specs.List.{prefix_len, find};
 ghost use Rattle.alloc_event.specs.Kept.{AreRising, place_in, shelves_of};
 
-use crate::held::HeldBuffer;
-use sm_names::{Buffers, CollectionId, NodeKey};
+use sm_names::{Buffers, CollectionId, HeldBuffer, NodeKey};
 
 /// A collection, with the keys of its nodes.
 #[derive(Drop)]

@@ -9,7 +9,7 @@ ghost use Rattle.std.specs.Option.{option_map, option_map_or};
 ghost use Rattle.sm_names.specs.Members.{some_strong_live};
 ghost use Rattle.alloc_event.specs.declared.change.Change.{Change as Changed};
 ghost use Rattle.alloc_event.specs.Dropped.{are_others_out};
-ghost use Rattle.alloc_event.specs.Forest.{Collection, IsPoolOf, SameKeys, collection_at, node_at, node_count, empty_forest, summary_of, live_keys, held_by_page, held_buffer, on_collections, with_nodes, is_left, without_over_in};
+ghost use Rattle.alloc_event.specs.Forest.{Collection, IsPoolOf, SameKeys, collection_at, node_at, node_count, empty_forest, summary_of, live_keys, held_by_page, on_collections, with_nodes, is_left, without_over_in};
 ghost use Rattle.alloc_event.specs.Nodes.{members_of, with_end, is_of, is_over};
 ghost use Rattle.alloc_event.specs.Settling.{MayChange, Settled};
 
@@ -18,7 +18,6 @@ use crate::changing::{settle_birth, settle_change};
 use crate::dropped::settle_dropped;
 use crate::entry::{Entry, entry_of, place_of};
 use crate::forgetting::{forget_key, forget_over, note_over, take_out};
-use crate::held::HeldBuffer;
 use crate::kept::{held_by_page, is_over, live_by_birth};
 use crate::node::{End, Node};
 use crate::store::write;
@@ -27,7 +26,7 @@ use crate::units::Unit;
 use buffer_holds::Holds;
 use buffer_pool::Pool;
 use node_table::NodeTable;
-use sm_names::{BufferName, CollectionId, NoMemory, NodeKey};
+use sm_names::{BufferName, CollectionId, HeldBuffer, NoMemory, NodeKey};
 use std::alloc::Global;
 use std::marker::Model;
 
@@ -211,7 +210,7 @@ impl Forest {
     /// All buffers whose pages were not given back, by page. `NoMemory` where the list is refused
     /// room. It costs their number, and a sort.
     pub fn held(&self) -> Result<Vec<HeldBuffer>, NoMemory>
-        ensures { IfOk result (λ held. held.items ≡ map held_buffer (held_by_page self.now)) }
+        ensures { IfOk result (λ held. held.items ≡ held_by_page self.now) }
     {
         match held_by_page(*self.entries.allocator(), &self.entries) {
             Ok(held) => Ok(held),

@@ -8,10 +8,9 @@ ghost use Rattle.alloc_event.specs.Kept.{all_keys, nodes_with, shelves_of, is_li
 ghost use Rattle.alloc_event.specs.Nodes.{is_over};
 
 use crate::entry::Entry;
-use crate::held::HeldBuffer;
 use crate::node::{End, Node};
 use node_table::NodeTable;
-use sm_names::NodeKey;
+use sm_names::{HeldBuffer, NodeKey};
 use std::alloc::{AllocError, Global};
 
 /// Whether the node is neither gone nor released.
@@ -97,12 +96,12 @@ pub(crate) fn live_by_birth(
 /// The buffers of all collections, by page.
 pub(crate) fn held_by_page(alloc: Global, entries: &[Entry]) -> Result<Vec<HeldBuffer>, AllocError>
     ensures { IfOk result (λ held. held.items
-        ≡ sorted_by (λ h. h.start) (flat_map (λ (e : Kept). e.held.items) entries.now)) }
+        ≡ sorted_by (λ h. h.pages.start) (flat_map (λ (e : Kept). e.held.items) entries.now)) }
 {
     let mut held = Vec::new(alloc);
     for entry in entries {
         held.extend_from_slice(&entry.held)?;
     }
-    held.sort_by_key(|buffer| buffer.start)?;
+    held.sort_by_key(|buffer| buffer.pages.start)?;
     Ok(held)
 }

@@ -20,7 +20,6 @@ mod falling;
 mod finish;
 pub mod forest;
 mod forgetting;
-pub mod held;
 mod in_place;
 mod in_turn;
 pub mod initial;
@@ -43,6 +42,5 @@ mod units;
 
 pub use change::{Change, Effect};
 pub use forest::Forest;
-pub use held::HeldBuffer;
 pub use node::{End, Node};
 pub use summary::Summary;

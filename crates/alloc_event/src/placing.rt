@@ -7,12 +7,14 @@ ghost use Rattle.alloc_event.specs.Progress.{Progress};
 ghost use Rattle.alloc_event.specs.Scenes.{collection_of, given_few, laid, IsSound, PoolFollows};
 
 use crate::allocating::allocate;
-use crate::held::HeldBuffer;
 use crate::losses::lose;
 use crate::marks::Marks;
 use crate::scene::Scene;
 use buffer_pool::{Pool, PoolFault};
-use sm_names::{BufferName, Buffers, Cause, CollectionId, Failure, Fault, NoMemory, NodeKey};
+use sm_names::{
+    BufferName, Buffers, Cause, CollectionId, Failure, Fault, HeldBuffer, Interval, NoMemory,
+    NodeKey,
+};
 
 /// Places the buffers that the root unit wants, and allocates the unit. Where the pool is full the
 /// root fails in its place.
@@ -96,8 +98,10 @@ fn lay_out(
     for start in starts {
         held.push_reserved(HeldBuffer {
             buffer: BufferName { collection, index },
-            start: *start,
-            pages,
+            pages: Interval {
+                start: *start,
+                pages,
+            },
         });
         index += 1;
     }

@@ -4,14 +4,14 @@ ghost use Rattle.std.specs.List.{filter};
 ghost use Rattle.sm_names.specs.declared.keys.Interval.{Interval};
 ghost use Rattle.buffer_holds.specs.Counts.{total};
 ghost use Rattle.buffer_pool.specs.Holdings.{without, IsSound as IsSoundPool};
-ghost use Rattle.alloc_event.specs.Scenes.{by_page, collection_of, held_pages, is_out, pages_held, IsPoolBeside, PoolFollows};
+ghost use Rattle.alloc_event.specs.Scenes.{by_page, collection_of, is_out, pages_held, IsPoolBeside, PoolFollows};
 ghost use Rattle.alloc_event.specs.Settling.{given_back};
 
-use crate::held::HeldBuffer;
 use crate::questions::some_strong_live;
 use crate::scene::Scene;
 use buffer_holds::{Holds, Spot};
 use buffer_pool::Pool;
+use sm_names::HeldBuffer;
 
 /// The buffers that nothing keeps any longer give their pages back. It takes no memory, and costs
 /// a look at the handles of each buffer, two where some stay and others go, a move of the buffers
@@ -58,15 +58,15 @@ fn return_one(
     near: &mut Spot,
 ) -> usize
     requires sound { IsSoundPool pool.old }
-    requires there { Contains pool.old.held (held_pages buffer).pages }
+    requires there { Contains pool.old.held buffer.pages }
     ensures held { pool.new.held ≡ (if is_out (total holds.now) strong_live buffer
-        then pool.old.held else without buffer.start pool.old.held) }
+        then pool.old.held else without buffer.pages.start pool.old.held) }
     ensures size { pool.new.size ≡ pool.old.size }
     ensures sound { IsSoundPool pool.new }
     ensures out { result ≡ (if is_out (total holds.now) strong_live buffer then 1 else 0) }
 {
     if holds.home_near(buffer.buffer, strong_live, near) {
-        pool.give_back(buffer.start, buffer.pages);
+        pool.give_back(buffer.pages.start, buffer.pages.pages);
         return 0;
     }
     1

@@ -1,7 +1,6 @@
 //! A collection that is taken out to be worked on.
-use crate::held::HeldBuffer;
 use crate::node::Node;
-use sm_names::{Buffers, CollectionId};
+use sm_names::{Buffers, CollectionId, HeldBuffer};
 
 /// A collection: its nodes by birth, what it was given, and those of its buffers whose pages were
 /// not given back.

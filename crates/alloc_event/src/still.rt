@@ -6,11 +6,11 @@ ghost use Rattle.alloc_event.specs.Scenes.{collection_of, is_out, IsSound};
 ghost use Rattle.alloc_event.specs.Still.{IsStill};
 
 use crate::deciding::decide;
-use crate::held::HeldBuffer;
 use crate::marks::Marks;
 use crate::questions::some_strong_live;
 use crate::scene::Scene;
 use buffer_holds::Holds;
+use sm_names::HeldBuffer;
 
 /// Whether no step is forced, and no buffer that is held is home: then a birth forces nothing, and
 /// no pages go back.

@@ -10,11 +10,10 @@ ghost use Rattle.alloc_event.specs.Kept.{Stores, have_places, collection_in, she
 ghost use Rattle.alloc_event.specs.Scenes.{collection_of};
 
 use crate::entry::{Entry, entries_before, place_of};
-use crate::held::HeldBuffer;
 use crate::node::Node;
 use crate::scene::Scene;
 use node_table::NodeTable;
-use sm_names::NodeKey;
+use sm_names::{HeldBuffer, NodeKey};
 use std::alloc::{AllocError, Global};
 
 /// Puts the node in the place of the one with its key.

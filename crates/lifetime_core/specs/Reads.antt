@@ -12,7 +12,8 @@ use Rattle.sm_names.specs.declared.outcomes.Fault.{Fault}
 use Rattle.sm_names.specs.Answers.{OpenEnd, Readings}
 use Rattle.sm_names.specs.Handles.{is_doomed}
 use Rattle.sm_names.specs.Members.{some_strong_live}
-use Rattle.sm_names.specs.Timelines.{HeldPages, key_of}
+use Rattle.sm_names.specs.declared.keys.HeldBuffer.{HeldBuffer}
+use Rattle.sm_names.specs.Timelines.{key_of}
 use Rattle.sm_names.specs.Trackers.{World}
 use Rattle.sm_names.specs.Views.{Views}
 use Rattle.buffer_holds.specs.Counts.{of, total}
@@ -108,7 +109,7 @@ views_of s = record {
   live = live_keys s.forest;
   held = held_by_page s.forest;
   fired = s.trackers.fired;
-  free = s.pool - sum_by (λ (h : HeldPages). h.pages.pages) (all_held s.forest);
+  free = s.pool - sum_by (λ (h : HeldBuffer). h.pages.pages) (all_held s.forest);
 }
 
 -- what trackers look at: a node that was forgotten is taken for gone and its unit for allocated, and of a collection that was

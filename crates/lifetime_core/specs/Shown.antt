@@ -12,7 +12,8 @@ use Rattle.sm_names.specs.Marks.{Entry, Timeline, events}
 use Rattle.sm_names.specs.Members.{births_in, constraints}
 use Rattle.sm_names.specs.Reading.{is_taking, is_tracking}
 use Rattle.sm_names.specs.Handles.{buffers_of}
-use Rattle.sm_names.specs.Timelines.{HeldPages, held, timeline}
+use Rattle.sm_names.specs.declared.keys.HeldBuffer.{HeldBuffer}
+use Rattle.sm_names.specs.Timelines.{held, timeline}
 use Rattle.sm_names.specs.Trackers.{Tracked, tracked, fired}
 use Rattle.sm_names.specs.Weakness.{weak, weak_ok, covered, covers_children}
 use Rattle.sm_names.specs.Words.{times}
@@ -60,8 +61,8 @@ abbrev pub nodes_after : Timeline → ℕ → List Node
 nodes_after marks collection = map (node_after marks) (births_in marks collection)
 
 -- the pages that buffers of the collection hold
-abbrev pub held_after : ℕ → Timeline → ℕ → List HeldPages
-held_after pool marks collection = filter (λ (h : HeldPages). h.buffer.collection == collection) (held pool marks)
+abbrev pub held_after : ℕ → Timeline → ℕ → List HeldBuffer
+held_after pool marks collection = filter (λ (h : HeldBuffer). h.buffer.collection == collection) (held pool marks)
 
 -- the collection, as the marks make it, without the nodes that are over
 abbrev pub collection_after : ℕ → Timeline → ℕ → Collection

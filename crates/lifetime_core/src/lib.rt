@@ -14,5 +14,4 @@ mod table;
 mod task;
 mod traits;
 
-pub use alloc_event::HeldBuffer;
 pub use machine::Core;

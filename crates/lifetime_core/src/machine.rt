@@ -17,10 +17,9 @@ ghost use Rattle.sm_names.specs.Views.{free_pages as free_after};
 ghost use Rattle.std.specs.List.{cons_option, list_any};
 ghost use Rattle.std.specs.Option.{option_and_then, option_map_or};
 ghost use Rattle.trackers.specs.Table.{empty, is_untaken, reader_of, cell_of, without};
-ghost use Rattle.alloc_event.specs.declared.held.HeldBuffer.{HeldBuffer as Held};
+ghost use Rattle.sm_names.specs.declared.keys.HeldBuffer.{HeldBuffer as Held};
 ghost use Rattle.alloc_event.specs.declared.node.Node.{Node as Kept};
 ghost use Rattle.alloc_event.specs.Forest.{empty_forest, node_count, live_keys, node_at, held_by_page};
-ghost use Rattle.alloc_event.specs.Forest.{held_buffer};
 ghost use Rattle.alloc_event.specs.Forest.{Collection as Shelved, collection_at};
 ghost use Rattle.alloc_event.specs.Nodes.{is_spent, members_of};
 ghost use Rattle.buffer_holds.specs.Counts.{total};
@@ -41,12 +40,12 @@ use crate::sweeping::{place_to_sweep, sweep, tracking_of};
 use crate::table::{answer, with_key};
 use crate::task::{carried_end, changed_by, put_end, task_of};
 use crate::traits::{Named, traits_of};
-use alloc_event::{End, Forest, HeldBuffer, Node};
+use alloc_event::{End, Forest, Node};
 use buffer_holds::{Holds, Spot};
 use buffer_pool::Pool;
 use sm_names::{
-    BufferName, Buffers, Call, Cause, ClientId, CollectionId, Fired, Limits, NoMemory, NodeKey,
-    Parcel, Reply, StepFault, Strength, TrackerId,
+    BufferName, Buffers, Call, Cause, ClientId, CollectionId, Fired, HeldBuffer, Limits, NoMemory,
+    NodeKey, Parcel, Reply, StepFault, Strength, TrackerId,
 };
 use std::alloc::Global;
 use std::marker::Model;
@@ -503,13 +502,14 @@ impl Core {
     /// `NoMemory` where the list is refused. It costs a sort of these buffers.
     pub fn held(&self) -> Result<Vec<HeldBuffer>, NoMemory>
         ensures value { IfOk result (λ held.
-            held.items ≡ map held_buffer (held_by_page self.now.forest)) }
+            held.items ≡ held_by_page self.now.forest) }
         ensures shown { IfOk result (λ held. (history : List Entry) → Shows self.now history →
             let marks = timeline self.now.pool history in
-            held.items ≡ map held_buffer (held_after self.now.pool marks)) }
+            held.items ≡ held_after self.now.pool marks) }
         // Each ends before the next begins.
         ensures apart { IfOk result (λ held.
-            AllPairs (λ (a b : Held). a.start + a.pages ≤ b.start) held.items) }
+            AllPairs (λ (a b : Held).
+            a.pages.start + a.pages.pages ≤ b.pages.start) held.items) }
     {
         // The pool tells that each buffer has a page, so that no two start at the same one.
         let _free = self.contents.pool.free_pages();

@@ -19,7 +19,8 @@ use Rattle.sm_names.specs.Losses.{allocated, gone}
 use Rattle.sm_names.specs.Marks.{Entry, Timeline, events}
 use Rattle.sm_names.specs.Members.{Member, member, births_in}
 use Rattle.sm_names.specs.Reading.{readings, open_end}
-use Rattle.sm_names.specs.Timelines.{HeldPages, after, held, placed}
+use Rattle.sm_names.specs.declared.keys.HeldBuffer.{HeldBuffer}
+use Rattle.sm_names.specs.Timelines.{after, held, placed}
 use Rattle.sm_names.specs.Trackers.{Tracked, tracked, earlier_moments, fires_at, fired_at, holds, world}
 use Rattle.sm_names.specs.Words.{last_match}
 use Rattle.sm_names.proofs.EventLaws.{EndState, end_state, SameIn, same_after, same_doomed, same_home}
@@ -64,11 +65,11 @@ module _ (pool : ℕ) (a b : Timeline) (collection : ℕ) (s : SameIn pool a b c
       ∙ length-filter (λ x. not (home a x)) (buffer_names a collection)))
 
   -- and they hold the pages that they held
-  pages_same : filter (λ (h : HeldPages). h.buffer.collection == collection) (held pool b) ≡ filter (λ (h : HeldPages).
+  pages_same : filter (λ (h : HeldBuffer). h.buffer.collection == collection) (held pool b) ≡ filter (λ (h : HeldBuffer).
       h.buffer.collection == collection) (held pool a)
   pages_same =
-      let ours : HeldPages → Bool = λ h. h.buffer.collection == collection in
-      let out : Timeline → HeldPages → Bool = λ m h. not (home m h.buffer) in
+      let ours : HeldBuffer → Bool = λ h. h.buffer.collection == collection in
+      let out : Timeline → HeldBuffer → Bool = λ m h. not (home m h.buffer) in
       filter-swap ours (out b) (placed pool b)
       ∙ (ap (filter (out b)) s.places
       ∙ (filter-In (out b) (out a) (filter ours (placed pool a))

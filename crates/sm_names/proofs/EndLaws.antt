@@ -20,7 +20,8 @@ use Rattle.sm_names.specs.Marks.{Entry, Mark, Timeline, Called, Loss, Allocated,
 use Rattle.sm_names.specs.Members.{Member, members, some_strong_live, is_live}
 use Rattle.sm_names.specs.Reading.{readings, open_end}
 use Rattle.sm_names.specs.Sameness.{same_key}
-use Rattle.sm_names.specs.Timelines.{HeldPages, placed, held, after, timeline, own_loss, collection_of, key_of}
+use Rattle.sm_names.specs.declared.keys.HeldBuffer.{HeldBuffer}
+use Rattle.sm_names.specs.Timelines.{placed, held, after, timeline, own_loss, collection_of, key_of}
 use Rattle.sm_names.specs.Views.{live_nodes}
 use Rattle.sm_names.specs.Words.{first_some, when}
 use Rattle.sm_names.proofs.GoneLaws.{fault_gone, gone_stays}
@@ -266,7 +267,7 @@ module _ (pool : ℕ) (limits : Bound) (history : List Entry) (legal : IsLegal p
       both_ways (is_live t.0) here (ap is_live r.2 ∙ none_live r.0 r.1)))
 
   -- each placed buffer is home
-  all_home : ((buffer : BufferName) (strength : Strength) → open_total now buffer strength ≡ 0) → (h : HeldPages) → In h (placed pool now) →
+  all_home : ((buffer : BufferName) (strength : Strength) → open_total now buffer strength ≡ 0) → (h : HeldBuffer) → In h (placed pool now) →
       home now h.buffer ≡ true
   all_home none h on =
       let given : is_some (buffers_of now h.buffer.collection) ≡ true = placed_given pool now h on in
@@ -277,4 +278,4 @@ module _ (pool : ℕ) (limits : Bound) (history : List Entry) (legal : IsLegal p
 
   -- so none is held
   pub none_held : ((buffer : BufferName) (strength : Strength) → open_total now buffer strength ≡ 0) → held pool now ≡ []
-  none_held none = filter-none (λ (h : HeldPages). not (home now h.buffer)) (placed pool now) (λ h on. ap not (all_home none h on))
+  none_held none = filter-none (λ (h : HeldBuffer). not (home now h.buffer)) (placed pool now) (λ h on. ap not (all_home none h on))

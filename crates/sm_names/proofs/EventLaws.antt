@@ -30,7 +30,8 @@ use Rattle.sm_names.specs.declared.outcomes.Fault.{Fault}
 use Rattle.sm_names.specs.Ends.{binds, spends}
 use Rattle.sm_names.specs.Reading.{is_taking, is_tracking}
 use Rattle.sm_names.specs.Weakness.{covered, covers_children, sets_weak_ok, weak_ok}
-use Rattle.sm_names.specs.Timelines.{HeldPages, placed}
+use Rattle.sm_names.specs.declared.keys.HeldBuffer.{HeldBuffer}
+use Rattle.sm_names.specs.Timelines.{placed}
 use Rattle.sm_names.proofs.GrowthLaws.{Grows, Answers, own_loss_origin, grows_forced, grows_lost}
 use Rattle.sm_names.proofs.IsolationLaws.{fault_loss, placed_allocation, members_loss, members_end, members_allocation, buffers_allocation, birth_of_collection, of_ours}
 use Rattle.sm_names.proofs.LifeLaws.{IsOrdered, ordered, whole, In_old}
@@ -71,7 +72,7 @@ pub record SameIn (pool : ℕ) (earlier later : Timeline) (collection : ℕ) : T
   pub given : buffers_of later collection ≡ buffers_of earlier collection
   pub handles : (buffer : BufferName) → buffer.collection ≡ collection → (strength : Strength) →
       open_total later buffer strength ≡ open_total earlier buffer strength
-  pub places : filter (λ (h : HeldPages). h.buffer.collection == collection) (placed pool later) ≡ filter (λ (h : HeldPages).
+  pub places : filter (λ (h : HeldBuffer). h.buffer.collection == collection) (placed pool later) ≡ filter (λ (h : HeldBuffer).
       h.buffer.collection == collection) (placed pool earlier)
   pub ends : (node : NodeKey) → collection_in (births earlier) node ≡ Some collection → end_state later node ≡ end_state earlier node
 

@@ -20,7 +20,8 @@ use Rattle.sm_names.specs.Marks.{Mark, Timeline, Called, Loss, Allocated, Ended,
 use Rattle.sm_names.specs.Members.{members, asked, some_strong_live}
 use Rattle.sm_names.specs.Pages.{meets, places, pages_of}
 use Rattle.sm_names.specs.Sameness.{same_key, same_buffer}
-use Rattle.sm_names.specs.Timelines.{HeldPages, laid_out, layout_at, placed, held, standing}
+use Rattle.sm_names.specs.declared.keys.HeldBuffer.{HeldBuffer}
+use Rattle.sm_names.specs.Timelines.{laid_out, layout_at, placed, held, standing}
 use Rattle.sm_names.specs.Views.{free_pages}
 use Rattle.sm_names.proofs.BitLaws.{times_below}
 use Rattle.sm_names.proofs.DoomLaws.{buffers_early, home_on}
@@ -149,7 +150,7 @@ some_if (Some x) h = (x, refl)
 
 -- buffers are laid out at the starts
 map-laid_out : (pages : ℕ) (bs : List BufferName) (starts : List ℕ) → length starts ≡ length bs →
-    map (λ (h : HeldPages). h.pages) (laid_out pages bs starts) ≡ map (at_pages pages) starts
+    map (λ (h : HeldBuffer). h.pages) (laid_out pages bs starts) ≡ map (at_pages pages) starts
 map-laid_out pages [] [] h = refl
 map-laid_out pages [] (s ∷ ss) h = absurd (omega arith)
 map-laid_out pages (b ∷ bs) [] h = absurd (omega arith)
@@ -157,7 +158,7 @@ map-laid_out pages (b ∷ bs) (s ∷ ss) h = let e : length ss ≡ length bs = o
 
 -- and each of them is
 named-laid_out : (pages : ℕ) (x : BufferName) (bs : List BufferName) (starts : List ℕ) → length starts ≡ length bs →
-    times (λ (h : HeldPages). same_buffer h.buffer x) (laid_out pages bs starts) ≡ times (λ b. same_buffer b x) bs
+    times (λ (h : HeldBuffer). same_buffer h.buffer x) (laid_out pages bs starts) ≡ times (λ b. same_buffer b x) bs
 named-laid_out pages x [] [] h = refl
 named-laid_out pages x [] (s ∷ ss) h = absurd (omega arith)
 named-laid_out pages x (b ∷ bs) [] h = absurd (omega arith)
@@ -166,18 +167,18 @@ named-laid_out pages x (b ∷ bs) (s ∷ ss) h =
 
 -- what a mark lays out: the collection's buffers, for which there was no room taken, or nothing
 pub data Lays (pool : ℕ) (before : Timeline) (mark : Mark) : Type 0 where
-  Nothing_new : layout_at pool before (map (λ (h : HeldPages). h.pages) (held pool before)) mark ≡ [] →
+  Nothing_new : layout_at pool before (map (λ (h : HeldBuffer). h.pages) (held pool before)) mark ≡ [] →
       ((c : ℕ) → buffers_of (mark ∷ before) c ≡ buffers_of before c) → Lays pool before mark
   New : (collection : ℕ) (buffers : Buffers) (starts : List ℕ) →
-      layout_at pool before (map (λ (h : HeldPages). h.pages) (held pool before)) mark ≡ laid_out (pages_of buffers.size)
+      layout_at pool before (map (λ (h : HeldBuffer). h.pages) (held pool before)) mark ≡ laid_out (pages_of buffers.size)
       (names collection buffers.count) starts →
-      places pool (pages_of buffers.size) buffers.count (map (λ (h : HeldPages). h.pages) (held pool before)) ≡ Some starts →
+      places pool (pages_of buffers.size) buffers.count (map (λ (h : HeldBuffer). h.pages) (held pool before)) ≡ Some starts →
       buffers_of before collection ≡ None →
       ((c : ℕ) → buffers_of (mark ∷ before) c ≡ cond (collection == c) (Some buffers) (buffers_of before c)) → Lays pool before mark
 
 module _ (pool : ℕ) (limits : Bound) (before : Timeline) (collection : ℕ) (grown : Grows pool limits [] before) where
   abbrev out : List Interval
-  out = map (λ (h : HeldPages). h.pages) (held pool before)
+  out = map (λ (h : HeldBuffer). h.pages) (held pool before)
 
   initial_lays : (b : Birth) → In b (births before) → b.collection == collection ≡ true → b.parent ≡ None →
       allocated before b.node ≡ false →
@@ -239,10 +240,10 @@ module _ (pool : ℕ) (limits : Bound) (before : Timeline) (collection : ℕ) (g
 -- ---- held pages lie in the pool, apart
 
 pub record AreHeld (pool : ℕ) (marks : Timeline) : Type 0 where
-  pub apart : AreApart (map (λ (h : HeldPages). h.pages) (held pool marks))
-  pub inside : are_in pool (map (λ (h : HeldPages). h.pages) (held pool marks)) ≡ true
+  pub apart : AreApart (map (λ (h : HeldBuffer). h.pages) (held pool marks))
+  pub inside : are_in pool (map (λ (h : HeldBuffer). h.pages) (held pool marks)) ≡ true
   -- a buffer was placed as often as it is one of those that its collection was given
-  pub named : (x : BufferName) → times (λ (h : HeldPages). same_buffer h.buffer x) (placed pool marks) ≡ times (λ b.
+  pub named : (x : BufferName) → times (λ (h : HeldBuffer). same_buffer h.buffer x) (placed pool marks) ≡ times (λ b.
       same_buffer b x) (buffer_names marks x.collection)
 
 -- what was not so before is not so now, if it stays so once it is
@@ -257,45 +258,45 @@ length-names c n = length-map (range_with_len 0 n) (λ i. record { collection = 
 module _ (pool : ℕ) (limits : Bound) (before : Timeline) (mark : Mark) (first : Grows pool limits [] before)
     (step : Grows pool limits before (mark ∷ before)) (old : AreHeld pool before) where
   abbrev pages_in : List Interval
-  pages_in = map (λ (h : HeldPages). h.pages) (held pool before)
+  pages_in = map (λ (h : HeldBuffer). h.pages) (held pool before)
 
-  stays_out : (h : HeldPages) → not (home (mark ∷ before) h.buffer) ≡ true → not (home before h.buffer) ≡ true
+  stays_out : (h : HeldBuffer) → not (home (mark ∷ before) h.buffer) ≡ true → not (home before h.buffer) ≡ true
   stays_out h k = not_turned (home before h.buffer) (home (mark ∷ before) h.buffer) (λ e.
       home_on pool limits before first h.buffer e (mark ∷ before) step) k
 
-  out_part : (new : List HeldPages) → layout_at pool before pages_in mark ≡ new → Part (held pool (mark ∷ before)) (new ++ held pool before)
+  out_part : (new : List HeldBuffer) → layout_at pool before pages_in mark ≡ new → Part (held pool (mark ∷ before)) (new ++ held pool before)
   out_part new e =
-      let p = part_append (λ (h : HeldPages). not (home (mark ∷ before) h.buffer)) (λ (h : HeldPages). not (home before h.buffer)) new
+      let p = part_append (λ (h : HeldBuffer). not (home (mark ∷ before) h.buffer)) (λ (h : HeldBuffer). not (home before h.buffer)) new
       (placed pool before) stays_out in
-      subst (λ (l : List HeldPages). Part (filter (λ (h : HeldPages). not (home (mark ∷ before) h.buffer)) (l ++ placed pool before))
+      subst (λ (l : List HeldBuffer). Part (filter (λ (h : HeldBuffer). not (home (mark ∷ before) h.buffer)) (l ++ placed pool before))
       (new ++ held pool before)) (sym e) p
 
   held_by : Lays pool before mark → AreHeld pool (mark ∷ before)
   held_by (Nothing_new e same) = record {
-    apart = part_apart (λ (h : HeldPages). h.pages) (held pool (mark ∷ before)) (held pool before) (out_part [] e) old.apart;
-    inside = part_in pool (λ (h : HeldPages). h.pages) (held pool (mark ∷ before)) (held pool before) (out_part [] e) old.inside;
-    named = λ x. ap (λ (l : List HeldPages). times (λ (h : HeldPages). same_buffer h.buffer x) (l ++ placed pool before)) e
+    apart = part_apart (λ (h : HeldBuffer). h.pages) (held pool (mark ∷ before)) (held pool before) (out_part [] e) old.apart;
+    inside = part_in pool (λ (h : HeldBuffer). h.pages) (held pool (mark ∷ before)) (held pool before) (out_part [] e) old.inside;
+    named = λ x. ap (λ (l : List HeldBuffer). times (λ (h : HeldBuffer). same_buffer h.buffer x) (l ++ placed pool before)) e
         ∙ (old.named x ∙ ap (λ (o : Option Buffers). times (λ b. same_buffer b x) (option_map_or (λ (b : Buffers).
         names x.collection b.count) o [])) (sym (same x.collection)));
   }
   held_by (New collection buffers starts e there fresh given) =
       let pages : ℕ = pages_of buffers.size in
       let ns : List BufferName = names collection buffers.count in
-      let new : List HeldPages = laid_out pages ns starts in
+      let new : List HeldBuffer = laid_out pages ns starts in
       let p : ArePlaced pool pages buffers.count pages_in starts = placed_apart pool pages buffers.count pages_in starts there in
       let long : length starts ≡ length ns = p.many ∙ sym (length-names collection buffers.count) in
-      let shape : map (λ (h : HeldPages). h.pages) (new ++ held pool before) ≡ map (at_pages pages) starts ++ pages_in =
-      map-append (λ (h : HeldPages). h.pages) new (held pool before)
+      let shape : map (λ (h : HeldBuffer). h.pages) (new ++ held pool before) ≡ map (at_pages pages) starts ++ pages_in =
+      map-append (λ (h : HeldBuffer). h.pages) new (held pool before)
       ∙ ap (λ (l : List Interval). l ++ pages_in) (map-laid_out pages ns starts long) in
       record {
-        apart = part_apart (λ (h : HeldPages). h.pages) (held pool (mark ∷ before)) (new ++ held pool before) (out_part new e)
+        apart = part_apart (λ (h : HeldBuffer). h.pages) (held pool (mark ∷ before)) (new ++ held pool before) (out_part new e)
             (subst AreApart (sym shape) (p.apart old.apart));
-        inside = part_in pool (λ (h : HeldPages). h.pages) (held pool (mark ∷ before)) (new ++ held pool before) (out_part new e)
+        inside = part_in pool (λ (h : HeldBuffer). h.pages) (held pool (mark ∷ before)) (new ++ held pool before) (out_part new e)
             (ap (are_in pool) shape ∙ p.inside old.inside);
         named = λ x.
-            ap (λ (l : List HeldPages). times (λ (h : HeldPages). same_buffer h.buffer x) (l ++ placed pool before)) e
-            ∙ (times-append (λ (h : HeldPages). same_buffer h.buffer x) new (placed pool before)
-            ∙ (ap (λ (n : ℕ). n + times (λ (h : HeldPages). same_buffer h.buffer x) (placed pool before)) (named-laid_out pages x ns starts
+            ap (λ (l : List HeldBuffer). times (λ (h : HeldBuffer). same_buffer h.buffer x) (l ++ placed pool before)) e
+            ∙ (times-append (λ (h : HeldBuffer). same_buffer h.buffer x) new (placed pool before)
+            ∙ (ap (λ (n : ℕ). n + times (λ (h : HeldBuffer). same_buffer h.buffer x) (placed pool before)) (named-laid_out pages x ns starts
             long)
             ∙ (ap (λ (n : ℕ). times (λ b. same_buffer b x) ns + n) (old.named x)
             ∙ (names_of x (either_way (collection == x.collection))
@@ -347,10 +348,10 @@ names_once collection x (Some b) =
 
 -- a buffer stands among the held ones once if it was given and is not home, and else not at all
 pub times_held : (pool : ℕ) (limits : Bound) (marks : Timeline) → Grows pool limits [] marks → (x : BufferName) →
-    times (λ (h : HeldPages). same_buffer h.buffer x) (held pool marks) ≡ one (list_any (λ b.
+    times (λ (h : HeldBuffer). same_buffer h.buffer x) (held pool marks) ≡ one (list_any (λ b.
     same_buffer b x) (buffer_names marks x.collection) && not (home marks x))
 times_held pool limits marks g x =
-    times-filter (λ (h : HeldPages). same_buffer h.buffer x) (λ (h : HeldPages). not (home marks h.buffer)) (not (home marks x))
+    times-filter (λ (h : HeldBuffer). same_buffer h.buffer x) (λ (h : HeldBuffer). not (home marks h.buffer)) (not (home marks x))
     (placed pool marks)
     (λ h e. ap (λ (b : BufferName). not (home marks b)) (same_buffer-true h.buffer x e))
     ∙ (ap (λ (n : ℕ). cond (not (home marks x)) n 0) ((are_held pool limits marks g).named x
@@ -365,16 +366,16 @@ times_held pool limits marks g x =
 
 -- so it stands among them exactly if it was given and is not home
 pub stands_held : (pool : ℕ) (limits : Bound) (marks : Timeline) → Grows pool limits [] marks → (x : BufferName) →
-    list_any (λ (h : HeldPages). same_buffer h.buffer x) (held pool marks) ≡ (list_any (λ b.
+    list_any (λ (h : HeldBuffer). same_buffer h.buffer x) (held pool marks) ≡ (list_any (λ b.
     same_buffer b x) (buffer_names marks x.collection) && not (home marks x))
-stands_held pool limits marks g x = any_one (λ (h : HeldPages). same_buffer h.buffer x) (held pool marks) (list_any (λ b.
+stands_held pool limits marks g x = any_one (λ (h : HeldBuffer). same_buffer h.buffer x) (held pool marks) (list_any (λ b.
     same_buffer b x) (buffer_names marks x.collection) && not (home marks x)) (times_held pool limits marks g x)
 
 -- and at most once
 pub held_once : (pool : ℕ) (limits : Bound) (marks : Timeline) → Grows pool limits [] marks → (x : BufferName) →
-    times (λ (h : HeldPages). same_buffer h.buffer x) (held pool marks) ≤ 1
+    times (λ (h : HeldBuffer). same_buffer h.buffer x) (held pool marks) ≤ 1
 held_once pool limits marks g x =
-    let n : times (λ (h : HeldPages). same_buffer h.buffer x) (held pool marks) ≡ one (list_any (λ b.
+    let n : times (λ (h : HeldBuffer). same_buffer h.buffer x) (held pool marks) ≡ one (list_any (λ b.
     same_buffer b x) (buffer_names marks x.collection) && not (home marks x)) = times_held pool limits marks g x in
     omega (arith, n, few (list_any (λ b. same_buffer b x) (buffer_names marks x.collection) && not (home marks x)))
   where
@@ -383,18 +384,18 @@ held_once pool limits marks g x =
     few false = omega arith
 
 -- the pages of the held ones are those of their intervals
-sum-pages : (hs : List HeldPages) → sum_by (λ (i : Interval). i.pages) (map (λ (h : HeldPages). h.pages) hs) ≡ sum_by (λ (h : HeldPages).
+sum-pages : (hs : List HeldBuffer) → sum_by (λ (i : Interval). i.pages) (map (λ (h : HeldBuffer). h.pages) hs) ≡ sum_by (λ (h : HeldBuffer).
     h.pages.pages) hs
 sum-pages [] = refl
 sum-pages (h ∷ hs) =
-    sum_by-cons (λ (i : Interval). i.pages) h.pages (map (λ (h : HeldPages). h.pages) hs)
-    ∙ (ap (λ (n : ℕ). h.pages.pages + n) (sum-pages hs) ∙ sym (sum_by-cons (λ (h : HeldPages). h.pages.pages) h hs))
+    sum_by-cons (λ (i : Interval). i.pages) h.pages (map (λ (h : HeldBuffer). h.pages) hs)
+    ∙ (ap (λ (n : ℕ). h.pages.pages + n) (sum-pages hs) ∙ sym (sum_by-cons (λ (h : HeldBuffer). h.pages.pages) h hs))
 
 -- the free pages and the held ones are the pool
 pub free_and_held : (pool : ℕ) (limits : Bound) (marks : Timeline) → Grows pool limits [] marks →
-    free_pages pool marks + sum_by (λ (h : HeldPages). h.pages.pages) (held pool marks) ≡ pool
+    free_pages pool marks + sum_by (λ (h : HeldBuffer). h.pages.pages) (held pool marks) ≡ pool
 free_and_held pool limits marks g =
     let a : AreHeld pool marks = are_held pool limits marks g in
-    let le : sum_by (λ (i : Interval). i.pages) (map (λ (h : HeldPages). h.pages) (held pool marks)) ≤ pool =
-    sum-le-pool pool (map (λ (h : HeldPages). h.pages) (held pool marks)) a.apart a.inside in
+    let le : sum_by (λ (i : Interval). i.pages) (map (λ (h : HeldBuffer). h.pages) (held pool marks)) ≤ pool =
+    sum-le-pool pool (map (λ (h : HeldBuffer). h.pages) (held pool marks)) a.apart a.inside in
     omega (arith, sum-pages (held pool marks))

@@ -17,7 +17,8 @@ use Rattle.sm_names.proofs.SamenessLaws.{false_if, either_way, same_key-true, bo
 use Rattle.sm_names.proofs.SettledLaws.{In-was_born, find_birth}
 use Rattle.sm_names.proofs.LayoutLaws.{layout_given}
 use Rattle.std.proofs.lemmas.List.Elements.{filter-append}
-use Rattle.sm_names.specs.Timelines.{HeldPages, placed, layout_at, still_out}
+use Rattle.sm_names.specs.declared.keys.HeldBuffer.{HeldBuffer}
+use Rattle.sm_names.specs.Timelines.{placed, layout_at, still_out}
 use Rattle.sm_names.specs.declared.keys.Interval.{Interval}
 use Rattle.sm_names.specs.Losses.{fault}
 use Rattle.sm_names.proofs.WholeLaws.{IsWhole, line_collection}
@@ -158,14 +159,14 @@ module _ (marks : Timeline) (ours theirs : ℕ) (w : IsWhole marks) (other : (ou
 
   -- and places none of theirs
   pub placed_allocation : (pool : ℕ) (key : NodeKey) → collection_in (births marks) key ≡ Some ours →
-      filter (λ (h : HeldPages). h.buffer.collection == theirs) (placed pool (Allocated key ∷ marks)) ≡ filter (λ (h : HeldPages).
+      filter (λ (h : HeldBuffer). h.buffer.collection == theirs) (placed pool (Allocated key ∷ marks)) ≡ filter (λ (h : HeldBuffer).
       h.buffer.collection == theirs) (placed pool marks)
   placed_allocation pool key here =
-      let out : List Interval = map (λ (h : HeldPages). h.pages) (still_out marks (placed pool marks)) in
-      let laid : List HeldPages = layout_at pool marks out (Allocated key) in
-      filter-append (λ (h : HeldPages). h.buffer.collection == theirs) laid (placed pool marks)
-      ∙ ap (λ (l : List HeldPages). l ++ filter (λ (h : HeldPages). h.buffer.collection == theirs) (placed pool marks))
-      (filter-none (λ (h : HeldPages). h.buffer.collection == theirs) laid
+      let out : List Interval = map (λ (h : HeldBuffer). h.pages) (still_out marks (placed pool marks)) in
+      let laid : List HeldBuffer = layout_at pool marks out (Allocated key) in
+      filter-append (λ (h : HeldBuffer). h.buffer.collection == theirs) laid (placed pool marks)
+      ∙ ap (λ (l : List HeldBuffer). l ++ filter (λ (h : HeldBuffer). h.buffer.collection == theirs) (placed pool marks))
+      (filter-none (λ (h : HeldBuffer). h.buffer.collection == theirs) laid
       (λ h on. false_if (h.buffer.collection == theirs) (λ e.
       both_ways (is_initial marks theirs (Allocated key))
       (ap (λ (c : ℕ). is_initial marks c (Allocated key)) (sym (eqb-true h.buffer.collection theirs e))

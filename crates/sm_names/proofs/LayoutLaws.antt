@@ -10,20 +10,21 @@ use Rattle.sm_names.specs.Handles.{buffers_of, is_initial, names}
 use Rattle.sm_names.specs.Marks.{Mark, Timeline, Called, Loss, Allocated, Ended}
 use Rattle.sm_names.specs.Members.{members, asked}
 use Rattle.sm_names.specs.Pages.{places, pages_of}
-use Rattle.sm_names.specs.Timelines.{HeldPages, placed, layout, layout_at, laid_out, still_out}
+use Rattle.sm_names.specs.declared.keys.HeldBuffer.{HeldBuffer}
+use Rattle.sm_names.specs.Timelines.{placed, layout, layout_at, laid_out, still_out}
 use Rattle.sm_names.proofs.ListLaws.{In, In-append, In-map}
 
 -- what is laid out bears the name of its collection
 laid_in : (collection pages : ℕ) (bs : List BufferName) (starts : List ℕ) → ((b : BufferName) → In b bs → b.collection ≡ collection) →
-    (h : HeldPages) → In h (laid_out pages bs starts) → h.buffer.collection ≡ collection
+    (h : HeldBuffer) → In h (laid_out pages bs starts) → h.buffer.collection ≡ collection
 laid_in collection pages [] starts named h on = absurd on
 laid_in collection pages (b ∷ bs) [] named h on = absurd on
-laid_in collection pages (b ∷ bs) (start ∷ starts) named h (inl is) = ap (λ (x : HeldPages). x.buffer.collection) is ∙ named b (inl refl)
+laid_in collection pages (b ∷ bs) (start ∷ starts) named h (inl is) = ap (λ (x : HeldBuffer). x.buffer.collection) is ∙ named b (inl refl)
 laid_in collection pages (b ∷ bs) (start ∷ starts) named h (inr on) =
     laid_in collection pages bs starts (λ c there. named c (inr there)) h on
 
 -- what an allocation lays out is of the collection whose root it is
-pub layout_given : (pool : ℕ) (before : Timeline) (out : List Interval) (mark : Mark) (h : HeldPages) →
+pub layout_given : (pool : ℕ) (before : Timeline) (out : List Interval) (mark : Mark) (h : HeldBuffer) →
     In h (layout_at pool before out mark) → is_initial before h.buffer.collection mark ≡ true
 layout_given pool before out (Called client reply call) h on = absurd on
 layout_given pool before out (Loss origin cause) h on = absurd on
@@ -52,7 +53,7 @@ layout_given pool before out (Allocated head) h on = from (birth_of before head)
     from (Some b) on = of_root b (is_none b.parent) on
 
 -- a buffer that was placed is one of a collection that was given some
-pub placed_given : (pool : ℕ) (marks : Timeline) (h : HeldPages) → In h (placed pool marks) →
+pub placed_given : (pool : ℕ) (marks : Timeline) (h : HeldBuffer) → In h (placed pool marks) →
     is_some (buffers_of marks h.buffer.collection) ≡ true
 placed_given pool [] h on = absurd on
 placed_given pool (mark ∷ before) h on =

@@ -9,7 +9,8 @@ use Rattle.sm_names.specs.Bounds.{Bound}
 use Rattle.sm_names.specs.Handles.{buffers_of, names, home}
 use Rattle.sm_names.specs.Marks.{Mark, Timeline, Called, Loss, Allocated, Ended}
 use Rattle.sm_names.specs.Pages.{pages_of}
-use Rattle.sm_names.specs.Timelines.{HeldPages, laid_out, placed, held}
+use Rattle.sm_names.specs.declared.keys.HeldBuffer.{HeldBuffer}
+use Rattle.sm_names.specs.Timelines.{laid_out, placed, held}
 use Rattle.sm_names.proofs.GrowthLaws.{Grows, Stays, Answers, Loses, Allocates, Ends}
 use Rattle.sm_names.proofs.HeldLaws.{Lays, Nothing_new, New, allocation_lays}
 use Rattle.sm_names.proofs.ListLaws.{In, In-filter, In-map}
@@ -17,12 +18,12 @@ use Rattle.sm_names.proofs.SamenessLaws.{either_way}
 use Rattle.sm_names.proofs.SettledLaws.{forced_why}
 
 -- the buffers of its collection take as many pages as it has
-abbrev IsSized : Timeline → HeldPages → Type 0
+abbrev IsSized : Timeline → HeldBuffer → Type 0
 IsSized marks h = (b : Buffers) × (buffers_of marks h.buffer.collection ≡ Some b) × (h.pages.pages ≡ pages_of b.size)
 
 -- so it is of each buffer that was ever given pages
 abbrev AreSized : ℕ → Timeline → Type 0
-AreSized pool marks = (h : HeldPages) → In h (placed pool marks) → IsSized marks h
+AreSized pool marks = (h : HeldBuffer) → In h (placed pool marks) → IsSized marks h
 
 -- an element of two lists is one of either
 In-append : {A : Type 0} (xs ys : List A) (x : A) → In x (xs ++ ys) → In x xs ⊎ In x ys
@@ -31,21 +32,21 @@ In-append (y ∷ xs) ys x (inl is) = inl (inl is)
 In-append (y ∷ xs) ys x (inr on) = elim (In-append xs ys x on) [ inl there ↦ inl (inr there) | inr there ↦ inr there ]
 
 -- what is laid out is one of the buffers, with so many pages
-laid_out-In : (pages : ℕ) (bs : List BufferName) (starts : List ℕ) (h : HeldPages) → In h (laid_out pages bs starts) →
+laid_out-In : (pages : ℕ) (bs : List BufferName) (starts : List ℕ) (h : HeldBuffer) → In h (laid_out pages bs starts) →
     In h.buffer bs × (h.pages.pages ≡ pages)
 laid_out-In pages [] starts h on = absurd on
 laid_out-In pages (b ∷ bs) [] h on = absurd on
-laid_out-In pages (b ∷ bs) (s ∷ ss) h (inl is) = (inl (ap (λ (k : HeldPages). k.buffer) is), ap (λ (k : HeldPages). k.pages.pages) is)
+laid_out-In pages (b ∷ bs) (s ∷ ss) h (inl is) = (inl (ap (λ (k : HeldBuffer). k.buffer) is), ap (λ (k : HeldBuffer). k.pages.pages) is)
 laid_out-In pages (b ∷ bs) (s ∷ ss) h (inr on) = let r = laid_out-In pages bs ss h on in (inr r.0, r.1)
 
 -- a mark that lays out buffers of a new collection, or none, keeps them so
 sized_by : (pool : ℕ) (before : Timeline) (mark : Mark) → AreSized pool before → Lays pool before mark → AreSized pool (mark ∷ before)
 sized_by pool before mark old (Nothing_new e same) h on =
-    let was : IsSized before h = old h (subst (λ (l : List HeldPages). In h (l ++ placed pool before)) e on) in
+    let was : IsSized before h = old h (subst (λ (l : List HeldBuffer). In h (l ++ placed pool before)) e on) in
     (was.0, same h.buffer.collection ∙ was.1, was.2)
 sized_by pool before mark old (New collection buffers starts e there fresh given) h on =
     elim (In-append (laid_out (pages_of buffers.size) (names collection buffers.count) starts) (placed pool before) h
-    (subst (λ (l : List HeldPages). In h (l ++ placed pool before)) e on)) [
+    (subst (λ (l : List HeldBuffer). In h (l ++ placed pool before)) e on)) [
       | inl new ↦
           let r = laid_out-In (pages_of buffers.size) (names collection buffers.count) starts h new in
           let n = In-map (λ i. record { collection = collection; index = i }) (range_with_len 0 buffers.count) h.buffer r.0 in
@@ -84,12 +85,12 @@ all_on test (x ∷ xs) passes = rw (passes x (inl refl)) (all_on test xs (λ y o
 
 -- so it is for each held buffer
 pub held_sized : (pool : ℕ) (limits : Bound) (marks : Timeline) → Grows pool limits [] marks →
-    list_all (λ (h : HeldPages). option_map_or (λ (b : Buffers). h.pages.pages == pages_of b.size) (buffers_of marks h.buffer.collection)
+    list_all (λ (h : HeldBuffer). option_map_or (λ (b : Buffers). h.pages.pages == pages_of b.size) (buffers_of marks h.buffer.collection)
     false) (held pool marks) ≡ true
 held_sized pool limits marks g =
-    all_on (λ (h : HeldPages). option_map_or (λ (b : Buffers). h.pages.pages == pages_of b.size) (buffers_of marks h.buffer.collection)
+    all_on (λ (h : HeldBuffer). option_map_or (λ (b : Buffers). h.pages.pages == pages_of b.size) (buffers_of marks h.buffer.collection)
     false) (held pool marks)
     (λ h on.
     let s : IsSized marks h =
-    are_sized pool limits marks g h (In-filter (λ (k : HeldPages). not (home marks k.buffer)) (placed pool marks) h on).0 in
+    are_sized pool limits marks g h (In-filter (λ (k : HeldBuffer). not (home marks k.buffer)) (placed pool marks) h on).0 in
     rw s.1 (eq-eqb h.pages.pages (pages_of s.0.size) s.2))

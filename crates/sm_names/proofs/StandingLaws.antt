@@ -13,7 +13,8 @@ use Rattle.sm_names.specs.Losses.{top, blocked, gone, reaches, parent_of}
 use Rattle.sm_names.specs.Marks.{Timeline, Loss, Allocated, Ended}
 use Rattle.sm_names.specs.Members.{Member, member, members, births_in, is_live, is_under, some_strong_live}
 use Rattle.sm_names.specs.Sameness.{same_key}
-use Rattle.sm_names.specs.Timelines.{HeldPages, held, placed, still_out, standing}
+use Rattle.sm_names.specs.declared.keys.HeldBuffer.{HeldBuffer}
+use Rattle.sm_names.specs.Timelines.{held, placed, still_out, standing}
 use Rattle.sm_names.proofs.ListLaws.{In, In-list_any}
 use Rattle.sm_names.proofs.MemberLaws.{members-Loss, members-Allocated, members-Ended, map-map_same}
 use Rattle.sm_names.proofs.SamenessLaws.{either_way, same_key-true, same_key-refl, and_left, and_right, or_left, or_right}
@@ -158,7 +159,7 @@ home-ended marks head buffer h =
 pub held-lost : (pool : ℕ) (marks : Timeline) (origin : NodeKey) (cause : Cause) →
     held pool (Loss origin cause ∷ marks) ≡ still_out (Loss origin cause ∷ marks) (held pool marks)
 held-lost pool marks origin cause =
-    filter-less (λ (h : HeldPages). not (home (Loss origin cause ∷ marks) h.buffer)) (λ (h : HeldPages).
+    filter-less (λ (h : HeldBuffer). not (home (Loss origin cause ∷ marks) h.buffer)) (λ (h : HeldBuffer).
     not (home marks h.buffer)) (placed pool marks)
     (λ h. not_home (home (Loss origin cause ∷ marks) h.buffer) (home marks h.buffer) (home-lost marks origin cause h.buffer))
 
@@ -166,7 +167,7 @@ held-lost pool marks origin cause =
 pub held-ended : (pool : ℕ) (marks : Timeline) (head : NodeKey) →
     held pool (Ended head ∷ marks) ≡ still_out (Ended head ∷ marks) (held pool marks)
 held-ended pool marks head =
-    filter-less (λ (h : HeldPages). not (home (Ended head ∷ marks) h.buffer)) (λ (h : HeldPages).
+    filter-less (λ (h : HeldBuffer). not (home (Ended head ∷ marks) h.buffer)) (λ (h : HeldBuffer).
     not (home marks h.buffer)) (placed pool marks)
     (λ h. not_home (home (Ended head ∷ marks) h.buffer) (home marks h.buffer) (home-ended marks head h.buffer))
 
@@ -177,11 +178,11 @@ pub standing-lost : (pool collection : ℕ) (marks : Timeline) (origin : NodeKey
     standing pool (Loss origin cause ∷ marks) collection ≡
     record (standing pool marks collection) {
       members = map (after_loss (reaches marks origin)) (members marks collection);
-      held = map (λ (h : HeldPages). h.pages) (still_out (Loss origin cause ∷ marks) (held pool marks));
+      held = map (λ (h : HeldBuffer). h.pages) (still_out (Loss origin cause ∷ marks) (held pool marks));
     }
 standing-lost pool collection marks origin cause = λ i. record (standing pool marks collection) {
   members = members-Loss marks collection origin cause i;
-  held = map (λ (h : HeldPages). h.pages) (held-lost pool marks origin cause i);
+  held = map (λ (h : HeldBuffer). h.pages) (held-lost pool marks origin cause i);
 }
 
 -- of an end they read the same
@@ -189,11 +190,11 @@ pub standing-ended : (pool collection : ℕ) (marks : Timeline) (head : NodeKey)
     standing pool (Ended head ∷ marks) collection ≡
     record (standing pool marks collection) {
       members = map (after_end head) (members marks collection);
-      held = map (λ (h : HeldPages). h.pages) (still_out (Ended head ∷ marks) (held pool marks));
+      held = map (λ (h : HeldBuffer). h.pages) (still_out (Ended head ∷ marks) (held pool marks));
     }
 standing-ended pool collection marks head = λ i. record (standing pool marks collection) {
   members = members-Ended marks collection head i;
-  held = map (λ (h : HeldPages). h.pages) (held-ended pool marks head i);
+  held = map (λ (h : HeldBuffer). h.pages) (held-ended pool marks head i);
 }
 
 -- ---- an allocation of an attached unit
@@ -234,8 +235,8 @@ module _ (marks : Timeline) (head : NodeKey) (b : Birth) (parent : NodeKey) (fou
   pub held-attached : (pool : ℕ) → held pool (Allocated head ∷ marks) ≡ held pool marks
   held-attached pool =
       let none : placed pool (Allocated head ∷ marks) ≡ placed pool marks = rw (found, below) refl in
-      ap (still_out (Allocated head ∷ marks)) none ∙ filter-same (λ (h : HeldPages). not (home (Allocated head ∷ marks) h.buffer))
-      (λ (h : HeldPages). not (home marks h.buffer)) (placed pool marks)
+      ap (still_out (Allocated head ∷ marks)) none ∙ filter-same (λ (h : HeldBuffer). not (home (Allocated head ∷ marks) h.buffer))
+      (λ (h : HeldBuffer). not (home marks h.buffer)) (placed pool marks)
       (λ h. ap not (home-attached h.buffer))
 
   -- so the forced steps read the same, but for the nodes
@@ -247,7 +248,7 @@ module _ (marks : Timeline) (head : NodeKey) (b : Birth) (parent : NodeKey) (fou
     buffers = buffers-attached collection i;
     strong_open = list_any (λ (x : BufferName). nat_lt 0 (open_total marks x Strength.Strong)) (option_map_or (λ (x : Buffers).
         names collection x.count) (buffers-attached collection i) []);
-    held = map (λ (h : HeldPages). h.pages) (held-attached pool i);
+    held = map (λ (h : HeldBuffer). h.pages) (held-attached pool i);
   }
 
 -- so an allocation of any node but a root changes nodes alone

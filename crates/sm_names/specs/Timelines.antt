@@ -4,6 +4,7 @@ use Rattle.std.specs.List.{list_any, filter, fold, cons_option}
 use Rattle.std.specs.Option.{option_map_or, option_map, option_and_then}
 use Rattle.sm_names.specs.declared.keys.NodeKey.{NodeKey}
 use Rattle.sm_names.specs.declared.keys.BufferName.{BufferName}
+use Rattle.sm_names.specs.declared.keys.HeldBuffer.{HeldBuffer}
 use Rattle.sm_names.specs.declared.keys.Interval.{Interval}
 use Rattle.sm_names.specs.declared.keys.Strength.{Strength}
 use Rattle.sm_names.specs.declared.messages.Call.{Call}
@@ -19,25 +20,20 @@ use Rattle.sm_names.specs.Members.{members, asked}
 use Rattle.sm_names.specs.Pages.{places, pages_of}
 use Rattle.sm_names.specs.Words.{first_some, when}
 
--- the pages of a buffer
-pub record HeldPages : Type 0 where
-  pub buffer : BufferName
-  pub pages : Interval
-
 -- each buffer with its pages; there are as many starts as buffers
-abbrev pub laid_out : ℕ → List BufferName → List ℕ → List HeldPages
+abbrev pub laid_out : ℕ → List BufferName → List ℕ → List HeldBuffer
 laid_out pages (b ∷ bs) (start ∷ starts) =
     record { buffer = b; pages = record { start = start; pages = pages } } ∷ laid_out pages bs starts
 laid_out pages _ _ = []
 
 -- the collection's buffers, laid out in the pool as its root unit asks for them
-abbrev pub layout : ℕ → ℕ → Buffers → List Interval → List HeldPages
+abbrev pub layout : ℕ → ℕ → Buffers → List Interval → List HeldBuffer
 layout pool collection buffers held =
     option_map_or (laid_out (pages_of buffers.size) (names collection buffers.count))
     (places pool (pages_of buffers.size) buffers.count held) []
 
 -- what the mark, coming after these, lays out: only the allocation of a root lays out buffers
-abbrev pub layout_at : ℕ → Timeline → List Interval → Mark → List HeldPages
+abbrev pub layout_at : ℕ → Timeline → List Interval → Mark → List HeldBuffer
 layout_at pool before held (Allocated head) = option_map_or
     (λ (b : Birth).
     if is_none b.parent then layout pool b.collection (asked (members before b.collection)) held else [])
@@ -45,17 +41,17 @@ layout_at pool before held (Allocated head) = option_map_or
 layout_at pool before held _ = []
 
 -- those buffers that are not home
-abbrev pub still_out : Timeline → List HeldPages → List HeldPages
+abbrev pub still_out : Timeline → List HeldBuffer → List HeldBuffer
 still_out marks placed = filter (λ h. not (home marks h.buffer)) placed
 
 -- the pages of each buffer that was ever given any, at the place that it was given
-abbrev pub placed : ℕ → Timeline → List HeldPages
+abbrev pub placed : ℕ → Timeline → List HeldBuffer
 placed pool [] = []
 placed pool (mark ∷ before) =
     layout_at pool before (map (λ h. h.pages) (still_out before (placed pool before))) mark ++ placed pool before
 
 -- the pages of each buffer that is not home
-abbrev pub held : ℕ → Timeline → List HeldPages
+abbrev pub held : ℕ → Timeline → List HeldBuffer
 held pool marks = still_out marks (placed pool marks)
 
 -- the collection as it stands after these marks

@@ -6,7 +6,8 @@ use Rattle.sm_names.specs.declared.tracking.Fired.{Fired}
 use Rattle.sm_names.specs.Births.{Birth, births}
 use Rattle.sm_names.specs.Losses.{live}
 use Rattle.sm_names.specs.Marks.{Timeline}
-use Rattle.sm_names.specs.Timelines.{held, HeldPages}
+use Rattle.sm_names.specs.declared.keys.HeldBuffer.{HeldBuffer}
+use Rattle.sm_names.specs.Timelines.{held}
 use Rattle.sm_names.specs.Trackers.{fired}
 use Rattle.sm_names.specs.Words.{sorted_by}
 
@@ -16,17 +17,17 @@ live_nodes marks =
     map (λ (b : Birth). b.node) (filter (λ (b : Birth). live marks b.node) (reverse (births marks)))
 
 -- the held buffers, by page
-abbrev pub held_by_page : ℕ → Timeline → List HeldPages
+abbrev pub held_by_page : ℕ → Timeline → List HeldBuffer
 held_by_page pool marks = sorted_by (λ h. h.pages.start) (held pool marks)
 
 -- the pages of the pool that no buffer holds
 abbrev pub free_pages : ℕ → Timeline → ℕ
-free_pages pool marks = pool - sum_by (λ (h : HeldPages). h.pages.pages) (held pool marks)
+free_pages pool marks = pool - sum_by (λ (h : HeldBuffer). h.pages.pages) (held pool marks)
 
 -- all that is seen
 pub record Views : Type 0 where
   pub live : List NodeKey
-  pub held : List HeldPages
+  pub held : List HeldBuffer
   pub fired : List Fired
   pub free : ℕ
 

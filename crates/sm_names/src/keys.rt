@@ -44,3 +44,10 @@ pub struct Interval {
     pub start: u32,
     pub pages: u32,
 }
+
+/// A buffer, and the pages of the pool that it was given.
+#[derive(Clone, Copy, Debug, PartialEq, Eq)]
+pub struct HeldBuffer {
+    pub buffer: BufferName,
+    pub pages: Interval,
+}

@@ -13,7 +13,9 @@ pub mod tracking;
 
 pub use bounds::Limits;
 pub use demands::Constraints;
-pub use keys::{BufferName, ClientId, CollectionId, Interval, Kind, NodeKey, Strength, TrackerId};
+pub use keys::{
+    BufferName, ClientId, CollectionId, HeldBuffer, Interval, Kind, NodeKey, Strength, TrackerId,
+};
 pub use messages::{Call, Parcel, Reply};
 pub use outcomes::{Buffers, Cause, Failure, Fault, Misuse, NoMemory, Refusal, StepFault};
 pub use sets::has_buffer;

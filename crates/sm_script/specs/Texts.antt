@@ -3,8 +3,7 @@ use Rattle.std.specs.Prelude.{ℕ, ◌==◌, if◌then◌else◌, List, [], ◌�
 use Rattle.std.specs.Fmt.{decimal}
 use Rattle.std.specs.Int.{bit_at}
 use Rattle.std.specs.List.{flat_map}
-use Rattle.alloc_event.specs.declared.held.HeldBuffer.{HeldBuffer}
-use Rattle.alloc_event.specs.Forest.{held_buffer}
+use Rattle.sm_names.specs.declared.keys.HeldBuffer.{HeldBuffer}
 use Rattle.sm_names.specs.declared.keys.BufferName.{BufferName}
 use Rattle.sm_names.specs.declared.keys.Kind.{Kind}
 use Rattle.sm_names.specs.declared.keys.NodeKey.{NodeKey}
@@ -98,7 +97,7 @@ poll_text event = codes "fired " ++ decimal event
 
 -- a held buffer behind a space, its first page, and how many pages
 abbrev pub held_text : Names → HeldBuffer → List ℕ
-held_text names held = buffer_text names held.buffer ++ 32 ∷ numbered held.start (decimal held.pages)
+held_text names held = buffer_text names held.buffer ++ 32 ∷ numbered held.pages.start (decimal held.pages.pages)
 
 -- a firing behind a space: the label of its tracker, and the event
 abbrev pub fired_text : Names → Fired → List ℕ
@@ -107,6 +106,6 @@ fired_text names firing = 32 ∷ label_text (label_of_tracker names firing.track
 -- what is shown after these marks, without the end of its line
 abbrev pub view_text : ℕ → Timeline → Names → View → List ℕ
 view_text pool marks names View.Live = codes "live" ++ flat_map (node_text names) (live_nodes marks)
-view_text pool marks names View.Held = codes "held" ++ flat_map (held_text names) (map held_buffer (held_by_page pool marks))
+view_text pool marks names View.Held = codes "held" ++ flat_map (held_text names) (held_by_page pool marks)
 view_text pool marks names View.Fired = codes "fired" ++ flat_map (fired_text names) (fired marks)
 view_text pool marks names View.Free = codes "free " ++ decimal (free_pages pool marks)

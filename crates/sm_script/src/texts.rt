@@ -9,10 +9,10 @@ ghost use Rattle.sm_script.specs.Texts.{bound_text, buffer_text, cause_text, fai
 
 use crate::act::Binds;
 use crate::tables::Tables;
-use lifetime_core::HeldBuffer;
 use script_lines::{Label, push, push_label, push_number};
 use sm_names::{
-    BufferName, Cause, CollectionId, Failure, Fired, Kind, NodeKey, Reply, Strength, has_buffer,
+    BufferName, Cause, CollectionId, Failure, Fired, HeldBuffer, Kind, NodeKey, Reply, Strength,
+    has_buffer,
 };
 use std::alloc::AllocError;
 
@@ -264,9 +264,9 @@ pub(crate) fn push_held(
 {
     push_buffer(text, tables, held.buffer)?;
     push(text, " ")?;
-    push_number(text, held.start as u64)?;
+    push_number(text, held.pages.start as u64)?;
     push(text, " ")?;
-    push_number(text, held.pages as u64)
+    push_number(text, held.pages.pages as u64)
 }
 
 // Puts a space and the firing behind it.

@@ -12,9 +12,9 @@ ghost use Rattle.sm_script.specs.Texts.{fired_text, held_text, node_text, view_t
 use crate::stop::Stop;
 use crate::tables::Tables;
 use crate::texts::{push_firing, push_held, push_node};
-use lifetime_core::{Core, HeldBuffer};
+use lifetime_core::Core;
 use script_lines::{View, push, push_number};
-use sm_names::{Fired, NodeKey};
+use sm_names::{Fired, HeldBuffer, NodeKey};
 use std::alloc::AllocError;
 
 // Puts the view behind what is there.

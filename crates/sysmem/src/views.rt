@@ -1,7 +1,6 @@
 //! What a core shows.
 ghost use Rattle.std.specs.Prelude.{◌≡◌, ◌≢◌, ◌↔◌, None, IsSomeAnd, length, map};
 ghost use Rattle.std.specs.Prelude.{if◌then◌else◌, ◌⊎◌};
-ghost use Rattle.alloc_event.specs.Forest.{held_buffer};
 ghost use Rattle.lifetime_core.specs.Reads.{views_of, is_live_in, fault_in};
 ghost use Rattle.sysmem.specs.Laying.{laid};
 ghost use Rattle.sysmem.specs.Seeing.{fired_words, held_words, key_of, key_words};
@@ -12,8 +11,8 @@ use crate::keeping::{Handle, put, take};
 use crate::laying::lay;
 use crate::telling::Telling;
 use crate::words::cause_word;
-use lifetime_core::{Core, HeldBuffer};
-use sm_names::{Fired, NodeKey};
+use lifetime_core::Core;
+use sm_names::{Fired, HeldBuffer, NodeKey};
 use std::alloc::Global;
 
 /// A node.
@@ -60,8 +59,8 @@ impl Telling<HeldBuffer> for HeldWords {
         HeldWords {
             collection: held.buffer.collection,
             index: u32::from(held.buffer.index),
-            start: held.start,
-            pages: held.pages,
+            start: held.pages.start,
+            pages: held.pages.pages,
         }
     }
 }
@@ -94,7 +93,7 @@ fn put_live(core: &Core, out: &mut [KeyWords], count: &mut u64) -> u32
 fn put_held(core: &Core, out: &mut [HeldWords], count: &mut u64) -> u32
     ensures codes { (result ≡ 0) ⊎ (result ≡ 6) }
     ensures done { result ≡ 0 →
-        out.new ≡ laid (map held_words (map held_buffer (views_of core.now).held)) out.old }
+        out.new ≡ laid (map held_words (views_of core.now).held) out.old }
     ensures count { result ≡ 0 → count.new ≡ length (views_of core.now).held }
     ensures failed { result ≢ 0 → (out.new ≡ out.old) × (count.new ≡ count.old) }
 {
@@ -147,7 +146,7 @@ pub extern "C" fn sysmem_held(
     ensures same { handle.new.place.core ≡ handle.old.place.core }
     ensures not_open { (result ≡ 1) ↔ (handle.old.place.core ≡ None) }
     ensures done { result ≡ 0 → IsSomeAnd handle.old.place.core (λ core.
-        (out.new ≡ laid (map held_words (map held_buffer (views_of core).held)) out.old)
+        (out.new ≡ laid (map held_words (views_of core).held) out.old)
         × (count.new ≡ length (views_of core).held)) }
     ensures failed { result ≢ 0 → (out.new ≡ out.old) × (count.new ≡ count.old) }
 {

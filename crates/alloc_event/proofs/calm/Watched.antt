@@ -6,7 +6,7 @@ use Rattle.std.specs.Option.{option_map_or, unwrap_or}
 use Rattle.sm_names.specs.declared.keys.Strength.{Strength}
 use Rattle.sm_names.specs.Handles.{is_home}
 use Rattle.sm_names.specs.Members.{some_strong_live}
-use Rattle.sm_names.specs.Timelines.{HeldPages}
+use Rattle.sm_names.specs.declared.keys.HeldBuffer.{HeldBuffer}
 use Rattle.node_table.specs.Table.{Table}
 use Rattle.alloc_event.specs.declared.entry.Entry.{Entry}
 use Rattle.alloc_event.specs.declared.node.Node.{Node}
@@ -64,16 +64,16 @@ all_stay p [] each = refl
 all_stay p (x ∷ xs) each = rw (each x) (ap (λ ys. x ∷ ys) (all_stay p xs each))
 
 module _ (handles : Handles) (c : Collection) (strong : has_strong c.nodes ≡ true) where
-  away : (h : HeldPages) → not (is_home_in handles c h.buffer) ≡ true
+  away : (h : HeldBuffer) → not (is_home_in handles c h.buffer) ≡ true
   away h = none_home (handles h.buffer Strength.Strong) (handles h.buffer Strength.Weak) (some_strong_live (members_of c.nodes))
       (strong_tie c.nodes ∙ strong)
 
   -- so no pages go back
   pub nothing_back : given_back handles c ≡ c
-  nothing_back = λ i. record c { held = all_stay (λ (h : HeldPages). not (is_home_in handles c h.buffer)) c.held away i }
+  nothing_back = λ i. record c { held = all_stay (λ (h : HeldBuffer). not (is_home_in handles c h.buffer)) c.held away i }
 
-  pub all_out : list_all (λ (h : HeldPages). not (is_home_in handles c h.buffer)) c.held ≡ true
-  all_out = all_pass (λ (h : HeldPages). not (is_home_in handles c h.buffer)) c.held away
+  pub all_out : list_all (λ (h : HeldBuffer). not (is_home_in handles c h.buffer)) c.held ≡ true
+  all_out = all_pass (λ (h : HeldBuffer). not (is_home_in handles c h.buffer)) c.held away
 
 -- a collection with a strong live node is still, and so is one that is not there yet
 pub watched_still : (t : Table Node) (es : List Entry) (id : ℕ) → AreCounted t es →

@@ -12,7 +12,7 @@ use Rattle.sm_names.specs.declared.outcomes.Cause.{Cause}
 use Rattle.sm_names.specs.Handles.{is_home}
 use Rattle.sm_names.specs.Members.{some_strong_live}
 use Rattle.sm_names.specs.Sameness.{same_buffer}
-use Rattle.sm_names.specs.Timelines.{HeldPages}
+use Rattle.sm_names.specs.declared.keys.HeldBuffer.{HeldBuffer}
 use Rattle.sm_names.specs.Words.{first_some, sorted_by, when}
 use Rattle.sm_names.proofs.HandleLaws.{same_buffer-true}
 use Rattle.sm_names.proofs.SamenessLaws.{and_both, and_left, and_right, either_way}
@@ -20,7 +20,6 @@ use Rattle.node_table.specs.Table.{Table, node_at}
 use Rattle.alloc_event.specs.declared.decision.Decision.{Decision}
 use Rattle.alloc_event.specs.declared.decision.Decision.TheVariants.{Ends, Loses}
 use Rattle.alloc_event.specs.declared.entry.Entry.{Entry}
-use Rattle.alloc_event.specs.declared.held.HeldBuffer.{HeldBuffer}
 use Rattle.alloc_event.specs.declared.node.Node.{Node}
 use Rattle.alloc_event.specs.declared.units.Unit.{Unit}
 use Rattle.alloc_event.specs.Calm.{AreCounted, IsCounted}
@@ -32,7 +31,7 @@ use Rattle.alloc_event.specs.Kept.{Finishes, IsStored, IsWhole, Shelf, Stores, c
 use Rattle.alloc_event.specs.Nodes.{members_of}
 use Rattle.alloc_event.specs.Parted.{are_parted}
 use Rattle.alloc_event.specs.Questions.{is_root_left}
-use Rattle.alloc_event.specs.Scenes.{by_page, given_few, held_pages, is_held_strongly, is_out, pages_held}
+use Rattle.alloc_event.specs.Scenes.{by_page, given_few, is_held_strongly, is_out, pages_held}
 use Rattle.alloc_event.specs.Settling.{Handles, Rests, collection_or_new, given_back, is_home_in, put}
 use Rattle.alloc_event.proofs.calm.Calming.{AreNone, none_calm, none_decided}
 use Rattle.alloc_event.proofs.calm.Forcing.{forced_made}
@@ -40,7 +39,7 @@ use Rattle.alloc_event.proofs.calm.Watched.{found_counted, strong_lives, strong_
 use Rattle.alloc_event.proofs.changes.Altering.{found_filed, found_put, found_whole}
 use Rattle.alloc_event.proofs.changes.Finishing.{kept-put, whole-map, whole-put, whole-unmap}
 use Rattle.alloc_event.proofs.intervals.Pools.{pool_back, pool_beside}
-use Rattle.alloc_event.proofs.lists.Removed.{all_stay, filter-map}
+use Rattle.alloc_event.proofs.lists.Removed.{all_stay}
 use Rattle.alloc_event.proofs.lists.SameIntervals.{start_of}
 use Rattle.alloc_event.proofs.shelves.Counted.{shelves_put}
 use Rattle.alloc_event.proofs.shelves.Entries.{IsPlace, place_is, set_put}
@@ -148,11 +147,6 @@ pub record IsReturned (handles : Handles) (old new : Entry) : Type 0 where
   pub buffers : new.buffers ≡ old.buffers
   pub held : new.held.items ≡ filter (is_out handles (nat_lt 0 old.strong)) old.held.items
 
--- a test of what is made of each
-all_made : {A B : Type 0} (p : B → Bool) (f : A → B) (xs : List A) → list_all p (map f xs) ≡ list_all (λ x. p (f x)) xs
-all_made p f [] = refl
-all_made p f (x ∷ xs) = ap (λ (b : Bool). p (f x) && b) (all_made p f xs)
-
 -- units of a collection with other buffers
 units_set : (us : List Unit) (t : Table Node) (es : List Entry) (at : ℕ) (new : Entry) →
     (at < length es → new.keys ≡ (get_or es at new).keys) → HaveUnits us t es → HaveUnits us t (set es at new)
@@ -223,10 +217,9 @@ module _ (handles : Handles) (t : Table Node) (es : List Entry) (id at : ℕ) (o
   rest_at buffer out =
       let here : are_others_out handles buffer c ≡ true =
       ap (λ (o : Option Collection). option_map_or (are_others_out handles buffer) o false) (sym there) ∙ out in
-      let test : Bool → HeldPages → Bool = λ b h. same_buffer h.buffer buffer
+      let test : Bool → HeldBuffer → Bool = λ b h. same_buffer h.buffer buffer
       || not (is_home (handles h.buffer Strength.Strong) (handles h.buffer Strength.Weak) b) in
-      sym (all_made (test (nat_lt 0 old.strong)) held_pages old.held.items)
-      ∙ (ap (λ (b : Bool). list_all (test b) (map held_pages old.held.items)) (sym live) ∙ here)
+      ap (λ (b : Bool). list_all (test b) old.held.items) (sym live) ∙ here
 
   -- no step is decided in it
   pub decides_none : (nat_lt 0 old.strong ≡ true)
@@ -262,11 +255,11 @@ module _ (handles : Handles) (t : Table Node) (es : List Entry) (id at : ℕ) (o
 
   -- the pages beside it
   pub pool_at : (held : List Interval) → are_parted held ≡ true →
-      held ≡ sorted_by start_of (map (λ (h : HeldPages). h.pages) (all_held (forest_of t (shelves_of es)))) →
+      held ≡ sorted_by start_of (map (λ (h : HeldBuffer). h.pages) (all_held (forest_of t (shelves_of es)))) →
       held ≡ by_page (pages_held old.held.items ++ beside (forest_of t (shelves_of es)) old.id)
   pool_at held parted of =
       pool_beside held t (shelf_of old) ss kept.rising parted (of
-      ∙ ap (λ (xs : List Shelf). sorted_by start_of (map (λ (h : HeldPages). h.pages) (all_held (forest_of t xs)))) (sym put_same))
+      ∙ ap (λ (xs : List Shelf). sorted_by start_of (map (λ (h : HeldBuffer). h.pages) (all_held (forest_of t xs)))) (sym put_same))
 
   module _ (new : Entry) (r : IsReturned handles old new) where
     shown : collection_in t (shelf_of new) ≡ given_back handles (collection_in t (shelf_of old))
@@ -274,8 +267,7 @@ module _ (handles : Handles) (t : Table Node) (es : List Entry) (id at : ℕ) (o
       id = r.id i;
       nodes = nodes_with t (r.keys i).items;
       buffers = r.buffers i;
-      held = (ap (map held_pages) (r.held ∙ ap (λ (b : Bool). filter (is_out handles b) old.held.items) (sym live))
-          ∙ filter-map (λ (h : HeldPages). not (is_home_in handles c h.buffer)) held_pages old.held.items) i;
+      held = (r.held ∙ ap (λ (b : Bool). filter (is_out handles b) old.held.items) (sym live)) i;
     }
 
     set_is : shelves_of (set es at new) ≡ put_shelf (shelf_of new) (shelves_of es)
@@ -322,8 +314,8 @@ module _ (handles : Handles) (t : Table Node) (es : List Entry) (id at : ℕ) (o
 
     pub pool_so : (held : List Interval) → are_parted held ≡ true →
         held ≡ by_page (pages_held new.held.items ++ beside (forest_of t (shelves_of es)) old.id) →
-        held ≡ sorted_by start_of (map (λ (h : HeldPages). h.pages) (all_held (forest_of t (shelves_of (set es at new)))))
+        held ≡ sorted_by start_of (map (λ (h : HeldBuffer). h.pages) (all_held (forest_of t (shelves_of (set es at new)))))
     pool_so held parted of =
         pool_back held t t (given_back handles c) (shelf_of new) ss kept.rising collections_are parted
         (of ∙ ap (λ (x : Collection). sorted_by start_of (pages_in x ++ beside (forest_of t ss) old.id)) shown)
-        ∙ ap (λ (xs : List Shelf). sorted_by start_of (map (λ (h : HeldPages). h.pages) (all_held (forest_of t xs)))) (sym set_is)
+        ∙ ap (λ (xs : List Shelf). sorted_by start_of (map (λ (h : HeldBuffer). h.pages) (all_held (forest_of t xs)))) (sym set_is)

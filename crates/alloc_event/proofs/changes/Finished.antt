@@ -5,7 +5,7 @@ use Rattle.std.specs.List.{list_all, list_any, AllByRecursion}
 use Rattle.sm_names.specs.declared.keys.Interval.{Interval}
 use Rattle.sm_names.specs.declared.keys.NodeKey.{NodeKey}
 use Rattle.sm_names.specs.Forced.{forced}
-use Rattle.sm_names.specs.Timelines.{HeldPages}
+use Rattle.sm_names.specs.declared.keys.HeldBuffer.{HeldBuffer}
 use Rattle.sm_names.specs.Words.{sorted_by}
 use Rattle.node_table.specs.Table.{Table}
 use Rattle.alloc_event.specs.declared.entry.Entry.{Entry}
@@ -17,7 +17,7 @@ use Rattle.alloc_event.specs.Kept.{Shelf, AreRising, IsHung, IsStored, IsWhole, 
 use Rattle.alloc_event.specs.Nodes.{is_over}
 use Rattle.alloc_event.specs.Reserved.{reserved_count}
 use Rattle.alloc_event.specs.Parted.{are_parted}
-use Rattle.alloc_event.specs.Scenes.{IsSound, collection_of, held_pages, frame_of}
+use Rattle.alloc_event.specs.Scenes.{IsSound, collection_of, frame_of}
 use Rattle.alloc_event.specs.Settling.{Handles, put, given_back, standing}
 use Rattle.alloc_event.specs.Units.{are_united}
 use Rattle.alloc_event.proofs.lists.SameIntervals.{start_of}
@@ -65,7 +65,7 @@ module _ (handles : Handles) (t : Table Node) (ss : List Shelf) (start worked ba
       (keys_are : keys ≡ keys_in start.nodes.items) where
     -- what is put back
     abbrev pub shelf_back : Shelf
-    shelf_back = record { id = back.id; keys = keys; buffers = back.buffers; held = map held_pages back.held.items }
+    shelf_back = record { id = back.id; keys = keys; buffers = back.buffers; held = back.held.items }
 
     -- the nodes are found in the table
     nodes_back : collection_in now shelf_back ≡ given_back handles (collection_of worked)
@@ -75,7 +75,7 @@ module _ (handles : Handles) (t : Table Node) (ss : List Shelf) (start worked ba
           (ap (list_all (is_filed t start.id)) (keys_are ∙ sym back_keys) ∙ back_filed) (back_keys ∙ sym keys_are)
           (subst (λ (c : Collection). IsSound c) (sym given) (sound-given_back handles (collection_of worked) sound)).distinct i;
       buffers = back.buffers;
-      held = map held_pages back.held.items;
+      held = back.held.items;
     }) ∙ given
 
     -- the collections are those with this one put among them
@@ -106,7 +106,7 @@ module _ (handles : Handles) (t : Table Node) (ss : List Shelf) (start worked ba
     -- the pool is the forest's
     pub finished-pool : (held : List Interval) → are_parted held ≡ true →
         held ≡ sorted_by start_of (pages_in (collection_of back) ++ beside (forest_of t ss) start.id) →
-        held ≡ sorted_by start_of (map (λ (h : HeldPages). h.pages) (all_held (forest_of now (put_shelf shelf_back ss))))
+        held ≡ sorted_by start_of (map (λ (h : HeldBuffer). h.pages) (all_held (forest_of now (put_shelf shelf_back ss))))
     finished-pool held parted is =
         pool_back held t now (given_back handles (collection_of worked)) shelf_back ss rising finished-collections parted
         (is ∙ λ i. sorted_by start_of (pages_in (given i) ++ beside (forest_of t ss) (sym same_id i)))
@@ -127,7 +127,7 @@ finished-counted handles t es start worked back kept rising own sound same_id fr
     let ss : List Shelf = shelves_of es in
     let shelf_is : shelf_of new ≡ shelf_back handles t ss start worked back kept rising own sound same_id frames given now stores
     new.keys.items keys_are =
-    λ i. record { id = id_is i; keys = new.keys.items; buffers = buffers_are i; held = map held_pages (held_are i).items } in
+    λ i. record { id = id_is i; keys = new.keys.items; buffers = buffers_are i; held = (held_are i).items } in
     let shown : collection_in now (shelf_of new) ≡ given_back handles (collection_of worked) =
     ap (collection_in now) shelf_is ∙ nodes_back handles t ss start worked back kept rising own sound same_id frames given now stores
     new.keys.items keys_are in

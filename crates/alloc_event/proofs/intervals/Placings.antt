@@ -13,16 +13,16 @@ use Rattle.sm_names.specs.Forced.{outcome}
 use Rattle.sm_names.specs.Handles.{names}
 use Rattle.sm_names.specs.Marks.{Mark}
 use Rattle.sm_names.specs.Pages.{places, pages_of}
-use Rattle.sm_names.specs.Timelines.{HeldPages, laid_out}
+use Rattle.sm_names.specs.declared.keys.HeldBuffer.{HeldBuffer}
+use Rattle.sm_names.specs.Timelines.{laid_out}
 use Rattle.sm_names.specs.Words.{when}
 use Rattle.sm_names.proofs.PlaceLaws.{places_same}
 use Rattle.buffer_pool.specs.Holdings.{with_buffers}
 use Rattle.alloc_event.specs.declared.decision.Decision.TheVariants.{Places}
-use Rattle.alloc_event.specs.declared.held.HeldBuffer.{HeldBuffer}
 use Rattle.alloc_event.specs.Decisions.{mark_of, IsPlacing}
 use Rattle.alloc_event.specs.Forest.{Collection, pages_in, with_nodes}
 use Rattle.alloc_event.specs.Nodes.{after_allocation, after_loss}
-use Rattle.alloc_event.specs.Scenes.{by_page, held_pages, laid, name_of}
+use Rattle.alloc_event.specs.Scenes.{by_page, laid, name_of}
 use Rattle.alloc_event.specs.Settling.{is_root_of, made}
 use Rattle.alloc_event.proofs.lists.ByPage.{any_sorted, with_buffers_sorted}
 
@@ -30,44 +30,42 @@ use Rattle.alloc_event.proofs.lists.ByPage.{any_sorted, with_buffers_sorted}
 
 -- they lie as they are laid out
 laid_are : (id pages index : ℕ) (starts : List ℕ) →
-    map held_pages (laid id pages index starts)
-    ≡ laid_out pages (map (name_of id) (range_with_len index (length starts))) starts
+    laid id pages index starts ≡ laid_out pages (map (name_of id) (range_with_len index (length starts))) starts
 laid_are id pages index [] = refl
 laid_are id pages index (s ∷ ss) =
-    ap (λ (hs : List HeldPages). record { buffer = name_of id index; pages = at_pages pages s } ∷ hs)
+    ap (λ (hs : List HeldBuffer). record { buffer = name_of id index; pages = at_pages pages s } ∷ hs)
     (laid_are id pages (index + 1) ss)
 
 -- in front of others
 pub scene_laid : (id pages count : ℕ) (starts : List ℕ) (held : List HeldBuffer) → length starts ≡ count →
-    map held_pages (laid id pages 0 starts ++ held) ≡ laid_out pages (names id count) starts ++ map held_pages held
+    laid id pages 0 starts ++ held ≡ laid_out pages (names id count) starts ++ held
 scene_laid id pages count starts held many =
-    map-append held_pages (laid id pages 0 starts) held
-    ∙ (ap (λ (hs : List HeldPages). hs ++ map held_pages held) (laid_are id pages 0 starts)
-    ∙ ap (λ (k : ℕ). laid_out pages (names id k) starts ++ map held_pages held) many)
+    ap (λ (hs : List HeldBuffer). hs ++ held) (laid_are id pages 0 starts)
+    ∙ ap (λ (k : ℕ). laid_out pages (names id k) starts ++ held) many
 
 -- they take these pages
 laid_pages : (id pages index : ℕ) (starts : List ℕ) →
-    map (λ (h : HeldPages). h.pages) (laid_out pages (map (name_of id) (range_with_len index (length starts))) starts)
+    map (λ (h : HeldBuffer). h.pages) (laid_out pages (map (name_of id) (range_with_len index (length starts))) starts)
     ≡ map (at_pages pages) starts
 laid_pages id pages index [] = refl
 laid_pages id pages index (s ∷ ss) =
     ap (λ (is : List Interval). at_pages pages s ∷ is) (laid_pages id pages (index + 1) ss)
 
 -- the pool holds them in order beside what it held
-pub pool_laid : (id pages count : ℕ) (starts : List ℕ) (held : List HeldPages) (others : List Interval) →
+pub pool_laid : (id pages count : ℕ) (starts : List ℕ) (held : List HeldBuffer) (others : List Interval) →
     length starts ≡ count →
-    with_buffers pages starts (by_page (map (λ (h : HeldPages). h.pages) held ++ others))
-    ≡ by_page (map (λ (h : HeldPages). h.pages) (laid_out pages (names id count) starts ++ held) ++ others)
+    with_buffers pages starts (by_page (map (λ (h : HeldBuffer). h.pages) held ++ others))
+    ≡ by_page (map (λ (h : HeldBuffer). h.pages) (laid_out pages (names id count) starts ++ held) ++ others)
 pool_laid id pages count starts held others many =
-    let own : List Interval = map (λ (h : HeldPages). h.pages) held in
-    let all : map (λ (h : HeldPages). h.pages) (laid_out pages (names id count) starts ++ held)
+    let own : List Interval = map (λ (h : HeldBuffer). h.pages) held in
+    let all : map (λ (h : HeldBuffer). h.pages) (laid_out pages (names id count) starts ++ held)
     ≡ map (at_pages pages) starts ++ own =
-    map-append (λ (h : HeldPages). h.pages) (laid_out pages (names id count) starts) held
-    ∙ ap (λ (is : List Interval). is ++ map (λ (h : HeldPages). h.pages) held)
-    (subst (λ (k : ℕ). map (λ (h : HeldPages). h.pages) (laid_out pages (names id k) starts)
+    map-append (λ (h : HeldBuffer). h.pages) (laid_out pages (names id count) starts) held
+    ∙ ap (λ (is : List Interval). is ++ map (λ (h : HeldBuffer). h.pages) held)
+    (subst (λ (k : ℕ). map (λ (h : HeldBuffer). h.pages) (laid_out pages (names id k) starts)
     ≡ map (at_pages pages) starts) many (laid_pages id pages 0 starts)) in
-    with_buffers_sorted pages starts (map (λ (h : HeldPages). h.pages) held ++ others)
-    ∙ ap by_page (sym (append_assoc (map (at_pages pages) starts) (map (λ (h : HeldPages). h.pages) held) others)
+    with_buffers_sorted pages starts (map (λ (h : HeldBuffer). h.pages) held ++ others)
+    ∙ ap by_page (sym (append_assoc (map (at_pages pages) starts) (map (λ (h : HeldBuffer). h.pages) held) others)
     ∙ ap (λ (is : List Interval). is ++ others) (sym all))
 
 -- ---- the mark

@@ -2,7 +2,7 @@
 use Rattle.std.proofs.Common.{◌≡◌, true, List, ◌++◌, map, sym, ap, ◌∙◌}
 use Rattle.std.specs.List.{flat_map}
 use Rattle.sm_names.specs.declared.keys.Interval.{Interval}
-use Rattle.sm_names.specs.Timelines.{HeldPages}
+use Rattle.sm_names.specs.declared.keys.HeldBuffer.{HeldBuffer}
 use Rattle.sm_names.specs.Words.{sorted_by}
 use Rattle.node_table.specs.Table.{Table}
 use Rattle.alloc_event.specs.declared.node.Node.{Node}
@@ -15,7 +15,7 @@ use Rattle.alloc_event.proofs.shelves.Putting.{put-map, pages_held, pages-put}
 
 -- the pool of a forest holds the pages of a collection and those beside it
 pub pool_beside : (held : List Interval) (t : Table Node) (s : Shelf) (ss : List Shelf) → AreRising ss → are_parted held ≡ true →
-    held ≡ sorted_by start_of (map (λ (h : HeldPages). h.pages) (all_held (forest_of t (put_shelf s ss)))) →
+    held ≡ sorted_by start_of (map (λ (h : HeldBuffer). h.pages) (all_held (forest_of t (put_shelf s ss)))) →
     held ≡ sorted_by start_of (pages_in (collection_in t s) ++ beside (forest_of t ss) s.id)
 pool_beside held t s ss rising parted is =
     let all = pages_held (map (collection_in t) (put_shelf s ss)) ∙ ap (flat_map pages_in) (put-map t s ss) in
@@ -29,7 +29,7 @@ pool_beside held t s ss rising parted is =
 pub pool_back : (held : List Interval) (t now : Table Node) (c : Collection) (new : Shelf) (ss : List Shelf) → AreRising ss →
     map (collection_in now) (put_shelf new ss) ≡ put c (map (collection_in t) ss) → are_parted held ≡ true →
     held ≡ sorted_by start_of (pages_in c ++ beside (forest_of t ss) c.id) →
-    held ≡ sorted_by start_of (map (λ (h : HeldPages). h.pages) (all_held (forest_of now (put_shelf new ss))))
+    held ≡ sorted_by start_of (map (λ (h : HeldBuffer). h.pages) (all_held (forest_of now (put_shelf new ss))))
 pool_back held t now c new ss rising collections parted is =
     let alike = pages-put t c ss rising in
     let all = pages_held (map (collection_in now) (put_shelf new ss)) ∙ ap (flat_map pages_in) collections in

@@ -11,8 +11,8 @@ use Rattle.sm_names.proofs.SamenessLaws.{either_way, and_left, and_right, and_bo
 use Rattle.buffer_pool.specs.Holdings.{Holdings, IsSound, in_order, without}
 use Rattle.buffer_pool.specs.Holes.{end_of}
 use Rattle.failure_domains.proofs.Lists.{Contains-head, Contains-tail}
-use Rattle.alloc_event.specs.declared.held.HeldBuffer.{HeldBuffer}
-use Rattle.alloc_event.specs.Scenes.{by_page, held_pages, pages_held}
+use Rattle.sm_names.specs.declared.keys.HeldBuffer.{HeldBuffer}
+use Rattle.alloc_event.specs.Scenes.{by_page, pages_held}
 use Rattle.alloc_event.proofs.lists.ByPage.{put_in, front, behind, not_lt}
 
 -- ---- order
@@ -252,35 +252,35 @@ without_one i xs ys few =
 
 -- the pages of buffers, one of which is shown
 pages_around : (front rest : List HeldBuffer) (h : HeldBuffer) (others : List Interval) →
-    pages_held (front ++ h ∷ rest) ++ others ≡ pages_held front ++ (held_pages h).pages ∷ (pages_held rest ++ others)
+    pages_held (front ++ h ∷ rest) ++ others ≡ pages_held front ++ h.pages ∷ (pages_held rest ++ others)
 pages_around [] rest h others = refl
 pages_around (g ∷ front) rest h others =
-    ap (λ (l : List Interval). (held_pages g).pages ∷ l) (pages_around front rest h others)
+    ap (λ (l : List Interval). g.pages ∷ l) (pages_around front rest h others)
 
 pages_beside : (front rest : List HeldBuffer) (others : List Interval) →
     pages_held (front ++ rest) ++ others ≡ pages_held front ++ (pages_held rest ++ others)
 pages_beside [] rest others = refl
 pages_beside (g ∷ front) rest others =
-    ap (λ (l : List Interval). (held_pages g).pages ∷ l) (pages_beside front rest others)
+    ap (λ (l : List Interval). g.pages ∷ l) (pages_beside front rest others)
 
 -- without its interval the pool holds those of the others
 pub one_returned : (pool : Holdings) (front rest : List HeldBuffer) (h : HeldBuffer) (others : List Interval) →
     IsSound pool →
     pool.held ≡ by_page (pages_held (front ++ h ∷ rest) ++ others) →
-    without h.start pool.held ≡ by_page (pages_held (front ++ rest) ++ others)
+    without h.pages.start pool.held ≡ by_page (pages_held (front ++ rest) ++ others)
 one_returned pool front rest h others sound holds =
-    let all : List Interval = pages_held front ++ (held_pages h).pages ∷ (pages_held rest ++ others) in
-    let is : pool.held ≡ by_page (pages_held front ++ (held_pages h).pages ∷ (pages_held rest ++ others)) = holds
+    let all : List Interval = pages_held front ++ h.pages ∷ (pages_held rest ++ others) in
+    let is : pool.held ≡ by_page (pages_held front ++ h.pages ∷ (pages_held rest ++ others)) = holds
     ∙ ap by_page (pages_around front rest h others) in
-    let few : times (begins h.start) pool.held ≤ 1 = one_begins h.start 0 pool.size pool.held sound.in_order in
-    let once : times (begins h.start) pool.held
-    ≡ times (begins h.start) (pages_held front ++ (held_pages h).pages ∷ (pages_held rest ++ others)) =
-    ap (times (begins h.start)) is ∙ times_sorted (begins h.start)
-    (pages_held front ++ (held_pages h).pages ∷ (pages_held rest ++ others)) in
-    ap (without h.start) is
-    ∙ (filter_sorted (λ (j : Interval). not (begins h.start j))
-    (pages_held front ++ (held_pages h).pages ∷ (pages_held rest ++ others))
-    ∙ (ap by_page (without_one (held_pages h).pages (pages_held front) (pages_held rest ++ others) (omega arith))
+    let few : times (begins h.pages.start) pool.held ≤ 1 = one_begins h.pages.start 0 pool.size pool.held sound.in_order in
+    let once : times (begins h.pages.start) pool.held
+    ≡ times (begins h.pages.start) (pages_held front ++ h.pages ∷ (pages_held rest ++ others)) =
+    ap (times (begins h.pages.start)) is ∙ times_sorted (begins h.pages.start)
+    (pages_held front ++ h.pages ∷ (pages_held rest ++ others)) in
+    ap (without h.pages.start) is
+    ∙ (filter_sorted (λ (j : Interval). not (begins h.pages.start j))
+    (pages_held front ++ h.pages ∷ (pages_held rest ++ others))
+    ∙ (ap by_page (without_one h.pages (pages_held front) (pages_held rest ++ others) (omega arith))
     ∙ ap by_page (sym (pages_beside front rest others))))
 
 -- an interval is among those in order
@@ -314,13 +314,13 @@ Contains-In (y ∷ ys) x (inr on) = Contains-tail y x ys (Contains-In ys x on)
 
 -- the pool holds the pages of a buffer
 pub holds_one : (held : List Interval) (front rest : List HeldBuffer) (h : HeldBuffer) (others : List Interval) →
-    held ≡ by_page (pages_held (front ++ h ∷ rest) ++ others) → Contains held (held_pages h).pages
+    held ≡ by_page (pages_held (front ++ h ∷ rest) ++ others) → Contains held h.pages
 holds_one held front rest h others is =
-    subst (λ (l : List Interval). Contains l (held_pages h).pages)
+    subst (λ (l : List Interval). Contains l h.pages)
     (sym (is ∙ ap by_page (pages_around front rest h others)))
-    (Contains-In (by_page (pages_held front ++ (held_pages h).pages ∷ (pages_held rest ++ others))) (held_pages h).pages
-    (In-sorted (held_pages h).pages (pages_held front ++ (held_pages h).pages ∷ (pages_held rest ++ others))
-    (In-behind (held_pages h).pages (pages_held front) (pages_held rest ++ others))))
+    (Contains-In (by_page (pages_held front ++ h.pages ∷ (pages_held rest ++ others))) h.pages
+    (In-sorted h.pages (pages_held front ++ h.pages ∷ (pages_held rest ++ others))
+    (In-behind h.pages (pages_held front) (pages_held rest ++ others))))
 
 -- the loop comes to one more buffer
 pub kept_here : (out : HeldBuffer → Bool) (held : List HeldBuffer) (i : ℕ) (h : HeldBuffer) → i < length held →

@@ -1,17 +1,8 @@
 -- Lists of which one is taken out, and those that a filter leaves.
-use Rattle.std.proofs.Common.{ℕ, zero, suc, ◌+◌, ◌≡◌, ◌<◌, ◌∙◌, ◌≤◌, refl, sym, ap, true, false, inl, inr, Bool, List, [], ◌∷◌, ◌++◌, length, map, take, drop, get_or, arith}
+use Rattle.std.proofs.Common.{ℕ, zero, suc, ◌+◌, ◌≡◌, ◌<◌, ◌∙◌, ◌≤◌, refl, sym, ap, true, false, inl, inr, Bool, List, [], ◌∷◌, ◌++◌, length, take, drop, get_or, arith}
 use Rattle.std.proofs.lemmas.List.{at_drop_more, take-append-drop}
 use Rattle.std.specs.List.{filter, list_all, remove}
 use Rattle.sm_names.proofs.SamenessLaws.{and_both, and_left, and_right, either_way}
-
--- a filter before a map or after it
-pub filter-map : {A B : Type 0} (keep : B → Bool) (f : A → B) (xs : List A) →
-    map f (filter (λ x. keep (f x)) xs) ≡ filter keep (map f xs)
-filter-map keep f [] = refl
-filter-map keep f (x ∷ xs) = elim (either_way (keep (f x))) [
-  | inl e ↦ rw e (ap (λ ys. f x ∷ ys) (filter-map keep f xs))
-  | inr e ↦ rw e (filter-map keep f xs)
-]
 
 module _ {X : Type 0} (p : X → Bool) where
   -- no more pass than there are

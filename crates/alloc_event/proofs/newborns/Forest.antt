@@ -6,7 +6,7 @@ use Rattle.std.proofs.lemmas.Bool.{eq-eqb, ltb-true, false≢true}
 use Rattle.std.proofs.lemmas.List.Elements.{filter_map-append}
 use Rattle.sm_names.specs.declared.keys.NodeKey.{NodeKey}
 use Rattle.sm_names.specs.Sameness.{same_key}
-use Rattle.sm_names.specs.Timelines.{HeldPages}
+use Rattle.sm_names.specs.declared.keys.HeldBuffer.{HeldBuffer}
 use Rattle.sm_names.proofs.SamenessLaws.{and_left, and_right, or_right}
 use Rattle.node_table.specs.Table.{Table, node_at, parent_at}
 use Rattle.node_table.proofs.Keys.{key_cases, true-same_key, same_key-true, same_key-false}
@@ -63,7 +63,7 @@ SameKeys-front (x ∷ xs) ys zs p = SameKeys-cons x (xs ++ ys) (xs ++ zs) (SameK
 abbrev pub keys_before : ℕ → List Shelf → List NodeKey
 keys_before id ss = option_map_or (λ (s : Shelf). s.keys) (find (λ (s : Shelf). s.id == id) ss) []
 
-abbrev pub held_before : ℕ → List Shelf → List HeldPages
+abbrev pub held_before : ℕ → List Shelf → List HeldBuffer
 held_before id ss = option_map_or (λ (s : Shelf). s.held) (find (λ (s : Shelf). s.id == id) ss) []
 
 -- all keys are those there were, and this one

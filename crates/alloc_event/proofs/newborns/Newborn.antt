@@ -7,7 +7,7 @@ use Rattle.std.proofs.lemmas.List.{map-append}
 use Rattle.sm_names.specs.declared.keys.NodeKey.{NodeKey}
 use Rattle.sm_names.specs.declared.outcomes.Buffers.{Buffers}
 use Rattle.sm_names.specs.Sameness.{same_key}
-use Rattle.sm_names.specs.Timelines.{HeldPages}
+use Rattle.sm_names.specs.declared.keys.HeldBuffer.{HeldBuffer}
 use Rattle.sm_names.proofs.ListLaws.{In, In-find}
 use Rattle.sm_names.proofs.SamenessLaws.{and_left, and_right, either_way, or_cases, or_none_left, or_right, same_key-refl}
 use Rattle.node_table.specs.Table.{Table, node_at, row_at}
@@ -362,7 +362,7 @@ above_there t ss id (Some _) None at = elim at [ ]
 above_there t ss id (Some _) (Some _) (Child up n is own here) = row_there t up (ap is_some is)
 
 -- a scene with one more node
-pub grown_scene : (from : Collection) (id : ℕ) (nodes old : List Node) (buffers : Option Buffers) (held : List HeldPages) (n node : Node) →
+pub grown_scene : (from : Collection) (id : ℕ) (nodes old : List Node) (buffers : Option Buffers) (held : List HeldBuffer) (n node : Node) →
     record { id = id; nodes = old; buffers = buffers; held = held } ≡ from → nodes ≡ old ++ n ∷ [] → n ≡ node →
     record { id = id; nodes = nodes; buffers = buffers; held = held } ≡ grown from node
 grown_scene from id nodes old buffers held n node was added is =

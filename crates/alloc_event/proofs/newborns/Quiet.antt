@@ -8,7 +8,7 @@ use Rattle.sm_names.specs.declared.keys.Strength.{Strength}
 use Rattle.sm_names.specs.Forced.{forced}
 use Rattle.sm_names.specs.Handles.{is_home}
 use Rattle.sm_names.specs.Members.{is_live, some_strong_live, Member}
-use Rattle.sm_names.specs.Timelines.{HeldPages}
+use Rattle.sm_names.specs.declared.keys.HeldBuffer.{HeldBuffer}
 use Rattle.sm_names.specs.Sameness.{same_key}
 use Rattle.sm_names.proofs.ListLaws.{times-append}
 use Rattle.sm_names.proofs.SamenessLaws.{and_left, and_right, both_ways, either_way, or_both, same_key-refl}
@@ -71,7 +71,7 @@ all_weaker p q (x ∷ xs) weaker all =
 
 -- with one more node no buffer goes home
 pub still_out : (handles : Handles) (c : Collection) (b : Node) → list_any (is_of b.key) c.nodes ≡ false → b.gone ≡ false →
-    list_all (λ (h : HeldPages). not (is_home_in handles c h.buffer)) c.held ≡ true →
+    list_all (λ (h : HeldBuffer). not (is_home_in handles c h.buffer)) c.held ≡ true →
     given_back handles (record c { nodes = c.nodes ++ b ∷ [] }) ≡ record c { nodes = c.nodes ++ b ∷ [] }
 still_out handles c b fresh here out =
     let strong : Member → Bool = λ m. is_live m && not m.weak in
@@ -79,12 +79,12 @@ still_out handles c b fresh here out =
     (member_of (c.nodes ++ b ∷ []) b ∷ [])) =
     ap some_strong_live (members_more c.nodes b fresh here)
     ∙ any-append strong (members_of c.nodes) (member_of (c.nodes ++ b ∷ []) b ∷ []) in
-    let out' = all_weaker (λ (h : HeldPages). not (is_home_in handles c h.buffer)) (λ (h : HeldPages).
+    let out' = all_weaker (λ (h : HeldBuffer). not (is_home_in handles c h.buffer)) (λ (h : HeldBuffer).
     not (is_home_in handles (record c { nodes = c.nodes ++ b ∷ [] }) h.buffer)) c.held
     (λ h e. ap (λ l. not (is_home (handles h.buffer Strength.Strong) (handles h.buffer Strength.Weak) l)) live
     ∙ out_more (handles h.buffer Strength.Strong) (handles h.buffer Strength.Weak) (some_strong_live (members_of c.nodes))
     (some_strong_live (member_of (c.nodes ++ b ∷ []) b ∷ [])) e) out in
-    λ i. record c { nodes = c.nodes ++ b ∷ []; held = keep_all (λ (h : HeldPages). not (is_home_in handles (record c { nodes = c.nodes ++ b ∷ [] }) h.buffer)) c.held out' i }
+    λ i. record c { nodes = c.nodes ++ b ∷ []; held = keep_all (λ (h : HeldBuffer). not (is_home_in handles (record c { nodes = c.nodes ++ b ∷ [] }) h.buffer)) c.held out' i }
 
 -- a node that is born is not gone
 pub born_here : (above : Option Node) (attached : Bool) (id event client : ℕ) (key : NodeKey) →

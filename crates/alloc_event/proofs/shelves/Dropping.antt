@@ -7,7 +7,7 @@ use Rattle.alloc_event.specs.declared.node.Node.{Node}
 use Rattle.alloc_event.specs.Forgetting.{is_bare, thin_in, thinned, without_bare}
 use Rattle.alloc_event.specs.Kept.{Shelf, AreRising, place_in, shelf_of, shelves_of}
 use Rattle.alloc_event.proofs.shelves.Entries.{none_in}
-use Rattle.alloc_event.proofs.shelves.Showing.{held_length, shelf_found}
+use Rattle.alloc_event.proofs.shelves.Showing.{shelf_found}
 use Rattle.alloc_event.proofs.leaving.Tidying.{above_other, bare_others, none_others, thin_others}
 
 -- where no entry has the id no shelf has it
@@ -71,10 +71,6 @@ keep_bare id (x ∷ es) at d rising told bare =
     shelf_of x ∷ l) (sym (bare_others id (shelves_of es) (above_other id x.id (shelves_of es) rising.0 same)))))
     (λ n other told bare. rw other (ap (λ l. shelf_of x ∷ l) (keep_bare id es n d rising.1 told bare)))
     bare
-
--- an entry is bare that has no key and no buffer
-pub bare_entry : (e : Entry) → is_bare (shelf_of e) ≡ ((length e.keys.items == 0) && (length e.held.items == 0))
-bare_entry e = ap (λ n. (length e.keys.items == 0) && (n == 0)) (held_length e.held.items)
 
 -- one test of two fails
 pub no_left : (a b : Bool) → a ≡ false → (a && b) ≡ false

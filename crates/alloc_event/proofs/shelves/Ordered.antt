@@ -5,10 +5,9 @@ use Rattle.std.proofs.lemmas.List.{map-append}
 use Rattle.sm_names.specs.Words.{insert_by, sorted_by}
 use Rattle.node_table.specs.Table.{Table}
 use Rattle.alloc_event.specs.declared.entry.Entry.{Entry}
-use Rattle.alloc_event.specs.declared.held.HeldBuffer.{HeldBuffer}
+use Rattle.sm_names.specs.declared.keys.HeldBuffer.{HeldBuffer}
 use Rattle.alloc_event.specs.declared.node.Node.{Node}
-use Rattle.alloc_event.specs.Forest.{all_held, held_buffer, held_by_page, live_keys}
-use Rattle.alloc_event.specs.Scenes.{held_pages}
+use Rattle.alloc_event.specs.Forest.{held_by_page, live_keys}
 use Rattle.alloc_event.specs.Kept.{Shelf, all_keys, forest_of, is_live, nodes_with, shelves_of}
 use Rattle.alloc_event.proofs.newborns.Forest.{helds_in}
 use Rattle.alloc_event.proofs.shelves.Showing.{nodes_of_all}
@@ -38,23 +37,13 @@ sorted_by-map number f [] = refl
 sorted_by-map number f (x ∷ xs) =
     ap (insert_by number (f x)) (sorted_by-map number f xs) ∙ insert_by-map number f x (sorted_by (λ y. number (f y)) xs)
 
--- buffers are read as they are kept
-held_back : (hs : List HeldBuffer) → map held_buffer (map held_pages hs) ≡ hs
-held_back [] = refl
-held_back (h ∷ hs) = ap (λ (l : List HeldBuffer). h ∷ l) (held_back hs)
-
 -- all buffers are those of the entries
-held_of_all : (es : List Entry) →
-    map held_buffer (flat_map (λ (s : Shelf). s.held) (shelves_of es)) ≡ flat_map (λ (e : Entry). e.held.items) es
+held_of_all : (es : List Entry) → flat_map (λ (s : Shelf). s.held) (shelves_of es) ≡ flat_map (λ (e : Entry). e.held.items) es
 held_of_all [] = refl
-held_of_all (e ∷ es) =
-    map-append held_buffer (map held_pages e.held.items) (flat_map (λ (s : Shelf). s.held) (shelves_of es))
-    ∙ λ i. held_back e.held.items i ++ held_of_all es i
+held_of_all (e ∷ es) = ap (λ (hs : List HeldBuffer). e.held.items ++ hs) (held_of_all es)
 
 -- the buffers by page are those of the entries
 pub held_in_order : (t : Table Node) (es : List Entry) →
-    map held_buffer (held_by_page (forest_of t (shelves_of es))) ≡ sorted_by (λ (h : HeldBuffer). h.start) (flat_map (λ (e : Entry).
-    e.held.items) es)
-held_in_order t es =
-    sym (sorted_by-map (λ (h : HeldBuffer). h.start) held_buffer (all_held (forest_of t (shelves_of es))))
-    ∙ ap (sorted_by (λ (h : HeldBuffer). h.start)) (ap (map held_buffer) (helds_in t (shelves_of es)) ∙ held_of_all es)
+    held_by_page (forest_of t (shelves_of es))
+    ≡ sorted_by (λ (h : HeldBuffer). h.pages.start) (flat_map (λ (e : Entry). e.held.items) es)
+held_in_order t es = ap (sorted_by (λ (h : HeldBuffer). h.pages.start)) (helds_in t (shelves_of es) ∙ held_of_all es)

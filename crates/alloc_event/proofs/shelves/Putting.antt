@@ -4,7 +4,7 @@ use Rattle.std.specs.List.{list_all, filter, flat_map, AllByRecursion}
 use Rattle.std.proofs.lemmas.Bool.{lt-ltb, le-ltb, eq-eqb, ne_eqb, eqb-true, cases_lt, cases_eq, ltb-true, ltb-false, eqb-false}
 use Rattle.std.proofs.lemmas.List.{map-append}
 use Rattle.sm_names.specs.declared.keys.NodeKey.{NodeKey}
-use Rattle.sm_names.specs.Timelines.{HeldPages}
+use Rattle.sm_names.specs.declared.keys.HeldBuffer.{HeldBuffer}
 use Rattle.sm_names.proofs.SamenessLaws.{and_left, and_right}
 use Rattle.node_table.specs.Table.{Table}
 use Rattle.alloc_event.specs.declared.node.Node.{Node}
@@ -102,9 +102,9 @@ filed-put t one other (s ∷ ss) ids keys =
 -- ---- pages
 
 -- the pages of collections are those of the buffers that hold any
-pub pages_held : (cs : List Collection) → map (λ (h : HeldPages). h.pages) (flat_map (λ (c : Collection). c.held) cs) ≡ flat_map pages_in cs
+pub pages_held : (cs : List Collection) → map (λ (h : HeldBuffer). h.pages) (flat_map (λ (c : Collection). c.held) cs) ≡ flat_map pages_in cs
 pages_held [] = refl
-pages_held (c ∷ cs) = map-append (λ (h : HeldPages). h.pages) c.held (flat_map (λ (d : Collection). d.held) cs)
+pages_held (c ∷ cs) = map-append (λ (h : HeldBuffer). h.pages) c.held (flat_map (λ (d : Collection). d.held) cs)
     ∙ ap (λ is. pages_in c ++ is) (pages_held cs)
 
 -- collections of greater ids are others

@@ -10,11 +10,10 @@ use Rattle.sm_names.specs.Sameness.{same_key}
 use Rattle.sm_names.proofs.SamenessLaws.{and_left, and_right}
 use Rattle.node_table.specs.Table.{Table, node_at}
 use Rattle.alloc_event.specs.declared.entry.Entry.{Entry}
-use Rattle.alloc_event.specs.declared.held.HeldBuffer.{HeldBuffer}
 use Rattle.alloc_event.specs.declared.node.Node.{Node}
 use Rattle.alloc_event.specs.Forest.{summary_of, all_nodes, node_at as forest_node, collection_at}
 use Rattle.alloc_event.specs.Nodes.{node_of}
-use Rattle.alloc_event.specs.Scenes.{held_pages, given_few}
+use Rattle.alloc_event.specs.Scenes.{given_few}
 use Rattle.alloc_event.specs.Kept.{Shelf, shelf_of, shelves_of, nodes_with, collection_in, forest_of, all_keys, is_filed, are_filed, IsStored}
 use Rattle.alloc_event.proofs.lists.Lookups.{nothing, node_of-looked}
 
@@ -87,11 +86,6 @@ pub filed_found : (t : Table Node) (id : ℕ) (es : List Shelf) → are_filed t 
 filed_found t id [] h e found = absurd (cc)
 filed_found t id (x ∷ xs) h e found = filed_found-by t id x xs h e (x.id == id) found (filed_found t id xs (and_right _ _ h) e)
 
--- as many pages as buffers
-pub held_length : (held : List HeldBuffer) → length (map held_pages held) ≡ length held
-held_length [] = refl
-held_length (h ∷ hs) = ap (λ n. suc n) (held_length hs)
-
 -- the shelf of an entry is found as it is
 pub shelf_found : (id : ℕ) (es : List Entry) → find (λ (s : Shelf). s.id == id) (shelves_of es) ≡ option_map shelf_of (find (λ (e : Entry).
     e.id == id) es)
@@ -111,7 +105,7 @@ pub collection_some : (t : Table Node) (es : List Entry) → IsStored t (shelves
 collection_some t es ok id e found =
     let shelf = shelf_found id es ∙ ap (option_map shelf_of) found in
     ap (option_map summary_of) (collection_is t id (shelves_of es) ∙ ap (option_map (collection_in t)) shelf)
-    ∙ (λ i. Some (record { nodes = filed-length t e.id e.keys.items (filed_found t id (shelves_of es) ok.filed (shelf_of e) shelf) i; buffers = e.buffers; held = held_length e.held.items i }))
+    ∙ (λ i. Some (record { nodes = filed-length t e.id e.keys.items (filed_found t id (shelves_of es) ok.filed (shelf_of e) shelf) i; buffers = e.buffers; held = length e.held.items }))
 
 -- and where none is found
 pub collection_none : (t : Table Node) (es : List Entry) (id : ℕ) → find (λ (x : Entry). x.id == id) es ≡ None →

@@ -2,8 +2,8 @@
 use super::acts::{Act, Row, Said};
 use super::holdings::Holdings;
 use super::log::Log;
-use lifetime_core::{Core, HeldBuffer};
-use sm_names::{Call, ClientId, Limits, NodeKey, Parcel, Reply};
+use lifetime_core::Core;
+use sm_names::{Call, ClientId, HeldBuffer, Limits, NodeKey, Parcel, Reply};
 use std::alloc::Global;
 
 /// A core of 16 pages, the node of each call that made one, and what its clients hold.

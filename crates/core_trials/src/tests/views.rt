@@ -12,7 +12,7 @@ fn are_held(player: &mut Player, wanted: &[(u64, u8, u32, u32)]) -> bool {
             collection: *collection,
             index: *index,
         };
-        if buffer.buffer != name || buffer.start != *start || buffer.pages != *pages {
+        if buffer.buffer != name || buffer.pages.start != *start || buffer.pages.pages != *pages {
             return false;
         }
     }

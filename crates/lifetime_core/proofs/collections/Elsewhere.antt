@@ -17,7 +17,8 @@ use Rattle.sm_names.specs.Marks.{Mark, Timeline, Called, Loss, events}
 use Rattle.sm_names.specs.Members.{births_in, member, members, some_strong_live}
 use Rattle.sm_names.specs.Reading.{readings}
 use Rattle.sm_names.specs.Sameness.{same_key}
-use Rattle.sm_names.specs.Timelines.{HeldPages, after, collection_of, own_loss, key_of, buffer_of, opened_by, settled, placed}
+use Rattle.sm_names.specs.declared.keys.HeldBuffer.{HeldBuffer}
+use Rattle.sm_names.specs.Timelines.{after, collection_of, own_loss, key_of, buffer_of, opened_by, settled, placed}
 use Rattle.sm_names.specs.Words.{first_some}
 use Rattle.sm_names.proofs.BirthLaws.{HasEnd, birth_is, Comes, comes, ancestors_old}
 use Rattle.sm_names.proofs.GrowthLaws.{Grows, Answers, own_loss_origin, grows_lost}
@@ -163,9 +164,9 @@ module _ (pool : ℕ) (limits : Bound) (marks : Timeline) (grown : Grows pool li
     -- and what they hold
     pub held_called : held_after pool (Called client reply call ∷ marks) theirs ≡ held_after pool marks theirs
     held_called =
-        let ours : HeldPages → Bool = λ h. h.buffer.collection == theirs in
-        let now : HeldPages → Bool = λ h. not (home called h.buffer) in
-        let before : HeldPages → Bool = λ h. not (home marks h.buffer) in
+        let ours : HeldBuffer → Bool = λ h. h.buffer.collection == theirs in
+        let now : HeldBuffer → Bool = λ h. not (home called h.buffer) in
+        let before : HeldBuffer → Bool = λ h. not (home marks h.buffer) in
         filter-swap ours now (placed pool marks)
         ∙ (filter-In now before (filter ours (placed pool marks)) (λ h on.
         ap not (home_called h.buffer (eqb-true h.buffer.collection theirs (In-filter ours (placed pool marks) h on).1)))

@@ -11,7 +11,8 @@ use Rattle.sm_names.specs.Handles.{buffers_of, is_initial, is_doomed, open_total
 use Rattle.sm_names.specs.Losses.{fault}
 use Rattle.sm_names.specs.Marks.{Mark, Timeline, Called, Loss, Allocated, Ended}
 use Rattle.sm_names.specs.Members.{member, members, births_in, some_strong_live}
-use Rattle.sm_names.specs.Timelines.{HeldPages, held, placed, layout_at}
+use Rattle.sm_names.specs.declared.keys.HeldBuffer.{HeldBuffer}
+use Rattle.sm_names.specs.Timelines.{held, placed, layout_at}
 use Rattle.sm_names.proofs.IsolationLaws.{fault_loss, of_ours, not_initial, members_loss, members_end, members_allocation, buffers_allocation, birth_of_collection}
 use Rattle.sm_names.proofs.LayoutLaws.{layout_given}
 use Rattle.sm_names.proofs.ListLaws.{In, In-filter, map-In, map-at, filter-swap, filter-In, filter-none}
@@ -28,12 +29,12 @@ IsIn marks collection (Allocated head) = collection_in (births marks) head ≡ S
 IsIn marks collection (Ended top) = collection_in (births marks) top ≡ Some collection
 
 -- the buffer is of another collection
-abbrev pub is_beside : ℕ → HeldPages → Bool
+abbrev pub is_beside : ℕ → HeldBuffer → Bool
 is_beside collection h = not (h.buffer.collection == collection)
 
 -- the pages of buffers of the other collections
 abbrev pub pages_beside : ℕ → Timeline → ℕ → List Interval
-pages_beside pool marks collection = map (λ (h : HeldPages). h.pages) (filter (is_beside collection) (held pool marks))
+pages_beside pool marks collection = map (λ (h : HeldBuffer). h.pages) (filter (is_beside collection) (held pool marks))
 
 -- two numbers that differ do so in either order
 other_way : (a b : ℕ) → (a == b) ≡ false → (b == a) ≡ false
@@ -101,7 +102,7 @@ module _ (marks : Timeline) (ours : ℕ) (w : IsWhole marks) where
       λ i. record (node_after marks b) { gone = (same i).gone })
 
   -- no buffer that is laid out is of another
-  pub laid_in : (pool : ℕ) (out : List Interval) (mark : Mark) → IsIn marks ours mark → (h : HeldPages) →
+  pub laid_in : (pool : ℕ) (out : List Interval) (mark : Mark) → IsIn marks ours mark → (h : HeldBuffer) →
       In h (layout_at pool marks out mark) → is_beside ours h ≡ false
   laid_in pool out (Called client reply call) at h on = absurd at
   laid_in pool out (Loss origin cause) at h on = absurd on
@@ -118,14 +119,14 @@ module _ (marks : Timeline) (ours : ℕ) (w : IsWhole marks) where
   pub beside_apart : (pool : ℕ) (mark : Mark) → IsIn marks ours mark →
       filter (is_beside ours) (held pool (mark ∷ marks)) ≡ filter (is_beside ours) (held pool marks)
   beside_apart pool mark at =
-      let out : List Interval = map (λ (h : HeldPages). h.pages) (held pool marks) in
-      let laid : List HeldPages = layout_at pool marks out mark in
-      let before : HeldPages → Bool = λ h. not (home marks h.buffer) in
-      let after : HeldPages → Bool = λ h. not (home (mark ∷ marks) h.buffer) in
-      let theirs : List HeldPages = filter (is_beside ours) (placed pool marks) in
+      let out : List Interval = map (λ (h : HeldBuffer). h.pages) (held pool marks) in
+      let laid : List HeldBuffer = layout_at pool marks out mark in
+      let before : HeldBuffer → Bool = λ h. not (home marks h.buffer) in
+      let after : HeldBuffer → Bool = λ h. not (home (mark ∷ marks) h.buffer) in
+      let theirs : List HeldBuffer = filter (is_beside ours) (placed pool marks) in
       filter-swap (is_beside ours) after (laid ++ placed pool marks)
       ∙ (ap (filter after) (filter-append (is_beside ours) laid (placed pool marks)
-      ∙ ap (λ (l : List HeldPages). l ++ theirs) (filter-none (is_beside ours) laid (laid_in pool out mark at)))
+      ∙ ap (λ (l : List HeldBuffer). l ++ theirs) (filter-none (is_beside ours) laid (laid_in pool out mark at)))
       ∙ (filter-In after before theirs (λ h on.
       ap not (home_apart mark at h.buffer (other_way h.buffer.collection ours (differs (h.buffer.collection == ours)
       (In-filter (is_beside ours) (placed pool marks) h on).1))))
@@ -142,8 +143,8 @@ module _ (marks : Timeline) (ours : ℕ) (w : IsWhole marks) where
       filter-wider of_theirs (is_beside ours) (held pool (mark ∷ marks)) besides
       ∙ (ap (filter of_theirs) (beside_apart pool mark at) ∙ sym (filter-wider of_theirs (is_beside ours) (held pool marks) besides))
     where
-      of_theirs : HeldPages → Bool
+      of_theirs : HeldBuffer → Bool
       of_theirs h = h.buffer.collection == theirs
 
-      besides : (h : HeldPages) → (h.buffer.collection == theirs) ≡ true → is_beside ours h ≡ true
+      besides : (h : HeldBuffer) → (h.buffer.collection == theirs) ≡ true → is_beside ours h ≡ true
       besides h e = ap not (ap (λ (k : ℕ). k == ours) (eqb-true h.buffer.collection theirs e) ∙ other_way ours theirs other)

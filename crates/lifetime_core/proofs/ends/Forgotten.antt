@@ -12,7 +12,8 @@ use Rattle.sm_names.specs.Kept.{is_kept, is_kept_collection}
 use Rattle.sm_names.specs.Marks.{Timeline}
 use Rattle.sm_names.specs.Members.{births_in}
 use Rattle.sm_names.specs.Sameness.{same_buffer}
-use Rattle.sm_names.specs.Timelines.{HeldPages, held}
+use Rattle.sm_names.specs.declared.keys.HeldBuffer.{HeldBuffer}
+use Rattle.sm_names.specs.Timelines.{held}
 use Rattle.sm_names.proofs.DoomLaws.{doomed_parts}
 use Rattle.sm_names.proofs.GrowthLaws.{Grows}
 use Rattle.sm_names.proofs.HandleLaws.{same_buffer-true}
@@ -98,9 +99,9 @@ open_out marks buffer Weak h = false_if (home marks buffer) (λ e. let none : op
 pub open_kept : (pool : ℕ) (limits : Bound) (marks : Timeline) → Grows pool limits [] marks → (buffer : BufferName) (strength : Strength) →
     0 < open_total marks buffer strength → is_kept_collection marks buffer.collection ≡ true
 open_kept pool limits marks g buffer strength h =
-    let held_so : list_any (λ (p : HeldPages). same_buffer p.buffer buffer) (held pool marks) ≡ true =
+    let held_so : list_any (λ (p : HeldBuffer). same_buffer p.buffer buffer) (held pool marks) ≡ true =
     stands_held pool limits marks g buffer ∙ and_both (list_any (λ b. same_buffer b buffer) (buffer_names marks buffer.collection)) _
     (open_named pool limits marks g buffer strength h) (ap not (open_out marks buffer strength h)) in
-    let p = In-list_any (λ (q : HeldPages). same_buffer q.buffer buffer) (held pool marks) held_so in
+    let p = In-list_any (λ (q : HeldBuffer). same_buffer q.buffer buffer) (held pool marks) held_so in
     subst (λ (b : BufferName). is_kept_collection marks b.collection ≡ true) (same_buffer-true p.0.buffer buffer p.2)
     (held_kept pool limits marks g p.0 p.1)

@@ -12,7 +12,8 @@ use Rattle.sm_names.specs.Marks.{Mark, Called, Loss, Allocated, Ended}
 use Rattle.sm_names.specs.Handles.{is_home}
 use Rattle.sm_names.specs.Members.{Member, asked, is_under, some_strong_live}
 use Rattle.sm_names.specs.Sameness.{same_key}
-use Rattle.sm_names.specs.Timelines.{layout, HeldPages}
+use Rattle.sm_names.specs.declared.keys.HeldBuffer.{HeldBuffer}
+use Rattle.sm_names.specs.Timelines.{layout}
 use Rattle.alloc_event.specs.declared.node.End.{End}
 use Rattle.alloc_event.specs.declared.node.Node.{Node}
 use Rattle.alloc_event.specs.Forest.{Collection, pages_in, with_nodes}
@@ -163,6 +164,6 @@ module _ (place : NodeKey → End → End) where
   -- and the same pages go back
   pub given_placed : (handles : Handles) (c : Collection) → given_back handles (placed_in c) ≡ placed_in (given_back handles c)
   given_placed handles c = λ i. record (placed_in c) {
-    held = filter (λ (h : HeldPages). not (is_home (handles h.buffer Strength.Strong) (handles h.buffer Strength.Weak)
+    held = filter (λ (h : HeldBuffer). not (is_home (handles h.buffer Strength.Strong) (handles h.buffer Strength.Weak)
         (some_strong_live (members_placed c.nodes i)))) c.held;
   }

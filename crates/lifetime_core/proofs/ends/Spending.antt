@@ -4,7 +4,7 @@ use Rattle.std.proofs.lemmas.Bool.{eqb-true, eqb-false}
 use Rattle.std.specs.List.{filter, flat_map, AllByRecursion}
 use Rattle.sm_names.specs.declared.keys.NodeKey.{NodeKey}
 use Rattle.sm_names.specs.Sameness.{same_key}
-use Rattle.sm_names.specs.Timelines.{HeldPages}
+use Rattle.sm_names.specs.declared.keys.HeldBuffer.{HeldBuffer}
 use Rattle.sm_names.proofs.ListLaws.{In, In-filter, In-map}
 use Rattle.sm_names.proofs.SamenessLaws.{and_right, false_if, same_key-true}
 use Rattle.sm_names.proofs.SettledLaws.{not_back}
@@ -70,14 +70,14 @@ held_left (c ∷ cs) = by (is_left (tidied c)) refl (held_left cs)
         flat_map (λ (d : Collection). d.held) (if not left then tidied c ∷ without_over cs else without_over cs) ≡ c.held ++ flat_map
         (λ (d : Collection). d.held) cs
     by true is rest = rw (empty (tidied c).nodes c.held is) rest
-    by false is rest = ap (λ (hs : List HeldPages). c.held ++ hs) rest
+    by false is rest = ap (λ (hs : List HeldBuffer). c.held ++ hs) rest
 
 -- nor does spending an end
 held_spent : (leaving : Option NodeKey) (cs : List Collection) →
     flat_map (λ (c : Collection). c.held) (map (spent_in_one leaving) cs) ≡ flat_map (λ (c : Collection). c.held) cs
 held_spent leaving [] = refl
-held_spent None (c ∷ cs) = ap (λ (hs : List HeldPages). c.held ++ hs) (held_spent None cs)
-held_spent (Some key) (c ∷ cs) = ap (λ (hs : List HeldPages). c.held ++ hs) (held_spent (Some key) cs)
+held_spent None (c ∷ cs) = ap (λ (hs : List HeldBuffer). c.held ++ hs) (held_spent None cs)
+held_spent (Some key) (c ∷ cs) = ap (λ (hs : List HeldBuffer). c.held ++ hs) (held_spent (Some key) cs)
 
 -- what a filter leaves, it leaves again
 filter-twice : {A : Type 0} (test : A → Bool) (xs : List A) → filter test (filter test xs) ≡ filter test xs

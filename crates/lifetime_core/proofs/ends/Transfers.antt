@@ -4,7 +4,7 @@ use Rattle.std.proofs.lemmas.List.{length-map}
 use Rattle.std.specs.List.{filter, flat_map}
 use Rattle.sm_names.specs.declared.keys.NodeKey.{NodeKey}
 use Rattle.sm_names.specs.Sameness.{same_key}
-use Rattle.sm_names.specs.Timelines.{HeldPages}
+use Rattle.sm_names.specs.declared.keys.HeldBuffer.{HeldBuffer}
 use Rattle.sm_names.proofs.ListLaws.{In, In-filter, In-map}
 use Rattle.sm_names.proofs.SettledLaws.{not_back}
 use Rattle.sm_names.proofs.SamenessLaws.{both_ways, same_key-true}
@@ -33,7 +33,7 @@ module _ (key : NodeKey) (end : End) (unspent : is_spent end ≡ false) where
   -- and the pages
   placed_held : (cs : List Collection) → flat_map (λ (c : Collection). c.held) (map placed_in cs) ≡ flat_map (λ (c : Collection). c.held) cs
   placed_held [] = refl
-  placed_held (c ∷ cs) = ap (λ (hs : List HeldPages). c.held ++ hs) (placed_held cs)
+  placed_held (c ∷ cs) = ap (λ (hs : List HeldBuffer). c.held ++ hs) (placed_held cs)
 
   -- a node that was not over is not over
   still_there : (n : Node) → is_over n ≡ false → is_over (with_end key end n) ≡ false

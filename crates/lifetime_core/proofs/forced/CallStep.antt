@@ -17,7 +17,8 @@ use Rattle.sm_names.specs.Losses.{gone}
 use Rattle.sm_names.specs.Marks.{Timeline, Called, events}
 use Rattle.sm_names.specs.Members.{Member, births_in, member, members, some_strong_live}
 use Rattle.sm_names.specs.Reading.{readings}
-use Rattle.sm_names.specs.Timelines.{HeldPages, collection_of, held, own_loss, placed}
+use Rattle.sm_names.specs.declared.keys.HeldBuffer.{HeldBuffer}
+use Rattle.sm_names.specs.Timelines.{collection_of, held, own_loss, placed}
 use Rattle.sm_names.proofs.GrowthLaws.{Grows, Stays, Answers}
 use Rattle.sm_names.proofs.ListLaws.{In-filter, filter-In, filter-swap, map-In}
 use Rattle.sm_names.proofs.SamenessLaws.{either_way, both_ways, or_left}
@@ -67,20 +68,20 @@ module _ (s : State) (marks : Timeline) (shown : IsAfter s marks) (limits : Boun
   called = Called client reply call ∷ marks
 
   -- the pages of the others, where their buffers are home as before
-  beside_called : (id : ℕ) → ((h : HeldPages) → is_beside id h ≡ true →
+  beside_called : (id : ℕ) → ((h : HeldBuffer) → is_beside id h ≡ true →
       home (Called client reply call ∷ marks) h.buffer ≡ home marks h.buffer) →
       pages_beside s.pool (Called client reply call ∷ marks) id ≡ pages_beside s.pool marks id
   beside_called id homes =
-      let now : HeldPages → Bool = λ h. not (home called h.buffer) in
-      let before : HeldPages → Bool = λ h. not (home marks h.buffer) in
-      ap (map (λ (h : HeldPages). h.pages))
+      let now : HeldBuffer → Bool = λ h. not (home called h.buffer) in
+      let before : HeldBuffer → Bool = λ h. not (home marks h.buffer) in
+      ap (map (λ (h : HeldBuffer). h.pages))
       (filter-swap (is_beside id) now (placed s.pool marks)
       ∙ (filter-In now before (filter (is_beside id) (placed s.pool marks)) (λ h on.
       ap not (homes h (In-filter (is_beside id) (placed s.pool marks) h on).1))
       ∙ filter-swap before (is_beside id) (placed s.pool marks)))
 
   -- a collection with the nodes that the mark makes follows it
-  pub matches_called : (id : ℕ) → ((h : HeldPages) → is_beside id h ≡ true →
+  pub matches_called : (id : ℕ) → ((h : HeldBuffer) → is_beside id h ≡ true →
       home (Called client reply call ∷ marks) h.buffer ≡ home marks h.buffer) →
       (ns : List Node) → ns ≡ nodes_kept (is_kept marks) (Called client reply call ∷ marks) id →
       Matches s.pool (is_kept marks) (Called client reply call ∷ marks) (beside s.forest id)
@@ -128,7 +129,7 @@ module _ (s : State) (marks : Timeline) (shown : IsAfter s marks) (limits : Boun
 
   -- in other collections those that were
   pub homes_elsewhere : (id : ℕ) → collection_of (Called client reply call ∷ marks) call reply ≡ Some id →
-      (h : HeldPages) → is_beside id h ≡ true → home (Called client reply call ∷ marks) h.buffer ≡ home marks h.buffer
+      (h : HeldBuffer) → is_beside id h ≡ true → home (Called client reply call ∷ marks) h.buffer ≡ home marks h.buffer
   homes_elsewhere id of h at = home_called s.pool limits marks grown client reply call answer h.buffer.collection away h.buffer refl
     where
       away : collection_of (Called client reply call ∷ marks) call reply ≡ Some h.buffer.collection → ⊥
@@ -139,7 +140,7 @@ module _ (s : State) (marks : Timeline) (shown : IsAfter s marks) (limits : Boun
 
   module _ (none : birth_at 0 (Called client reply call) ≡ None) (nothing : (n : Node) → said call reply n ≡ n) where
     -- where the event says nothing of any node, only an end is put elsewhere: a collection follows the mark with that end there
-    pub follows_placed : (id : ℕ) → ((h : HeldPages) → is_beside id h ≡ true →
+    pub follows_placed : (id : ℕ) → ((h : HeldBuffer) → is_beside id h ≡ true →
         home (Called client reply call ∷ marks) h.buffer ≡ home marks h.buffer) →
         Matches s.pool (is_kept marks) (Called client reply call ∷ marks) (beside s.forest id)
         (placed_in (place_of (end_by client call reply)) (collection_after s.pool marks id))
@@ -196,7 +197,7 @@ module _ (s : State) (marks : Timeline) (shown : IsAfter s marks) (limits : Boun
 
     -- so no page goes back
     pub held_idle : held s.pool (Called client reply call ∷ marks) ≡ held s.pool marks
-    held_idle = filter-In (λ (h : HeldPages). not (home called h.buffer)) (λ (h : HeldPages).
+    held_idle = filter-In (λ (h : HeldBuffer). not (home called h.buffer)) (λ (h : HeldBuffer).
         not (home marks h.buffer)) (placed s.pool marks) (λ h on. ap not (home_idle h.buffer))
 
     -- each collection with the end that the event puts elsewhere follows its mark

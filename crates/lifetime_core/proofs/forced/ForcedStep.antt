@@ -15,7 +15,8 @@ use Rattle.sm_names.specs.Losses.{gone, allocated}
 use Rattle.sm_names.specs.Marks.{Mark, Timeline, Loss, Allocated, Ended}
 use Rattle.sm_names.specs.Members.{members, asked}
 use Rattle.sm_names.specs.Pages.{places, pages_of}
-use Rattle.sm_names.specs.Timelines.{HeldPages, held, placed, layout, layout_at, laid_out, still_out, next_forced}
+use Rattle.sm_names.specs.declared.keys.HeldBuffer.{HeldBuffer}
+use Rattle.sm_names.specs.Timelines.{held, placed, layout, layout_at, laid_out, still_out, next_forced}
 use Rattle.sm_names.proofs.DoomLaws.{home_on}
 use Rattle.sm_names.proofs.GrowthLaws.{Grows, Stays, Loses, grows_forced}
 use Rattle.sm_names.proofs.HeldLaws.{given_root}
@@ -50,29 +51,29 @@ not_turned false b h k = refl
 module _ (pool : ℕ) (limits : Bound) (marks : Timeline) (mark : Mark) (grown : Grows pool limits [] marks) (step : Grows pool limits marks
     (mark ∷ marks)) where
   -- a buffer that is out now was out before
-  was_out : (h : HeldPages) → not (home (mark ∷ marks) h.buffer) ≡ true → not (home marks h.buffer) ≡ true
+  was_out : (h : HeldBuffer) → not (home (mark ∷ marks) h.buffer) ≡ true → not (home marks h.buffer) ≡ true
   was_out h k = not_turned (home marks h.buffer) (home (mark ∷ marks) h.buffer) (λ e.
       home_on pool limits marks grown h.buffer e (mark ∷ marks) step) k
 
   -- so of some pages those are held still that were held and are not home now
-  pub still_still : (hs : List HeldPages) → still_out (mark ∷ marks) hs ≡ still_out (mark ∷ marks) (still_out marks hs)
-  still_still hs = filter-wider (λ (h : HeldPages). not (home (mark ∷ marks) h.buffer)) (λ (h : HeldPages). not (home marks h.buffer)) hs
+  pub still_still : (hs : List HeldBuffer) → still_out (mark ∷ marks) hs ≡ still_out (mark ∷ marks) (still_out marks hs)
+  still_still hs = filter-wider (λ (h : HeldBuffer). not (home (mark ∷ marks) h.buffer)) (λ (h : HeldBuffer). not (home marks h.buffer)) hs
       was_out
 
   -- and where no buffers are laid out, these are all that are held
-  pub held_still : layout_at pool marks (map (λ (h : HeldPages). h.pages) (held pool marks)) mark ≡ [] →
+  pub held_still : layout_at pool marks (map (λ (h : HeldBuffer). h.pages) (held pool marks)) mark ≡ [] →
       held pool (mark ∷ marks) ≡ still_out (mark ∷ marks) (held pool marks)
-  held_still none = ap (λ (l : List HeldPages). still_out (mark ∷ marks) (l ++ placed pool marks)) none ∙ still_still (placed pool marks)
+  held_still none = ap (λ (l : List HeldBuffer). still_out (mark ∷ marks) (l ++ placed pool marks)) none ∙ still_still (placed pool marks)
 
   -- in one collection too
-  pub held_match : (collection : ℕ) → layout_at pool marks (map (λ (h : HeldPages). h.pages) (held pool marks)) mark ≡ [] →
-      (hs : List HeldPages) → still_out marks hs ≡ held_after pool marks collection →
+  pub held_match : (collection : ℕ) → layout_at pool marks (map (λ (h : HeldBuffer). h.pages) (held pool marks)) mark ≡ [] →
+      (hs : List HeldBuffer) → still_out marks hs ≡ held_after pool marks collection →
       still_out (mark ∷ marks) hs ≡ held_after pool (mark ∷ marks) collection
   held_match collection none hs same =
-      let ours : HeldPages → Bool = λ h. h.buffer.collection == collection in
+      let ours : HeldBuffer → Bool = λ h. h.buffer.collection == collection in
       still_still hs
       ∙ (ap (still_out (mark ∷ marks)) same
-      ∙ (filter-swap (λ (h : HeldPages). not (home (mark ∷ marks) h.buffer)) ours (held pool marks)
+      ∙ (filter-swap (λ (h : HeldBuffer). not (home (mark ∷ marks) h.buffer)) ours (held pool marks)
       ∙ ap (filter ours) (sym (held_still none))))
 
 -- ---- one mark
@@ -86,8 +87,8 @@ module _ (pool : ℕ) (limits : Bound) (keep : NodeKey → Bool) (marks : Timeli
 
   -- one more mark of the collection leaves the pages of the others
   beside_on : (mark : Mark) → IsIn marks c.id mark → (test : Interval → Bool) →
-      list_any test others ≡ list_any test (map (λ (h : HeldPages). h.pages) (filter (is_beside c.id) (held pool (mark ∷ marks))))
-  beside_on mark at test = m.beside test ∙ ap (λ (hs : List HeldPages). list_any test (map (λ (h : HeldPages). h.pages) hs))
+      list_any test others ≡ list_any test (map (λ (h : HeldBuffer). h.pages) (filter (is_beside c.id) (held pool (mark ∷ marks))))
+  beside_on mark at test = m.beside test ∙ ap (λ (hs : List HeldBuffer). list_any test (map (λ (h : HeldBuffer). h.pages) hs))
       (sym (beside_apart marks c.id w pool mark at))
 
   -- an end
@@ -156,10 +157,10 @@ module _ (pool : ℕ) (limits : Bound) (keep : NodeKey → Bool) (marks : Timeli
 
     -- the pages that are held
     abbrev out : List Interval
-    out = map (λ (h : HeldPages). h.pages) (held pool marks)
+    out = map (λ (h : HeldBuffer). h.pages) (held pool marks)
 
     -- what is laid out
-    abbrev laid : List HeldPages
+    abbrev laid : List HeldBuffer
     laid = layout_at pool marks out (Allocated b.node)
 
     -- the root is found
@@ -203,7 +204,7 @@ module _ (pool : ℕ) (limits : Bound) (keep : NodeKey → Bool) (marks : Timeli
     all_laid = λ i. laid_same i ++ no_pages i
 
     -- each is of the collection
-    laid_own : (h : HeldPages) → In h laid → (h.buffer.collection == c.id) ≡ true
+    laid_own : (h : HeldBuffer) → In h laid → (h.buffer.collection == c.id) ≡ true
     laid_own h there = from (h.buffer.collection == c.id) (laid_in marks c.id w pool out (Allocated b.node) (of_ours marks c.id w b on ours)
         h there)
       where
@@ -212,8 +213,8 @@ module _ (pool : ℕ) (limits : Bound) (keep : NodeKey → Bool) (marks : Timeli
         from false e = cc
 
     -- none was placed before
-    placed_none : filter (λ (h : HeldPages). h.buffer.collection == c.id) (placed pool marks) ≡ []
-    placed_none = filter-none (λ (h : HeldPages). h.buffer.collection == c.id) (placed pool marks)
+    placed_none : filter (λ (h : HeldBuffer). h.buffer.collection == c.id) (placed pool marks) ≡ []
+    placed_none = filter-none (λ (h : HeldBuffer). h.buffer.collection == c.id) (placed pool marks)
         (λ h there. false_if (h.buffer.collection == c.id)
         (λ e. both_ways (is_some (buffers_of marks h.buffer.collection)) (placed_given pool marks h there) (ap (λ (k : ℕ).
         is_some (buffers_of marks k)) (eqb-true h.buffer.collection c.id e) ∙ ap is_some not_given)))
@@ -221,8 +222,8 @@ module _ (pool : ℕ) (limits : Bound) (keep : NodeKey → Bool) (marks : Timeli
     -- those that are out are held
     held_first : still_out (Allocated b.node ∷ marks) (laid ++ []) ≡ held_after pool (Allocated b.node ∷ marks) c.id
     held_first =
-        let now : HeldPages → Bool = λ h. not (home (Allocated b.node ∷ marks) h.buffer) in
-        let mine : HeldPages → Bool = λ h. h.buffer.collection == c.id in
+        let now : HeldBuffer → Bool = λ h. not (home (Allocated b.node ∷ marks) h.buffer) in
+        let mine : HeldBuffer → Bool = λ h. h.buffer.collection == c.id in
         let parts : filter mine (laid ++ placed pool marks) ≡ laid ++ [] =
         filter-append mine laid (placed pool marks) ∙ (λ i. filter-all mine laid laid_own i ++ placed_none i) in
         ap (filter now) (sym parts) ∙ filter-swap now mine (laid ++ placed pool marks)
@@ -242,7 +243,7 @@ module _ (pool : ℕ) (limits : Bound) (keep : NodeKey → Bool) (marks : Timeli
           keeps = keeps_on keep marks (Allocated b.node) m.keeps;
           nodes = ap (after_allocation b.node) m.nodes ∙ sym (nodes_allocated keep marks c.id b.node);
           buffers = ap Some is ∙ sym now_given;
-          own = λ h there. eqb-true h.buffer.collection c.id (of_laid h (subst (λ (l : List HeldPages). In h l) all_laid there));
+          own = λ h there. eqb-true h.buffer.collection c.id (of_laid h (subst (λ (l : List HeldBuffer). In h l) all_laid there));
           none = λ e. cc;
           held = ap (still_out (Allocated b.node ∷ marks)) all_laid ∙ held_first;
           beside = beside_on (Allocated b.node) (of_ours marks c.id w b on ours);
@@ -250,7 +251,7 @@ module _ (pool : ℕ) (limits : Bound) (keep : NodeKey → Bool) (marks : Timeli
         let top : is_root_of c b.node ≡ true = root_as b on ours free ∙ ap is_none root in
         rw top matches
       where
-        of_laid : (h : HeldPages) → In h (laid ++ []) → (h.buffer.collection == c.id) ≡ true
+        of_laid : (h : HeldBuffer) → In h (laid ++ []) → (h.buffer.collection == c.id) ≡ true
         of_laid h there = elim (In-append laid [] h there) [ inl new ↦ laid_own h new | inr none ↦ absurd none ]
 
   -- a mark that the history forces, made in the state too

@@ -16,7 +16,8 @@ use Rattle.sm_names.specs.Handles.{open_total}
 use Rattle.sm_names.specs.Kept.{is_kept, is_kept_collection}
 use Rattle.sm_names.specs.Marks.{Mark, Timeline, Called}
 use Rattle.sm_names.specs.Reading.{readings}
-use Rattle.sm_names.specs.Timelines.{HeldPages, after, collection_of, next_forced, settled}
+use Rattle.sm_names.specs.declared.keys.HeldBuffer.{HeldBuffer}
+use Rattle.sm_names.specs.Timelines.{after, collection_of, next_forced, settled}
 use Rattle.sm_names.proofs.GrowthLaws.{Grows, Stays, Answers}
 use Rattle.sm_names.proofs.LifeLaws.{whole}
 use Rattle.sm_names.proofs.SamenessLaws.{either_way}
@@ -97,7 +98,7 @@ module _ (s : State) (marks : Timeline) (shown : IsAfter s marks) (limits : Boun
   -- a collection holds what it held
   pub held_same : (id : ℕ) → held_after s.pool marks id ≡ held_after s.pool (Called client reply call ∷ marks) id
   held_same id =
-      ap (filter (λ (h : HeldPages). h.buffer.collection == id)) (sym (held_idle s marks shown limits grown client reply call answer idle))
+      ap (filter (λ (h : HeldBuffer). h.buffer.collection == id)) (sym (held_idle s marks shown limits grown client reply call answer idle))
 
   -- and comes to what the marks make of it
   pub comes_to : (id : ℕ) → ComesTo s.pool (end_by client call reply) (collection_after s.pool marks) (is_kept_collection marks)

@@ -9,7 +9,8 @@ use Rattle.sm_names.specs.Bounds.{Bound}
 use Rattle.sm_names.specs.Handles.{buffers_of, is_doomed, home}
 use Rattle.sm_names.specs.Marks.{Mark, Timeline, Called, Loss, Allocated, Ended, is_event}
 use Rattle.sm_names.specs.Members.{members, some_strong_live}
-use Rattle.sm_names.specs.Timelines.{HeldPages, still_out, settled, Settles, Rests, Forces, next_forced}
+use Rattle.sm_names.specs.declared.keys.HeldBuffer.{HeldBuffer}
+use Rattle.sm_names.specs.Timelines.{still_out, settled, Settles, Rests, Forces, next_forced}
 use Rattle.sm_names.proofs.ForgetLaws.{strong-left}
 use Rattle.sm_names.proofs.GrowthLaws.{Grows, grows_forced}
 use Rattle.sm_names.proofs.LifeLaws.{whole}
@@ -122,7 +123,7 @@ module _ (pool : ℕ) (limits : Bound) (handles : Handles) (keep : NodeKey → B
     (c : Collection) (grown : Grows pool limits [] marks)
     (counts : Counts handles marks) (m : Matches pool keep marks others c) where
   -- a buffer whose pages are there is home in the state if it is in the history
-  home_same : (h : HeldPages) → In h c.held → is_home_in handles c h.buffer ≡ home marks h.buffer
+  home_same : (h : HeldBuffer) → In h c.held → is_home_in handles c h.buffer ≡ home marks h.buffer
   home_same h on =
       let mine : h.buffer.collection ≡ c.id = m.own h on in
       let given : is_some (buffers_of marks h.buffer.collection) ≡ true =
@@ -133,13 +134,13 @@ module _ (pool : ℕ) (limits : Bound) (handles : Handles) (keep : NodeKey → B
       λ i. (sym given i && is_doomed (counts h.buffer Strength.Strong i) (strong i)) && counts h.buffer Strength.Weak i == 0
     where
       there : (o : Option Buffers) → c.buffers ≡ o → is_some o ≡ true
-      there None e = absurd (subst (λ (hs : List HeldPages). In h hs) (m.none e) on)
+      there None e = absurd (subst (λ (hs : List HeldBuffer). In h hs) (m.none e) on)
       there (Some b) e = refl
 
   -- the pages that are left are those that buffers of the collection hold
   pub given_held : (given_back handles c).held ≡ held_after pool marks c.id
   given_held =
-      filter-In (λ (h : HeldPages). not (is_home_in handles c h.buffer)) (λ (h : HeldPages). not (home marks h.buffer)) c.held (λ h on.
+      filter-In (λ (h : HeldBuffer). not (is_home_in handles c h.buffer)) (λ (h : HeldBuffer). not (home marks h.buffer)) c.held (λ h on.
       ap not (home_same h on)) ∙ m.held
 
   -- the collection follows the history still
@@ -148,11 +149,11 @@ module _ (pool : ℕ) (limits : Bound) (handles : Handles) (keep : NodeKey → B
     keeps = m.keeps;
     nodes = m.nodes;
     buffers = m.buffers;
-    own = λ h on. m.own h (In-filter (λ (x : HeldPages). not (is_home_in handles c x.buffer)) c.held h on).0;
-    none = λ e. ap (filter (λ (h : HeldPages). not (is_home_in handles c h.buffer))) (m.none e);
-    held = ap (still_out marks) (filter-In (λ (h : HeldPages). not (is_home_in handles c h.buffer)) (λ (h : HeldPages).
+    own = λ h on. m.own h (In-filter (λ (x : HeldBuffer). not (is_home_in handles c x.buffer)) c.held h on).0;
+    none = λ e. ap (filter (λ (h : HeldBuffer). not (is_home_in handles c h.buffer))) (m.none e);
+    held = ap (still_out marks) (filter-In (λ (h : HeldBuffer). not (is_home_in handles c h.buffer)) (λ (h : HeldBuffer).
         not (home marks h.buffer)) c.held (λ h on. ap not (home_same h on)))
-        ∙ (sym (filter-wider (λ (h : HeldPages). not (home marks h.buffer)) (λ (h : HeldPages). not (home marks h.buffer)) c.held (λ h e.
+        ∙ (sym (filter-wider (λ (h : HeldBuffer). not (home marks h.buffer)) (λ (h : HeldBuffer). not (home marks h.buffer)) c.held (λ h e.
         e)) ∙ m.held);
     beside = m.beside;
   }

@@ -14,7 +14,8 @@ use Rattle.sm_names.specs.Kept.{is_kept, is_kept_collection}
 use Rattle.sm_names.specs.Losses.{gone}
 use Rattle.sm_names.specs.Marks.{Timeline, events}
 use Rattle.sm_names.specs.Members.{births_in}
-use Rattle.sm_names.specs.Timelines.{HeldPages, held, placed, still_out}
+use Rattle.sm_names.specs.declared.keys.HeldBuffer.{HeldBuffer}
+use Rattle.sm_names.specs.Timelines.{held, placed, still_out}
 use Rattle.sm_names.proofs.DoomLaws.{buffers_early}
 use Rattle.sm_names.proofs.GrowthLaws.{Grows}
 use Rattle.sm_names.proofs.IsolationLaws.{birth_of_collection}
@@ -47,14 +48,14 @@ any-mixed test xs ys m = both_tests _ _
 
 -- the pages of the other collections are those of buffers of others
 beside_ids : (pool : ℕ) (marks : Timeline) (id : ℕ) (ks : List ℕ) →
-    flat_map pages_in (filter (λ (c : Collection). not (c.id == id)) (map (collection_after pool marks) ks)) ≡ map (λ (h : HeldPages).
+    flat_map pages_in (filter (λ (c : Collection). not (c.id == id)) (map (collection_after pool marks) ks)) ≡ map (λ (h : HeldBuffer).
     h.pages) (filter (is_beside id) (flat_map (held_after pool marks) ks))
 beside_ids pool marks id [] = refl
 beside_ids pool marks id (k ∷ ks) =
-    let page : HeldPages → Interval = λ (h : HeldPages). h.pages in
+    let page : HeldBuffer → Interval = λ (h : HeldBuffer). h.pages in
     let rest = beside_ids pool marks id ks in
-    let here : (h : HeldPages) → In h (held_after pool marks k) → is_beside id h ≡ not (k == id) =
-    λ h on. ap (λ (n : ℕ). not (n == id)) (eqb-true h.buffer.collection k (In-filter (λ (x : HeldPages).
+    let here : (h : HeldBuffer) → In h (held_after pool marks k) → is_beside id h ≡ not (k == id) =
+    λ h on. ap (λ (n : ℕ). not (n == id)) (eqb-true h.buffer.collection k (In-filter (λ (x : HeldBuffer).
     x.buffer.collection == k) (held pool marks) h on).1) in
     let split : map page (filter (is_beside id) (held_after pool marks k ++ flat_map (held_after pool marks) ks))
     ≡ map page (filter (is_beside id) (held_after pool marks k)) ++ map page (filter (is_beside id) (flat_map (held_after pool marks) ks)) =
@@ -64,13 +65,13 @@ beside_ids pool marks id (k ∷ ks) =
       | inl e ↦
           let none : filter (is_beside id) (held_after pool marks k) ≡ [] =
           filter-none (is_beside id) (held_after pool marks k) (λ h on. here h on ∙ ap not e) in
-          rw e (rest ∙ sym (split ∙ ap (λ (l : List HeldPages).
+          rw e (rest ∙ sym (split ∙ ap (λ (l : List HeldBuffer).
           map page l ++ map page (filter (is_beside id) (flat_map (held_after pool marks) ks))) none))
       | inr e ↦
           let all : filter (is_beside id) (held_after pool marks k) ≡ held_after pool marks k =
           filter-all (is_beside id) (held_after pool marks k) (λ h on. here h on ∙ ap not e) in
           rw e (ap (λ (l : List Interval). map page (held_after pool marks k) ++ l) rest
-          ∙ sym (split ∙ ap (λ (l : List HeldPages). map page l ++ map page (filter (is_beside id) (flat_map (held_after pool marks) ks)))
+          ∙ sym (split ∙ ap (λ (l : List HeldBuffer). map page l ++ map page (filter (is_beside id) (flat_map (held_after pool marks) ks)))
           all))
     ]
 
@@ -78,7 +79,7 @@ module _ (s : State) (marks : Timeline) (shown : IsAfter s marks) (limits : Boun
   -- the others' pages are those that the marks tell, in whatever order
   pub beside_same : (id : ℕ) (test : Interval → Bool) → list_any test (beside s.forest id) ≡ list_any test (pages_beside s.pool marks id)
   beside_same id test =
-      let page : HeldPages → Interval = λ (h : HeldPages). h.pages in
+      let page : HeldBuffer → Interval = λ (h : HeldBuffer). h.pages in
       let all : all_held s.forest ≡ flat_map (held_after s.pool marks) (kept_ids marks) =
       ap (flat_map (λ (c : Collection). c.held)) shown.collections
       ∙ flat_map-map (λ (c : Collection). c.held) (collection_after s.pool marks) (kept_ids marks) in
@@ -86,7 +87,7 @@ module _ (s : State) (marks : Timeline) (shown : IsAfter s marks) (limits : Boun
       (map page (filter (is_beside id) (flat_map (held_after s.pool marks) (kept_ids marks)))) =
       mixed_map page (filter (is_beside id) (held s.pool marks))
       (filter (is_beside id) (flat_map (held_after s.pool marks) (kept_ids marks)))
-      (mixed_filter (is_beside id) (held s.pool marks) (flat_map (held_after s.pool marks) (kept_ids marks)) (subst (λ (l : List HeldPages).
+      (mixed_filter (is_beside id) (held s.pool marks) (flat_map (held_after s.pool marks) (kept_ids marks)) (subst (λ (l : List HeldBuffer).
       Mixed (held s.pool marks) l) all (mixed_held s marks shown limits grown))) in
       ap (λ (cs : List Collection). list_any test (flat_map pages_in (filter (λ (c : Collection). not (c.id == id)) cs))) shown.collections
       ∙ (ap (list_any test) (beside_ids s.pool marks id (kept_ids marks)) ∙ any-mixed test (pages_beside s.pool marks id) _ mixed)
@@ -103,17 +104,17 @@ module _ (s : State) (marks : Timeline) (shown : IsAfter s marks) (limits : Boun
 
   -- no page is held before there are buffers
   none_held : (id : ℕ) → buffers_of marks id ≡ None → held_after s.pool marks id ≡ []
-  none_held id none = filter-none (λ (h : HeldPages). h.buffer.collection == id) (held s.pool marks) (λ h on.
+  none_held id none = filter-none (λ (h : HeldBuffer). h.buffer.collection == id) (held s.pool marks) (λ h on.
       false_if (h.buffer.collection == id) (λ e.
-      let there : In h (placed s.pool marks) = (In-filter (λ (x : HeldPages). not (home marks x.buffer)) (placed s.pool marks) h on).0 in
+      let there : In h (placed s.pool marks) = (In-filter (λ (x : HeldBuffer). not (home marks x.buffer)) (placed s.pool marks) h on).0 in
       both_ways (is_some (buffers_of marks h.buffer.collection)) (placed_given s.pool marks h there) (ap (λ (k : ℕ).
       is_some (buffers_of marks k)) (eqb-true h.buffer.collection id e) ∙ ap is_some none)))
 
   -- what is held is not home
   out_still : (id : ℕ) → still_out marks (held_after s.pool marks id) ≡ held_after s.pool marks id
-  out_still id = filter-all (λ (h : HeldPages). not (home marks h.buffer)) (held_after s.pool marks id) (λ h on.
-      let there : In h (held s.pool marks) = (In-filter (λ (x : HeldPages). x.buffer.collection == id) (held s.pool marks) h on).0 in
-      (In-filter (λ (x : HeldPages). not (home marks x.buffer)) (placed s.pool marks) h there).1)
+  out_still id = filter-all (λ (h : HeldBuffer). not (home marks h.buffer)) (held_after s.pool marks id) (λ h on.
+      let there : In h (held s.pool marks) = (In-filter (λ (x : HeldBuffer). x.buffer.collection == id) (held s.pool marks) h on).0 in
+      (In-filter (λ (x : HeldBuffer). not (home marks x.buffer)) (placed s.pool marks) h there).1)
 
   -- each collection follows the marks, kept or not
   pub follows : (id : ℕ) → Matches s.pool (is_kept marks) marks (beside s.forest id) (collection_after s.pool marks id)
@@ -121,7 +122,7 @@ module _ (s : State) (marks : Timeline) (shown : IsAfter s marks) (limits : Boun
     keeps = keeps_left;
     nodes = nodes_same id;
     buffers = refl;
-    own = λ h on. eqb-true h.buffer.collection id (In-filter (λ (x : HeldPages). x.buffer.collection == id) (held s.pool marks) h on).1;
+    own = λ h on. eqb-true h.buffer.collection id (In-filter (λ (x : HeldBuffer). x.buffer.collection == id) (held s.pool marks) h on).1;
     none = none_held id;
     held = out_still id;
     beside = beside_same id;

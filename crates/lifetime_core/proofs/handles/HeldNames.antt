@@ -13,7 +13,8 @@ use Rattle.sm_names.specs.Bounds.{Bound}
 use Rattle.sm_names.specs.Handles.{buffer_names, buffers_of, home, left, names}
 use Rattle.sm_names.specs.Marks.{Mark, Timeline, Allocated}
 use Rattle.sm_names.specs.Pages.{pages_of}
-use Rattle.sm_names.specs.Timelines.{HeldPages, laid_out, placed}
+use Rattle.sm_names.specs.declared.keys.HeldBuffer.{HeldBuffer}
+use Rattle.sm_names.specs.Timelines.{laid_out, placed}
 use Rattle.sm_names.proofs.GrowthLaws.{Grows, Stays, Answers, Loses, Allocates, Ends}
 use Rattle.sm_names.proofs.HeldLaws.{Lays, Nothing_new, New, allocation_lays}
 use Rattle.sm_names.proofs.ListLaws.{In, In-map, In-map-back, filter-none, filter-swap}
@@ -24,11 +25,11 @@ use Rattle.lifetime_core.specs.Shown.{held_after}
 use Rattle.lifetime_core.proofs.lists.Maps.{filter-all, filter-map}
 
 -- the buffer of the pages
-abbrev buffer_at : HeldPages → BufferName
+abbrev buffer_at : HeldBuffer → BufferName
 buffer_at h = h.buffer
 
 -- they are of a buffer of this collection
-abbrev is_ours : ℕ → HeldPages → Bool
+abbrev is_ours : ℕ → HeldBuffer → Bool
 is_ours id h = h.buffer.collection == id
 
 -- what is laid out is laid out for these buffers
@@ -50,10 +51,10 @@ module _ (pool : ℕ) (before : Timeline) (mark : Mark) (id : ℕ)
   -- one more mark lays out those of the collection that it gives
   named_by : Lays pool before mark → map buffer_at (filter (is_ours id) (placed pool (mark ∷ before))) ≡ buffer_names (mark ∷ before) id
   named_by (Nothing_new e same) =
-      ap (λ (l : List HeldPages). map buffer_at (filter (is_ours id) (l ++ placed pool before))) e
+      ap (λ (l : List HeldBuffer). map buffer_at (filter (is_ours id) (l ++ placed pool before))) e
       ∙ (old ∙ ap (λ (o : Option Buffers). option_map_or (λ (b : Buffers). names id b.count) o []) (sym (same id)))
   named_by (New collection buffers starts e there fresh given) =
-      ap (λ (l : List HeldPages). map buffer_at (filter (is_ours id) (l ++ placed pool before))) e
+      ap (λ (l : List HeldBuffer). map buffer_at (filter (is_ours id) (l ++ placed pool before))) e
       ∙ (ap (map buffer_at) (filter-append (is_ours id) laid (placed pool before))
       ∙ (map-append buffer_at (filter (is_ours id) laid) (filter (is_ours id) (placed pool before))
       ∙ (ap (λ (l : List BufferName). map buffer_at (filter (is_ours id) laid) ++ l) old
@@ -63,7 +64,7 @@ module _ (pool : ℕ) (before : Timeline) (mark : Mark) (id : ℕ)
       ns : List BufferName
       ns = names collection buffers.count
 
-      laid : List HeldPages
+      laid : List HeldBuffer
       laid = laid_out (pages_of buffers.size) (names collection buffers.count) starts
 
       all : map buffer_at (laid_out (pages_of buffers.size) (names collection buffers.count) starts) ≡ names collection buffers.count
@@ -71,7 +72,7 @@ module _ (pool : ℕ) (before : Timeline) (mark : Mark) (id : ℕ)
           ((placed_apart pool (pages_of buffers.size) buffers.count _ starts there).many
           ∙ sym (length-map-range_with_len (λ i. record { collection = collection; index = i }) 0 buffers.count))
 
-      of_it : (h : HeldPages) → In h (laid_out (pages_of buffers.size) (names collection buffers.count) starts) →
+      of_it : (h : HeldBuffer) → In h (laid_out (pages_of buffers.size) (names collection buffers.count) starts) →
           h.buffer.collection ≡ collection
       of_it h on = named_in collection buffers.count h.buffer (subst (In h.buffer) all (In-map-back buffer_at laid h on))
 
@@ -105,8 +106,8 @@ pub held_left : (pool : ℕ) (limits : Bound) (marks : Timeline) → Grows pool 
     length (held_after pool marks id) ≡ left marks id
 held_left pool limits marks g id =
     let is_out : BufferName → Bool = λ b. not (home marks b) in
-    ap length (filter-swap (is_ours id) (λ (h : HeldPages). not (home marks h.buffer)) (placed pool marks))
-    ∙ (sym (length-map (filter (λ (h : HeldPages). not (home marks h.buffer)) (filter (is_ours id) (placed pool marks))) buffer_at)
+    ap length (filter-swap (is_ours id) (λ (h : HeldBuffer). not (home marks h.buffer)) (placed pool marks))
+    ∙ (sym (length-map (filter (λ (h : HeldBuffer). not (home marks h.buffer)) (filter (is_ours id) (placed pool marks))) buffer_at)
     ∙ (ap length (sym (filter-map is_out buffer_at (filter (is_ours id) (placed pool marks)))
     ∙ ap (filter is_out) (placed_names pool limits marks g id))
     ∙ length-filter is_out (buffer_names marks id)))

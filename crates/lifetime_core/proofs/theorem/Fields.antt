@@ -10,7 +10,7 @@ use Rattle.sm_names.specs.Answers.{answer}
 use Rattle.sm_names.specs.Bounds.{Bound}
 use Rattle.sm_names.specs.Ends.{joined_at}
 use Rattle.sm_names.specs.Marks.{Called, Mark}
-use Rattle.sm_names.specs.Timelines.{HeldPages}
+use Rattle.sm_names.specs.declared.keys.HeldBuffer.{HeldBuffer}
 use Rattle.sm_names.specs.Words.{sorted_by}
 use Rattle.buffer_holds.specs.Counts.{Counts, total}
 use Rattle.buffer_pool.specs.Holdings.{Holdings}
@@ -198,7 +198,7 @@ module _ (s : State) (client : ℕ) (call : Call) (asked reply : Reply) (task : 
         let amid = finishes s client call asked reply task tracking b parts takes in
         rw (takes.clients, sweeps) (record {
           sized = rw size whole.sized;
-          pages = pages ∙ ap (λ (hs : List HeldPages). sorted_by (λ (i : Interval). i.start) (map (λ (h : HeldPages). h.pages) hs))
+          pages = pages ∙ ap (λ (hs : List HeldBuffer). sorted_by (λ (i : Interval). i.start) (map (λ (h : HeldBuffer). h.pages) hs))
               (sym held);
           in_time = omega arith;
           few = short;

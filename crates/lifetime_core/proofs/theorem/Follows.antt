@@ -17,7 +17,8 @@ use Rattle.sm_names.specs.Handles.{buffers_of, open_total, home, names}
 use Rattle.sm_names.specs.Marks.{Timeline}
 use Rattle.sm_names.specs.Members.{Member, members, root_left, is_root, is_ready, asked, some_strong_live}
 use Rattle.sm_names.specs.Pages.{places, pages_of}
-use Rattle.sm_names.specs.Timelines.{HeldPages, held, placed, still_out, standing, next_forced}
+use Rattle.sm_names.specs.declared.keys.HeldBuffer.{HeldBuffer}
+use Rattle.sm_names.specs.Timelines.{held, placed, still_out, standing, next_forced}
 use Rattle.sm_names.specs.Words.{first_some, when}
 use Rattle.sm_names.proofs.ForgetLaws.{is_left, left_of, next-left}
 use Rattle.sm_names.proofs.GrowthLaws.{Grows}
@@ -50,7 +51,7 @@ pub record Matches (pool : ℕ) (keep : NodeKey → Bool) (marks : Timeline) (ot
   pub nodes : c.nodes ≡ nodes_kept keep marks c.id
   pub buffers : c.buffers ≡ buffers_of marks c.id
   -- the pages are of its own buffers
-  pub own : (h : HeldPages) → In h c.held → h.buffer.collection ≡ c.id
+  pub own : (h : HeldBuffer) → In h c.held → h.buffer.collection ≡ c.id
   -- there are none before it is given buffers
   pub none : c.buffers ≡ None → c.held ≡ []
   -- those of buffers that are not home are held
@@ -109,16 +110,16 @@ module _ (pool : ℕ) (limits : Bound) (keep : NodeKey → Bool) (marks : Timeli
 
   -- without buffers all pages are those of the others
   pub pages_match : buffers_of marks c.id ≡ None → (test : Interval → Bool) →
-      list_any test (map (λ (h : HeldPages). h.pages) (held pool marks)) ≡ list_any test (pages_in c ++ others)
+      list_any test (map (λ (h : HeldBuffer). h.pages) (held pool marks)) ≡ list_any test (pages_in c ++ others)
   pages_match none test =
       let all : filter (is_beside c.id) (held pool marks) ≡ held pool marks = filter-all (is_beside c.id) (held pool marks) away in
       let empty : c.held ≡ [] = m.none (m.buffers ∙ none) in
-      ap (λ (hs : List HeldPages). list_any test (map (λ (h : HeldPages). h.pages) hs)) (sym all)
-      ∙ (sym (m.beside test) ∙ ap (λ (hs : List HeldPages). list_any test (map (λ (h : HeldPages). h.pages) hs ++ others)) (sym empty))
+      ap (λ (hs : List HeldBuffer). list_any test (map (λ (h : HeldBuffer). h.pages) hs)) (sym all)
+      ∙ (sym (m.beside test) ∙ ap (λ (hs : List HeldBuffer). list_any test (map (λ (h : HeldBuffer). h.pages) hs ++ others)) (sym empty))
     where
-      away : (h : HeldPages) → In h (held pool marks) → is_beside c.id h ≡ true
+      away : (h : HeldBuffer) → In h (held pool marks) → is_beside c.id h ≡ true
       away h on =
-          let p = In-filter (λ (h : HeldPages). not (home marks h.buffer)) (placed pool marks) h on in
+          let p = In-filter (λ (h : HeldBuffer). not (home marks h.buffer)) (placed pool marks) h on in
           elim (either_way (h.buffer.collection == c.id)) [
             | inl e ↦
                 both_ways (is_some (buffers_of marks h.buffer.collection)) (placed_given pool marks h p.0)

@@ -12,7 +12,8 @@ use Rattle.sm_names.specs.Kept.{is_kept_collection}
 use Rattle.sm_names.specs.Marks.{Timeline}
 use Rattle.sm_names.specs.Pages.{meets}
 use Rattle.sm_names.specs.Sameness.{same_buffer}
-use Rattle.sm_names.specs.Timelines.{HeldPages, held}
+use Rattle.sm_names.specs.declared.keys.HeldBuffer.{HeldBuffer}
+use Rattle.sm_names.specs.Timelines.{held}
 use Rattle.sm_names.specs.Views.{held_by_page}
 use Rattle.sm_names.specs.Words.{sorted_by}
 use Rattle.sm_names.proofs.GrowthLaws.{Grows}
@@ -36,11 +37,11 @@ use Rattle.lifetime_core.proofs.lists.ByNumber.{AreNumbered, sorted-mixed, mixed
 
 module _ (pool : ℕ) (limits : Bound) (marks : Timeline) (grown : Grows pool limits [] marks) where
   -- a held buffer is one of its collection's, and not home
-  held_named : (h : HeldPages) → In h (held pool marks) → In h.buffer (buffer_names marks h.buffer.collection) ×
+  held_named : (h : HeldBuffer) → In h (held pool marks) → In h.buffer (buffer_names marks h.buffer.collection) ×
       (not (home marks h.buffer) ≡ true)
   held_named h on =
-      let there : list_any (λ (k : HeldPages). same_buffer k.buffer h.buffer) (held pool marks) ≡ true =
-      any_of (λ (k : HeldPages). same_buffer k.buffer h.buffer) (held pool marks) h on (itself h.buffer) in
+      let there : list_any (λ (k : HeldBuffer). same_buffer k.buffer h.buffer) (held pool marks) ≡ true =
+      any_of (λ (k : HeldBuffer). same_buffer k.buffer h.buffer) (held pool marks) h on (itself h.buffer) in
       let both : (list_any (λ b. same_buffer b h.buffer) (buffer_names marks h.buffer.collection) && not (home marks h.buffer)) ≡ true =
       sym (stands_held pool limits marks grown h.buffer) ∙ there in
       let named = In-list_any (λ b. same_buffer b h.buffer) (buffer_names marks h.buffer.collection)
@@ -56,7 +57,7 @@ module _ (pool : ℕ) (limits : Bound) (marks : Timeline) (grown : Grows pool li
           (eq-eqb b.index b.index refl)
 
   -- so its collection is kept
-  pub held_kept : (h : HeldPages) → In h (held pool marks) → is_kept_collection marks h.buffer.collection ≡ true
+  pub held_kept : (h : HeldBuffer) → In h (held pool marks) → is_kept_collection marks h.buffer.collection ≡ true
   held_kept h on =
       let n = held_named h on in
       let some : one (not (home marks h.buffer)) ≤ left marks h.buffer.collection =
@@ -70,7 +71,7 @@ module _ (pool : ℕ) (limits : Bound) (marks : Timeline) (grown : Grows pool li
 
 -- each buffer that the forest holds has a page
 abbrev pub HavePages : Forest → Type 0
-HavePages f = (h : HeldPages) → In h (all_held f) → 0 < h.pages.pages
+HavePages f = (h : HeldBuffer) → In h (all_held f) → 0 < h.pages.pages
 
 -- each interval of a pool has a page
 ordered_pages : (low high : ℕ) (is : List Interval) → in_order low high is ≡ true → (i : Interval) → In i is → 0 < i.pages
@@ -85,30 +86,30 @@ ordered_pages low high (j ∷ is) h i on =
 -- so it is of a forest whose pages lie in a pool
 pub have_pages : (pool : Holdings) (f : Forest) → IsPoolOf pool f → IsSound pool → HavePages f
 have_pages pool f is sound h on =
-    let pages : List Interval = map (λ (k : HeldPages). k.pages) (all_held f) in
+    let pages : List Interval = map (λ (k : HeldBuffer). k.pages) (all_held f) in
     let there : In h.pages (sorted_by (λ (i : Interval). i.start) pages) =
     In-mixed_back pages (sorted_by (λ (i : Interval). i.start) pages) h.pages (mixed_sorted (λ (i : Interval). i.start) pages)
-    (In-map-back (λ (k : HeldPages). k.pages) (all_held f) h on) in
+    (In-map-back (λ (k : HeldBuffer). k.pages) (all_held f) h on) in
     ordered_pages 0 pool.size pool.held sound.in_order h.pages (rw is there)
 
 -- ---- the held buffers of a state
 
 -- buffers that lie apart, each with a page, start at different ones
-apart_numbered : (hs : List HeldPages) → AreApart (map (λ (h : HeldPages). h.pages) hs) → ((h : HeldPages) → In h hs → 0 < h.pages.pages) →
-    AreNumbered (λ (h : HeldPages). h.pages.start) hs
+apart_numbered : (hs : List HeldBuffer) → AreApart (map (λ (h : HeldBuffer). h.pages) hs) → ((h : HeldBuffer) → In h hs → 0 < h.pages.pages) →
+    AreNumbered (λ (h : HeldBuffer). h.pages.start) hs
 apart_numbered [] apart paged = tt
 apart_numbered (h ∷ hs) apart paged = ((λ k on same. meet k on same), apart_numbered hs apart.1 (λ k on. paged k (inr on)))
   where
-    meet : (k : HeldPages) → In k hs → k.pages.start ≡ h.pages.start → ⊥
+    meet : (k : HeldBuffer) → In k hs → k.pages.start ≡ h.pages.start → ⊥
     meet k on same =
         let here : 0 < h.pages.pages = paged h (inl refl) in
         let there : 0 < k.pages.pages = paged k (inr on) in
         let both : meets h.pages k.pages ≡ true =
         and_both (nat_lt h.pages.start (k.pages.start + k.pages.pages)) (nat_lt k.pages.start (h.pages.start + h.pages.pages))
         (lt-ltb _ _ (omega arith)) (lt-ltb _ _ (omega arith)) in
-        let some : list_any (meets h.pages) (map (λ (x : HeldPages). x.pages) hs) ≡ true =
-        any_of (meets h.pages) (map (λ (x : HeldPages). x.pages) hs) k.pages (In-map-back (λ (x : HeldPages). x.pages) hs k on) both in
-        both_ways (list_any (meets h.pages) (map (λ (x : HeldPages). x.pages) hs)) some apart.0
+        let some : list_any (meets h.pages) (map (λ (x : HeldBuffer). x.pages) hs) ≡ true =
+        any_of (meets h.pages) (map (λ (x : HeldBuffer). x.pages) hs) k.pages (In-map-back (λ (x : HeldBuffer). x.pages) hs k on) both in
+        both_ways (list_any (meets h.pages) (map (λ (x : HeldBuffer). x.pages) hs)) some apart.0
 
 module _ (s : State) (marks : Timeline) (shown : IsAfter s marks) (limits : Bound) (grown : Grows s.pool limits [] marks) where
   -- the held buffers of the state, collection by collection
@@ -120,16 +121,16 @@ module _ (s : State) (marks : Timeline) (shown : IsAfter s marks) (limits : Boun
   -- they are those of the marks in another order
   pub mixed_held : Mixed (held s.pool marks) (all_held s.forest)
   mixed_held = rw all_held_are
-      (mixed_parts (λ (h : HeldPages). h.buffer.collection) (held s.pool marks) (kept_ids marks)
+      (mixed_parts (λ (h : HeldBuffer). h.buffer.collection) (held s.pool marks) (kept_ids marks)
       (λ h on. listed_once s.pool limits marks grown h.buffer.collection ∙ ap one (held_kept s.pool limits marks grown h on)))
 
   -- with as many pages
-  pub held_pages_are : sum_by (λ (h : HeldPages). h.pages.pages) (all_held s.forest) ≡ sum_by (λ (h : HeldPages).
+  pub held_pages_are : sum_by (λ (h : HeldBuffer). h.pages.pages) (all_held s.forest) ≡ sum_by (λ (h : HeldBuffer).
       h.pages.pages) (held s.pool marks)
-  held_pages_are = sum_by-mixed (λ (h : HeldPages). h.pages.pages) (held s.pool marks) (all_held s.forest) mixed_held
+  held_pages_are = sum_by-mixed (λ (h : HeldBuffer). h.pages.pages) (held s.pool marks) (all_held s.forest) mixed_held
 
   -- where each has a page, no two start at the same one
-  starts_differ : HavePages s.forest → AreNumbered (λ (h : HeldPages). h.pages.start) (held s.pool marks)
+  starts_differ : HavePages s.forest → AreNumbered (λ (h : HeldBuffer). h.pages.start) (held s.pool marks)
   starts_differ paged =
       apart_numbered (held s.pool marks) (are_held s.pool limits marks grown).apart
       (λ h on. paged h (In-mixed_back (held s.pool marks) (all_held s.forest) h mixed_held on))
@@ -137,4 +138,4 @@ module _ (s : State) (marks : Timeline) (shown : IsAfter s marks) (limits : Boun
   -- so by page they are the same
   pub held_by_page_is : HavePages s.forest → held_in s.forest ≡ held_by_page s.pool marks
   held_by_page_is paged =
-      sorted-mixed (λ (h : HeldPages). h.pages.start) (held s.pool marks) (all_held s.forest) mixed_held (starts_differ paged)
+      sorted-mixed (λ (h : HeldBuffer). h.pages.start) (held s.pool marks) (all_held s.forest) mixed_held (starts_differ paged)

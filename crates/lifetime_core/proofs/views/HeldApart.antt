@@ -10,15 +10,15 @@ use Rattle.sm_names.specs.Apart.{AreApart}
 use Rattle.sm_names.specs.Bounds.{Bound}
 use Rattle.sm_names.specs.Marks.{Timeline}
 use Rattle.sm_names.specs.Pages.{meets}
-use Rattle.sm_names.specs.Timelines.{HeldPages, held}
+use Rattle.sm_names.specs.declared.keys.HeldBuffer.{HeldBuffer}
+use Rattle.sm_names.specs.Timelines.{held}
 use Rattle.sm_names.specs.Words.{sorted_by}
 use Rattle.sm_names.proofs.GrowthLaws.{Grows}
 use Rattle.sm_names.proofs.HeldLaws.{are_held}
 use Rattle.sm_names.proofs.SamenessLaws.{and_left, and_right, or_parts, or_both}
 use Rattle.buffer_pool.specs.Holdings.{Holdings, IsSound, in_order}
 use Rattle.buffer_pool.specs.Holes.{end_of}
-use Rattle.alloc_event.specs.declared.held.HeldBuffer.{HeldBuffer}
-use Rattle.alloc_event.specs.Forest.{Forest, IsPoolOf, all_held, held_buffer, held_by_page}
+use Rattle.alloc_event.specs.Forest.{Forest, IsPoolOf, all_held, held_by_page}
 use Rattle.alloc_event.proofs.shelves.Ordered.{sorted_by-map}
 use Rattle.lifetime_core.specs.Shown.{IsAfter}
 use Rattle.lifetime_core.specs.State.{State}
@@ -65,40 +65,36 @@ pub apart-mixed : (xs ys : List Interval) → Mixed xs ys → AreApart xs → Ar
 apart-mixed _ _ Nothing apart = tt
 apart-mixed _ _ (Puts x xs ys more m a) apart = apart-adds x ys more a (misses-mixed x xs ys m apart.0) (apart-mixed xs ys m apart.1)
 
--- ---- held buffers as values of code
-
--- the pages of the buffer
-abbrev pub pages_of_buffer : HeldBuffer → Interval
-pages_of_buffer b = record { start = b.start; pages = b.pages }
+-- ---- held buffers
 
 -- the two have no page in common
 abbrev pub MissesBuffer : HeldBuffer → HeldBuffer → Type 0
-MissesBuffer a b = meets (pages_of_buffer a) (pages_of_buffer b) ≡ false
+MissesBuffer a b = meets a.pages b.pages ≡ false
 
 -- the first ends before the second begins
 abbrev pub EndsBefore : HeldBuffer → HeldBuffer → Type 0
-EndsBefore a b = a.start + a.pages ≤ b.start
+EndsBefore a b = a.pages.start + a.pages.pages ≤ b.pages.start
 
 -- what misses all misses each
-all_miss : (i : Interval) (hs : List HeldPages) → list_any (meets i) (map (λ (h : HeldPages). h.pages) hs) ≡ false →
-    All (λ (b : HeldBuffer). meets i (pages_of_buffer b) ≡ false) (map held_buffer hs)
+all_miss : (i : Interval) (hs : List HeldBuffer) → list_any (meets i) (map (λ (h : HeldBuffer). h.pages) hs) ≡ false →
+    All (λ (b : HeldBuffer). meets i b.pages ≡ false) hs
 all_miss i [] misses = λ k d lt. absurd (omega arith)
 all_miss i (h ∷ hs) misses =
-    let r = or_parts (meets i h.pages) (list_any (meets i) (map (λ (h : HeldPages). h.pages) hs)) misses in
-    All-cons (λ (b : HeldBuffer). meets i (pages_of_buffer b) ≡ false) (held_buffer h) (map held_buffer hs) r.0 (all_miss i hs r.1)
+    let r = or_parts (meets i h.pages) (list_any (meets i) (map (λ (h : HeldBuffer). h.pages) hs)) misses in
+    All-cons (λ (b : HeldBuffer). meets i b.pages ≡ false) h hs r.0 (all_miss i hs r.1)
 
 -- buffers whose pages lie apart miss each other
-pairs_miss : (hs : List HeldPages) → AreApart (map (λ (h : HeldPages). h.pages) hs) → AllPairs MissesBuffer (map held_buffer hs)
+pairs_miss : (hs : List HeldBuffer) → AreApart (map (λ (h : HeldBuffer). h.pages) hs) → AllPairs MissesBuffer hs
 pairs_miss [] apart = λ j k d less lt. absurd (omega arith)
 pairs_miss (h ∷ hs) apart =
-    AllPairs-cons MissesBuffer (held_buffer h) (map held_buffer hs) (all_miss h.pages hs apart.0) (pairs_miss hs apart.1)
+    AllPairs-cons MissesBuffer h hs (all_miss h.pages hs apart.0) (pairs_miss hs apart.1)
 
 -- no two held buffers of a state that shows a legal history have a page in common
 pub held_miss : (s : State) (marks : Timeline) → IsAfter s marks → (limits : Bound) → Grows s.pool limits [] marks →
-    AllPairs MissesBuffer (map held_buffer (held_by_page s.forest))
+    AllPairs MissesBuffer (held_by_page s.forest)
 held_miss s marks shown limits grown =
-    let pages : HeldPages → Interval = λ (h : HeldPages). h.pages in
-    let start : HeldPages → ℕ = λ (h : HeldPages). h.pages.start in
+    let pages : HeldBuffer → Interval = λ (h : HeldBuffer). h.pages in
+    let start : HeldBuffer → ℕ = λ (h : HeldBuffer). h.pages.start in
     let gathered : AreApart (map pages (all_held s.forest)) =
     apart-mixed (map pages (held s.pool marks)) (map pages (all_held s.forest)) (mixed_map pages (held s.pool marks) (all_held s.forest)
     (mixed_held s marks shown limits grown)) (are_held s.pool limits marks grown).apart in
@@ -109,29 +105,29 @@ held_miss s marks shown limits grown =
 -- ---- in order of page
 
 -- buffers in order from a page on begin there or later
-all_after : (low low' high : ℕ) (hs : List HeldPages) → low' ≤ low → in_order low high (map (λ (h : HeldPages). h.pages) hs) ≡ true →
-    All (λ (b : HeldBuffer). low' ≤ b.start) (map held_buffer hs)
+all_after : (low low' high : ℕ) (hs : List HeldBuffer) → low' ≤ low → in_order low high (map (λ (h : HeldBuffer). h.pages) hs) ≡ true →
+    All (λ (b : HeldBuffer). low' ≤ b.pages.start) hs
 all_after low low' high [] le h = λ k d lt. absurd (omega arith)
 all_after low low' high (x ∷ xs) le h =
     let from : low ≤ x.pages.start = leb-true low x.pages.start (and_left (nat_le low x.pages.start) _ h) in
-    let rest : in_order (end_of x.pages) high (map (λ (h : HeldPages). h.pages) xs) ≡ true =
+    let rest : in_order (end_of x.pages) high (map (λ (h : HeldBuffer). h.pages) xs) ≡ true =
     and_right (nat_lt 0 x.pages.pages) _ (and_right (nat_le low x.pages.start) _ h) in
-    All-cons (λ (b : HeldBuffer). low' ≤ b.start) (held_buffer x) (map held_buffer xs) (omega arith) (all_after (end_of x.pages) low' high
+    All-cons (λ (b : HeldBuffer). low' ≤ b.pages.start) x xs (omega arith) (all_after (end_of x.pages) low' high
     xs (omega arith) rest)
 
 -- each of them ends before the next ones begin
-pairs_in_order : (low high : ℕ) (hs : List HeldPages) → in_order low high (map (λ (h : HeldPages). h.pages) hs) ≡ true →
-    AllPairs EndsBefore (map held_buffer hs)
+pairs_in_order : (low high : ℕ) (hs : List HeldBuffer) → in_order low high (map (λ (h : HeldBuffer). h.pages) hs) ≡ true →
+    AllPairs EndsBefore hs
 pairs_in_order low high [] h = λ j k d less lt. absurd (omega arith)
 pairs_in_order low high (x ∷ xs) h =
-    let rest : in_order (end_of x.pages) high (map (λ (h : HeldPages). h.pages) xs) ≡ true =
+    let rest : in_order (end_of x.pages) high (map (λ (h : HeldBuffer). h.pages) xs) ≡ true =
     and_right (nat_lt 0 x.pages.pages) _ (and_right (nat_le low x.pages.start) _ h) in
-    AllPairs-cons EndsBefore (held_buffer x) (map held_buffer xs) (all_after (end_of x.pages) (end_of x.pages) high xs (omega arith) rest)
+    AllPairs-cons EndsBefore x xs (all_after (end_of x.pages) (end_of x.pages) high xs (omega arith) rest)
     (pairs_in_order (end_of x.pages) high xs rest)
 
 -- so do the held buffers of a forest whose pages lie in a pool
-pub held_in_order : (pool : Holdings) (f : Forest) → IsPoolOf pool f → IsSound pool → AllPairs EndsBefore (map held_buffer (held_by_page f))
+pub held_in_order : (pool : Holdings) (f : Forest) → IsPoolOf pool f → IsSound pool → AllPairs EndsBefore (held_by_page f)
 held_in_order pool f is sound =
-    let same : pool.held ≡ map (λ (h : HeldPages). h.pages) (held_by_page f) =
-    is ∙ sorted_by-map (λ (i : Interval). i.start) (λ (h : HeldPages). h.pages) (all_held f) in
+    let same : pool.held ≡ map (λ (h : HeldBuffer). h.pages) (held_by_page f) =
+    is ∙ sorted_by-map (λ (i : Interval). i.start) (λ (h : HeldBuffer). h.pages) (all_held f) in
     pairs_in_order 0 pool.size (held_by_page f) (subst (λ (is : List Interval). in_order 0 pool.size is ≡ true) same sound.in_order)

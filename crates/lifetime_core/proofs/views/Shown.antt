@@ -15,7 +15,7 @@ use Rattle.sm_names.specs.Reading.{readings}
 use Rattle.sm_names.specs.Timelines.{timeline}
 use Rattle.sm_names.specs.Views.{views, live_nodes, held_by_page, free_pages}
 use Rattle.sm_names.proofs.GrowthLaws.{Grows, legal_grows}
-use Rattle.alloc_event.specs.Forest.{live_keys, held_buffer, held_by_page as held_in}
+use Rattle.alloc_event.specs.Forest.{live_keys, held_by_page as held_in}
 use Rattle.lifetime_core.specs.Reads.{readings_of, is_live_in, fault_in, views_of}
 use Rattle.lifetime_core.specs.Shown.{Shows}
 use Rattle.lifetime_core.specs.State.{State}
@@ -64,11 +64,11 @@ module _ (s : State) (history : List Entry) (shows : Shows s history) where
   live_keys_shown = live_keys_are s (timeline s.pool history) shows.shown s.limits grown
 
   -- the held buffers, where each has a page
-  pub held_shown : HavePages s.forest → map held_buffer (held_in s.forest) ≡ map held_buffer (held_by_page s.pool (timeline s.pool history))
-  held_shown paged = ap (map held_buffer) (held_by_page_is s (timeline s.pool history) shows.shown s.limits grown paged)
+  pub held_shown : HavePages s.forest → held_in s.forest ≡ held_by_page s.pool (timeline s.pool history)
+  held_shown paged = held_by_page_is s (timeline s.pool history) shows.shown s.limits grown paged
 
   -- no two of which have a page in common
-  pub held_miss_shown : AllPairs MissesBuffer (map held_buffer (held_in s.forest))
+  pub held_miss_shown : AllPairs MissesBuffer (held_in s.forest)
   held_miss_shown = held_miss s (timeline s.pool history) shows.shown s.limits grown
 
   -- the free pages

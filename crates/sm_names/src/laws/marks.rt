@@ -15,7 +15,8 @@ ghost use Rattle.sm_names.specs.Marks.{Timeline, Called, Loss, Allocated, Ended,
 ghost use Rattle.sm_names.specs.Members.{member, members};
 ghost use Rattle.sm_names.specs.Reading.{readings};
 ghost use Rattle.sm_names.specs.Sameness.{same_key};
-ghost use Rattle.sm_names.specs.Timelines.{HeldPages, next_forced, standing, held, still_out};
+ghost use Rattle.sm_names.specs.declared.keys.HeldBuffer.{HeldBuffer};
+ghost use Rattle.sm_names.specs.Timelines.{next_forced, standing, held, still_out};
 ghost use Rattle.sm_names.specs.Trackers.{fired};
 ghost use Rattle.sm_names.specs.Views.{live_nodes, held_by_page};
 
@@ -86,13 +87,13 @@ pub fn losses_and_ends_give_back()
         standing pool (Loss origin cause ∷ marks) collection
         ≡ record (standing pool marks collection) {
           members = map (after_loss (reaches marks origin)) (members marks collection);
-          held = map (λ (h : HeldPages). h.pages) (still_out (Loss origin cause ∷ marks) (held pool marks));
+          held = map (λ (h : HeldBuffer). h.pages) (still_out (Loss origin cause ∷ marks) (held pool marks));
         } }
     ensures end { (pool collection : ℕ) (marks : Timeline) (top : NodeKey) →
         standing pool (Ended top ∷ marks) collection
         ≡ record (standing pool marks collection) {
           members = map (after_end top) (members marks collection);
-          held = map (λ (h : HeldPages). h.pages) (still_out (Ended top ∷ marks) (held pool marks));
+          held = map (λ (h : HeldBuffer). h.pages) (still_out (Ended top ∷ marks) (held pool marks));
         } }
 {}
 

@@ -3,7 +3,6 @@ use Rattle.std.proofs.Common.{◌≡◌, refl, rules, true, None, [], ◌∷◌,
 use Rattle.alloc_event.specs.declared.entry.Entry.{Entry}
 use Rattle.alloc_event.specs.Calm.{put_in}
 use Rattle.alloc_event.specs.Kept.{shelf_of}
-use Rattle.alloc_event.specs.Scenes.{held_pages}
 use Rattle.alloc_event.specs.Still.{no_shelf, shelf_with}
 use Rattle.alloc_event.proofs.changing.bear_first.Goals as goal
 
@@ -22,5 +21,5 @@ returns-clause-entries c =
     let items : c.push.new.self.items ≡ c.in_ok-key.key ∷ [] = search rules in
     let held : c.new.result.items ≡ [] = c.new.ensures.items in
     let shelf : shelf_of new ≡ shelf_with (no_shelf c.args.id) c.in_ok-key.key =
-    λ i. record { id = c.args.id; keys = items i; buffers = None; held = map held_pages (held i) } in
+    λ i. record { id = c.args.id; keys = items i; buffers = None; held = held i } in
     (new, c.put_entry.ensures.items ∙ ap (put_in new) c.reserve-else-is_err.ensures.items, shelf, c.strong_below-strong.ensures, refl)

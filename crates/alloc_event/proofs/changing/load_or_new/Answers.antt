@@ -1,7 +1,6 @@
 -- The collection is loaded where it is there, and is empty else.
 use Rattle.std.proofs.Common.{None, map, option_map, sym, ◌∙◌, ap}
 use Rattle.alloc_event.specs.Kept.{collection_in, shelf_of, shelves_of}
-use Rattle.alloc_event.specs.Scenes.{held_pages}
 use Rattle.alloc_event.proofs.shelves.Showing.{shelf_found, collection_is, collection_none}
 use Rattle.alloc_event.proofs.changing.load_or_new.Goals as goal
 
@@ -15,4 +14,4 @@ returns-in-Some c =
 pub returns-in-None : goal.returns-in-None
 returns-in-None c =
     let is = collection_none c.args.table.now c.args.entries.now c.args.id (sym c.in-None.ensures) in
-    rw is (λ i. record { id = c.args.id; nodes = c.new.ensures.items i; buffers = None; held = map held_pages (c.new-in-None.ensures.items i) })
+    rw is (λ i. record { id = c.args.id; nodes = c.new.ensures.items i; buffers = None; held = c.new-in-None.ensures.items i })

@@ -1,6 +1,6 @@
 -- Where a strong node is live the node is born in its place; else the collection is worked on.
 use Rattle.std.proofs.Common.{map, List, Result, Ok, Err, IfOk, sym, ◌∙◌, ap}
-use Rattle.sm_names.specs.Timelines.{HeldPages}
+use Rattle.sm_names.specs.declared.keys.HeldBuffer.{HeldBuffer}
 use Rattle.sm_names.specs.Words.{sorted_by}
 use Rattle.buffer_holds.specs.Counts.{total}
 use Rattle.alloc_event.specs.Kept.{forest_of, shelves_of}
@@ -56,7 +56,7 @@ returns-then-is_watched-clause-pool c =
     let at = above_is c.args.table.now (shelves_of c.args.entries.now.items) c.requires.kept c.args.id c.args.parent c.args.attached
     c.args.client c.args.event c.requires.change in
     on_two c.bear_counted.result c.bear_counted.ensures.bears c.bear_counted.ensures.entries (λ key bears placed.
-    c.requires.pool ∙ ap (λ (hs : List HeldPages). sorted_by start_of (map (λ (h : HeldPages). h.pages) hs))
+    c.requires.pool ∙ ap (λ (hs : List HeldBuffer). sorted_by start_of (map (λ (h : HeldBuffer). h.pages) hs))
     (sym (quiet_held c.args.table.now c.bear_counted.new.table (shelves_of c.args.entries.now.items) c.requires.kept c.args.id c.args.parent
     c.args.attached c.args.client c.args.event _ at key bears
     (total c.args.holds.now) still (shelves_of c.bear_counted.new.entries.items) placed)))

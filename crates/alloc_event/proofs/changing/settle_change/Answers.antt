@@ -1,6 +1,6 @@
 -- The buffers stay where nothing is forced.
 use Rattle.std.proofs.Common.{List, map, sym, ◌∙◌, ap}
-use Rattle.sm_names.specs.Timelines.{HeldPages}
+use Rattle.sm_names.specs.declared.keys.HeldBuffer.{HeldBuffer}
 use Rattle.sm_names.specs.Words.{sorted_by}
 use Rattle.alloc_event.specs.Forest.{all_held}
 use Rattle.alloc_event.specs.Kept.{Shelf, forest_of, shelves_of}
@@ -12,7 +12,7 @@ use Rattle.alloc_event.proofs.changing.settle_change.Goals as goal
 
 pub returns-then-branch-clause-pool : goal.returns-then-branch-clause-pool
 returns-then-branch-clause-pool c =
-    c.requires.pool ∙ ap (λ (hs : List HeldPages). sorted_by start_of (map (λ (h : HeldPages). h.pages) hs))
+    c.requires.pool ∙ ap (λ (hs : List HeldBuffer). sorted_by start_of (map (λ (h : HeldBuffer). h.pages) hs))
     (helds_in c.args.table.now (shelves_of c.args.entries.now.items)
     ∙ sym (helds_in c.settle_counted.new.table (shelves_of c.args.entries.now.items))
     ∙ ap (λ (ss : List Shelf). all_held (forest_of c.settle_counted.new.table ss)) (sym c.settle_counted.ensures.shelves))

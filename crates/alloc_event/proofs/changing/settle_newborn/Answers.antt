@@ -1,13 +1,13 @@
 -- The collection is worked on with the node that is born.
 use Rattle.std.proofs.Common.{◌≡◌, true, map, reverse, List, IfSome, IsSome, option_map, sym, ◌∙◌, ap, subst}
-use Rattle.sm_names.specs.Timelines.{HeldPages}
+use Rattle.sm_names.specs.declared.keys.HeldBuffer.{HeldBuffer}
 use Rattle.sm_names.specs.Words.{sorted_by}
 use Rattle.buffer_holds.specs.Counts.{total}
 use Rattle.node_table.specs.Table.{Table, row_at}
 use Rattle.alloc_event.specs.declared.node.Node.{Node}
 use Rattle.alloc_event.specs.Forest.{Collection, all_held}
 use Rattle.alloc_event.specs.Kept.{Gives, shelf_of, shelves_of, IsHung, IsStored, put_shelf, forest_of, all_of}
-use Rattle.alloc_event.specs.Scenes.{held_pages, IsSound}
+use Rattle.alloc_event.specs.Scenes.{IsSound}
 use Rattle.alloc_event.specs.Units.{are_united}
 use Rattle.alloc_event.proofs.lists.SameIntervals.{start_of}
 use Rattle.alloc_event.proofs.changes.Altering.{shelf_by}
@@ -38,7 +38,7 @@ store_settled-requires-clause-kept c =
     let at = above_is c.args.table.now (shelves_of c.args.entries.now.items) c.requires.kept c.args.id c.args.parent c.args.attached
     c.args.client c.args.event c.requires.change in
     let made = grown_scene _ c.args.scene.id c.add.new.nodes.items c.args.scene.nodes.items c.args.scene.buffers
-    (map held_pages c.args.scene.held.items) c.newborn-node.result _ c.requires.scene c.in-Ok-add.ensures newborn_is in
+    c.args.scene.held.items c.newborn-node.result _ c.requires.scene c.in-Ok-add.ensures newborn_is in
     subst (λ (d : Collection). IsStored c.bear.new.table (put_shelf (shelf_by d) (shelves_of c.args.entries.now.items))) (sym made)
     (born_kept c.args.table.now c.bear.new.table (shelves_of c.args.entries.now.items) c.requires.kept c.args.id c.args.parent
     c.args.attached c.args.client c.args.event _ at c.in_ok-key.key bears)
@@ -50,7 +50,7 @@ store_settled-requires-clause-sound c =
     let at = above_is c.args.table.now (shelves_of c.args.entries.now.items) c.requires.kept c.args.id c.args.parent c.args.attached
     c.args.client c.args.event c.requires.change in
     let made = grown_scene _ c.args.scene.id c.add.new.nodes.items c.args.scene.nodes.items c.args.scene.buffers
-    (map held_pages c.args.scene.held.items) c.newborn-node.result _ c.requires.scene c.in-Ok-add.ensures newborn_is in
+    c.args.scene.held.items c.newborn-node.result _ c.requires.scene c.in-Ok-add.ensures newborn_is in
     subst IsSound (sym made) (born_sound c.args.table.now c.bear.new.table (shelves_of c.args.entries.now.items) c.requires.kept c.args.id
     c.args.parent c.args.attached c.args.client c.args.event _ at c.in_ok-key.key bears)
 
@@ -61,7 +61,7 @@ store_settled-requires-clause-hung c =
     let at = above_is c.args.table.now (shelves_of c.args.entries.now.items) c.requires.kept c.args.id c.args.parent c.args.attached
     c.args.client c.args.event c.requires.change in
     let made = grown_scene _ c.args.scene.id c.add.new.nodes.items c.args.scene.nodes.items c.args.scene.buffers
-    (map held_pages c.args.scene.held.items) c.newborn-node.result _ c.requires.scene c.in-Ok-add.ensures newborn_is in
+    c.args.scene.held.items c.newborn-node.result _ c.requires.scene c.in-Ok-add.ensures newborn_is in
     subst (λ (d : Collection). IsHung c.bear.new.table d.nodes) (sym made) (born_hung c.args.table.now c.bear.new.table
     (shelves_of c.args.entries.now.items) c.requires.kept c.args.id c.args.parent c.args.attached c.args.client c.args.event _ at
     c.in_ok-key.key bears)
@@ -73,7 +73,7 @@ store_settled-requires-clause-united c =
     let at = above_is c.args.table.now (shelves_of c.args.entries.now.items) c.requires.kept c.args.id c.args.parent c.args.attached
     c.args.client c.args.event c.requires.change in
     let made = grown_scene _ c.args.scene.id c.add.new.nodes.items c.args.scene.nodes.items c.args.scene.buffers
-    (map held_pages c.args.scene.held.items) c.newborn-node.result _ c.requires.scene c.in-Ok-add.ensures newborn_is in
+    c.args.scene.held.items c.newborn-node.result _ c.requires.scene c.in-Ok-add.ensures newborn_is in
     subst (λ (d : Collection). are_united (reverse d.nodes) ≡ true) (sym made) (born_united c.args.table.now c.bear.new.table
     (shelves_of c.args.entries.now.items) c.requires.kept c.args.id c.args.parent c.args.attached c.args.client c.args.event _ at
     c.in_ok-key.key bears)
@@ -85,7 +85,7 @@ store_settled-requires-clause-own c =
     let at = above_is c.args.table.now (shelves_of c.args.entries.now.items) c.requires.kept c.args.id c.args.parent c.args.attached
     c.args.client c.args.event c.requires.change in
     let made = grown_scene _ c.args.scene.id c.add.new.nodes.items c.args.scene.nodes.items c.args.scene.buffers
-    (map held_pages c.args.scene.held.items) c.newborn-node.result _ c.requires.scene c.in-Ok-add.ensures newborn_is in
+    c.args.scene.held.items c.newborn-node.result _ c.requires.scene c.in-Ok-add.ensures newborn_is in
     subst (λ (d : Collection). all_of d.id d.nodes ≡ true) (sym made) (born_all_of c.args.table.now c.bear.new.table
     (shelves_of c.args.entries.now.items) c.requires.kept c.args.id c.args.parent c.args.attached c.args.client c.args.event _ at
     c.in_ok-key.key bears)
@@ -97,11 +97,11 @@ store_settled-requires-clause-pool c =
     let at = above_is c.args.table.now (shelves_of c.args.entries.now.items) c.requires.kept c.args.id c.args.parent c.args.attached
     c.args.client c.args.event c.requires.change in
     let made = grown_scene _ c.args.scene.id c.add.new.nodes.items c.args.scene.nodes.items c.args.scene.buffers
-    (map held_pages c.args.scene.held.items) c.newborn-node.result _ c.requires.scene c.in-Ok-add.ensures newborn_is in
+    c.args.scene.held.items c.newborn-node.result _ c.requires.scene c.in-Ok-add.ensures newborn_is in
     let held = ap (λ (d : Collection). all_held (forest_of c.bear.new.table (put_shelf (shelf_by d) (shelves_of c.args.entries.now.items))))
     made ∙ born_held c.args.table.now c.bear.new.table (shelves_of c.args.entries.now.items) c.requires.kept c.args.id c.args.parent
     c.args.attached c.args.client c.args.event _ at c.in_ok-key.key bears in
-    c.requires.pool ∙ ap (λ (hs : List HeldPages). sorted_by start_of (map (λ (h : HeldPages). h.pages) hs)) (sym held)
+    c.requires.pool ∙ ap (λ (hs : List HeldBuffer). sorted_by start_of (map (λ (h : HeldBuffer). h.pages) hs)) (sym held)
 
 pub returns-clause-ok : goal.returns-clause-ok
 returns-clause-ok c =
@@ -110,7 +110,7 @@ returns-clause-ok c =
     let at = above_is c.args.table.now (shelves_of c.args.entries.now.items) c.requires.kept c.args.id c.args.parent c.args.attached
     c.args.client c.args.event c.requires.change in
     let made = grown_scene _ c.args.scene.id c.add.new.nodes.items c.args.scene.nodes.items c.args.scene.buffers
-    (map held_pages c.args.scene.held.items) c.newborn-node.result _ c.requires.scene c.in-Ok-add.ensures newborn_is in
+    c.args.scene.held.items c.newborn-node.result _ c.requires.scene c.in-Ok-add.ensures newborn_is in
     let is = born_is c.args.table.now c.bear.new.table (shelves_of c.args.entries.now.items) c.requires.kept c.args.id c.args.parent
     c.args.attached c.args.client c.args.event _ at c.in_ok-key.key bears ∙ sym made in
     let still = still_collections c.args.table.now c.bear.new.table _ bears (shelves_of c.args.entries.now.items) c.requires.kept.filed in

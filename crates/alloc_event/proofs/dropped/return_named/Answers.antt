@@ -9,7 +9,7 @@ use Rattle.sm_names.specs.Sameness.{same_buffer}
 use Rattle.sm_names.proofs.HandleLaws.{same_buffer-true}
 use Rattle.buffer_holds.specs.Counts.{total}
 use Rattle.buffer_pool.specs.Holdings.{Holdings}
-use Rattle.alloc_event.specs.declared.held.HeldBuffer.{HeldBuffer}
+use Rattle.sm_names.specs.declared.keys.HeldBuffer.{HeldBuffer}
 use Rattle.alloc_event.specs.Scenes.{by_page, is_out, pages_held}
 use Rattle.alloc_event.proofs.intervals.Returned.{holds_one, one_returned}
 use Rattle.alloc_event.proofs.lists.Removed.{all_removed, around, filter_removed, left_around, take_removed}

@@ -6,7 +6,7 @@ use Rattle.std.proofs.lemmas.List.{take_all}
 use Rattle.std.proofs.lemmas.List.Sorted.{answers_always}
 use Rattle.sm_names.specs.Words.{sorted_by}
 use Rattle.alloc_event.specs.declared.entry.Entry.{Entry}
-use Rattle.alloc_event.specs.declared.held.HeldBuffer.{HeldBuffer}
+use Rattle.sm_names.specs.declared.keys.HeldBuffer.{HeldBuffer}
 use Rattle.alloc_event.proofs.lists.StableSort.{stable_sorted}
 use Rattle.alloc_event.proofs.kept.held_by_page.Goals as goal
 
@@ -19,7 +19,7 @@ returns c =
     let all = c.loop-entry.invariant
     ∙ ap (λ (es : List Entry). flat_map (λ (e : Entry). e.held.items) es) (take_all c.loop-entry.entry-index c.args.entries.now
     c.loop-entry-test.false) in
-    let sorted = stable_sorted (λ (h : HeldBuffer). h.start) _ _ (c.in_ok-sort_by_key.ensures.sorted (λ h.
-    h.start) (answers_always _ _ _ (λ f a r g h. search rules)))
-    (c.sort_by_key.ensures.stable (λ h. h.start) (answers_always _ _ _ (λ f a r g h. search rules))) in
-    sorted ∙ ap (sorted_by (λ (h : HeldBuffer). h.start)) all
+    let sorted = stable_sorted (λ (h : HeldBuffer). h.pages.start) _ _ (c.in_ok-sort_by_key.ensures.sorted (λ h.
+    h.pages.start) (answers_always _ _ _ (λ f a r g h. search rules)))
+    (c.sort_by_key.ensures.stable (λ h. h.pages.start) (answers_always _ _ _ (λ f a r g h. search rules))) in
+    sorted ∙ ap (sorted_by (λ (h : HeldBuffer). h.pages.start)) all

@@ -5,17 +5,17 @@ use Rattle.sm_names.specs.declared.outcomes.Failure.{Failure}
 use Rattle.sm_names.specs.declared.outcomes.Fault.{Fault}
 use Rattle.sm_names.specs.Handles.{names}
 use Rattle.sm_names.specs.Pages.{places, pages_of}
-use Rattle.sm_names.specs.Timelines.{HeldPages, laid_out}
+use Rattle.sm_names.specs.declared.keys.HeldBuffer.{HeldBuffer}
+use Rattle.sm_names.specs.Timelines.{laid_out}
 use Rattle.sm_names.proofs.PlaceLaws.{places_first}
 use Rattle.sm_names.proofs.SamenessLaws.{both_ways}
 use Rattle.buffer_pool.specs.Holdings.{with_buffers}
-use Rattle.alloc_event.specs.declared.held.HeldBuffer.{HeldBuffer}
 use Rattle.alloc_event.specs.declared.node.Node.{Node}
 use Rattle.alloc_event.specs.Forest.{Collection, pages_in}
 use Rattle.alloc_event.specs.Decisions.{is_unplaced}
 use Rattle.alloc_event.specs.Progress.{Progress, Given, Lost}
 use Rattle.alloc_event.specs.Nodes.{after_allocation, after_loss, given_buffers, is_taken, lost}
-use Rattle.alloc_event.specs.Scenes.{by_page, collection_of, held_pages, laid}
+use Rattle.alloc_event.specs.Scenes.{by_page, collection_of, laid}
 use Rattle.alloc_event.proofs.lists.Loops.{written}
 use Rattle.alloc_event.proofs.calm.Movings.{none_waits}
 use Rattle.alloc_event.proofs.intervals.Placings.{placed_made, full_made, places_sorted, pool_laid, scene_laid}
@@ -66,8 +66,8 @@ returns-in-Ok-place-clause-made c others beside =
     let lies : c.lay_out.result.items ≡ laid it.id pages 0 starts ++ own =
     c.lay_out.ensures ∙ (λ i. laid it.id (c.pages_of-pages.ensures.value i) 0 (c.deref.ensures.value i)
     ++ c.deref-in-Ok-place.ensures.value i) in
-    let held : map held_pages c.lay_out.result.items ≡ laid_out pages (names it.id count) starts ++ it.held =
-    ap (map held_pages) lies ∙ scene_laid it.id pages count starts own many in
+    let held : c.lay_out.result.items ≡ laid_out pages (names it.id count) starts ++ it.held =
+    lies ∙ scene_laid it.id pages count starts own many in
     (λ i. record { id = it.id; nodes = nodes i; buffers = Some c.args.wants; held = held i })
     ∙ sym (placed_made pool others it c.args.head c.args.wants starts c.requires.step found)
 
@@ -86,12 +86,12 @@ returns-in-Ok-place-clause-pool c others beside =
     let lies : c.lay_out.result.items ≡ laid it.id pages 0 starts ++ own =
     c.lay_out.ensures ∙ (λ i. laid it.id (c.pages_of-pages.ensures.value i) 0 (c.deref.ensures.value i)
     ++ c.deref-in-Ok-place.ensures.value i) in
-    let held : map held_pages c.lay_out.result.items ≡ laid_out pages (names it.id count) starts ++ it.held =
-    ap (map held_pages) lies ∙ scene_laid it.id pages count starts own many in
+    let held : c.lay_out.result.items ≡ laid_out pages (names it.id count) starts ++ it.held =
+    lies ∙ scene_laid it.id pages count starts own many in
     ap (λ p. p.held) placed.held_are
     ∙ ((λ i. with_buffers (c.pages_of-pages.ensures.value i) starts (beside i))
     ∙ (pool_laid it.id pages count starts it.held others many
-    ∙ ap (λ (hs : List HeldPages). by_page (map (λ (h : HeldPages). h.pages) hs ++ others)) (sym held)))
+    ∙ ap (λ (hs : List HeldBuffer). by_page (map (λ (h : HeldBuffer). h.pages) hs ++ others)) (sym held)))
 
 -- a pool that is full fails the root
 pub returns-in-Err-PoolFull-clause-made : goal.returns-in-Err-PoolFull-clause-made

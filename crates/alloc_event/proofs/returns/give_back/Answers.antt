@@ -1,16 +1,14 @@
-use Rattle.std.proofs.Common.{◌≡◌, ◌∙◌, ◌++◌, sym, ap, Bool, not, List, map}
+use Rattle.std.proofs.Common.{◌≡◌, ◌∙◌, ◌++◌, sym, ap, Bool, not, List}
 use Rattle.std.specs.List.{filter}
 use Rattle.sm_names.specs.Members.{some_strong_live}
-use Rattle.sm_names.specs.Timelines.{HeldPages}
+use Rattle.sm_names.specs.declared.keys.HeldBuffer.{HeldBuffer}
 use Rattle.buffer_holds.specs.Counts.{total}
-use Rattle.alloc_event.specs.declared.held.HeldBuffer.{HeldBuffer}
 use Rattle.alloc_event.specs.Decisions.{has_strong}
 use Rattle.alloc_event.specs.Forest.{Collection}
 use Rattle.alloc_event.specs.Nodes.{members_of}
-use Rattle.alloc_event.specs.Scenes.{by_page, collection_of, held_pages, is_out, pages_held}
+use Rattle.alloc_event.specs.Scenes.{by_page, collection_of, is_out, pages_held}
 use Rattle.alloc_event.specs.Settling.{is_home_in}
 use Rattle.alloc_event.proofs.calm.Forcing.{strong_tie}
-use Rattle.alloc_event.proofs.lists.Removed.{filter-map}
 use Rattle.alloc_event.proofs.returns.give_back.Goals as goal
 
 pub returns-clause-scene : goal.returns-clause-scene
@@ -19,10 +17,9 @@ returns-clause-scene c =
     let own : List HeldBuffer = c.args.scene.now.held.items in
     let live : c.some_strong_live-strong_live.result ≡ some_strong_live (members_of it.nodes) =
     c.some_strong_live-strong_live.ensures ∙ (ap has_strong c.deref.ensures.value ∙ sym (strong_tie it.nodes)) in
-    let held : map held_pages c.keep_out.new.held.items
-    ≡ filter (λ (h : HeldPages). not (is_home_in (total c.args.holds.now) it h.buffer)) it.held =
-    ap (map held_pages) (c.keep_out.ensures ∙ ap (λ (b : Bool). filter (is_out (total c.args.holds.now) b) own) live)
-    ∙ filter-map (λ (h : HeldPages). not (is_home_in (total c.args.holds.now) it h.buffer)) held_pages own in
+    let held : c.keep_out.new.held.items
+    ≡ filter (λ (h : HeldBuffer). not (is_home_in (total c.args.holds.now) it h.buffer)) it.held =
+    c.keep_out.ensures ∙ ap (λ (b : Bool). filter (is_out (total c.args.holds.now) b) own) live in
     λ i. record it { held = held i }
 
 pub returns-clause-pool : goal.returns-clause-pool

@@ -3,7 +3,7 @@ use Rattle.std.proofs.lemmas.List.Filters.{length-filter_more}
 use Rattle.std.specs.List.{filter}
 use Rattle.sm_names.specs.declared.keys.Interval.{Interval}
 use Rattle.buffer_holds.specs.Counts.{total}
-use Rattle.alloc_event.specs.declared.held.HeldBuffer.{HeldBuffer}
+use Rattle.sm_names.specs.declared.keys.HeldBuffer.{HeldBuffer}
 use Rattle.alloc_event.specs.Scenes.{by_page, is_out, pages_held}
 use Rattle.alloc_event.proofs.intervals.Returned.{holds_one, kept_here, kept_past, one_returned}
 use Rattle.alloc_event.proofs.returns.return_pages.Goals as goal
@@ -13,7 +13,7 @@ return_one-out-requires-clause-there c =
     let i : ℕ = c.loop-buffer.buffer-index in
     let all : List HeldBuffer = c.args.held.now in
     let out : HeldBuffer → Bool = is_out (total c.args.holds.now) c.args.strong_live in
-    let d : HeldBuffer = record { buffer = record { collection = 0; index = 0 }; start = 0; pages = 0 } in
+    let d : HeldBuffer = record { buffer = record { collection = 0; index = 0 }; pages = record { start = 0; pages = 0 } } in
     let within : i < length all = omega arith in
     let others : List Interval = c.requires.0 in
     holds_one c.loop-buffer.pool.held (filter out (take i all)) (drop (i + 1) all) (get_or all i d) others
@@ -25,7 +25,7 @@ loop-buffer-preserved c =
     let i : ℕ = c.loop-buffer.buffer-index in
     let all : List HeldBuffer = c.args.held.now in
     let out : HeldBuffer → Bool = is_out (total c.args.holds.now) c.args.strong_live in
-    let d : HeldBuffer = record { buffer = record { collection = 0; index = 0 }; start = 0; pages = 0 } in
+    let d : HeldBuffer = record { buffer = record { collection = 0; index = 0 }; pages = record { start = 0; pages = 0 } } in
     let within : i < length all = omega arith in
     record {
       sound = c.return_one-out.ensures.sound;

@@ -1,7 +1,7 @@
 use Rattle.std.proofs.Common.{◌≡◌, ap, ◌∙◌, map, arith}
 use Rattle.std.specs.List.{sum_by}
 use Rattle.sm_names.specs.declared.keys.Interval.{Interval}
-use Rattle.sm_names.specs.Timelines.{HeldPages}
+use Rattle.sm_names.specs.declared.keys.HeldBuffer.{HeldBuffer}
 use Rattle.alloc_event.specs.Forest.{all_held}
 use Rattle.lifetime_core.specs.Reads.{views_of}
 use Rattle.lifetime_core.proofs.views.Shown.{free_shown}
@@ -11,11 +11,11 @@ use Rattle.lifetime_core.proofs.machine.Core.free_pages.Goals as goal
 -- the pool's pages are those of the buffers, in another order
 pub returns : goal.returns
 returns c =
-    let all : sum_by (λ (i : Interval). i.pages) c.self.inside.contents.pool.held ≡ sum_by (λ (h : HeldPages).
+    let all : sum_by (λ (i : Interval). i.pages) c.self.inside.contents.pool.held ≡ sum_by (λ (h : HeldBuffer).
     h.pages.pages) (all_held c.self.inside.contents.forest) =
     ap (sum_by (λ (i : Interval). i.pages)) c.self.invariant.pages
-    ∙ (sum-sorted (λ (i : Interval). i.pages) (λ (i : Interval). i.start) (map (λ (h : HeldPages). h.pages) (all_held c.self.inside.contents.forest))
-    ∙ sum-map (λ (i : Interval). i.pages) (λ (h : HeldPages). h.pages) (all_held c.self.inside.contents.forest)) in
+    ∙ (sum-sorted (λ (i : Interval). i.pages) (λ (i : Interval). i.start) (map (λ (h : HeldBuffer). h.pages) (all_held c.self.inside.contents.forest))
+    ∙ sum-map (λ (i : Interval). i.pages) (λ (h : HeldBuffer). h.pages) (all_held c.self.inside.contents.forest)) in
     let value : c.free_pages.result ≡ (views_of c.args.self.now).free =
     rw (← c.self.view_is) (omega (arith, c.free_pages.ensures.free, all)) in
     record {

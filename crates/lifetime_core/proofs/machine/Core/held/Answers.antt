@@ -1,6 +1,6 @@
 use Rattle.std.proofs.Common.{AllPairs, ap, sym, ◌∙◌, subst, map}
 use Rattle.std.proofs.lemmas.Result.{IfOk-weaker}
-use Rattle.alloc_event.specs.Forest.{held_buffer, held_by_page}
+use Rattle.alloc_event.specs.Forest.{held_by_page}
 use Rattle.lifetime_core.specs.State.{State}
 use Rattle.lifetime_core.proofs.views.Shown.{held_shown}
 use Rattle.lifetime_core.proofs.views.HeldApart.{EndsBefore, held_in_order}
@@ -13,7 +13,7 @@ returns-clause-shown c =
     subst (λ (s : State). HavePages s.forest) c.self.view_is (have_pages c.self.inside.contents.pool c.self.inside.contents.forest c.self.invariant.pages
     c.free_pages-free.ensures.sound) in
     IfOk-weaker c.held.result _ _
-    (λ held is history shows. is ∙ (ap (λ (s : State). map held_buffer (held_by_page s.forest)) c.self.view_is
+    (λ held is history shows. is ∙ (ap (λ (s : State). held_by_page s.forest) c.self.view_is
     ∙ held_shown c.args.self.now history shows paged))
     c.held.ensures
 

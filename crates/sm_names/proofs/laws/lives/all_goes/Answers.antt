@@ -1,7 +1,8 @@
 use Rattle.std.proofs.Common.{◌≡◌, ◌∙◌, ◌-◌, [], ap, arith, List}
 use Rattle.std.specs.List.{sum_by}
 use Rattle.sm_names.specs.Births.{births}
-use Rattle.sm_names.specs.Timelines.{timeline, held, HeldPages}
+use Rattle.sm_names.specs.declared.keys.HeldBuffer.{HeldBuffer}
+use Rattle.sm_names.specs.Timelines.{timeline, held}
 use Rattle.sm_names.proofs.EndLaws.{spent_left, no_live_nodes, none_held}
 use Rattle.sm_names.proofs.SettledLaws.{In-was_born}
 use Rattle.sm_names.proofs.laws.lives.all_goes.Goals as goal
@@ -22,4 +23,4 @@ returns-clause-free c pool limits history legal all none =
     let e : held pool (timeline pool history) ≡ [] =
     none_held pool limits history legal (λ b on. all b.node (In-was_born (births (timeline pool history)) b on)) none in
     let whole : pool - 0 ≡ pool = omega arith in
-    ap (λ (l : List HeldPages). pool - sum_by (λ (h : HeldPages). h.pages.pages) l) e ∙ whole
+    ap (λ (l : List HeldBuffer). pool - sum_by (λ (h : HeldBuffer). h.pages.pages) l) e ∙ whole
