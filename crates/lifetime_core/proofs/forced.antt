@@ -10,5 +10,6 @@ pub mod Losing
 pub mod NothingForced
 pub mod Settled
 pub mod Starting
+pub mod StillOut
 pub mod Whole
 pub mod Work

@@ -1,6 +1,6 @@
 -- What an event does to a collection, and to the forest.
-use Rattle.std.specs.Prelude.{◌≡◌, ℕ, Bool, true, false, not, if◌then◌else◌, List, ◌||◌, Option, Some, None, is_some, IfSome}
-use Rattle.std.specs.Option.{option_map, option_and_then, option_or}
+use Rattle.std.specs.Prelude.{◌≡◌, ℕ, ⊤, Bool, true, false, not, if◌then◌else◌, List, ◌||◌, Option, Some, None, is_some, IfSome}
+use Rattle.std.specs.Option.{option_map, option_map_or, option_and_then, option_or}
 use Rattle.sm_names.specs.declared.keys.NodeKey.{NodeKey}
 use Rattle.sm_names.specs.declared.messages.Call.{Call}
 use Rattle.sm_names.specs.declared.messages.Reply.{Reply}
@@ -10,7 +10,8 @@ use Rattle.alloc_event.specs.declared.node.End.{End}
 use Rattle.alloc_event.specs.declared.node.Node.{Node}
 use Rattle.sm_names.specs.Marks.{Called}
 use Rattle.sm_names.specs.Trackers.{World, holds}
-use Rattle.alloc_event.specs.Forest.{Forest, node_at}
+use Rattle.alloc_event.specs.Dropped.{are_others_out}
+use Rattle.alloc_event.specs.Forest.{Forest, collection_at, node_at}
 use Rattle.alloc_event.specs.Settling.{Handles, MayChange, Settled}
 use Rattle.buffer_holds.specs.Counts.{Counts, total}
 use Rattle.trackers.specs.declared.waiting.Waiting.{Waiting}
@@ -69,6 +70,18 @@ pub record MayDo (f : Forest) (t : Task) : Type 0 where
   pub change : IfSome t.change (MayChange f t.collection)
   pub there : SpendsThere f t
   pub spends : IfSome t.change (λ change. IfSome (released_by change) (λ key. t.spends ≡ Some key))
+
+-- where a handle was dropped, the task changes nothing but the question what follows in the buffer's collection
+abbrev pub AsksOnly : Call → Option Task → Type 0
+AsksOnly (Call.DropHandle buffer strength) task =
+    IfSome task (λ (t : Task). IfSome t.change (λ change. (change ≡ Change.Nothing) × (t.collection ≡ buffer.collection)))
+AsksOnly _ task = ⊤
+
+-- and no other buffer of the collection is home
+abbrev pub OthersStay : Handles → Forest → Call → Option Task → Type 0
+OthersStay handles f (Call.DropHandle buffer strength) task = IfSome task (λ (t : Task). is_some t.change ≡ true →
+    option_map_or (are_others_out handles buffer) (collection_at f buffer.collection) false ≡ true)
+OthersStay handles f _ task = ⊤
 
 -- the forest once the work is done, with all that it forces
 abbrev pub Reworked : ℕ → Handles → Forest → Option Work → Option NodeKey → Forest → Type 0

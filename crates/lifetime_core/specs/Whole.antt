@@ -8,13 +8,14 @@ use Rattle.sm_names.specs.declared.tracking.Condition.{Condition}
 use Rattle.sm_names.specs.Bounds.{Bound}
 use Rattle.sm_names.specs.Ends.{is_handle_of}
 use Rattle.sm_names.specs.Sameness.{same_key}
+use Rattle.sm_names.specs.Timelines.{HeldPages}
 use Rattle.sm_names.specs.Elements.{In}
 use Rattle.buffer_holds.specs.Counts.{Counts, total}
 use Rattle.buffer_pool.specs.Holdings.{Holdings}
 use Rattle.alloc_event.specs.declared.node.Node.{Node}
 use Rattle.alloc_event.specs.Forest.{Collection, Forest, IsPoolOf, given, node_at, is_left, tidied}
 use Rattle.alloc_event.specs.Nodes.{is_spent}
-use Rattle.alloc_event.specs.Settling.{Handles}
+use Rattle.alloc_event.specs.Settling.{Handles, is_home_in}
 use Rattle.trackers.specs.declared.waiting.Waiting.{Waiting}
 use Rattle.trackers.specs.Table.{Cell, Table, is_due}
 use Rattle.lifetime_core.specs.declared.task.Place.{Place}
@@ -109,6 +110,11 @@ pub record StillWaits (f : Forest) (handles : Handles) (t : Waiting) : Type 0 wh
   pub filed : Concerns f t.collection t.condition
   pub undue : is_due (world_in f handles) t ≡ false
 
+-- each held buffer is one of its collection, and not home
+abbrev pub AreOut : Handles → Forest → Type 0
+AreOut handles f = (c : Collection) → In c f.collections → (h : HeldPages) → In h c.held →
+    (h.buffer.collection ≡ c.id) × (is_home_in handles c h.buffer ≡ false)
+
 -- no id is above this number
 abbrev pub AreUpTo : ℕ → Forest → Type 0
 AreUpTo most f = (c : Collection) → In c f.collections → c.id ≤ most
@@ -130,3 +136,4 @@ pub record IsWhole (pool : Holdings) (limits : Bound) (events : ℕ) (clients : 
   pub tracker_limit : trackers.limit ≡ limits.trackers
   pub numbered : All (λ (c : Cell). c.id ≤ events) trackers.cells
   pub waiting : All (StillWaits forest (total holds)) trackers.unfired
+  pub out : AreOut (total holds) forest

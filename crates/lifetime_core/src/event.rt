@@ -3,11 +3,12 @@ ghost use Rattle.std.specs.Prelude.{◌≡◌, ◌<◌, IfOk, IfSome, OnErr, Non
 ghost use Rattle.std.specs.List.{All};
 ghost use Rattle.trackers.specs.Table.{Cell};
 ghost use Rattle.alloc_event.specs.Forest.{IsPoolOf};
+ghost use Rattle.buffer_holds.specs.Counts.{total};
 ghost use Rattle.lifetime_core.specs.Hands.{MayMove};
 ghost use Rattle.lifetime_core.specs.State.{Client as Row, counts_of};
-ghost use Rattle.lifetime_core.specs.Tasks.{MayDo, TakesEffect, takes_room};
+ghost use Rattle.lifetime_core.specs.Tasks.{AsksOnly, MayDo, TakesEffect, takes_room};
 ghost use Rattle.lifetime_core.specs.Tasks.{changes_nothing as is_idle, with_key};
-ghost use Rattle.lifetime_core.specs.Whole.{Rise};
+ghost use Rattle.lifetime_core.specs.Whole.{AreOut, Rise};
 
 use crate::clients::{Client, note_client};
 use crate::hands::{hand_back, hand_over, tidy_up};
@@ -65,6 +66,8 @@ pub(crate) fn take_effect(
     requires clients { Rise (map (λ (c : Row). c.id) contents.old.clients.items) }
     requires handles { MayMove contents.old.holds client call.now asked.now }
     requires may { IfSome task.now (MayDo contents.old.forest) }
+    requires asks { AsksOnly call.now task.now }
+    requires out { AreOut (total contents.old.holds) contents.old.forest }
     requires pool { IsPoolOf contents.old.pool contents.old.forest }
     requires rising { IfSome tracking (λ t.
         All (λ (c : Cell). c.id < t.id) contents.old.trackers.cells) }
@@ -103,6 +106,7 @@ pub(crate) fn take_effect(
         &mut contents.pool,
         &contents.holds,
         task,
+        call,
     ) else {
         detach(&mut contents.trackers, tracking);
         hand_back(&mut contents.holds, client, call, asked);

@@ -10,6 +10,7 @@ ghost use Rattle.alloc_event.specs.Settling.{no_key};
 ghost use Rattle.lifetime_core.specs.Reads.{node_named, readings_of};
 ghost use Rattle.lifetime_core.specs.Steps.{Work, at_node as change_at, birth_by, done_to, drop_at};
 ghost use Rattle.lifetime_core.specs.Steps.{work_of, with_place, without_over};
+ghost use Rattle.lifetime_core.specs.Tasks.{AsksOnly, OthersStay};
 ghost use Rattle.lifetime_core.specs.Tasks.{DoesSome, MayDo, Reworked, SpendsThere, carried_by};
 ghost use Rattle.lifetime_core.specs.Tasks.{end_placed, spent_by, spent_in, spent_place, work_in};
 ghost use Rattle.lifetime_core.specs.Traits.{key_in as key_on};
@@ -168,7 +169,8 @@ pub(crate) fn task_of(
     }
 }
 
-/// Makes the task's change, if it has one, with all that this forces.
+/// Makes the task's change, if it has one, with all that this forces. Where the call dropped a handle,
+/// only its own buffer can be home by that.
 ///
 /// `NoMemory` where memory is refused; then the forest and the pool are as they were.
 pub(crate) fn make_change(
@@ -176,8 +178,11 @@ pub(crate) fn make_change(
     pool: &mut Pool,
     holds: &Holds,
     task: &Option<Task>,
+    call: &Call,
 ) -> Result<Option<NodeKey>, NoMemory>
     requires may { IfSome task.now (MayDo forest.old) }
+    requires asks { AsksOnly call.now task.now }
+    requires others { OthersStay (total holds.now) forest.old call.now task.now }
     requires pool { IsPoolOf pool.old forest.old }
     ensures work { IfOk result (λ key.
         Reworked pool.old.size (total holds.now) forest.old (work_in task.now) key forest.new) }
@@ -192,6 +197,10 @@ pub(crate) fn make_change(
     let Some(change) = change else {
         return Ok(None);
     };
+    if let Call::DropHandle(buffer, _) = *call {
+        forest.settle_drop(pool, holds, buffer)?;
+        return Ok(None);
+    }
     forest.settle(pool, holds, task.collection, change)
 }
 

@@ -69,6 +69,93 @@ pub const WEAK_HOLDERS: Script = Script {
     fired: &[(12, 16), (11, 20)],
 };
 
+/// The last weak handle of a buffer sends it nowhere while a strong one is open. The last strong
+/// handle of a buffer does while one of another buffer is open, and then the last of all fails the
+/// collection.
+pub const LAST_WEAK: Script = Script {
+    limits: FULL,
+    rows: &[
+        (0, Act::Join, Said::Just(Reply::Joined(1))),
+        (1, Act::Open, Said::Token(2)),
+        (1, Act::On(2, Deed::Duplicate), Said::Token(2)),
+        (1, Act::On(3, Deed::Weak), DONE),
+        (1, Act::On(2, Deed::Bind), DONE),
+        (1, Act::On(3, Deed::Bind), DONE),
+        (1, Act::On(2, Deed::Constrain(2, 0, 4096)), DONE),
+        (1, Act::On(3, NOTHING), DONE),
+        (
+            1,
+            Act::On(2, Deed::Take),
+            Said::Just(Reply::Taken {
+                collection: 2,
+                strength: STRONG,
+                set: 3,
+            }),
+        ),
+        (
+            1,
+            Act::On(3, Deed::Take),
+            Said::Just(Reply::Taken {
+                collection: 2,
+                strength: WEAK,
+                set: 3,
+            }),
+        ),
+        (1, Act::On(2, Deed::Release), DONE),
+        (1, Act::DropHandle(2, 0, WEAK), DONE),
+        (1, Act::DropHandle(2, 0, STRONG), DONE),
+        (1, Act::On(3, Deed::Sync), DONE),
+        (1, Act::DropHandle(2, 1, STRONG), DONE),
+        (1, Act::On(3, Deed::Check), Said::Closed(Cause::NoStrong, 2)),
+        (1, Act::DropHandle(2, 1, WEAK), DONE),
+    ],
+    looks: &[
+        (12, 14, &[(2, 0, 0, 1), (2, 1, 1, 1)]),
+        (13, 15, &[(2, 1, 1, 1)]),
+        (15, 15, &[(2, 1, 1, 1)]),
+        (17, 16, &[]),
+    ],
+    live: &[],
+    failed: &[(3, Cause::NoStrong, 2)],
+    fired: &[],
+};
+
+/// Once a collection failed, each of its buffers goes home with its own last handle, whichever comes
+/// first.
+pub const LAST_OF_ALL: Script = Script {
+    limits: FULL,
+    rows: &[
+        (0, Act::Join, Said::Just(Reply::Joined(1))),
+        (1, Act::Open, Said::Token(2)),
+        (1, Act::On(2, Deed::Bind), DONE),
+        (1, Act::On(2, Deed::Constrain(3, 0, 4096)), DONE),
+        (
+            1,
+            Act::On(2, Deed::Take),
+            Said::Just(Reply::Taken {
+                collection: 2,
+                strength: STRONG,
+                set: 7,
+            }),
+        ),
+        (1, Act::DupHandle(2, 1, STRONG), DONE),
+        (1, Act::On(2, Deed::Close), DONE),
+        (1, Act::DropHandle(2, 1, STRONG), DONE),
+        (1, Act::DropHandle(2, 2, STRONG), DONE),
+        (1, Act::DropHandle(2, 1, STRONG), DONE),
+        (1, Act::DropHandle(2, 0, STRONG), DONE),
+    ],
+    looks: &[
+        (8, 13, &[(2, 0, 0, 1), (2, 1, 1, 1), (2, 2, 2, 1)]),
+        (9, 14, &[(2, 0, 0, 1), (2, 1, 1, 1)]),
+        (10, 15, &[(2, 0, 0, 1)]),
+        (11, 16, &[]),
+    ],
+    live: &[],
+    failed: &[],
+    fired: &[],
+};
+
 /// As many trackers wait as may, and one that fired waits no more.
 pub const ONE_TRACKER: Script = Script {
     limits: [100, 9, 9, 1, 9],

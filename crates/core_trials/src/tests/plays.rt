@@ -9,7 +9,9 @@ use super::giving::{
     HANDLE_OF_ONE_THAT_VANISHES, HANDLE_PARCEL, HANDLE_TO_A_SHUT_CLIENT, LOST_PARCEL, PARCEL,
     REFUSALS, SHUT_RECEIVER,
 };
-use super::holding::{ONE_COLLECTION, ONE_HANDLE, ONE_NODE, ONE_TRACKER, WEAK_HOLDERS};
+use super::holding::{
+    LAST_OF_ALL, LAST_WEAK, ONE_COLLECTION, ONE_HANDLE, ONE_NODE, ONE_TRACKER, WEAK_HOLDERS,
+};
 use super::placing::{HOLES, RELEASED_PARENT, RELEASED_TREE, TWO_BUFFERS};
 use super::player::Player;
 use super::scripts::Script;
@@ -126,6 +128,16 @@ fn weak_holders_are_told(rt: HostRuntime) {
 }
 
 #[test]
+fn the_last_weak_handle_sends_no_buffer_home(rt: HostRuntime) {
+    assert!(rt; told(&rt, &LAST_WEAK));
+}
+
+#[test]
+fn each_buffer_goes_home_with_its_own_last_handle(rt: HostRuntime) {
+    assert!(rt; told(&rt, &LAST_OF_ALL));
+}
+
+#[test]
 fn pages_come_back_as_one_hole(rt: HostRuntime) {
     assert!(rt; told(&rt, &HOLES));
 }
@@ -176,6 +188,8 @@ fn clients_vanish_cleanly_after_any_call(rt: HostRuntime) {
         FAILING_SUBTREES,
         ORPHAN_SHARE,
         WEAK_HOLDERS,
+        LAST_WEAK,
+        LAST_OF_ALL,
         HOLES,
         SHUT_RECEIVER,
         PARCEL,

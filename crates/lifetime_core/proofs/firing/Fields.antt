@@ -1,5 +1,5 @@
 -- What an event keeps of the trackers.
-use Rattle.std.proofs.Common.{ℕ, ◌≡◌, ◌<◌, ◌≤◌, ◌+◌, refl, ap, sym, ◌∙◌, subst, Bool, true, false, nat_le, if◌then◌else◌, length, not, ◌⊎◌, inl, inr, [], ◌∷◌, Option, Some, None, is_some, IfSome, arith}
+use Rattle.std.proofs.Common.{ℕ, ◌≡◌, ◌<◌, ◌≤◌, ◌+◌, ◌==◌, refl, ap, sym, ◌∙◌, subst, Bool, true, false, nat_le, if◌then◌else◌, length, not, ◌⊎◌, inl, inr, [], ◌∷◌, Option, Some, None, is_some, IfSome, arith}
 use Rattle.std.proofs.lemmas.Bool.{eqb-true, eq-eqb, leb-false, leb-true}
 use Rattle.std.specs.List.{All}
 use Rattle.std.specs.Option.{option_map}
@@ -261,6 +261,33 @@ new_elsewhere w None (Some n) t is here other =
 
 module _ (s : State) (client : ℕ) (call : Call) (asked : Reply) (task : Option Task) (tracking : Option Waiting)
     (starts : Starts s client call asked task tracking)
+    (holds : Counts) (moves : MovesHandles s.holds holds (Called client asked call)) where
+  -- of a buffer of another collection not the last handle of a strength is lost
+  pub kept_at : (buffer : BufferName) (strength : Strength) → (changed_by task ≡ Some buffer.collection → ⊥) →
+      is_some (collection_at s.forest buffer.collection) ≡ true → (total holds buffer strength == 0) ≡ true →
+      (total s.holds buffer strength == 0) ≡ true
+  kept_at buffer strength other there none = elim (either_way (drops anyone buffer strength (Called client asked call))) [
+    | inl dropped ↦ elim (drops_there s client call asked task tracking starts buffer strength dropped there) [
+      | inl more ↦
+          let sum : total holds buffer strength + one_if (drops anyone buffer strength (Called client asked call))
+          ≡ total s.holds buffer strength + one_if (opens anyone buffer strength (Called client asked call)) =
+          (moves.in_all buffer strength).adds_up in
+          let lost : one_if (drops anyone buffer strength (Called client asked call)) ≡ 1 = ap one_if dropped in
+          let now : total holds buffer strength ≡ 0 = eqb-true (total holds buffer strength) 0 none in
+          absurd (omega (arith, sum, lost, now, more))
+      | inr changed ↦ absurd (other changed)
+    ]
+    | inr not_dropped ↦
+        let sum : total holds buffer strength + one_if (drops anyone buffer strength (Called client asked call))
+        ≡ total s.holds buffer strength + one_if (opens anyone buffer strength (Called client asked call)) =
+        (moves.in_all buffer strength).adds_up in
+        let lost : one_if (drops anyone buffer strength (Called client asked call)) ≡ 0 = ap one_if not_dropped in
+        let now : total holds buffer strength ≡ 0 = eqb-true (total holds buffer strength) 0 none in
+        eq-eqb (total s.holds buffer strength) 0 (omega (arith, sum, lost, now))
+  ]
+
+module _ (s : State) (client : ℕ) (call : Call) (asked : Reply) (task : Option Task) (tracking : Option Waiting)
+    (starts : Starts s client call asked task tracking)
     (holds : Counts) (moves : MovesHandles s.holds holds (Called client asked call)) (worked : Forest) (key : Option NodeKey)
     (work : Reworked s.pool (total holds) s.forest (work_in task) key worked)
     (amid : CanFinish worked task) (attached : Table) (gains : GainsTracker s.trackers tracking attached) where
@@ -271,26 +298,7 @@ module _ (s : State) (client : ℕ) (call : Call) (asked : Reply) (task : Option
   -- no strong handle of their buffers was lost
   kept_elsewhere : (buffer : BufferName) → (changed_by task ≡ Some buffer.collection → ⊥) →
       is_some (collection_at s.forest buffer.collection) ≡ true → AreKept (total s.holds) (total holds) buffer
-  kept_elsewhere buffer other there none = elim (either_way (drops anyone buffer Strength.Strong (Called client asked call))) [
-    | inl dropped ↦
-        elim (drops_there s client call asked task tracking starts buffer Strength.Strong dropped there) [
-          | inl more ↦
-              let sum : total holds buffer Strength.Strong + one_if (drops anyone buffer Strength.Strong (Called client asked call))
-              ≡ total s.holds buffer Strength.Strong + one_if (opens anyone buffer Strength.Strong (Called client asked call)) =
-              (moves.in_all buffer Strength.Strong).adds_up in
-              let lost : one_if (drops anyone buffer Strength.Strong (Called client asked call)) ≡ 1 = ap one_if dropped in
-              let now : total holds buffer Strength.Strong ≡ 0 = eqb-true (total holds buffer Strength.Strong) 0 none in
-              absurd (omega (arith, sum, lost, now, more))
-          | inr changed ↦ absurd (other changed)
-        ]
-    | inr not_dropped ↦
-        let sum : total holds buffer Strength.Strong + one_if (drops anyone buffer Strength.Strong (Called client asked call))
-        ≡ total s.holds buffer Strength.Strong + one_if (opens anyone buffer Strength.Strong (Called client asked call)) =
-        (moves.in_all buffer Strength.Strong).adds_up in
-        let lost : one_if (drops anyone buffer Strength.Strong (Called client asked call)) ≡ 0 = ap one_if not_dropped in
-        let now : total holds buffer Strength.Strong ≡ 0 = eqb-true (total holds buffer Strength.Strong) 0 none in
-        eq-eqb (total s.holds buffer Strength.Strong) 0 (omega (arith, sum, lost, now))
-  ]
+  kept_elsewhere buffer = kept_at s client call asked task tracking starts holds moves buffer Strength.Strong
 
   -- no tracker is due elsewhere
   pub elsewhere : All (λ (t : Waiting). (looked_in (world_in worked (total holds)) (changed_by task) tracking ≡ Some t.collection → ⊥) →

@@ -88,7 +88,7 @@ module _ (o : Option Place) where
 module _ (f g : Forest) (o : Option Place) (named : AreNamed f) (after : AreNamed g) (left : g.collections ≡ without_over
     (with_place o f).collections) where
   -- a collection that is left was there
-  left_from : (d : Collection) → In d g.collections → (c : Collection) × In c f.collections × (d ≡ finished o c) × (is_left d ≡ false)
+  pub left_from : (d : Collection) → In d g.collections → (c : Collection) × In c f.collections × (d ≡ finished o c) × (is_left d ≡ false)
   left_from d on =
       let over : Collection → Collection = with_nodes (filter (λ n. not (is_over n))) in
       let kept = In-filter (λ (x : Collection). not (is_left x)) (map over (with_place o f).collections) d (subst (In d) left on) in
@@ -187,7 +187,7 @@ module _ (f g : Forest) (o : Option Place) (named : AreNamed f) (after : AreName
       ]
 
   -- a strong node is live, if one was
-  same_strong : (c : Collection) → some_strong_live (members_of (finished o c).nodes) ≡ some_strong_live (members_of c.nodes)
+  pub same_strong : (c : Collection) → some_strong_live (members_of (finished o c).nodes) ≡ some_strong_live (members_of c.nodes)
   same_strong c =
       of_nodes (finished o c).nodes
       ∙ (ap (list_any is_strong) (sym (filter-wider here (λ n. not (is_over n)) (map placed c.nodes) (λ n on. rw (not_back n.gone on) refl))

@@ -42,7 +42,7 @@ laid_names pages (b ∷ bs) (s ∷ ss) h =
     let e : length ss ≡ length bs = omega arith in ap (λ (l : List BufferName). b ∷ l) (laid_names pages bs ss e)
 
 -- a name is of its collection
-named_in : (collection count : ℕ) (x : BufferName) → In x (names collection count) → x.collection ≡ collection
+pub named_in : (collection count : ℕ) (x : BufferName) → In x (names collection count) → x.collection ≡ collection
 named_in collection count x on = let m =
     In-map (λ i. record { collection = collection; index = i }) (range_with_len 0 count) x on in ap (λ (y : BufferName). y.collection) m.2
 

@@ -1,7 +1,6 @@
 -- What an event keeps true of the fields of a core.
 use Rattle.std.proofs.Common.{ℕ, ◌≡◌, ◌<◌, ◌≤◌, ◌+◌, ◌^◌, refl, ap, sym, ◌∙◌, subst, false, List, [], ◌∷◌, ◌++◌, append-nil, length, map, Option, Some, None, IfSome, arith}
 use Rattle.std.specs.List.{All, AllByRecursion, cons_option}
-use Rattle.std.specs.Option.{option_map}
 use Rattle.sm_names.specs.declared.keys.Interval.{Interval}
 use Rattle.sm_names.specs.declared.keys.NodeKey.{NodeKey}
 use Rattle.sm_names.specs.declared.messages.Call.{Call}
@@ -25,13 +24,14 @@ use Rattle.lifetime_core.specs.Reads.{readings_of, world_in}
 use Rattle.lifetime_core.specs.State.{Client, HandleCounts, State, counts_of}
 use Rattle.lifetime_core.specs.Steps.{GainsTracker, Work, clients_by, handles_by, new_client, swept, with_place, without_over}
 use Rattle.lifetime_core.specs.Tasks.{Parts, Reworked, TakesEffect, looked_in, work_in}
-use Rattle.lifetime_core.specs.Whole.{AreSent, AreUpTo, IsSound, IsWhole, Rise, StillWaits}
+use Rattle.lifetime_core.specs.Whole.{AreOut, AreSent, AreUpTo, IsSound, IsWhole, Rise, StillWaits}
 use Rattle.lifetime_core.proofs.theorem.EventParts.{Begins, finishes}
 use Rattle.lifetime_core.proofs.handles.Movable.{may_move}
 use Rattle.lifetime_core.proofs.handles.Parcels.{still_sent}
 use Rattle.lifetime_core.proofs.firing.Fields.{Starts, attached_above, attached_fits, elsewhere, still_numbered, waiting_after}
 use Rattle.lifetime_core.proofs.firing.WorldsApart.{changed_by}
 use Rattle.lifetime_core.proofs.forced.Change.{up_to_worked}
+use Rattle.lifetime_core.proofs.forced.StillOut.{out_after}
 use Rattle.lifetime_core.proofs.handles.Moves.{moved}
 use Rattle.lifetime_core.proofs.collections.ById.{weaken}
 use Rattle.lifetime_core.proofs.theorem.Event.{within}
@@ -64,6 +64,7 @@ whole_same pool now limits events clients clients_now forest forest_now holds ho
       tracker_limit = whole.tracker_limit;
       numbered = whole.numbered;
       waiting = subst (λ (h : Handles). All (StillWaits forest h) trackers.unfired) totals whole.waiting;
+      out = subst (λ (h : Handles). AreOut h forest) totals whole.out;
     })
 
 -- ---- the clients
@@ -218,4 +219,6 @@ module _ (s : State) (client : ℕ) (call : Call) (asked reply : Reply) (task : 
               whole.numbered;
           waiting = waiting_after s client call asked task tracking starts parts.holds takes.handles parts.forest takes.key takes.work amid
               parts.trackers takes.trackers place g left keys sound;
+          out = out_after s client call asked task tracking starts whole.out parts.holds takes.handles parts.forest takes.key takes.work
+              amid place g left sound;
         })

@@ -3,8 +3,15 @@ use Rattle.sm_names.specs.Marks.{Called}
 use Rattle.alloc_event.specs.Settling.{Handles}
 use Rattle.lifetime_core.specs.State.{HandleCounts, counts_of}
 use Rattle.lifetime_core.specs.Tasks.{Reworked, work_in}
+use Rattle.lifetime_core.proofs.forced.StillOut.{others_stay}
 use Rattle.lifetime_core.proofs.handles.Moves.{moves_to}
 use Rattle.lifetime_core.proofs.event.take_effect.Goals as goal
+
+-- only the count of the dropped handle goes down
+pub make_change-requires-clause-others : goal.make_change-requires-clause-others
+make_change-requires-clause-others c =
+    others_stay c.args.contents.now.holds c.hand_over.new.holds c.args.contents.now.forest c.args.client c.args.call.now c.args.asked.now
+    c.args.task.now c.requires.out c.in_ok-hand_over.ensures.ok c.requires.may c.requires.asks
 
 pub returns-clause-ok : goal.returns-clause-ok
 returns-clause-ok c =

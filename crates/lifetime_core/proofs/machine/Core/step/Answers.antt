@@ -16,6 +16,7 @@ use Rattle.lifetime_core.proofs.answers.Order.{end_of_named}
 use Rattle.lifetime_core.proofs.theorem.GoesOn.{goes_on}
 use Rattle.lifetime_core.proofs.theorem.Idle.{Idles, further, idle_follows, idle_whole, idles, parts_of}
 use Rattle.lifetime_core.proofs.theorem.Leads.{untaken_after}
+use Rattle.lifetime_core.proofs.forced.StillOut.{asks_only}
 use Rattle.lifetime_core.proofs.theorem.Fields.{above, fits, moves, none_elsewhere, whole_same, whole_then}
 use Rattle.lifetime_core.proofs.machine.Core.step.Goals as goal
 
@@ -43,6 +44,8 @@ take_effect-requires c =
       handles = moves s c.args.client c.args.call c.answer-asked.result c.answer-asked.result c.task_of-task.result
           c.tracking_of-tracking.result b;
       may = b.may;
+      asks = asks_only s c.args.client c.args.call c.answer-asked.result c.task_of-task.result b.work;
+      out = c.self.invariant.out;
       pool = c.self.invariant.pages;
       rising = above s c.args.client c.args.call c.answer-asked.result c.answer-asked.result c.task_of-task.result
           c.tracking_of-tracking.result b;
