@@ -17,6 +17,7 @@ pub mod Parted
 pub mod Questions
 pub mod Reserved
 pub mod Scenes
+pub mod Serving
 pub mod Settling
 pub mod Still
 pub mod Ties

@@ -55,7 +55,7 @@ fn affected_by(node: &Node, key: NodeKey, effect: &Effect) -> Node
 }
 
 /// The count, where a node that it may have counted is counted no longer.
-fn less(count: usize, was: bool, is: bool) -> usize
+pub(crate) fn less(count: usize, was: bool, is: bool) -> usize
     ensures { (real : ℕ) → (is ≡ true → was ≡ true) → real + bit was ≡ count + bit is → result ≡ real }
 {
     if was && !is && count > 0 {

@@ -34,6 +34,7 @@ pub mod questions;
 mod reserving;
 pub mod returns;
 pub mod scene;
+mod serving;
 pub mod settling;
 mod still;
 mod store;

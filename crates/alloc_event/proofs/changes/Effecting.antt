@@ -85,12 +85,12 @@ alone_affected key Effect.Released m other = rw other refl
 alone_affected key Effect.Tracked m other = rw other refl
 
 -- no effect changes whether a node is gone, allocated, or over
-record Remains (m n : Node) : Type 0 where
-  gone : m.gone ≡ n.gone
-  allocated : m.allocated ≡ n.allocated
-  over : is_over m ≡ is_over n
+pub record Remains (m n : Node) : Type 0 where
+  pub gone : m.gone ≡ n.gone
+  pub allocated : m.allocated ≡ n.allocated
+  pub over : is_over m ≡ is_over n
 
-remains_affected : (key : NodeKey) (effect : Effect) (n : Node) → Remains (affected key effect n) n
+pub remains_affected : (key : NodeKey) (effect : Effect) (n : Node) → Remains (affected key effect n) n
 remains_affected key Effect.Bound n = record { gone = refl; allocated = refl; over = refl }
 remains_affected key Effect.Dispensable n = record { gone = refl; allocated = refl; over = refl }
 remains_affected key Effect.Weak n = record { gone = refl; allocated = refl; over = refl }
@@ -207,7 +207,7 @@ module _ (t now : Table Node) (us : List Unit) (key : NodeKey) (effect : Effect)
   nodes_now : nodes_with now s.keys ≡ map f nodes
   nodes_now = looked-map f (node_at t) (node_at now) look s.keys
 
-  now_is : collection_in now s ≡ with_nodes (map f) (collection_in t s)
+  pub now_is : collection_in now s ≡ with_nodes (map f) (collection_in t s)
   now_is = λ i. record (collection_in t s) { nodes = nodes_now i }
 
   whole : IsWhole (collection_in t s)

@@ -97,22 +97,22 @@ module _ (c : Collection) (sound : IsSound c) (k : NodeKey) (child : is_root_of 
   abbrev after : List Node
   after = after_allocation k c.nodes
 
-  deserted_same : (n : Node) → is_deserted_node after (f n) ≡ is_deserted_node c.nodes n
+  pub deserted_same : (n : Node) → is_deserted_node after (f n) ≡ is_deserted_node c.nodes n
   deserted_same n = ap (λ (b : Bool). (is_none n.parent || n.attached) && (not n.gone && not b))
       (any_map (lives_below after n.key) (lives_below c.nodes n.key) f c.nodes (λ m. ap (λ (b : Bool). is_live_node m && b)
       (below_by_links after c.nodes n.key m.key (map-kept f link_of c.nodes (λ x. refl)))))
 
-  ready_on : (head : NodeKey) → list_all (is_ready_node head) after ≡ list_all (is_ready_node head) c.nodes
+  pub ready_on : (head : NodeKey) → list_all (is_ready_node head) after ≡ list_all (is_ready_node head) c.nodes
   ready_on head = all_same (is_ready_node head) (is_ready_node head) f c.nodes (λ n. refl)
 
-  strong_on : has_strong after ≡ has_strong c.nodes
+  pub strong_on : has_strong after ≡ has_strong c.nodes
   strong_on = any_map (λ n. is_live_node n && not n.weak) (λ n. is_live_node n && not n.weak) f c.nodes (λ n. refl)
 
-  root_on : find is_root_left after ≡ option_map f (find is_root_left c.nodes)
+  pub root_on : find is_root_left after ≡ option_map f (find is_root_left c.nodes)
   root_on = find_map is_root_left is_root_left f c.nodes (λ n. refl)
 
   -- the root is of another unit
-  root_same : (r : Node) → find is_root_left c.nodes ≡ Some r → (same_key k r.head || r.allocated) ≡ r.allocated
+  pub root_same : (r : Node) → find is_root_left c.nodes ≡ Some r → (same_key k r.head || r.allocated) ≡ r.allocated
   root_same r e =
       let on = In-find is_root_left c.nodes r e in
       let root : is_none r.parent ≡ true = and_left (is_none r.parent) (not r.gone) on.1 in
@@ -129,7 +129,7 @@ module _ (c : Collection) (sound : IsSound c) (k : NodeKey) (child : is_root_of 
   loss_on None e h = refl
   loss_on (Some r) e h = (λ i. when (root_same r e i && (not (strong_on i) && not strong_open)) (Loses r.key Cause.NoStrong)) ∙ h
 
-  wait_on : (o : Option Node) → find is_root_left c.nodes ≡ o →
+  pub wait_on : (o : Option Node) → find is_root_left c.nodes ≡ o →
       option_and_then (λ (root : Node). when (not root.allocated && list_all (is_ready_node root.key) c.nodes) root) o ≡ None →
       option_and_then (λ (root : Node). when (not root.allocated && list_all (is_ready_node root.key) after) root) (option_map f o) ≡ None
   wait_on None e h = refl
@@ -151,7 +151,7 @@ module _ (c : Collection) (sound : IsSound c) (k : NodeKey) (child : is_root_of 
 -- ---- the steps
 
 -- so the next unit is what is decided
-next_decided : (nodes : List Node) (b : Buffers) (strong_open : Bool) (n : Node) → AreCalm nodes strong_open →
+pub next_decided : (nodes : List Node) (b : Buffers) (strong_open : Bool) (n : Node) → AreCalm nodes strong_open →
     find (is_next_node nodes) nodes ≡ Some n → late_failure n.key nodes b ≡ None →
     decided nodes (Some b) strong_open ≡ Some (Allocates n.key)
 next_decided nodes b strong_open n calm found late =

@@ -1,0 +1,6 @@
+-- Attached units that become ready and are allocated in their places.
+pub mod Next
+pub mod Giving
+pub mod Sums
+pub mod Before
+pub mod Served

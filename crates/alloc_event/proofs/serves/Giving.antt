@@ -1,0 +1,125 @@
+-- Nodes of a unit that are given its buffers, one after another.
+use Rattle.std.proofs.Common.{◌≡◌, ◌≢◌, refl, ap, sym, ◌∙◌, subst, Bool, true, false, ◌||◌, if◌then◌else◌, List, [], ◌∷◌, ◌++◌, Option, Some, None, option_map}
+use Rattle.std.specs.List.{list_any}
+use Rattle.sm_names.specs.declared.keys.NodeKey.{NodeKey}
+use Rattle.sm_names.specs.Sameness.{same_key}
+use Rattle.sm_names.proofs.SamenessLaws.{false_if, same_key-refl, same_key-true}
+use Rattle.node_table.specs.Changes.{Writes}
+use Rattle.node_table.specs.Lending.{table_with_node}
+use Rattle.node_table.specs.Table.{Table, node_at}
+use Rattle.alloc_event.specs.declared.node.Node.{Node}
+use Rattle.alloc_event.specs.Nodes.{given_buffers}
+use Rattle.alloc_event.specs.Serving.{IsGivenAt, given_at}
+use Rattle.alloc_event.proofs.changes.Altering.{any-append}
+use Rattle.alloc_event.proofs.tables.Writing.{IsSameNode, look-changed, parents-written}
+
+-- each node of the unit, or of none but these, as it was
+pub same_given : (head : NodeKey) (keys : List NodeKey) (n : Node) → IsSameNode (given_at head keys n) n
+same_given head keys n = from (list_any (same_key n.key) keys)
+  where
+    from : (b : Bool) → IsSameNode (if b then given_buffers head n else n) n
+    from true = record { key = refl; parent = refl; attached = refl; collection = refl; head = refl }
+    from false = record { key = refl; parent = refl; attached = refl; collection = refl; head = refl }
+
+-- what the buffers don't change of a node stays
+pub kept_given : {A : Type 0} (p : Node → A) (head : NodeKey) → ((m : Node) → p (given_buffers head m) ≡ p m) → (keys : List NodeKey) (n : Node) →
+    p (given_at head keys n) ≡ p n
+kept_given p head same keys n = from (list_any (same_key n.key) keys)
+  where
+    from : (b : Bool) → p (if b then given_buffers head n else n) ≡ p n
+    from true = same n
+    from false = refl
+
+-- a node whose key is one of these has them, and another stays
+pub given_in : (head : NodeKey) (keys : List NodeKey) (n : Node) → list_any (same_key n.key) keys ≡ true →
+    given_at head keys n ≡ given_buffers head n
+given_in head keys n e = λ i. if e i then given_buffers head n else n
+
+pub given_out : (head : NodeKey) (keys : List NodeKey) (n : Node) → list_any (same_key n.key) keys ≡ false → given_at head keys n ≡ n
+given_out head keys n e = λ i. if e i then given_buffers head n else n
+
+-- what is there, and stays
+each_still : (f : Node → Node) (o : Option Node) → ((n : Node) → o ≡ Some n → f n ≡ n) → o ≡ option_map f o
+each_still f None same = refl
+each_still f (Some n) same = ap Some (sym (same n refl))
+
+-- no node is
+pub given_none : (t : Table Node) (head : NodeKey) → IsGivenAt t t head []
+given_none t head = record {
+  look = λ key. each_still (given_at head []) (node_at t key) (λ n is. refl);
+  parents = λ key. refl;
+  same = record { first = refl; nexts = refl; limit = refl; len = refl };
+}
+
+-- once more makes no difference
+or_twice : (a b : Bool) → (a || (a || b)) ≡ (a || b)
+or_twice true b = refl
+or_twice false b = refl
+
+given_twice : (head k : NodeKey) (n : Node) (b : Bool) →
+    given_at head (k ∷ []) (if b then given_buffers head n else n) ≡ (if b || (same_key n.key k || false) then given_buffers head n else n)
+given_twice head k n true = from (same_key n.key k || false)
+  where
+    from : (b : Bool) → (if b then given_buffers head (given_buffers head n) else given_buffers head n) ≡ given_buffers head n
+    from true = λ i. record n { allocated = or_twice (same_key head n.head) n.allocated i }
+    from false = refl
+given_twice head k n false = refl
+
+-- one more is
+pub given_more : (t u now : Table Node) (head k : NodeKey) (keys : List NodeKey) → IsGivenAt t u head keys → IsGivenAt u now head (k ∷ []) →
+    IsGivenAt t now head (keys ++ k ∷ [])
+given_more t u now head k keys before one = record {
+  look = λ key. one.look key ∙ (ap (option_map (given_at head (k ∷ []))) (before.look key) ∙ by (node_at t key));
+  parents = λ key. one.parents key ∙ before.parents key;
+  same = record {
+    first = one.same.first ∙ before.same.first;
+    nexts = one.same.nexts ∙ before.same.nexts;
+    limit = one.same.limit ∙ before.same.limit;
+    len = one.same.len ∙ before.same.len;
+  };
+}
+  where
+    by : (o : Option Node) → option_map (given_at head (k ∷ [])) (option_map (given_at head keys) o)
+        ≡ option_map (given_at head (keys ++ k ∷ [])) o
+    by None = refl
+    by (Some n) = ap Some (given_twice head k n (list_any (same_key n.key) keys)
+        ∙ ap (λ (b : Bool). if b then given_buffers head n else n) (sym (any-append (same_key n.key) keys (k ∷ []))))
+
+module _ (t : Table Node) (named : (key : NodeKey) (n : Node) → node_at t key ≡ Some n → n.key ≡ key) (head key : NodeKey) where
+  -- by whether it has the key
+  by_key : (n : Node) (b : Bool) → (b ≡ true → given_buffers head n ≡ n) → (if b || false then given_buffers head n else n) ≡ n
+  by_key n true same = same refl
+  by_key n false same = refl
+
+  -- one that has them, or is of another unit, stays
+  pub given_still : ((n : Node) → node_at t key ≡ Some n → given_buffers head n ≡ n) → IsGivenAt t t head (key ∷ [])
+  given_still same = record {
+    look = λ k. each_still (given_at head (key ∷ [])) (node_at t k) (λ n is. by_key n (same_key n.key key) (λ e.
+        same n (ap (node_at t) (sym (same_key-true n.key key e) ∙ named k n is) ∙ is)));
+    parents = λ k. refl;
+    same = record { first = refl; nexts = refl; limit = refl; len = refl };
+  }
+
+  -- a node is written so
+  pub given_written : (now : Table Node) (n : Node) → node_at t key ≡ Some n →
+      now ≡ table_with_node t (given_buffers head n).key (given_buffers head n) →
+      Writes t now (given_buffers head n).key (given_buffers head n) → IsGivenAt t now head (key ∷ [])
+  given_written now n is becomes writes =
+      let own : n.key ≡ key = named key n is in
+      record {
+        look = look-changed t now (given_at head (key ∷ [])) key n (given_buffers head n)
+            (subst_key own writes) is
+            (ap (λ (b : Bool). if b || false then given_buffers head n else n) (ap (same_key n.key) (sym own) ∙ same_key-refl n.key)) named
+            (λ m differ. ap (λ (b : Bool). if b || false then given_buffers head m else m)
+            (false_if (same_key m.key key) (λ e. differ (same_key-true m.key key e))));
+        parents = parents-written t now n.key (given_buffers head n) writes;
+        same = record {
+          first = ap (λ (x : Table Node). x.first) becomes;
+          nexts = ap (λ (x : Table Node). x.nexts) becomes;
+          limit = ap (λ (x : Table Node). x.limit) becomes;
+          len = writes.len;
+        };
+      }
+    where
+      subst_key : {k : NodeKey} → k ≡ key → Writes t now k (given_buffers head n) → Writes t now key (given_buffers head n)
+      subst_key own = λ w. subst (λ (j : NodeKey). Writes t now j (given_buffers head n)) own w

@@ -1,0 +1,442 @@
+-- An effect by which an attached unit becomes ready, and the unit's allocation with it, in their places.
+use Rattle.std.proofs.Common.{◌≡◌, ◌≢◌, ℕ, ◌+◌, ◌<◌, ◌==◌, nat_lt, refl, ap, sym, ◌∙◌, subst, Bool, true, false, not, ◌&&◌, if◌then◌else◌, ◌⊎◌, inl, inr, List, [], ◌∷◌, ◌++◌, map, length, set, Option, Some, None, option_map, arith}
+use Rattle.std.proofs.lemmas.Bool.{eqb-false, eqb-true, le-ltb, lt-ltb}
+use Rattle.std.specs.List.{find, list_all, list_any, sum_by}
+use Rattle.std.specs.Option.{option_map_or}
+use Rattle.sm_names.specs.declared.keys.Interval.{Interval}
+use Rattle.sm_names.specs.declared.keys.NodeKey.{NodeKey}
+use Rattle.sm_names.specs.declared.outcomes.Buffers.{Buffers}
+use Rattle.sm_names.specs.declared.outcomes.Cause.{Cause}
+use Rattle.sm_names.specs.Demands.{Demand}
+use Rattle.sm_names.specs.Forced.{forced}
+use Rattle.sm_names.specs.Marks.{Allocated}
+use Rattle.sm_names.specs.Sameness.{same_key}
+use Rattle.sm_names.specs.Words.{times}
+use Rattle.sm_names.proofs.ListLaws.{In, In-find, In-map-back, map-In}
+use Rattle.sm_names.proofs.SamenessLaws.{and_both, both_ways, either_way, false_if, same_key-refl, same_key-true}
+use Rattle.sm_names.proofs.StandingLaws.{In-any}
+use Rattle.node_table.specs.Changes.{Writes}
+use Rattle.node_table.specs.Lending.{table_with_node}
+use Rattle.node_table.specs.Table.{Table, node_at}
+use Rattle.alloc_event.specs.declared.change.Change.{Change}
+use Rattle.alloc_event.specs.declared.change.Effect.{Effect}
+use Rattle.alloc_event.specs.declared.decision.Decision.TheVariants.{Allocates}
+use Rattle.alloc_event.specs.declared.node.Node.{Node}
+use Rattle.alloc_event.specs.declared.units.Unit.{Unit}
+use Rattle.alloc_event.specs.Calm.{IsCalm, over_but, strong_count}
+use Rattle.alloc_event.specs.Counts.{AreUnits, lives_in, unit_at, waits_in, is_unready}
+use Rattle.alloc_event.specs.Decisions.{decided, has_strong, late_failure, mark_of}
+use Rattle.alloc_event.specs.Due.{is_due_at, is_served_at}
+use Rattle.alloc_event.specs.Forest.{Collection, beside, pages_in, with_nodes}
+use Rattle.alloc_event.specs.InPlace.{IsMade, IsOpen, bit}
+use Rattle.alloc_event.specs.Kept.{AreRising, Finishes, IsStored, IsWhole, Shelf, collection_in, forest_of, is_filed, is_strong, nodes_with, written}
+use Rattle.alloc_event.specs.Nodes.{affected, after_allocation, given_buffers}
+use Rattle.alloc_event.specs.Questions.{demands_of, is_allocated_node, is_in_unit, is_live_node, is_next_node, is_ready_node, is_served}
+use Rattle.alloc_event.specs.Scenes.{IsSound}
+use Rattle.alloc_event.specs.Serving.{AreLess, IsGivenAt, are_enough, asked_with, given_at, hangs_below_at, has_turn_at, reserved_with}
+use Rattle.alloc_event.specs.Settling.{Handles, MayChange, Rests, Settles, changed, collection_or_new, given_back, is_root_of, is_there, no_key, put, standing}
+use Rattle.alloc_event.proofs.calm.Calming.{any_map, count_none, rests_strong, times_map}
+use Rattle.alloc_event.proofs.calm.Forcing.{forced_made}
+use Rattle.alloc_event.proofs.calm.Settlings.{step_settles}
+use Rattle.alloc_event.proofs.calm.Steps.{all-In}
+use Rattle.alloc_event.proofs.calm.United.{each_all}
+use Rattle.alloc_event.proofs.calm.Watched.{nothing_back, strong_lives}
+use Rattle.alloc_event.proofs.changes.Altering.{Some-shelf, filed_at, found_filed, looked-of, same_affected}
+use Rattle.alloc_event.proofs.changes.Effecting.{alone_affected, counted_made, live_before, live_is, now_is, remains_affected, strong_before, strong_is, unready_before, unready_is}
+use Rattle.alloc_event.proofs.failures.Endings.{change_nodes}
+use Rattle.alloc_event.proofs.lists.Lookups.{looked-map}
+use Rattle.alloc_event.proofs.serves.Before.{IsDueHead, due_head, key_listed, no_root, none_below, whole_before}
+use Rattle.alloc_event.proofs.serves.Giving.{given_in, given_out, kept_given, same_given}
+use Rattle.alloc_event.proofs.serves.Next.{calm_given, serves}
+use Rattle.alloc_event.proofs.serves.Sums.{asked_is, enough_is, reserved_same}
+use Rattle.alloc_event.proofs.shelves.Showing.{node_is}
+use Rattle.alloc_event.proofs.tables.Hanging.{in_all, looked_there}
+use Rattle.alloc_event.proofs.tables.LeftParents.{loss_left}
+use Rattle.alloc_event.proofs.tables.Rooted.{IsLeft, distinct_one, left_node}
+use Rattle.alloc_event.proofs.tables.Writing.{IsSameNode, IsSound-map, collections-map, filed-map, kept-map}
+use Rattle.alloc_event.proofs.tallies.Slots.{all_at, units_with}
+use Rattle.alloc_event.proofs.turns.Serving.{strong_on}
+
+-- ---- lists
+
+still_map : (f : Node → Node) (xs : List Node) → ((x : Node) → In x xs → f x ≡ x) → map f xs ≡ xs
+still_map f [] same = refl
+still_map f (x ∷ xs) same = λ i. same x (inl refl) i ∷ still_map f xs (λ y on. same y (inr on)) i
+
+swap_maps : (f g : Node → Node) (xs : List Node) → ((x : Node) → f (g x) ≡ g (f x)) → map f (map g xs) ≡ map g (map f xs)
+swap_maps f g [] same = refl
+swap_maps f g (x ∷ xs) same = λ i. same x i ∷ swap_maps f g xs same i
+
+maps_same : (t now : Table Node) (ss : List Shelf) → ((x : Shelf) → In x ss → collection_in now x ≡ collection_in t x) →
+    map (collection_in now) ss ≡ map (collection_in t) ss
+maps_same t now [] same = refl
+maps_same t now (s ∷ ss) same = λ i. same s (inl refl) i ∷ maps_same t now ss (λ x on. same x (inr on)) i
+
+-- one collection that changed is put among the others
+put_among : (t now : Table Node) (s : Shelf) (ss : List Shelf) → AreRising ss → find (λ (x : Shelf). x.id == s.id) ss ≡ Some s →
+    ((x : Shelf) → In x ss → x.id ≢ s.id → collection_in now x ≡ collection_in t x) →
+    map (collection_in now) ss ≡ put (collection_in now s) (map (collection_in t) ss)
+put_among t now s [] rising found each = cc
+put_among t now s (x ∷ xs) rising found each = elim (either_way (x.id == s.id)) [
+  | inl e ↦
+      let is : x ≡ s = Some-shelf x s (rw e at found) in
+      let rest = maps_same t now xs (λ y on. each y (inr on) (λ same.
+      let above : x.id < y.id = all_at (λ (later : Shelf). x.id < later.id) xs rising.0 y on in
+      let own : x.id ≡ s.id = eqb-true x.id s.id e in
+      omega (arith, above, own, same))) in
+      rw e (λ i. collection_in now (is i) ∷ rest i)
+  | inr e ↦
+      let on : find (λ (y : Shelf). y.id == s.id) xs ≡ Some s = rw e at found in
+      let above : x.id < s.id = all_at (λ (later : Shelf). x.id < later.id) xs rising.0 s
+      (In-find (λ (y : Shelf). y.id == s.id) xs s on).0 in
+      let less : nat_lt s.id x.id ≡ false = le-ltb s.id x.id (omega (arith, above)) in
+      let rest = put_among t now s xs rising.1 on (λ y there. each y (inr there)) in
+      rw (e, less) (λ i. each x (inl refl) (eqb-false x.id s.id e) i ∷ rest i)
+]
+
+-- ---- one node
+
+-- the buffers and the effect come in either order
+affected_given : (key : NodeKey) (effect : Effect) (k : NodeKey) (n : Node) →
+    affected key effect (given_buffers k n) ≡ given_buffers k (affected key effect n)
+affected_given key Effect.Bound k n = refl
+affected_given key Effect.Dispensable k n = refl
+affected_given key Effect.Weak k n = refl
+affected_given key (Effect.WeakOk children) k n = refl
+affected_given key (Effect.Constrained demand) k n = refl
+affected_given key Effect.Taken k n = refl
+affected_given key Effect.Released k n = refl
+affected_given key Effect.Tracked k n = refl
+
+over_given : (k : NodeKey) (one : Option NodeKey) (m : Node) → over_but one (given_buffers k m) ≡ over_but one m
+over_given k None m = refl
+over_given k (Some noted) m = refl
+
+module _ (t : Table Node) (us : List Unit) (key : NodeKey) (effect : Effect) (n : Node) (was : node_at t key ≡ Some n)
+    (ss : List Shelf) (s : Shelf) (strong : ℕ) (opens : IsOpen t us ss s (Change.Effect key effect) strong)
+    (b : Buffers) (has : s.buffers ≡ Some b) (bare : n.allocated ≡ false) (turn : has_turn_at t n.head ≡ true)
+    (none : list_any (hangs_below_at t n.head) s.keys ≡ false)
+    (enough : are_enough b (reserved_with t s.keys) (asked_with t s.keys n.head (affected key effect n)) ≡ true) where
+  abbrev k : NodeKey
+  k = n.head
+
+  abbrev f : Node → Node
+  f = affected key effect
+
+  abbrev nodes : List Node
+  nodes = nodes_with t s.keys
+
+  abbrev c0 : Collection
+  c0 = collection_in t s
+
+  -- with the effect
+  abbrev c1 : Collection
+  c1 = with_nodes (map f) c0
+
+  same : (m : Node) → IsSameNode (f m) m
+  same = same_affected key effect
+
+  own : n.key ≡ key
+  own = opens.kept.named key n was
+
+  whole : IsWhole c0
+  whole = whole_before t ss opens.kept s opens.found k
+
+  at_key : (m : Node) → In m nodes → node_at t m.key ≡ Some m
+  at_key m there = in_all (λ (x : Node). node_at t x.key ≡ Some x) nodes (looked_there t opens.kept.named s.keys) m there
+
+  left : IsLeft nodes key
+  left = left_node nodes key (loss_left t ss opens.kept s.id (Change.Loss key Cause.Lost)
+      (record { named = opens.may.named; room = λ e. cc; heads = refl; trackers = λ k m e. cc }) s opens.found)
+
+  is_left : n ≡ left.node
+  is_left =
+      let both : Some n ≡ Some left.node = sym was ∙ (ap (node_at t) (sym left.is) ∙ at_key left.node left.on) in
+      cc
+
+  on : In n nodes
+  on = subst (λ (m : Node). In m nodes) (sym is_left) left.on
+
+  here : n.gone ≡ false
+  here = ap (λ (m : Node). m.gone) is_left ∙ left.here
+
+  alone : (m : Node) → same_key n.key m.key ≡ false → f m ≡ m
+  alone m other = alone_affected key effect m (subst (λ (j : NodeKey). same_key j m.key ≡ false) own other)
+
+  one : (m : Node) → In m nodes → same_key n.key m.key ≡ true → m ≡ n
+  one m there e = distinct_one nodes whole.sound.distinct m n there on (sym (same_key-true n.key m.key e))
+
+  due : IsDueHead t nodes k
+  due = due_head t ss opens.kept s opens.found k turn n on here refl
+
+  -- ---- the head, before and after the effect
+
+  child0 : is_root_of c0 k ≡ false
+  child0 = subst (λ (j : NodeKey). is_root_of c0 j ≡ false) due.key (no_root c0 whole.sound due.head due.on due.above.key due.up)
+
+  abbrev h1 : Node
+  h1 = f due.head
+
+  h1_on : In h1 c1.nodes
+  h1_on = In-map-back f nodes due.head due.on
+
+  h1_key : h1.key ≡ k
+  h1_key = (same due.head).key ∙ due.key
+
+  sound1 : IsSound c1
+  sound1 = IsSound-map f same c0 whole.sound
+
+  child1 : is_root_of c1 k ≡ false
+  child1 = subst (λ (j : NodeKey). is_root_of c1 j ≡ false) h1_key
+      (no_root c1 sound1 h1 h1_on due.above.key ((same due.head).parent ∙ due.up))
+
+  -- ---- the buffers are enough
+
+  reserved_is : reserved_with t s.keys ≡ sum_by (λ (d : Demand). d.camping) (demands_of is_served (map f nodes))
+  reserved_is = ap (sum_by (λ (d : Demand). d.camping)) (sym (reserved_same f nodes
+      (λ m there. (remains_affected key effect m).gone) (λ m there. (remains_affected key effect m).allocated)
+      (λ m there given. elim (either_way (same_key n.key m.key)) [
+        | inl e ↦ both_ways n.allocated (ap (λ (x : Node). x.allocated) (sym (one m there e)) ∙ given) bare
+        | inr e ↦ ap (λ (x : Node). x.constraints) (alone m e)
+      ])))
+
+  asks_are : asked_with t s.keys k (f n) ≡ demands_of (is_in_unit k) (map f nodes)
+  asks_are = asked_is t s.keys k (f n) ∙ ap (demands_of (is_in_unit k)) (map-In (written (f n)) f nodes (λ m there.
+      let swap : same_key (f n).key m.key ≡ same_key n.key m.key = ap (λ (j : NodeKey). same_key j m.key) (same n).key in
+      elim (either_way (same_key n.key m.key)) [
+        | inl e ↦ (λ i. if (swap ∙ e) i then f n else m) ∙ ap f (sym (one m there e))
+        | inr e ↦ (λ i. if (swap ∙ e) i then f n else m) ∙ sym (alone m e)
+      ]))
+
+  fits : late_failure k c1.nodes b ≡ None
+  fits = enough_is (map f nodes) k b (reserved_with t s.keys) (asked_with t s.keys k (f n)) reserved_is asks_are enough
+
+  -- ---- the unit is next
+
+  next1 : times (waits_in k) (map f nodes) ≡ 0 → is_next_node c1.nodes h1 ≡ true
+  next1 ready =
+      let turn1 : option_map_or (λ p. list_any (is_allocated_node p) c1.nodes) h1.parent false ≡ true =
+      ap (λ (o : Option NodeKey). option_map_or (λ p. list_any (is_allocated_node p) c1.nodes) o false) ((same due.head).parent ∙ due.up)
+      ∙ In-any (is_allocated_node due.above.key) c1.nodes (f due.above) (In-map-back f nodes due.above due.above_on)
+      (and_both (not (f due.above).gone) _ (ap not ((remains_affected key effect due.above).gone ∙ due.above_here))
+      (and_both (f due.above).allocated _ ((remains_affected key effect due.above).allocated ∙ due.served)
+      (ap (λ (j : NodeKey). same_key j due.above.key) (same due.above).key ∙ same_key-refl due.above.key))) in
+      let all : list_all (is_ready_node k) c1.nodes ≡ true =
+      each_all (is_ready_node k) (map f nodes) (λ m there. elim (either_way (is_ready_node k m)) [
+        | inl e ↦ e
+        | inr e ↦ both_ways (list_any (waits_in k) (map f nodes)) (In-any (waits_in k) (map f nodes) m there (ap not e))
+            (count_none (waits_in k) (map f nodes) ready)
+      ]) in
+      and_both h1.attached _ ((same due.head).attached ∙ due.attached)
+      (and_both (not h1.gone) _ (ap not ((remains_affected key effect due.head).gone ∙ due.here))
+      (and_both (not h1.allocated) _ (ap not ((remains_affected key effect due.head).allocated ∙ due.waits))
+      (and_both (option_map_or (λ p. list_any (is_allocated_node p) c1.nodes) h1.parent false) _ turn1
+      (subst (λ (j : NodeKey). list_all (is_ready_node j) c1.nodes ≡ true) (sym h1_key) all))))
+
+  -- ---- the unit is allocated, without the effect
+
+  module _ (between : Table Node) (given : IsGivenAt t between k s.keys) where
+    abbrev g : Node → Node
+    g = given_at k s.keys
+
+    same_g : (m : Node) → IsSameNode (g m) m
+    same_g m = same_given k s.keys m
+
+    listed : (m : Node) → In m nodes → list_any (same_key m.key) s.keys ≡ true
+    listed m there = key_listed t opens.kept.named s.keys m there
+
+    nodes_between : nodes_with between s.keys ≡ after_allocation k nodes
+    nodes_between = looked-map g (node_at t) (node_at between) given.look s.keys
+        ∙ map-In g (given_buffers k) nodes (λ m there. given_in k s.keys m (listed m there))
+
+    between_is : collection_in between s ≡ with_nodes (after_allocation k) c0
+    between_is = λ i. record c0 { nodes = nodes_between i }
+
+    kept_between : IsStored between ss
+    kept_between = kept-map g same_g (λ m. kept_given (λ (x : Node). x.gone) k (λ x. refl) s.keys m) t between given.same.first
+        given.same.len given.look given.parents ss opens.kept
+
+    calm_between : IsCalm (collection_in between s)
+    calm_between = subst IsCalm (sym between_is)
+        (calm_given c0 whole.sound k child0 (none_below t ss opens.kept s opens.found k none) opens.calm)
+
+    node_between : node_at between key ≡ Some (given_buffers k n)
+    node_between = given.look key ∙ (ap (option_map g) was ∙ ap Some (given_in k s.keys n (listed n on)))
+
+    named_between : is_there (forest_of between ss) s.id key ≡ true
+    named_between =
+        ap (λ (o : Option Node). option_map_or (λ (x : Node). x.collection == s.id && not x.gone) o false)
+        (node_is between ss kept_between key ∙ node_between)
+        ∙ (sym (ap (λ (o : Option Node). option_map_or (λ (x : Node). x.collection == s.id && not x.gone) o false)
+        (node_is t ss opens.kept key ∙ was))
+        ∙ opens.may.named)
+
+    few_between : (j : NodeKey) (m : Node) → Change.Effect key effect ≡ Change.Effect j Effect.Tracked → node_at between j ≡ Some m →
+        m.trackers < 64
+    few_between j m e there = by (node_at t j) refl
+      where
+        by : (o : Option Node) → node_at t j ≡ o → m.trackers < 64
+        by None at = let both : Some m ≡ None = sym there ∙ (given.look j ∙ ap (option_map g) at) in cc
+        by (Some x) at =
+            let both : Some m ≡ Some (g x) = sym there ∙ (given.look j ∙ ap (option_map g) at) in
+            let is : m ≡ g x = cc in
+            let many : m.trackers ≡ x.trackers = ap (λ (y : Node). y.trackers) is ∙ kept_given (λ (y : Node). y.trackers) k (λ y. refl) s.keys x in
+            subst (λ (c : ℕ). c < 64) (sym many) (opens.may.trackers j x e (node_is t ss opens.kept j ∙ at))
+
+    open_between : IsOpen between us ss s (Change.Effect key effect) strong
+    open_between = record {
+      kept = kept_between;
+      found = opens.found;
+      may = record {
+        named = named_between;
+        room = λ e. cc;
+        heads = refl;
+        trackers = λ j m e there. few_between j m e (sym (node_is between ss kept_between j) ∙ there);
+      };
+      calm = calm_between;
+      strong = opens.strong
+          ∙ sym (ap strong_count nodes_between ∙ times_map is_strong is_strong (given_buffers k) nodes (λ m. refl));
+      units = subst (AreUnits us) (sym (collections-map g same_g t between given.look ss))
+          (units_with us g (λ m. (same_g m).key) (λ j m. kept_given (lives_in j) k (λ x. refl) s.keys m)
+          (λ j m. kept_given (waits_in j) k (λ x. refl) s.keys m) (map (collection_in t) ss) opens.units);
+    }
+
+    -- the other collections stay
+    others_between : (x : Shelf) → x.id ≢ s.id → list_all (is_filed t x.id) x.keys ≡ true → collection_in between x ≡ collection_in t x
+    others_between x differ filed = λ i. record (collection_in t x) { nodes = stay i }
+      where
+        apart : (m : Node) → In m (nodes_with t x.keys) → g m ≡ m
+        apart m there = given_out k s.keys m (false_if (list_any (same_key m.key) s.keys) (λ e.
+            let at : node_at t m.key ≡ Some m =
+            in_all (λ (y : Node). node_at t y.key ≡ Some y) (nodes_with t x.keys) (looked_there t opens.kept.named x.keys) m there in
+            let mine : (m.collection == s.id) ≡ true =
+            filed_at t s.id s.keys m.key m (found_filed t s.id ss s opens.kept.filed opens.found) at e in
+            let its : (m.collection == x.id) ≡ true =
+            all-In (λ (y : Node). y.collection == x.id) (nodes_with t x.keys) m there (looked-of t x.id x.keys filed) in
+            differ (sym (eqb-true m.collection x.id its) ∙ eqb-true m.collection s.id mine)))
+
+        stay : nodes_with between x.keys ≡ nodes_with t x.keys
+        stay = looked-map g (node_at t) (node_at between) given.look x.keys ∙ still_map g (nodes_with t x.keys) apart
+
+    due_between : is_due_at between k ≡ false
+    due_between =
+        let at : node_at between k ≡ Some (given_buffers k due.head) =
+        given.look k ∙ (ap (option_map g) (ap (node_at t) (sym due.key) ∙ at_key due.head due.on)
+        ∙ ap Some (given_in k s.keys due.head (listed due.head due.on))) in
+        let unit : same_key k due.head.head ≡ true = ap (same_key k) due.own ∙ same_key-refl k in
+        let served : is_served_at between k ≡ true =
+        ap (λ (o : Option Node). option_map_or (λ (m : Node). m.allocated) o false) at ∙ rw unit refl in
+        rw served refl
+
+    -- ---- and then the effect is made
+
+    module _ (now : Table Node) (becomes : now ≡ table_with_node between (given_buffers k (f n)).key (given_buffers k (f n)))
+        (writes : Writes between now (given_buffers k (f n)).key (given_buffers k (f n))) (lives : ℕ) (next : Unit)
+        (less : AreLess us strong n (f n) lives next) where
+      abbrev n' : Node
+      n' = given_buffers k n
+
+      commutes : f n' ≡ given_buffers k (f n)
+      commutes = affected_given key effect k n
+
+      becomes' : now ≡ table_with_node between (f n').key (f n')
+      becomes' = subst (λ (m : Node). now ≡ table_with_node between m.key m) (sym commutes) becomes
+
+      writes' : Writes between now (f n').key (f n')
+      writes' = subst (λ (m : Node). Writes between now m.key m) (sym commutes) writes
+
+      live_next : next.live ≡ times (lives_in k) (map f (nodes_with between s.keys))
+      live_next = less.live_is _ (live_before key effect n)
+          (live_is between now us key effect n' node_between becomes' writes' ss s strong open_between less.inside
+          ∙ ap (λ (m : Node). (unit_at us k.slot).live + bit (is_live_node m)) commutes)
+
+      unready_next : next.unready ≡ times (waits_in k) (map f (nodes_with between s.keys))
+      unready_next = less.unready_is _ (unready_before key effect n)
+          (unready_is between now us key effect n' node_between becomes' writes' ss s strong open_between less.inside
+          ∙ ap (λ (m : Node). (unit_at us k.slot).unready + bit (is_unready m)) commutes)
+
+      lives_is : lives ≡ strong_count (map f (nodes_with between s.keys))
+      lives_is = less.left_is _ (strong_before key effect n)
+          (strong_is between now us key effect n' node_between becomes' writes' ss s strong open_between
+          ∙ ap (λ (m : Node). strong + bit (is_strong m)) commutes)
+
+      some : nat_lt 0 lives ≡ true
+      some = lt-ltb 0 lives less.some
+
+      made_between : IsMade between now (set us k.slot next) ss s (Change.Effect key effect) lives
+      made_between = counted_made between now us key effect n' node_between becomes' writes' ss s strong open_between less.inside next
+          live_next unready_next lives some lives_is (inl less.lives) (inr (inr due_between))
+
+      -- the nodes are as the effect and then the allocation make them
+      nodes_now : map f (nodes_with between s.keys) ≡ after_allocation k (map f nodes)
+      nodes_now = ap (map f) nodes_between ∙ swap_maps f (given_buffers k) nodes (affected_given key effect k)
+
+      allocated : collection_in now s ≡ with_nodes (after_allocation k) c1
+      allocated = now_is between now us key effect n' node_between becomes' writes' ss s strong open_between
+          ∙ (λ i. record c0 { nodes = nodes_now i })
+
+      ready : times (waits_in k) (map f nodes) ≡ 0
+      ready = sym (times_map (waits_in k) (waits_in k) (given_buffers k) (map f nodes) (λ m. refl))
+          ∙ (sym (ap (times (waits_in k)) nodes_now) ∙ (sym unready_next ∙ less.ready))
+
+      strong_now : has_strong (collection_in now s).nodes ≡ true
+      strong_now = strong_lives (nodes_with now s.keys) lives some made_between.done.strong
+
+      strong_then : has_strong c1.nodes ≡ true
+      strong_then = sym (strong_on c1 sound1 k child1 true) ∙ subst (λ (c : Collection). has_strong c.nodes ≡ true) allocated strong_now
+
+      told : (strong_open : Bool) → decided c1.nodes c1.buffers strong_open ≡ Some (Allocates k)
+      told strong_open = serves c1 sound1 k child1 (subst IsCalm allocated made_between.done.calm) b has strong_open strong_then h1 h1_on
+          h1_key (next1 ready) fits
+
+      settles : (pool : ℕ) (handles : Handles) (others : List Interval) → forced pool (standing handles others (collection_in now s)) ≡ None →
+          Settles pool handles others c1 (collection_in now s)
+      settles pool handles others rest =
+          step_settles pool handles others c1 (collection_in now s) (collection_in now s) (Allocated k)
+          (forced_made handles pool others c1
+          ∙ ap (option_map (mark_of pool (pages_in c1 ++ others))) (told (standing handles others c1).strong_open))
+          (rw child1 allocated) (Rests (collection_in now s) rest)
+
+      beside_now : (x : Shelf) → x.id ≢ s.id → list_all (is_filed t x.id) x.keys ≡ true → collection_in now x ≡ collection_in t x
+      beside_now x differ filed =
+          made_between.done.others x differ (filed-map g same_g t between given.look x.id x.keys ∙ filed) ∙ others_between x differ filed
+
+      finishes_now : (pool : ℕ) (handles : Handles) → Finishes pool handles t ss now ss
+          (changed (Change.Effect key effect) no_key (collection_or_new (forest_of t ss) s.id))
+      finishes_now pool handles =
+          let rests = rests_strong (collection_in now s) made_between.done.calm strong_now pool handles in
+          let back : given_back handles (collection_in now s) ≡ collection_in now s =
+          nothing_back handles (collection_in now s) strong_now in
+          subst (λ (c : Collection). Finishes pool handles t ss now ss c)
+          (sym (change_nodes t ss s opens.found (Change.Effect key effect)))
+          (record {
+            after = collection_in now s;
+            settles = settles pool handles (beside (forest_of t ss) s.id) (rests (beside (forest_of t ss) s.id));
+            collections = put_among t now s ss opens.kept.rising opens.found
+                (λ x there differ. beside_now x differ
+                (all-In (λ (y : Shelf). list_all (is_filed t y.id) y.keys) ss x there opens.kept.filed))
+                ∙ ap (λ (c : Collection). put c (map (collection_in t) ss)) (sym back);
+            rests = ap (λ (c : Collection). forced pool (standing handles (beside (forest_of now ss) s.id) c)) back
+                ∙ rests (beside (forest_of now ss) s.id);
+          })
+
+      pub served_made : IsMade t now (set us k.slot next) ss s (Change.Effect key effect) lives
+      served_made = record {
+        done = record {
+          kept = made_between.done.kept;
+          finishes = finishes_now;
+          calm = made_between.done.calm;
+          strong = made_between.done.strong;
+          others = beside_now;
+          units = made_between.done.units;
+          same = record {
+            first = made_between.done.same.first ∙ given.same.first;
+            nexts = made_between.done.same.nexts ∙ given.same.nexts;
+            limit = made_between.done.same.limit ∙ given.same.limit;
+            len = made_between.done.same.len ∙ given.same.len;
+          };
+        };
+        over = λ noted. made_between.over noted
+            ∙ (ap (list_any (over_but noted)) nodes_between
+            ∙ any_map (over_but noted) (over_but noted) (given_buffers k) nodes (over_given k noted));
+      }

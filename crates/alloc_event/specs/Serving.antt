@@ -1,0 +1,108 @@
+-- An attached unit that becomes ready and is allocated in its place. No public clause cites this module.
+use Rattle.std.specs.Prelude.{◌≡◌, ℕ, ◌+◌, ◌<◌, Bool, true, false, ◌||◌, ◌&&◌, not, nat_lt, if◌then◌else◌, List, length, Option, None, option_map}
+use Rattle.std.specs.List.{filter_map, list_any, sum_by}
+use Rattle.std.specs.Option.{option_and_then, option_map_or}
+use Rattle.sm_names.specs.declared.keys.NodeKey.{NodeKey}
+use Rattle.sm_names.specs.declared.outcomes.Buffers.{Buffers}
+use Rattle.sm_names.specs.Demands.{Demand}
+use Rattle.sm_names.specs.Members.{greatest}
+use Rattle.sm_names.specs.Sameness.{same_key}
+use Rattle.node_table.specs.Changes.{Writes}
+use Rattle.node_table.specs.Lending.{table_with_node}
+use Rattle.node_table.specs.Table.{Table, node_at, parent_at}
+use Rattle.alloc_event.specs.declared.node.Node.{Node}
+use Rattle.alloc_event.specs.declared.units.Unit.{Unit}
+use Rattle.alloc_event.specs.Counts.{is_unready, unit_at}
+use Rattle.alloc_event.specs.InPlace.{bit}
+use Rattle.alloc_event.specs.Kept.{SameTable, is_strong, nodes_with, written}
+use Rattle.alloc_event.specs.Nodes.{given_buffers}
+use Rattle.alloc_event.specs.Questions.{demands_of, is_in_unit, is_live_node, is_served}
+
+-- ---- whether the unit is to be allocated
+
+-- there is a node with this key that is not gone, and its unit has its buffers
+abbrev pub is_served_there : Table Node → NodeKey → Bool
+is_served_there t key = option_map_or is_served (node_at t key) false
+
+-- the node is attached, not gone, and its unit has no buffers
+abbrev pub is_waiting_head : Node → Bool
+is_waiting_head n = n.attached && (not n.gone && not n.allocated)
+
+-- the unit with this head is attached and has no buffers, and the one above it has them
+abbrev pub has_turn_at : Table Node → NodeKey → Bool
+has_turn_at t head =
+    option_map_or is_waiting_head (node_at t head) false && option_map_or (is_served_there t) (parent_at t head) false
+
+-- there is a node with this key, of the unit with this head
+abbrev pub is_of_unit : Table Node → NodeKey → NodeKey → Bool
+is_of_unit t head key = option_map_or (λ (n : Node). same_key n.head head) (node_at t key) false
+
+-- the node heads a unit right below the one with this head
+abbrev pub hangs_below : Table Node → NodeKey → Node → Bool
+hangs_below t head n = n.attached && (not n.gone && option_map_or (is_of_unit t head) n.parent false)
+
+-- the node with this key does
+abbrev pub hangs_below_at : Table Node → NodeKey → NodeKey → Bool
+hangs_below_at t head key = option_map_or (hangs_below t head) (node_at t key) false
+
+-- ---- what it asks for
+
+-- what the node with this key asks for, if it is of the unit and not gone, where this node is in the place of the one with
+-- its key
+abbrev pub asked_at : Table Node → NodeKey → Node → NodeKey → Option Demand
+asked_at t head after key =
+    option_and_then (λ (n : Node). if is_in_unit head (written after n) then (written after n).constraints else None) (node_at t key)
+
+-- what those with these keys ask for so
+abbrev pub asked_with : Table Node → List NodeKey → NodeKey → Node → List Demand
+asked_with t keys head after = filter_map (asked_at t head after) keys
+
+-- what the node with this key asks for, if its unit has its buffers and it is not gone
+abbrev pub served_at : Table Node → NodeKey → Option Demand
+served_at t key = option_and_then (λ (n : Node). if is_served n then n.constraints else None) (node_at t key)
+
+-- what is camped on by the nodes with these keys whose units have their buffers
+abbrev pub reserved_with : Table Node → List NodeKey → ℕ
+reserved_with t keys = sum_by (λ (d : Demand). d.camping) (demands_of is_served (nodes_with t keys))
+
+-- so many buffers of this size are enough, where so many are reserved and this is asked for besides
+abbrev pub are_enough : Buffers → ℕ → List Demand → Bool
+are_enough buffers reserved asked =
+    not (nat_lt buffers.count (reserved + sum_by (λ (d : Demand). d.camping) asked)
+    || nat_lt buffers.count (greatest (λ d. d.at_least) asked)) && not (nat_lt buffers.size (greatest (λ d. d.size) asked))
+
+-- ---- the counts
+
+-- what a count becomes, where it may have counted a node and counts it no longer
+abbrev pub IsLess : ℕ → Bool → Bool → ℕ → Type 0
+IsLess count was is result = (real : ℕ) → (is ≡ true → was ≡ true) → real + bit was ≡ count + bit is → result ≡ real
+
+-- so many strong nodes are live once the first node is the second one, and the unit has these counts, which has a live node
+-- then and waits for none any more
+pub record AreLess (units : List Unit) (strong : ℕ) (n after : Node) (left : ℕ) (next : Unit) : Type 0 where
+  pub inside : n.head.slot < length units
+  pub left_is : IsLess strong (is_strong n) (is_strong after) left
+  pub live_is : IsLess (unit_at units n.head.slot).live (is_live_node n) (is_live_node after) next.live
+  pub unready_is : IsLess (unit_at units n.head.slot).unready (is_unready n) (is_unready after) next.unready
+  pub some : 0 < left
+  pub lives : 0 < next.live
+  pub ready : next.unready ≡ 0
+
+-- ---- the allocation
+
+-- the node has its unit's buffers, if it is of this unit and its key is one of these
+abbrev pub given_at : NodeKey → List NodeKey → Node → Node
+given_at head keys n = if list_any (same_key n.key) keys then given_buffers head n else n
+
+-- so it is in the table, where nothing else changed
+pub record IsGivenAt (old new : Table Node) (head : NodeKey) (keys : List NodeKey) : Type 0 where
+  pub look : (key : NodeKey) → node_at new key ≡ option_map (given_at head keys) (node_at old key)
+  pub parents : (key : NodeKey) → parent_at new key ≡ parent_at old key
+  pub same : SameTable old new
+
+-- and then this node is put in its place
+pub record IsServedAt (old new : Table Node) (head : NodeKey) (keys : List NodeKey) (n : Node) : Type 0 where
+  pub between : Table Node
+  pub given : IsGivenAt old between head keys
+  pub becomes : new ≡ table_with_node between n.key n
+  pub writes : Writes between new n.key n

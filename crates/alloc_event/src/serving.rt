@@ -1,0 +1,248 @@
+//! Attached units that become ready by an effect, allocated in their places.
+ghost use Rattle.std.specs.List.{filter_map, list_any, sum_by};
+ghost use Rattle.std.specs.Prelude.{◌≡◌, ◌≤◌, ◌+◌, ◌^◌, ◌∷◌, [], None, Some, IfSome, IsSome};
+ghost use Rattle.sm_names.specs.Demands.{Demand};
+ghost use Rattle.sm_names.specs.Members.{greatest};
+ghost use Rattle.sm_names.specs.declared.keys.NodeKey.{NodeKey as Key};
+ghost use Rattle.node_table.specs.Table.{node_at};
+ghost use Rattle.alloc_event.specs.declared.node.Node.{Node as Kept};
+ghost use Rattle.alloc_event.specs.Kept.{written};
+ghost use Rattle.alloc_event.specs.Nodes.{given_buffers};
+ghost use Rattle.alloc_event.specs.Serving.{AreLess, IsGivenAt, IsServedAt, are_enough, asked_at, asked_with, hangs_below, hangs_below_at, has_turn_at, is_of_unit, is_served_there, reserved_with, served_at};
+
+use crate::asks::Asks;
+use crate::in_place::less;
+use crate::kept::is_strong;
+use crate::node::Node;
+use crate::questions::is_live;
+use crate::store::write;
+use crate::units::{Unit, is_unready, unit_in};
+use node_table::NodeTable;
+use sm_names::{Buffers, Constraints, NodeKey};
+
+/// The counts once the first node is the second one, if a strong node is live then, and one of the
+/// node's unit, which waits for none any more: how many strong nodes are live, and the unit's counts.
+fn counts_with(units: &[Unit], strong: usize, node: &Node, after: &Node) -> Option<(usize, Unit)>
+    ensures { IfSome result (λ counts. AreLess units.now strong node.now after.now counts.0 counts.1) }
+{
+    let slot = node.head.slot as usize;
+    if slot >= units.len() {
+        return None;
+    }
+    let unit = unit_in(units, slot);
+    let left = less(strong, is_strong(node), is_strong(after));
+    let live = less(unit.live, is_live(node), is_live(after));
+    let unready = less(unit.unready, is_unready(node), is_unready(after));
+    if left == 0 || live == 0 || unready > 0 {
+        return None;
+    }
+    Some((left, Unit { live, unready }))
+}
+
+/// Whether there is a node with this key that is not gone, and its unit has its buffers.
+fn is_served_there(table: &NodeTable<Node>, key: NodeKey) -> bool
+    ensures { result ≡ is_served_there table.now key }
+{
+    match table.get(key) {
+        Some(node) => !node.gone && node.allocated,
+        None => false,
+    }
+}
+
+/// Whether the unit with this head is attached and has no buffers, and the one above it has them.
+fn has_turn(table: &NodeTable<Node>, head: NodeKey) -> bool
+    ensures { result ≡ has_turn_at table.now head }
+{
+    let Some(node) = table.get(head) else {
+        return false;
+    };
+    if !node.attached || node.gone || node.allocated {
+        return false;
+    }
+    match table.parent(head) {
+        Some(above) => is_served_there(table, above),
+        None => false,
+    }
+}
+
+/// Whether there is a node with this key, of the unit with this head.
+fn is_of_unit(table: &NodeTable<Node>, head: NodeKey, key: NodeKey) -> bool
+    ensures { result ≡ is_of_unit table.now head key }
+{
+    match table.get(key) {
+        Some(node) => node.head == head,
+        None => false,
+    }
+}
+
+/// Whether the node heads a unit right below the one with this head.
+fn hangs_below(table: &NodeTable<Node>, head: NodeKey, node: &Node) -> bool
+    ensures { result ≡ hangs_below table.now head node.now }
+{
+    if !node.attached || node.gone {
+        return false;
+    }
+    match node.parent {
+        Some(above) => is_of_unit(table, head, above),
+        None => false,
+    }
+}
+
+/// Whether the node with this key does.
+fn hangs_below_at(table: &NodeTable<Node>, head: NodeKey, key: NodeKey) -> bool
+    ensures { result ≡ hangs_below_at table.now head key }
+{
+    match table.get(key) {
+        Some(node) => hangs_below(table, head, node),
+        None => false,
+    }
+}
+
+/// Whether one of the nodes with these keys does.
+fn is_some_below(table: &NodeTable<Node>, keys: &[NodeKey], head: NodeKey) -> bool
+    ensures { result ≡ list_any (hangs_below_at table.now head) keys.now }
+{
+    keys.iter().any(|key| hangs_below_at(table, head, *key))
+}
+
+/// The second node, if it has the key of the first.
+fn put_for(node: &Node, after: &Node) -> Node
+    ensures { result ≡ written after.now node.now }
+{
+    if after.key == node.key { *after } else { *node }
+}
+
+/// What the node with this key asks for, if it is of the unit with this head and not gone, where this
+/// node is in the place of the one with its key.
+fn asked_at(
+    table: &NodeTable<Node>,
+    head: NodeKey,
+    after: &Node,
+    key: NodeKey,
+) -> Option<Constraints>
+    ensures { result ≡ asked_at table.now head after.now key }
+{
+    let node = put_for(table.get(key)?, after);
+    if !node.gone && node.head == head {
+        node.constraints
+    } else {
+        None
+    }
+}
+
+/// What the nodes with these keys ask for so.
+fn asks_with(table: &NodeTable<Node>, keys: &[NodeKey], head: NodeKey, after: &Node) -> Asks
+    ensures camping { result.camping ≡ sum_by (λ (d : Demand). d.camping) (asked_with table.now keys.now head after.now) }
+    ensures at_least { result.at_least ≡ greatest (λ d. d.at_least) (asked_with table.now keys.now head after.now) }
+    ensures size { result.size ≡ greatest (λ d. d.size) (asked_with table.now keys.now head after.now) }
+    ensures few { result.camping ≤ 2 ^ 70 }
+{
+    let mut asks = Asks {
+        camping: 0,
+        at_least: 0,
+        size: 0,
+    };
+    for key in keys {
+        if let Some(demand) = asked_at(table, head, after, *key) {
+            asks.camping += demand.camping() as u128;
+            asks.at_least = asks.at_least.max(demand.at_least());
+            asks.size = asks.size.max(demand.size());
+        }
+    }
+    asks
+}
+
+/// What the node with this key asks for, if its unit has its buffers and it is not gone.
+fn served_at(table: &NodeTable<Node>, key: NodeKey) -> Option<Constraints>
+    ensures { result ≡ served_at table.now key }
+{
+    let node = table.get(key)?;
+    if !node.gone && node.allocated {
+        node.constraints
+    } else {
+        None
+    }
+}
+
+/// How many buffers are camped on by the nodes with these keys whose units have their buffers.
+fn reserved_with(table: &NodeTable<Node>, keys: &[NodeKey]) -> u128
+    ensures value { result ≡ reserved_with table.now keys.now }
+    ensures few { result ≤ 2 ^ 70 }
+{
+    reserved_by(table, keys)
+}
+
+/// The same, key by key.
+fn reserved_by(table: &NodeTable<Node>, keys: &[NodeKey]) -> u128
+    ensures value { result ≡ sum_by (λ (d : Demand). d.camping) (filter_map (served_at table.now) keys.now) }
+    ensures few { result ≤ 2 ^ 70 }
+{
+    let mut camping = 0;
+    for key in keys {
+        if let Some(demand) = served_at(table, *key) {
+            camping += demand.camping() as u128;
+        }
+    }
+    camping
+}
+
+/// Whether the buffers are enough for the unit with this head, once this node is in the place of the
+/// one with its key.
+fn are_enough(
+    table: &NodeTable<Node>,
+    keys: &[NodeKey],
+    head: NodeKey,
+    after: &Node,
+    buffers: Buffers,
+) -> bool
+    ensures { result ≡ are_enough buffers (reserved_with table.now keys.now) (asked_with table.now keys.now head after.now) }
+{
+    let asks = asks_with(table, keys, head, after);
+    let count = buffers.count as u128;
+    let reserved = reserved_with(table, keys);
+    count >= reserved + asks.camping
+        && count >= asks.at_least as u128
+        && buffers.size >= asks.size
+}
+
+/// The nodes with these keys that are of the unit with this head have its buffers then.
+fn give(table: &mut NodeTable<Node>, keys: &[NodeKey], head: NodeKey)
+    requires named { (key : Key) (n : Kept) → node_at table.old key ≡ Some n → n.key ≡ key }
+    ensures { IsGivenAt table.old table.new head keys.now }
+{
+    for key in keys {
+        give_one(table, *key, head);
+    }
+}
+
+/// The node with this key has its unit's buffers then, if it is of the unit with this head.
+fn give_one(table: &mut NodeTable<Node>, key: NodeKey, head: NodeKey)
+    requires named { (key : Key) (n : Kept) → node_at table.old key ≡ Some n → n.key ≡ key }
+    ensures { IsGivenAt table.old table.new head (key ∷ []) }
+{
+    let Some(node) = table.get(key).copied() else {
+        return;
+    };
+    if head == node.head {
+        write(table, given(node, head));
+    }
+}
+
+/// The node once the unit with this head is allocated.
+fn given(mut node: Node, head: NodeKey) -> Node
+    ensures { result ≡ given_buffers head node }
+{
+    node.allocated = head == node.head || node.allocated;
+    node
+}
+
+/// The unit with this head, whose nodes are among those with these keys, is allocated, and the node
+/// is put in its place as one of it.
+fn serve(table: &mut NodeTable<Node>, keys: &[NodeKey], head: NodeKey, node: &Node)
+    requires named { (key : Key) (n : Kept) → node_at table.old key ≡ Some n → n.key ≡ key }
+    requires there { IsSome (node_at table.old node.now.key) }
+    ensures { IsServedAt table.old table.new head keys.now (given_buffers head node.now) }
+{
+    give(table, keys, head);
+    write(table, given(*node, head));
+}
