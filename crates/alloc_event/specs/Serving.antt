@@ -71,6 +71,13 @@ are_enough buffers reserved asked =
     not (nat_lt buffers.count (reserved + sum_by (λ (d : Demand). d.camping) asked)
     || nat_lt buffers.count (greatest (λ d. d.at_least) asked)) && not (nat_lt buffers.size (greatest (λ d. d.size) asked))
 
+-- the unit of the first node is to be allocated, once an effect made the second one of it
+abbrev pub may_serve : Table Node → List NodeKey → Option Buffers → Node → Node → Bool
+may_serve t keys buffers n after = option_map_or
+    (λ b. not n.allocated && (has_turn_at t n.head && (not (list_any (hangs_below_at t n.head) keys)
+    && are_enough b (reserved_with t keys) (asked_with t keys n.head after))))
+    buffers false
+
 -- ---- the counts
 
 -- what a count becomes, where it may have counted a node and counts it no longer

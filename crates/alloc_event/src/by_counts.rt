@@ -9,15 +9,53 @@ ghost use Rattle.alloc_event.specs.Settling.{Handles, MayChange, changed, collec
 use crate::change::{Change, Effect};
 use crate::emptied::{fail_in_place, leave_in_place};
 use crate::entry::Entry;
-use crate::in_place::settle_in_place;
+use crate::in_place::{is_plain, settle_in_place};
 use crate::node::Node;
+use crate::serving::serve_in_place;
 use crate::units::Unit;
 use node_table::NodeTable;
 use sm_names::{CollectionId, Fault, NoMemory, NodeKey};
 
-/// Makes an effect in its place, if the counts tell that nothing is forced by it, or that it is a
-/// release by which the node's unit ends, and no more is forced. Answers whether it did; if not, the
-/// table and the entries are as they were. `NoMemory` where the room for what leaves is refused.
+/// Makes an effect in its place, if the counts tell that nothing is forced by it, or nothing but the
+/// allocation of the node's unit, which is made with it. Answers whether it did; if not, the table
+/// and the entries are as they were.
+fn make_effect(
+    table: &mut NodeTable<Node>,
+    entries: &mut Vec<Entry>,
+    units: &mut Vec<Unit>,
+    id: CollectionId,
+    key: NodeKey,
+    effect: &Effect,
+) -> bool
+    requires kept { IsStored table.old (shelves_of entries.old.items) }
+    requires counted { AreCounted table.old entries.old.items }
+    requires units { HaveUnits units.old.items table.old entries.old.items }
+    requires change { MayChange (forest_of table.old (shelves_of entries.old.items)) id (Changed.Effect key effect.now) }
+    ensures no_table { result ≡ false → table.new ≡ table.old }
+    ensures no_entries { result ≡ false → entries.new.items ≡ entries.old.items }
+    ensures ok { result ≡ true → (pool : ℕ) (handles : Handles) →
+        Finishes pool handles table.old (shelves_of entries.old.items) table.new (shelves_of entries.new.items)
+        (changed (Changed.Effect key effect.now) no_key (collection_or_new (forest_of table.old (shelves_of entries.old.items)) id)) }
+    ensures shelves { shelves_of entries.new.items ≡ shelves_of entries.old.items }
+    ensures kept { result ≡ true → IsStored table.new (shelves_of entries.old.items) }
+    ensures counted { result ≡ true → AreCounted table.new entries.new.items }
+    ensures units { HaveUnits units.new.items table.new entries.new.items }
+    ensures same { SameTable table.old table.new }
+{
+    let change = Change::Effect(key, *effect);
+    if settle_in_place(table, entries, units, id, &change) {
+        return true;
+    }
+    if is_plain(effect) {
+        return false;
+    }
+    serve_in_place(table, entries, units, id, key, effect)
+}
+
+/// Makes an effect in its place, if the counts tell that nothing is forced by it, or nothing but the
+/// allocation of the node's unit, or that it is a release by which the unit ends, and no more is
+/// forced. Answers whether it did; if not, the table and the entries are as they were. `NoMemory`
+/// where the room for what leaves is refused.
 fn settle_effect(
     table: &mut NodeTable<Node>,
     entries: &mut Vec<Entry>,
@@ -43,8 +81,7 @@ fn settle_effect(
     ensures units { HaveUnits units.new.items table.new entries.new.items }
     ensures same { SameTable table.old table.new }
 {
-    let change = Change::Effect(key, *effect);
-    if settle_in_place(table, entries, units, id, &change) {
+    if make_effect(table, entries, units, id, key, effect) {
         return Ok(true);
     }
     match *effect {

@@ -30,7 +30,7 @@ use node_table::NodeTable;
 use sm_names::{CollectionId, NodeKey};
 
 /// Whether the effect neither releases its node nor sets its constraints.
-fn is_plain(effect: &Effect) -> bool
+pub(crate) fn is_plain(effect: &Effect) -> bool
     ensures { result ≡ is_plain_effect effect.now }
 {
     match *effect {
@@ -45,7 +45,7 @@ fn is_plain(effect: &Effect) -> bool
 }
 
 /// The node after the effect on the one with this key.
-fn affected_by(node: &Node, key: NodeKey, effect: &Effect) -> Node
+pub(crate) fn affected_by(node: &Node, key: NodeKey, effect: &Effect) -> Node
     requires { has_tracker_room key effect.now node.now ≡ true }
     ensures { result ≡ affected key effect.now node.now }
 {

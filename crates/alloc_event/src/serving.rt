@@ -1,24 +1,32 @@
 //! Attached units that become ready by an effect, allocated in their places.
 ghost use Rattle.std.specs.List.{filter_map, list_any, sum_by};
-ghost use Rattle.std.specs.Prelude.{◌≡◌, ◌≤◌, ◌+◌, ◌^◌, ◌∷◌, [], None, Some, IfSome, IsSome};
+ghost use Rattle.std.specs.Prelude.{◌≡◌, ◌≤◌, ◌+◌, ◌^◌, ◌∷◌, [], ℕ, List, None, Some, true, false, IfSome, IsSome};
 ghost use Rattle.sm_names.specs.Demands.{Demand};
 ghost use Rattle.sm_names.specs.Members.{greatest};
 ghost use Rattle.sm_names.specs.declared.keys.NodeKey.{NodeKey as Key};
 ghost use Rattle.node_table.specs.Table.{node_at};
+ghost use Rattle.alloc_event.specs.declared.change.Change.{Change as Changed};
 ghost use Rattle.alloc_event.specs.declared.node.Node.{Node as Kept};
-ghost use Rattle.alloc_event.specs.Kept.{written};
+ghost use Rattle.alloc_event.specs.Calm.{AreCounted};
+ghost use Rattle.alloc_event.specs.Counts.{HaveUnits};
+ghost use Rattle.alloc_event.specs.InPlace.{IsMade, IsOpen};
+ghost use Rattle.alloc_event.specs.Kept.{Finishes, IsStored, SameTable, Shelf, forest_of, shelf_of, shelves_of, written};
 ghost use Rattle.alloc_event.specs.Nodes.{given_buffers};
-ghost use Rattle.alloc_event.specs.Serving.{AreLess, IsGivenAt, IsServedAt, are_enough, asked_at, asked_with, hangs_below, hangs_below_at, has_turn_at, is_of_unit, is_served_there, reserved_with, served_at};
+ghost use Rattle.alloc_event.specs.Scenes.{has_tracker_room};
+ghost use Rattle.alloc_event.specs.Serving.{AreLess, IsGivenAt, IsServedAt, are_enough, asked_at, asked_with, hangs_below, hangs_below_at, has_turn_at, is_of_unit, is_served_there, may_serve, reserved_with, served_at};
+ghost use Rattle.alloc_event.specs.Settling.{Handles, MayChange, changed, collection_or_new, no_key};
 
 use crate::asks::Asks;
-use crate::in_place::less;
+use crate::change::Effect;
+use crate::entry::{Entry, place_of};
+use crate::in_place::{affected_by, less};
 use crate::kept::is_strong;
 use crate::node::Node;
 use crate::questions::is_live;
 use crate::store::write;
-use crate::units::{Unit, is_unready, unit_in};
+use crate::units::{Unit, is_unready, put_unit, unit_in};
 use node_table::NodeTable;
-use sm_names::{Buffers, Constraints, NodeKey};
+use sm_names::{Buffers, CollectionId, Constraints, NodeKey};
 
 /// The counts once the first node is the second one, if a strong node is live then, and one of the
 /// node's unit, which waits for none any more: how many strong nodes are live, and the unit's counts.
@@ -200,9 +208,28 @@ fn are_enough(
     let asks = asks_with(table, keys, head, after);
     let count = buffers.count as u128;
     let reserved = reserved_with(table, keys);
-    count >= reserved + asks.camping
-        && count >= asks.at_least as u128
-        && buffers.size >= asks.size
+    count >= reserved + asks.camping && count >= asks.at_least as u128 && buffers.size >= asks.size
+}
+
+/// Whether the unit of the first node is to be allocated, once an effect made the second one of it:
+/// it is attached and has no buffers, the one above it has them, no other hangs below it, and the
+/// buffers are enough.
+fn may_serve(
+    table: &NodeTable<Node>,
+    keys: &[NodeKey],
+    given: Option<Buffers>,
+    node: &Node,
+    after: &Node,
+) -> bool
+    ensures { result ≡ may_serve table.now keys.now given node.now after.now }
+{
+    let Some(buffers) = given else {
+        return false;
+    };
+    !node.allocated
+        && has_turn(table, node.head)
+        && !is_some_below(table, keys, node.head)
+        && are_enough(table, keys, node.head, after, buffers)
 }
 
 /// The nodes with these keys that are of the unit with this head have its buffers then.
@@ -245,4 +272,76 @@ fn serve(table: &mut NodeTable<Node>, keys: &[NodeKey], head: NodeKey, node: &No
 {
     give(table, keys, head);
     write(table, given(*node, head));
+}
+
+/// Makes the effect in its place, if the counts tell that it leaves a strong node live, one of the
+/// node's unit, and that unit ready, and if the unit is then to be allocated, which is made with it.
+/// Answers how many strong nodes are live then. With `None` nothing changed.
+fn serve_effect(
+    table: &mut NodeTable<Node>,
+    units: &mut Vec<Unit>,
+    entry: &Entry,
+    key: NodeKey,
+    effect: &Effect,
+) -> Option<usize>
+    requires named { (at : Key) (n : Kept) → node_at table.old at ≡ Some n → n.key ≡ at }
+    requires room { (at : Key) (n : Kept) → node_at table.old at ≡ Some n → has_tracker_room key effect.now n ≡ true }
+    ensures none { result ≡ None → table.new ≡ table.old }
+    ensures none_units { result ≡ None → units.new.items ≡ units.old.items }
+    ensures some { IfSome result (λ left. (ss : List Shelf) →
+        IsOpen table.old units.old.items ss (shelf_of entry.now) (Changed.Effect key effect.now) entry.now.strong →
+        IsMade table.old table.new units.new.items ss (shelf_of entry.now) (Changed.Effect key effect.now) left) }
+{
+    let Some(node) = table.get(key).copied() else {
+        return None;
+    };
+    let after = affected_by(&node, key, effect);
+    let Some((left, next)) = counts_with(units, entry.strong, &node, &after) else {
+        return None;
+    };
+    if !may_serve(table, &entry.keys, entry.buffers, &node, &after) {
+        return None;
+    }
+    serve(table, &entry.keys, node.head, &after);
+    put_unit(units, node.head.slot as usize, next);
+    Some(left)
+}
+
+/// Makes an effect in its place by which an attached unit becomes ready, and the unit's allocation
+/// with it, if the buffers are enough for it, no unit hangs below it, and the counts tell that
+/// nothing more is forced: a strong node of the collection is live after it, and one of the unit.
+/// Answers whether it did; if not, nothing changed. It takes no memory. It costs a binary search and
+/// a constant; where the unit is ready and due, three reads of each node of the collection besides,
+/// and a write of each node of the unit.
+pub(crate) fn serve_in_place(
+    table: &mut NodeTable<Node>,
+    entries: &mut Vec<Entry>,
+    units: &mut Vec<Unit>,
+    id: CollectionId,
+    key: NodeKey,
+    effect: &Effect,
+) -> bool
+    requires kept { IsStored table.old (shelves_of entries.old.items) }
+    requires counted { AreCounted table.old entries.old.items }
+    requires units { HaveUnits units.old.items table.old entries.old.items }
+    requires change { MayChange (forest_of table.old (shelves_of entries.old.items)) id (Changed.Effect key effect.now) }
+    ensures no_table { result ≡ false → table.new ≡ table.old }
+    ensures no_entries { result ≡ false → entries.new.items ≡ entries.old.items }
+    ensures ok { result ≡ true → (pool : ℕ) (handles : Handles) →
+        Finishes pool handles table.old (shelves_of entries.old.items) table.new (shelves_of entries.new.items)
+        (changed (Changed.Effect key effect.now) no_key (collection_or_new (forest_of table.old (shelves_of entries.old.items)) id)) }
+    ensures shelves { shelves_of entries.new.items ≡ shelves_of entries.old.items }
+    ensures kept { result ≡ true → IsStored table.new (shelves_of entries.old.items) }
+    ensures counted { result ≡ true → AreCounted table.new entries.new.items }
+    ensures units { HaveUnits units.new.items table.new entries.new.items }
+    ensures same { SameTable table.old table.new }
+{
+    let Some(at) = place_of(entries, id) else {
+        return false;
+    };
+    let Some(left) = serve_effect(table, units, &entries[at], key, effect) else {
+        return false;
+    };
+    entries[at].strong = left;
+    true
 }

@@ -16,6 +16,7 @@ use std::test::Fail;
 mod changes;
 mod ground;
 mod many;
+mod serving;
 mod waiting;
 
 // The root, an attached node below it, and one below that, which head a unit each.

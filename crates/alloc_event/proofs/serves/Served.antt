@@ -1,6 +1,6 @@
 -- An effect by which an attached unit becomes ready, and the unit's allocation with it, in their places.
 use Rattle.std.proofs.Common.{◌≡◌, ◌≢◌, ℕ, ◌+◌, ◌<◌, ◌==◌, nat_lt, refl, ap, sym, ◌∙◌, subst, Bool, true, false, not, ◌&&◌, if◌then◌else◌, ◌⊎◌, inl, inr, List, [], ◌∷◌, ◌++◌, map, length, set, Option, Some, None, option_map, arith}
-use Rattle.std.proofs.lemmas.Bool.{eqb-false, eqb-true, le-ltb, lt-ltb}
+use Rattle.std.proofs.lemmas.Bool.{eqb-false, eqb-true, le-ltb, lt-ltb, not-true}
 use Rattle.std.specs.List.{find, list_all, list_any, sum_by}
 use Rattle.std.specs.Option.{option_map_or}
 use Rattle.sm_names.specs.declared.keys.Interval.{Interval}
@@ -13,7 +13,7 @@ use Rattle.sm_names.specs.Marks.{Allocated}
 use Rattle.sm_names.specs.Sameness.{same_key}
 use Rattle.sm_names.specs.Words.{times}
 use Rattle.sm_names.proofs.ListLaws.{In, In-find, In-map-back, map-In}
-use Rattle.sm_names.proofs.SamenessLaws.{and_both, both_ways, either_way, false_if, same_key-refl, same_key-true}
+use Rattle.sm_names.proofs.SamenessLaws.{and_both, and_left, and_right, both_ways, either_way, false_if, same_key-refl, same_key-true}
 use Rattle.sm_names.proofs.StandingLaws.{In-any}
 use Rattle.node_table.specs.Changes.{Writes}
 use Rattle.node_table.specs.Lending.{table_with_node}
@@ -33,7 +33,7 @@ use Rattle.alloc_event.specs.Kept.{AreRising, Finishes, IsStored, IsWhole, Shelf
 use Rattle.alloc_event.specs.Nodes.{affected, after_allocation, given_buffers}
 use Rattle.alloc_event.specs.Questions.{demands_of, is_allocated_node, is_in_unit, is_live_node, is_next_node, is_ready_node, is_served}
 use Rattle.alloc_event.specs.Scenes.{IsSound}
-use Rattle.alloc_event.specs.Serving.{AreLess, IsGivenAt, are_enough, asked_with, given_at, hangs_below_at, has_turn_at, reserved_with}
+use Rattle.alloc_event.specs.Serving.{AreLess, IsGivenAt, IsServedAt, are_enough, asked_with, given_at, hangs_below_at, has_turn_at, may_serve, reserved_with}
 use Rattle.alloc_event.specs.Settling.{Handles, MayChange, Rests, Settles, changed, collection_or_new, given_back, is_root_of, is_there, no_key, put, standing}
 use Rattle.alloc_event.proofs.calm.Calming.{any_map, count_none, rests_strong, times_map}
 use Rattle.alloc_event.proofs.calm.Forcing.{forced_made}
@@ -440,3 +440,28 @@ module _ (t : Table Node) (us : List Unit) (key : NodeKey) (effect : Effect) (n 
             ∙ (ap (list_any (over_but noted)) nodes_between
             ∙ any_map (over_but noted) (over_but noted) (given_buffers k) nodes (over_given k noted));
       }
+
+-- as it was asked and done
+pub served_by : (t now : Table Node) (us : List Unit) (key : NodeKey) (effect : Effect) (n : Node) → node_at t key ≡ Some n →
+    (ss : List Shelf) (s : Shelf) (strong : ℕ) → IsOpen t us ss s (Change.Effect key effect) strong → (next : Unit) (lives : ℕ)
+    (after : Node) → after ≡ affected key effect n → AreLess us strong n after lives next → may_serve t s.keys s.buffers n after ≡ true →
+    IsServedAt t now n.head s.keys (given_buffers n.head after) →
+    IsMade t now (set us n.head.slot next) ss s (Change.Effect key effect) lives
+served_by t now us key effect n was ss s strong opens next lives after is less may served = by s.buffers refl may
+  where
+    by : (o : Option Buffers) → s.buffers ≡ o → may_serve t s.keys o n after ≡ true →
+        IsMade t now (set us n.head.slot next) ss s (Change.Effect key effect) lives
+    by None has h = cc
+    by (Some b) has h =
+        let one = and_right (not n.allocated) _ h in
+        let two = and_right (has_turn_at t n.head) _ one in
+        let none : list_any (hangs_below_at t n.head) s.keys ≡ false =
+        not-true _ (and_left (not (list_any (hangs_below_at t n.head) s.keys)) _ two) in
+        let enough : are_enough b (reserved_with t s.keys) (asked_with t s.keys n.head (affected key effect n)) ≡ true =
+        subst (λ (m : Node). are_enough b (reserved_with t s.keys) (asked_with t s.keys n.head m) ≡ true) is
+        (and_right (not (list_any (hangs_below_at t n.head) s.keys)) _ two) in
+        served_made t us key effect n was ss s strong opens b has (not-true n.allocated (and_left (not n.allocated) _ h))
+        (and_left (has_turn_at t n.head) _ one) none enough served.between served.given now
+        (subst (λ (m : Node). now ≡ table_with_node served.between (given_buffers n.head m).key (given_buffers n.head m)) is served.becomes)
+        (subst (λ (m : Node). Writes served.between now (given_buffers n.head m).key (given_buffers n.head m)) is served.writes)
+        lives next (subst (λ (m : Node). AreLess us strong n m lives next) is less)

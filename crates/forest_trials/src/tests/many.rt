@@ -36,7 +36,7 @@ pub(super) fn family(
     Ok((ground, keys))
 }
 
-fn ask_each(ground: &mut Ground, keys: &[NodeKey]) -> Result<(), Fail> {
+pub(super) fn ask_each(ground: &mut Ground, keys: &[NodeKey]) -> Result<(), Fail> {
     let asked = demand(0, 1, 4096)?;
     for key in keys {
         ground.ask(*key, asked)?;

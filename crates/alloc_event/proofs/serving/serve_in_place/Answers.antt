@@ -1,0 +1,114 @@
+-- The change is made in its place, and the entry of the collection has the count.
+use Rattle.std.proofs.Common.{◌≡◌, true, false, List, Some, map, get_or, set, refl, sym, ◌∙◌, ap, subst, arith}
+use Rattle.std.proofs.lemmas.List.{get_or_default}
+use Rattle.std.specs.List.{list_any}
+use Rattle.alloc_event.specs.declared.change.Change.{Change}
+use Rattle.alloc_event.specs.declared.entry.Entry.{Entry}
+use Rattle.alloc_event.specs.Counts.{AreUnits}
+use Rattle.alloc_event.specs.InPlace.{IsMade, IsOpen}
+use Rattle.alloc_event.specs.Kept.{Finishes, Shelf, collection_in, nodes_with, place_in, shelf_of, shelves_of, forest_of}
+use Rattle.alloc_event.specs.Calm.{over_but}
+use Rattle.alloc_event.specs.Settling.{changed, collection_or_new, no_key}
+use Rattle.alloc_event.proofs.changes.Altering.{tracker_room}
+use Rattle.alloc_event.proofs.changes.Done.{counted_at, finishes_at, opens_at, shelves_at, tidy_at}
+use Rattle.alloc_event.proofs.shelves.Entries.{IsPlace, place_is}
+use Rattle.alloc_event.proofs.serving.serve_in_place.Goals as goal
+
+pub index-requires : goal.index-requires
+index-requires c =
+    let told : place_in c.args.id c.args.entries.now.items ≡ Some c.in-Some.at =
+    sym (rw c.deref.ensures.value at c.place_of.ensures) ∙ c.in-Some.is in
+    omega (arith, (place_is c.args.id c.args.entries.now.items c.in-Some.at told).within)
+
+pub index_mut-requires : goal.index_mut-requires
+index_mut-requires c =
+    let told : place_in c.args.id c.args.entries.now.items ≡ Some c.in-Some.at =
+    sym (rw c.deref.ensures.value at c.place_of.ensures) ∙ c.in-Some.is in
+    omega (arith, (place_is c.args.id c.args.entries.now.items c.in-Some.at told).within)
+
+pub serve_effect-requires-clause-room : goal.serve_effect-requires-clause-room
+serve_effect-requires-clause-room c at n found =
+    tracker_room c.args.table.now (shelves_of c.args.entries.now.items) c.requires.kept c.args.key c.args.effect.now
+    (λ m e there. c.requires.change.trackers c.args.key m (ap (Change.Effect c.args.key) e) there) at n found
+
+-- the entry that was read, and the place where it stands
+module _ (c : goal.After-entries-1) where
+  abbrev es : List Entry
+  es = c.args.entries.now.items
+
+  abbrev old : Entry
+  old = c.index.result.now
+
+  abbrev new : Entry
+  new = record {
+    id = c.index_mut.result.now.id;
+    keys = c.index_mut.result.now.keys;
+    buffers = c.index_mut.result.now.buffers;
+    held = c.index_mut.result.now.held;
+    strong = c.in-Some-serve_effect.left;
+    tidy = c.index_mut.result.now.tidy;
+    one = c.index_mut.result.now.one;
+  }
+
+  told : place_in c.args.id es ≡ Some c.in-Some.at
+  told = sym (rw c.deref.ensures.value at c.place_of.ensures) ∙ c.in-Some.is
+
+  place : IsPlace c.args.id es c.in-Some.at
+  place = place_is c.args.id es c.in-Some.at told
+
+  is : old ≡ get_or es c.in-Some.at old
+  is = c.index.ensures
+
+  again : c.index_mut.result.now ≡ old
+  again = c.index_mut.ensures.value ∙ get_or_default es c.in-Some.at c.index_mut.result.now old place.within ∙ sym is
+
+  opens : IsOpen c.args.table.now c.args.units.now.items (shelves_of es) (shelf_of old) (Change.Effect c.args.key c.args.effect.now) old.strong
+  opens = opens_at c.args.table.now es c.args.id c.in-Some.at old place is c.requires.kept c.requires.counted c.args.units.now.items
+      c.requires.units (Change.Effect c.args.key c.args.effect.now) c.requires.change
+
+  made : IsMade c.args.table.now c.serve_effect.new.table c.serve_effect.new.units.items (shelves_of es) (shelf_of old)
+      (Change.Effect c.args.key c.args.effect.now) c.in-Some-serve_effect.left
+  made = c.in-Some-serve_effect.ensures.some (shelves_of es) opens
+
+  tidies : new.tidy ≡ true → list_any (over_but new.one) (nodes_with c.serve_effect.new.table old.keys.items) ≡ false
+  tidies h = made.over new.one ∙ ap (λ (x : Entry). list_any (over_but x.one) (nodes_with c.args.table.now old.keys.items)) again
+      ∙ tidy_at c.args.table.now es c.args.id c.in-Some.at old place is c.requires.kept c.requires.counted c.args.units.now.items
+      c.requires.units (Change.Effect c.args.key c.args.effect.now) c.requires.change
+      (sym (ap (λ (x : Entry). x.tidy) again) ∙ h)
+
+  same_shelves : shelves_of (set es c.in-Some.at new) ≡ shelves_of es
+  same_shelves = shelves_at c.args.table.now es c.args.id c.in-Some.at old place is c.requires.kept c.requires.counted
+      c.args.units.now.items c.requires.units (Change.Effect c.args.key c.args.effect.now) c.requires.change
+      c.serve_effect.new.table c.serve_effect.new.units.items c.in-Some-serve_effect.left made.done new (ap shelf_of again) refl
+      tidies
+
+pub returns-clause-ok : goal.returns-clause-ok
+returns-clause-ok c h pool handles =
+    subst (λ (ss : List Shelf). Finishes pool handles c.args.table.now (shelves_of c.args.entries.now.items) c.serve_effect.new.table ss
+    (changed (Change.Effect c.args.key c.args.effect.now) no_key (collection_or_new (forest_of c.args.table.now (shelves_of c.args.entries.now.items)) c.args.id)))
+    (sym (same_shelves c))
+    (finishes_at c.args.table.now c.args.entries.now.items c.args.id c.in-Some.at (old c) (place c) (is c) c.requires.kept
+    c.requires.counted c.args.units.now.items c.requires.units (Change.Effect c.args.key c.args.effect.now) c.requires.change
+    c.serve_effect.new.table c.serve_effect.new.units.items c.in-Some-serve_effect.left (made c).done (new c)
+    (ap shelf_of (again c)) refl (tidies c) pool handles)
+
+pub returns-clause-shelves : goal.returns-clause-shelves
+returns-clause-shelves c = same_shelves c
+
+pub returns-clause-kept : goal.returns-clause-kept
+returns-clause-kept c h = (made c).done.kept
+
+pub returns-clause-counted : goal.returns-clause-counted
+returns-clause-counted c h =
+    counted_at c.args.table.now c.args.entries.now.items c.args.id c.in-Some.at (old c) (place c) (is c) c.requires.kept c.requires.counted
+    c.args.units.now.items c.requires.units (Change.Effect c.args.key c.args.effect.now) c.requires.change
+    c.serve_effect.new.table c.serve_effect.new.units.items c.in-Some-serve_effect.left (made c).done (new c)
+    (ap shelf_of (again c)) refl (tidies c) (told c)
+
+pub returns-clause-same : goal.returns-clause-same
+returns-clause-same c = (made c).done.same
+
+pub returns-clause-units : goal.returns-clause-units
+returns-clause-units c =
+    subst (λ (ss : List Shelf). AreUnits c.serve_effect.new.units.items (map (collection_in c.serve_effect.new.table) ss))
+    (sym (same_shelves c)) (made c).done.units
