@@ -8,7 +8,7 @@ use Rattle.sm_names.specs.declared.tracking.Condition.{Condition}
 use Rattle.sm_names.specs.Bounds.{Bound}
 use Rattle.sm_names.specs.Ends.{is_handle_of}
 use Rattle.sm_names.specs.Sameness.{same_key}
-use Rattle.sm_names.specs.Timelines.{HeldPages}
+use Rattle.sm_names.specs.declared.keys.HeldBuffer.{HeldBuffer}
 use Rattle.sm_names.specs.Elements.{In}
 use Rattle.buffer_holds.specs.Counts.{Counts, total}
 use Rattle.buffer_pool.specs.Holdings.{Holdings}
@@ -112,7 +112,7 @@ pub record StillWaits (f : Forest) (handles : Handles) (t : Waiting) : Type 0 wh
 
 -- each held buffer is one of its collection, and not home
 abbrev pub AreOut : Handles → Forest → Type 0
-AreOut handles f = (c : Collection) → In c f.collections → (h : HeldPages) → In h c.held →
+AreOut handles f = (c : Collection) → In c f.collections → (h : HeldBuffer) → In h c.held →
     (h.buffer.collection ≡ c.id) × (is_home_in handles c h.buffer ≡ false)
 
 -- no id is above this number

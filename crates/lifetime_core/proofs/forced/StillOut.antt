@@ -15,7 +15,8 @@ use Rattle.sm_names.specs.Marks.{Mark, Called, Loss, Allocated, Ended}
 use Rattle.sm_names.specs.Members.{some_strong_live}
 use Rattle.sm_names.specs.Pages.{pages_of, places}
 use Rattle.sm_names.specs.Sameness.{same_buffer}
-use Rattle.sm_names.specs.Timelines.{HeldPages, laid_out, layout}
+use Rattle.sm_names.specs.declared.keys.HeldBuffer.{HeldBuffer}
+use Rattle.sm_names.specs.Timelines.{laid_out, layout}
 use Rattle.sm_names.proofs.HandleLaws.{same_buffer-true}
 use Rattle.sm_names.proofs.ListLaws.{In, In-append, In-filter, In-find}
 use Rattle.sm_names.proofs.SamenessLaws.{and_both, both_ways, either_way, false_if}
@@ -48,16 +49,16 @@ use Rattle.lifetime_core.proofs.handles.HeldNames.{named_in}
 
 -- the held buffers are of the collection
 abbrev AreOurs : Collection → Type 0
-AreOurs c = (h : HeldPages) → In h c.held → h.buffer.collection ≡ c.id
+AreOurs c = (h : HeldBuffer) → In h c.held → h.buffer.collection ≡ c.id
 
 -- what is laid out is laid out for one of these buffers
-laid_for : (pages : ℕ) (bs : List BufferName) (starts : List ℕ) (h : HeldPages) → In h (laid_out pages bs starts) → In h.buffer bs
+laid_for : (pages : ℕ) (bs : List BufferName) (starts : List ℕ) (h : HeldBuffer) → In h (laid_out pages bs starts) → In h.buffer bs
 laid_for pages [] starts h on = absurd on
 laid_for pages (b ∷ bs) [] h on = absurd on
-laid_for pages (b ∷ bs) (s ∷ ss) h (inl is) = inl (ap (λ (x : HeldPages). x.buffer) is)
+laid_for pages (b ∷ bs) (s ∷ ss) h (inl is) = inl (ap (λ (x : HeldBuffer). x.buffer) is)
 laid_for pages (b ∷ bs) (s ∷ ss) h (inr on) = inr (laid_for pages bs ss h on)
 
-layout_ours : (pool id : ℕ) (want : Buffers) (held : List Interval) (h : HeldPages) → In h (layout pool id want held) →
+layout_ours : (pool id : ℕ) (want : Buffers) (held : List Interval) (h : HeldBuffer) → In h (layout pool id want held) →
     h.buffer.collection ≡ id
 layout_ours pool id want held h = from (places pool (pages_of want.size) want.count held)
   where
@@ -103,12 +104,12 @@ changed_ours Change.Nothing key c ours = ours
 
 -- the held buffers of the collection are its own, and not home
 abbrev IsOut : Handles → Collection → Type 0
-IsOut handles c = (h : HeldPages) → In h c.held → (h.buffer.collection ≡ c.id) × (is_home_in handles c h.buffer ≡ false)
+IsOut handles c = (h : HeldBuffer) → In h c.held → (h.buffer.collection ≡ c.id) × (is_home_in handles c h.buffer ≡ false)
 
 -- where those that are home gave their pages back, none of the others is
 given_out : (handles : Handles) (c : Collection) → AreOurs c → IsOut handles (given_back handles c)
 given_out handles c ours h on =
-    let kept = In-filter (λ (x : HeldPages). not (is_home_in handles c x.buffer)) c.held h on in
+    let kept = In-filter (λ (x : HeldBuffer). not (is_home_in handles c x.buffer)) c.held h on in
     (ours h kept.0, not_back (is_home_in handles c h.buffer) kept.1)
 
 -- a buffer of which not the last handle of a strength is lost is not brought home
@@ -262,7 +263,7 @@ asks_only s client (Call.DropHandle buffer strength) asked task work =
 asks_only s client _ asked task work = tt
 
 -- where all pass one by one, the list passes
-all_of : (test : HeldPages → Bool) (hs : List HeldPages) → ((h : HeldPages) → In h hs → test h ≡ true) → list_all test hs ≡ true
+all_of : (test : HeldBuffer → Bool) (hs : List HeldBuffer) → ((h : HeldBuffer) → In h hs → test h ≡ true) → list_all test hs ≡ true
 all_of test [] each = refl
 all_of test (h ∷ hs) each =
     and_both (test h) (list_all test hs) (each h (inl refl)) (all_of test hs (λ x on. each x (inr on)))
