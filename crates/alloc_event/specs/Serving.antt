@@ -10,11 +10,13 @@ use Rattle.sm_names.specs.Sameness.{same_key}
 use Rattle.node_table.specs.Changes.{Writes}
 use Rattle.node_table.specs.Lending.{table_with_node}
 use Rattle.node_table.specs.Table.{Table, node_at, parent_at}
+use Rattle.alloc_event.specs.declared.change.Change.{Change}
 use Rattle.alloc_event.specs.declared.node.Node.{Node}
 use Rattle.alloc_event.specs.declared.units.Unit.{Unit}
+use Rattle.alloc_event.specs.Calm.{over_but}
 use Rattle.alloc_event.specs.Counts.{is_unready, unit_at}
-use Rattle.alloc_event.specs.InPlace.{bit}
-use Rattle.alloc_event.specs.Kept.{SameTable, is_strong, nodes_with, written}
+use Rattle.alloc_event.specs.InPlace.{IsDone, bit}
+use Rattle.alloc_event.specs.Kept.{SameTable, Shelf, is_strong, nodes_with, written}
 use Rattle.alloc_event.specs.Nodes.{given_buffers}
 use Rattle.alloc_event.specs.Questions.{demands_of, is_in_unit, is_live_node, is_served}
 
@@ -113,3 +115,9 @@ pub record IsServedAt (old new : Table Node) (head : NodeKey) (keys : List NodeK
   pub given : IsGivenAt old between head keys
   pub becomes : new ≡ table_with_node between n.key n
   pub writes : Writes between new n.key n
+
+-- the change was made, the unit's allocation with it, nothing more is forced, and so many strong nodes are live then; as many
+-- are over as before, also without one of them
+pub record IsServed (t now : Table Node) (us : List Unit) (ss : List Shelf) (s : Shelf) (change : Change) (lives : ℕ) : Type 0 where
+  pub done : IsDone t now us ss s change lives
+  pub over : (one : Option NodeKey) → list_any (over_but one) (nodes_with now s.keys) ≡ list_any (over_but one) (nodes_with t s.keys)

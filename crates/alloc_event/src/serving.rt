@@ -9,11 +9,11 @@ ghost use Rattle.alloc_event.specs.declared.change.Change.{Change as Changed};
 ghost use Rattle.alloc_event.specs.declared.node.Node.{Node as Kept};
 ghost use Rattle.alloc_event.specs.Calm.{AreCounted};
 ghost use Rattle.alloc_event.specs.Counts.{HaveUnits};
-ghost use Rattle.alloc_event.specs.InPlace.{IsMade, IsOpen};
+ghost use Rattle.alloc_event.specs.InPlace.{IsOpen};
 ghost use Rattle.alloc_event.specs.Kept.{Finishes, IsStored, SameTable, Shelf, forest_of, shelf_of, shelves_of, written};
 ghost use Rattle.alloc_event.specs.Nodes.{given_buffers};
 ghost use Rattle.alloc_event.specs.Scenes.{has_tracker_room};
-ghost use Rattle.alloc_event.specs.Serving.{AreLess, IsGivenAt, IsServedAt, are_enough, asked_at, asked_with, hangs_below, hangs_below_at, has_turn_at, is_of_unit, is_served_there, may_serve, reserved_with, served_at};
+ghost use Rattle.alloc_event.specs.Serving.{AreLess, IsGivenAt, IsServed, IsServedAt, are_enough, asked_at, asked_with, hangs_below, hangs_below_at, has_turn_at, is_of_unit, is_served_there, may_serve, reserved_with, served_at};
 ghost use Rattle.alloc_event.specs.Settling.{Handles, MayChange, changed, collection_or_new, no_key};
 
 use crate::asks::Asks;
@@ -290,7 +290,7 @@ fn serve_effect(
     ensures none_units { result ≡ None → units.new.items ≡ units.old.items }
     ensures some { IfSome result (λ left. (ss : List Shelf) →
         IsOpen table.old units.old.items ss (shelf_of entry.now) (Changed.Effect key effect.now) entry.now.strong →
-        IsMade table.old table.new units.new.items ss (shelf_of entry.now) (Changed.Effect key effect.now) left) }
+        IsServed table.old table.new units.new.items ss (shelf_of entry.now) (Changed.Effect key effect.now) left) }
 {
     let Some(node) = table.get(key).copied() else {
         return None;
@@ -342,6 +342,8 @@ pub(crate) fn serve_in_place(
     let Some(left) = serve_effect(table, units, &entries[at], key, effect) else {
         return false;
     };
-    entries[at].strong = left;
+    let entry = &mut entries[at];
+    entry.strong = left;
+    entry.reserved = reserved_with(table, &entry.keys);
     true
 }

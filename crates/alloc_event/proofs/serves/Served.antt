@@ -33,7 +33,7 @@ use Rattle.alloc_event.specs.Kept.{AreRising, Finishes, IsStored, IsWhole, Shelf
 use Rattle.alloc_event.specs.Nodes.{affected, after_allocation, given_buffers}
 use Rattle.alloc_event.specs.Questions.{demands_of, is_allocated_node, is_in_unit, is_live_node, is_next_node, is_ready_node, is_served}
 use Rattle.alloc_event.specs.Scenes.{IsSound}
-use Rattle.alloc_event.specs.Serving.{AreLess, IsGivenAt, IsServedAt, are_enough, asked_with, given_at, hangs_below_at, has_turn_at, may_serve, reserved_with}
+use Rattle.alloc_event.specs.Serving.{AreLess, IsGivenAt, IsServed, IsServedAt, are_enough, asked_with, given_at, hangs_below_at, has_turn_at, may_serve, reserved_with}
 use Rattle.alloc_event.specs.Settling.{Handles, MayChange, Rests, Settles, changed, collection_or_new, given_back, is_root_of, is_there, no_key, put, standing}
 use Rattle.alloc_event.proofs.calm.Calming.{any_map, count_none, rests_strong, times_map}
 use Rattle.alloc_event.proofs.calm.Forcing.{forced_made}
@@ -420,7 +420,7 @@ module _ (t : Table Node) (us : List Unit) (key : NodeKey) (effect : Effect) (n 
                 ∙ rests (beside (forest_of now ss) s.id);
           })
 
-      pub served_made : IsMade t now (set us k.slot next) ss s (Change.Effect key effect) lives
+      pub served_made : IsServed t now (set us k.slot next) ss s (Change.Effect key effect) lives
       served_made = record {
         done = record {
           kept = made_between.done.kept;
@@ -446,11 +446,11 @@ pub served_by : (t now : Table Node) (us : List Unit) (key : NodeKey) (effect : 
     (ss : List Shelf) (s : Shelf) (strong : ℕ) → IsOpen t us ss s (Change.Effect key effect) strong → (next : Unit) (lives : ℕ)
     (after : Node) → after ≡ affected key effect n → AreLess us strong n after lives next → may_serve t s.keys s.buffers n after ≡ true →
     IsServedAt t now n.head s.keys (given_buffers n.head after) →
-    IsMade t now (set us n.head.slot next) ss s (Change.Effect key effect) lives
+    IsServed t now (set us n.head.slot next) ss s (Change.Effect key effect) lives
 served_by t now us key effect n was ss s strong opens next lives after is less may served = by s.buffers refl may
   where
     by : (o : Option Buffers) → s.buffers ≡ o → may_serve t s.keys o n after ≡ true →
-        IsMade t now (set us n.head.slot next) ss s (Change.Effect key effect) lives
+        IsServed t now (set us n.head.slot next) ss s (Change.Effect key effect) lives
     by None has h = cc
     by (Some b) has h =
         let one = and_right (not n.allocated) _ h in

@@ -4,10 +4,9 @@ use Rattle.node_table.specs.Table.{node_at}
 use Rattle.alloc_event.specs.declared.change.Change.{Change}
 use Rattle.alloc_event.specs.declared.node.Node.{Node}
 use Rattle.alloc_event.specs.declared.units.Unit.{Unit}
-use Rattle.alloc_event.specs.InPlace.{IsMade}
 use Rattle.alloc_event.specs.Kept.{shelf_of}
 use Rattle.alloc_event.specs.Nodes.{given_buffers}
-use Rattle.alloc_event.specs.Serving.{AreLess, IsServedAt, may_serve}
+use Rattle.alloc_event.specs.Serving.{AreLess, IsServed, IsServedAt, may_serve}
 use Rattle.alloc_event.proofs.changes.Altering.{same_affected}
 use Rattle.alloc_event.proofs.serves.Served.{served_by}
 use Rattle.alloc_event.proofs.serving.serve_effect.Goals as goal
@@ -34,7 +33,7 @@ returns-clause-some c ss opens =
     let may : may_serve t keys c.args.entry.now.buffers n after ≡ true =
     rw c.deref-2.ensures.value at (sym c.may_serve.ensures ∙ c.if-not-may_serve.false) in
     let served : IsServedAt t c.serve.new.table n.head keys (given_buffers n.head after) = rw c.deref-3.ensures.value at c.serve.ensures in
-    subst (λ (l : List Unit). IsMade t c.serve.new.table l ss (shelf_of c.args.entry.now) (Change.Effect c.args.key c.args.effect.now)
+    subst (λ (l : List Unit). IsServed t c.serve.new.table l ss (shelf_of c.args.entry.now) (Change.Effect c.args.key c.args.effect.now)
     c.in-Some-counts_with.left) (sym c.put_unit.ensures)
     (served_by t c.serve.new.table us c.args.key c.args.effect.now n was ss (shelf_of c.args.entry.now) c.args.entry.now.strong opens
     c.in-Some-counts_with.next c.in-Some-counts_with.left after c.affected_by-after.ensures less may served)

@@ -5,9 +5,11 @@ use Rattle.std.specs.List.{list_any}
 use Rattle.alloc_event.specs.declared.change.Change.{Change}
 use Rattle.alloc_event.specs.declared.entry.Entry.{Entry}
 use Rattle.alloc_event.specs.Counts.{AreUnits}
-use Rattle.alloc_event.specs.InPlace.{IsMade, IsOpen}
+use Rattle.alloc_event.specs.InPlace.{IsOpen}
 use Rattle.alloc_event.specs.Kept.{Finishes, Shelf, collection_in, nodes_with, place_in, shelf_of, shelves_of, forest_of}
 use Rattle.alloc_event.specs.Calm.{over_but}
+use Rattle.alloc_event.specs.Reserved.{reserved_count}
+use Rattle.alloc_event.specs.Serving.{IsServed}
 use Rattle.alloc_event.specs.Settling.{changed, collection_or_new, no_key}
 use Rattle.alloc_event.proofs.changes.Altering.{tracker_room}
 use Rattle.alloc_event.proofs.changes.Done.{counted_at, finishes_at, opens_at, shelves_at, tidy_at}
@@ -20,8 +22,8 @@ index-requires c =
     sym (rw c.deref.ensures.value at c.place_of.ensures) ∙ c.in-Some.is in
     omega (arith, (place_is c.args.id c.args.entries.now.items c.in-Some.at told).within)
 
-pub index_mut-requires : goal.index_mut-requires
-index_mut-requires c =
+pub index_mut-entry-requires : goal.index_mut-entry-requires
+index_mut-entry-requires c =
     let told : place_in c.args.id c.args.entries.now.items ≡ Some c.in-Some.at =
     sym (rw c.deref.ensures.value at c.place_of.ensures) ∙ c.in-Some.is in
     omega (arith, (place_is c.args.id c.args.entries.now.items c.in-Some.at told).within)
@@ -41,13 +43,14 @@ module _ (c : goal.After-entries-1) where
 
   abbrev new : Entry
   new = record {
-    id = c.index_mut.result.now.id;
-    keys = c.index_mut.result.now.keys;
-    buffers = c.index_mut.result.now.buffers;
-    held = c.index_mut.result.now.held;
+    id = c.index_mut-entry.result.now.id;
+    keys = c.index_mut-entry.result.now.keys;
+    buffers = c.index_mut-entry.result.now.buffers;
+    held = c.index_mut-entry.result.now.held;
     strong = c.in-Some-serve_effect.left;
-    tidy = c.index_mut.result.now.tidy;
-    one = c.index_mut.result.now.one;
+    reserved = c.reserved_with-entry.result;
+    tidy = c.index_mut-entry.result.now.tidy;
+    one = c.index_mut-entry.result.now.one;
   }
 
   told : place_in c.args.id es ≡ Some c.in-Some.at
@@ -59,14 +62,14 @@ module _ (c : goal.After-entries-1) where
   is : old ≡ get_or es c.in-Some.at old
   is = c.index.ensures
 
-  again : c.index_mut.result.now ≡ old
-  again = c.index_mut.ensures.value ∙ get_or_default es c.in-Some.at c.index_mut.result.now old place.within ∙ sym is
+  again : c.index_mut-entry.result.now ≡ old
+  again = c.index_mut-entry.ensures.value ∙ get_or_default es c.in-Some.at c.index_mut-entry.result.now old place.within ∙ sym is
 
   opens : IsOpen c.args.table.now c.args.units.now.items (shelves_of es) (shelf_of old) (Change.Effect c.args.key c.args.effect.now) old.strong
   opens = opens_at c.args.table.now es c.args.id c.in-Some.at old place is c.requires.kept c.requires.counted c.args.units.now.items
       c.requires.units (Change.Effect c.args.key c.args.effect.now) c.requires.change
 
-  made : IsMade c.args.table.now c.serve_effect.new.table c.serve_effect.new.units.items (shelves_of es) (shelf_of old)
+  made : IsServed c.args.table.now c.serve_effect.new.table c.serve_effect.new.units.items (shelves_of es) (shelf_of old)
       (Change.Effect c.args.key c.args.effect.now) c.in-Some-serve_effect.left
   made = c.in-Some-serve_effect.ensures.some (shelves_of es) opens
 
@@ -75,6 +78,10 @@ module _ (c : goal.After-entries-1) where
       ∙ tidy_at c.args.table.now es c.args.id c.in-Some.at old place is c.requires.kept c.requires.counted c.args.units.now.items
       c.requires.units (Change.Effect c.args.key c.args.effect.now) c.requires.change
       (sym (ap (λ (x : Entry). x.tidy) again) ∙ h)
+
+  reserved_now : new.reserved ≡ reserved_count (nodes_with c.serve_effect.new.table old.keys.items)
+  reserved_now = rw c.deref-2.ensures.value at c.reserved_with-entry.ensures.value
+      ∙ ap (λ (x : Entry). reserved_count (nodes_with c.serve_effect.new.table x.keys.items)) again
 
   same_shelves : shelves_of (set es c.in-Some.at new) ≡ shelves_of es
   same_shelves = shelves_at c.args.table.now es c.args.id c.in-Some.at old place is c.requires.kept c.requires.counted
@@ -103,7 +110,7 @@ returns-clause-counted c h =
     counted_at c.args.table.now c.args.entries.now.items c.args.id c.in-Some.at (old c) (place c) (is c) c.requires.kept c.requires.counted
     c.args.units.now.items c.requires.units (Change.Effect c.args.key c.args.effect.now) c.requires.change
     c.serve_effect.new.table c.serve_effect.new.units.items c.in-Some-serve_effect.left (made c).done (new c)
-    (ap shelf_of (again c)) refl (tidies c) (told c)
+    (ap shelf_of (again c)) refl (tidies c) (told c) (reserved_now c)
 
 pub returns-clause-same : goal.returns-clause-same
 returns-clause-same c = (made c).done.same
