@@ -1,5 +1,5 @@
 -- An attached unit that becomes ready and is allocated in its place. No public clause cites this module.
-use Rattle.std.specs.Prelude.{◌≡◌, ℕ, ◌+◌, ◌<◌, Bool, true, false, ◌||◌, ◌&&◌, not, nat_lt, if◌then◌else◌, List, length, Option, None, option_map}
+use Rattle.std.specs.Prelude.{◌≡◌, ℕ, ◌+◌, ◌<◌, Bool, true, false, ◌||◌, ◌&&◌, ◌==◌, not, nat_lt, if◌then◌else◌, List, length, Option, None, option_map}
 use Rattle.std.specs.List.{filter_map, list_any, sum_by}
 use Rattle.std.specs.Option.{option_and_then, option_map_or}
 use Rattle.sm_names.specs.declared.keys.NodeKey.{NodeKey}
@@ -39,13 +39,14 @@ has_turn_at t head =
 abbrev pub is_of_unit : Table Node → NodeKey → NodeKey → Bool
 is_of_unit t head key = option_map_or (λ (n : Node). same_key n.head head) (node_at t key) false
 
--- the node heads a unit right below the one with this head
-abbrev pub hangs_below : Table Node → NodeKey → Node → Bool
-hangs_below t head n = n.attached && (not n.gone && option_map_or (is_of_unit t head) n.parent false)
+-- the node heads a unit right below the one with this head, and that waits for no node, by the counts
+abbrev pub hangs_below : Table Node → List Unit → NodeKey → Node → Bool
+hangs_below t units head n =
+    n.attached && (not n.gone && ((unit_at units n.key.slot).unready == 0 && option_map_or (is_of_unit t head) n.parent false))
 
 -- the node with this key does
-abbrev pub hangs_below_at : Table Node → NodeKey → NodeKey → Bool
-hangs_below_at t head key = option_map_or (hangs_below t head) (node_at t key) false
+abbrev pub hangs_below_at : Table Node → List Unit → NodeKey → NodeKey → Bool
+hangs_below_at t units head key = option_map_or (hangs_below t units head) (node_at t key) false
 
 -- ---- what it asks for
 
@@ -74,9 +75,9 @@ are_enough buffers reserved asked =
     || nat_lt buffers.count (greatest (λ d. d.at_least) asked)) && not (nat_lt buffers.size (greatest (λ d. d.size) asked))
 
 -- the unit of the first node is to be allocated, once an effect made the second one of it
-abbrev pub may_serve : Table Node → List NodeKey → Option Buffers → Node → Node → Bool
-may_serve t keys buffers n after = option_map_or
-    (λ b. not n.allocated && (has_turn_at t n.head && (not (list_any (hangs_below_at t n.head) keys)
+abbrev pub may_serve : Table Node → List NodeKey → List Unit → Option Buffers → Node → Node → Bool
+may_serve t keys units buffers n after = option_map_or
+    (λ b. not n.allocated && (has_turn_at t n.head && (not (list_any (hangs_below_at t units n.head) keys)
     && are_enough b (reserved_with t keys) (asked_with t keys n.head after))))
     buffers false
 

@@ -73,18 +73,18 @@ impl Forest {
     /// are then as they were.
     ///
     /// Where a strong node of the collection is live all along, a birth, an effect and no change of
-    /// nodes cost a binary search and a constant, growth spread over the births. So does the birth of a
-    /// root, but for the shift of the collections behind its own. Of effects there are two that cost
-    /// more: the release that leaves no node of its unit live, unless the node's first child heads a
-    /// unit, and one that leaves its unit ready and without buffers, unless the unit above has none
-    /// either. Where that unit is attached, a node of it stays live, no other unit hangs below it and
-    /// the buffers are enough for it, it is allocated in its place, which costs three reads of each
-    /// node of the collection, a write of each node of the unit and no memory. A loss costs what `fall`
-    /// costs and a binary search, where a node stays live of the unit above what it takes, and where
-    /// that unit does not become ready by it or has its buffers. So does the release of the last live
-    /// node at or below the head of an attached unit, which ends, where a node of the unit above stays
-    /// live; and a loss that leaves no live node at or below the head of such a unit, with a logarithm
-    /// for each node that goes.
+    /// nodes cost a binary search and a constant, growth spread over the births. So does the birth of
+    /// a root, but for the shift of the collections behind its own. Of effects there are two that
+    /// cost more: the release that leaves no node of its unit live, unless the node's first child
+    /// heads a unit, and one that leaves its unit ready and without buffers, unless the unit above
+    /// has none either. Where that unit is attached, a node of it stays live, no other unit that is
+    /// ready hangs below it and the buffers are enough for it, it is allocated in its place, which
+    /// costs three reads of each node of the collection, a write of each node of the unit and no
+    /// memory. A loss costs what `fall` costs and a binary search, where a node stays live of the
+    /// unit above what it takes, and where that unit does not become ready by it or has its buffers.
+    /// So does the release of the last live node at or below the head of an attached unit, which
+    /// ends, where a node of the unit above stays live; and a loss that leaves no live node at or
+    /// below the head of such a unit, with a logarithm for each node that goes.
     ///
     /// These and any other change cost a copy of the collection, a pass over its units, and the
     /// question for the next step after each that is made. A loss costs besides what `fall` costs,

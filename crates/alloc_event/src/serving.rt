@@ -83,11 +83,12 @@ fn is_of_unit(table: &NodeTable<Node>, head: NodeKey, key: NodeKey) -> bool
     }
 }
 
-/// Whether the node heads a unit right below the one with this head.
-fn hangs_below(table: &NodeTable<Node>, head: NodeKey, node: &Node) -> bool
-    ensures { result ≡ hangs_below table.now head node.now }
+/// Whether the node heads a unit right below the one with this head, and that waits for no node, by
+/// the counts.
+fn hangs_below(table: &NodeTable<Node>, units: &[Unit], head: NodeKey, node: &Node) -> bool
+    ensures { result ≡ hangs_below table.now units.now head node.now }
 {
-    if !node.attached || node.gone {
+    if !node.attached || node.gone || unit_in(units, node.key.slot as usize).unready != 0 {
         return false;
     }
     match node.parent {
@@ -97,20 +98,21 @@ fn hangs_below(table: &NodeTable<Node>, head: NodeKey, node: &Node) -> bool
 }
 
 /// Whether the node with this key does.
-fn hangs_below_at(table: &NodeTable<Node>, head: NodeKey, key: NodeKey) -> bool
-    ensures { result ≡ hangs_below_at table.now head key }
+fn hangs_below_at(table: &NodeTable<Node>, units: &[Unit], head: NodeKey, key: NodeKey) -> bool
+    ensures { result ≡ hangs_below_at table.now units.now head key }
 {
     match table.get(key) {
-        Some(node) => hangs_below(table, head, node),
+        Some(node) => hangs_below(table, units, head, node),
         None => false,
     }
 }
 
 /// Whether one of the nodes with these keys does.
-fn is_some_below(table: &NodeTable<Node>, keys: &[NodeKey], head: NodeKey) -> bool
-    ensures { result ≡ list_any (hangs_below_at table.now head) keys.now }
+fn is_some_below(table: &NodeTable<Node>, keys: &[NodeKey], units: &[Unit], head: NodeKey) -> bool
+    ensures { result ≡ list_any (hangs_below_at table.now units.now head) keys.now }
 {
-    keys.iter().any(|key| hangs_below_at(table, head, *key))
+    keys.iter()
+        .any(|key| hangs_below_at(table, units, head, *key))
 }
 
 /// The second node, if it has the key of the first.
@@ -212,23 +214,24 @@ fn are_enough(
 }
 
 /// Whether the unit of the first node is to be allocated, once an effect made the second one of it:
-/// it is attached and has no buffers, the one above it has them, no other hangs below it, and the
-/// buffers are enough.
+/// it is attached and has no buffers, the one above it has them, no other that is ready hangs below it,
+/// and the buffers are enough.
 fn may_serve(
     table: &NodeTable<Node>,
     keys: &[NodeKey],
+    units: &[Unit],
     given: Option<Buffers>,
     node: &Node,
     after: &Node,
 ) -> bool
-    ensures { result ≡ may_serve table.now keys.now given node.now after.now }
+    ensures { result ≡ may_serve table.now keys.now units.now given node.now after.now }
 {
     let Some(buffers) = given else {
         return false;
     };
     !node.allocated
         && has_turn(table, node.head)
-        && !is_some_below(table, keys, node.head)
+        && !is_some_below(table, keys, units, node.head)
         && are_enough(table, keys, node.head, after, buffers)
 }
 
@@ -299,7 +302,7 @@ fn serve_effect(
     let Some((left, next)) = counts_with(units, entry.strong, &node, &after) else {
         return None;
     };
-    if !may_serve(table, &entry.keys, entry.buffers, &node, &after) {
+    if !may_serve(table, &entry.keys, units, entry.buffers, &node, &after) {
         return None;
     }
     serve(table, &entry.keys, node.head, &after);
@@ -308,8 +311,8 @@ fn serve_effect(
 }
 
 /// Makes an effect in its place by which an attached unit becomes ready, and the unit's allocation
-/// with it, if the buffers are enough for it, no unit hangs below it, and the counts tell that
-/// nothing more is forced: a strong node of the collection is live after it, and one of the unit.
+/// with it, if the buffers are enough for it, no unit that is ready hangs below it, and the counts
+/// tell that nothing more is forced: a strong node of the collection is live after it, and one of the unit.
 /// Answers whether it did; if not, nothing changed. It takes no memory. It costs a binary search and
 /// a constant; where the unit is ready and due, three reads of each node of the collection besides,
 /// and a write of each node of the unit.

@@ -1,18 +1,21 @@
 -- A unit that is to be allocated, as the table tells before it is.
-use Rattle.std.proofs.Common.{◌≡◌, refl, ap, sym, ◌∙◌, subst, Bool, true, false, not, ◌&&◌, ◌||◌, ◌==◌, inl, inr, is_none, List, [], ◌∷◌, map, reverse, Option, Some, None, option_map}
-use Rattle.std.proofs.lemmas.Bool.{not-true}
-use Rattle.std.specs.List.{cons_option, find, list_any}
+use Rattle.std.proofs.Common.{◌≡◌, ℕ, zero, suc, ◌≤◌, ◌<◌, nat_lt, refl, ap, sym, ◌∙◌, subst, Bool, true, false, not, ◌&&◌, ◌||◌, ◌==◌, inl, inr, is_none, get_or, length, List, [], ◌∷◌, Option, Some, None, arith}
+use Rattle.std.proofs.lemmas.Bool.{eq-eqb, ltb-false, ltb-true, not-true}
+use Rattle.std.specs.List.{cons_option, find, list_all, list_any}
 use Rattle.std.specs.Option.{option_map_or}
 use Rattle.sm_names.specs.declared.keys.NodeKey.{NodeKey}
 use Rattle.sm_names.specs.Sameness.{same_key}
+use Rattle.sm_names.specs.Words.{times}
 use Rattle.sm_names.proofs.ListLaws.{In, In-list_any}
 use Rattle.sm_names.proofs.SamenessLaws.{and_both, and_left, and_right, both_ways, either_way, false_if, or_left, or_right, same_key-refl, same_key-true}
 use Rattle.node_table.specs.Table.{Table, node_at, parent_at}
 use Rattle.alloc_event.specs.declared.node.Node.{Node}
+use Rattle.alloc_event.specs.declared.units.Unit.{Unit}
+use Rattle.alloc_event.specs.Counts.{HasUnits, no_unit, unit_at, unit_of, waits_in}
 use Rattle.alloc_event.specs.Forest.{Collection}
 use Rattle.alloc_event.specs.Kept.{IsStored, IsWhole, Shelf, collection_in, nodes_with}
 use Rattle.alloc_event.specs.Nodes.{is_of}
-use Rattle.alloc_event.specs.Questions.{is_served}
+use Rattle.alloc_event.specs.Questions.{is_ready_node, is_served}
 use Rattle.alloc_event.specs.Scenes.{IsSound, heads_itself}
 use Rattle.alloc_event.specs.Serving.{hangs_below, hangs_below_at, has_turn_at, is_of_unit, is_served_there, is_waiting_head}
 use Rattle.alloc_event.specs.Settling.{is_root_of}
@@ -49,6 +52,19 @@ key_listed t named (k ∷ ks) n on = by (λ there. key_listed t named ks n there
         or_left (same_key n.key k) (list_any (same_key n.key) ks)
         (subst (λ (j : NodeKey). same_key n.key j ≡ true) (ap (λ (x : Node). x.key) is ∙ named k m at) (same_key-refl n.key))
     by rest (Some m) at (inr there) = or_right (same_key n.key k) (list_any (same_key n.key) ks) (rest there)
+
+-- where none passes the count is 0
+none_counted : (test : Node → Bool) (ns : List Node) → ((n : Node) → In n ns → test n ≡ false) → times test ns ≡ 0
+none_counted test [] none = refl
+none_counted test (n ∷ ns) none =
+    let here : test n ≡ false = none n (inl refl) in
+    rw here (none_counted test ns (λ m on. none m (inr on)))
+
+-- beyond the end
+get_or_beyond : (us : List Unit) (i : ℕ) (d : Unit) → length us ≤ i → get_or us i d ≡ d
+get_or_beyond [] i d out = refl
+get_or_beyond (u ∷ us) zero d out = absurd (omega (arith, out))
+get_or_beyond (u ∷ us) (suc i) d out = get_or_beyond us i d (omega (arith, out))
 
 -- a node with a parent is no root
 pub no_root : (c : Collection) → IsSound c → (h : Node) → In h c.nodes → (p : NodeKey) → h.parent ≡ Some p → is_root_of c h.key ≡ false
@@ -101,6 +117,19 @@ module _ (t : Table Node) (ss : List Shelf) (kept : IsStored t ss) (s : Shelf) (
   heads false true own e all h key is = same_key-true h.head h.key (sym is ∙ all) ∙ key
   heads false false own e all h key is = cc
 
+  -- a unit that is ready waits for none
+  waits_for_none : (us : List Unit) → HasUnits us nodes → (m : Node) → In m nodes → list_all (is_ready_node m.key) nodes ≡ true →
+      (unit_at us m.key.slot).unready ≡ 0
+  waits_for_none us counts m on ready = elim (either_way (nat_lt m.key.slot (length us))) [
+    | inl e ↦
+        let is : unit_at us m.key.slot ≡ unit_of nodes m.key =
+        in_all (λ (x : Node). x.key.slot < length us → unit_at us x.key.slot ≡ unit_of nodes x.key) nodes counts m on
+        (ltb-true m.key.slot (length us) e) in
+        ap (λ (u : Unit). u.unready) is ∙ none_counted (waits_in m.key) nodes (λ x there.
+        ap not (all-In (is_ready_node m.key) nodes x there ready))
+    | inr e ↦ ap (λ (u : Unit). u.unready) (get_or_beyond us m.key.slot no_unit (ltb-false m.key.slot (length us) e))
+  ]
+
   pub due_head : has_turn_at t k ≡ true → (n : Node) → In n nodes → n.gone ≡ false → n.head ≡ k → IsDueHead t nodes k
   due_head turn n on here own =
       let h = head_there nodes whole_before.sound.distinct whole_before.sound.heads whole_before.rooted whole_before.united n on here in
@@ -133,20 +162,21 @@ module _ (t : Table Node) (ss : List Shelf) (kept : IsStored t ss) (s : Shelf) (
         served = and_right (not left.node.gone) _ serves;
       }
 
-  -- no unit hangs below
-  pub none_below : list_any (hangs_below_at t k) s.keys ≡ false → (m : Node) → In m nodes → m.attached ≡ true → m.gone ≡ false →
-      hangs_in nodes k m ≡ false
-  none_below none m on attached here = false_if (hangs_in nodes k m) (λ h.
+  -- no unit that is ready hangs below
+  pub none_below : (us : List Unit) → HasUnits us nodes → list_any (hangs_below_at t us k) s.keys ≡ false → (m : Node) → In m nodes →
+      m.attached ≡ true → m.gone ≡ false → list_all (is_ready_node m.key) nodes ≡ true → hangs_in nodes k m ≡ false
+  none_below us counts none m on attached here ready = false_if (hangs_in nodes k m) (λ h.
       let p = some_there (λ p. list_any (λ (q : Node). is_of p q && same_key q.head k) nodes) m.parent h in
       let q = In-list_any (λ (q : Node). is_of p.0 q && same_key q.head k) nodes p.2 in
       let at : node_at t p.0 ≡ Some q.0 = ap (node_at t) (sym (same_key-true q.0.key p.0 (and_left (is_of p.0 q.0) _ q.2))) ∙ at_key q.0 q.1 in
       let unit : is_of_unit t k p.0 ≡ true =
       ap (λ (o : Option Node). option_map_or (λ (x : Node). same_key x.head k) o false) at ∙ and_right (is_of p.0 q.0) _ q.2 in
-      let hangs : hangs_below t k m ≡ true =
+      let hangs : hangs_below t us k m ≡ true =
       and_both m.attached _ attached
       (and_both (not m.gone) _ (ap not here)
-      (ap (λ (o : Option NodeKey). option_map_or (is_of_unit t k) o false) p.1 ∙ unit)) in
-      both_ways (list_any (hangs_below_at t k) s.keys)
-      (any_key (hangs_below_at t k) s.keys m.key (key_listed t kept.named s.keys m on)
-      (ap (λ (o : Option Node). option_map_or (hangs_below t k) o false) (at_key m on) ∙ hangs))
+      (and_both ((unit_at us m.key.slot).unready == 0) _ (eq-eqb (unit_at us m.key.slot).unready 0 (waits_for_none us counts m on ready))
+      (ap (λ (o : Option NodeKey). option_map_or (is_of_unit t k) o false) p.1 ∙ unit))) in
+      both_ways (list_any (hangs_below_at t us k) s.keys)
+      (any_key (hangs_below_at t us k) s.keys m.key (key_listed t kept.named s.keys m on)
+      (ap (λ (o : Option Node). option_map_or (hangs_below t us k) o false) (at_key m on) ∙ hangs))
       none)

@@ -46,9 +46,10 @@ module _ (c : Collection) (sound : IsSound c) (k : NodeKey) (child : is_root_of 
   abbrev after : List Node
   after = after_allocation k c.nodes
 
-  -- ---- a unit below which no other hangs is allocated, and none is next by it
+  -- ---- a unit below which no other hangs that is ready is allocated, and none is next by it
 
-  module _ (none : (n : Node) → In n nodes → n.attached ≡ true → n.gone ≡ false → hangs_in nodes k n ≡ false) where
+  module _ (none : (n : Node) → In n nodes → n.attached ≡ true → n.gone ≡ false → list_all (is_ready_node n.key) nodes ≡ true →
+      hangs_in nodes k n ≡ false) where
     turn_was : (n : Node) → hangs_in nodes k n ≡ false → (o : Option NodeKey) → n.parent ≡ o →
         option_map_or (λ p. list_any (is_allocated_node p) after) o false ≡ true →
         option_map_or (λ p. list_any (is_allocated_node p) nodes) o false ≡ true
@@ -92,7 +93,7 @@ module _ (c : Collection) (sound : IsSound c) (k : NodeKey) (child : is_root_of 
         (and_both (not n.gone) _ here
         (and_both (not n.allocated) _ (ap not (or_none (same_key k n.head) n.allocated waits).1)
         (and_both (option_map_or (λ p. list_any (is_allocated_node p) nodes) n.parent false) _
-        (turn_was n (none n on attached (not-true n.gone here)) n.parent refl above)
+        (turn_was n (none n on attached (not-true n.gone here) (sym (ready_on c sound k child true n.key) ∙ all)) n.parent refl above)
         (sym (ready_on c sound k child true n.key) ∙ all))))
 
     pub calm_given : IsCalm c → IsCalm (with_nodes (after_allocation k) c)

@@ -24,7 +24,7 @@ use Rattle.alloc_event.specs.declared.decision.Decision.TheVariants.{Allocates}
 use Rattle.alloc_event.specs.declared.node.Node.{Node}
 use Rattle.alloc_event.specs.declared.units.Unit.{Unit}
 use Rattle.alloc_event.specs.Calm.{IsCalm, over_but, strong_count}
-use Rattle.alloc_event.specs.Counts.{AreUnits, lives_in, unit_at, waits_in, is_unready}
+use Rattle.alloc_event.specs.Counts.{AreUnits, HasUnits, lives_in, unit_at, waits_in, is_unready}
 use Rattle.alloc_event.specs.Decisions.{decided, has_strong, late_failure, mark_of}
 use Rattle.alloc_event.specs.Due.{is_due_at, is_served_at}
 use Rattle.alloc_event.specs.Forest.{Collection, beside, pages_in, with_nodes}
@@ -115,7 +115,7 @@ over_given k (Some noted) m = refl
 module _ (t : Table Node) (us : List Unit) (key : NodeKey) (effect : Effect) (n : Node) (was : node_at t key ≡ Some n)
     (ss : List Shelf) (s : Shelf) (strong : ℕ) (opens : IsOpen t us ss s (Change.Effect key effect) strong)
     (b : Buffers) (has : s.buffers ≡ Some b) (bare : n.allocated ≡ false) (turn : has_turn_at t n.head ≡ true)
-    (none : list_any (hangs_below_at t n.head) s.keys ≡ false)
+    (none : list_any (hangs_below_at t us n.head) s.keys ≡ false)
     (enough : are_enough b (reserved_with t s.keys) (asked_with t s.keys n.head (affected key effect n)) ≡ true) where
   abbrev k : NodeKey
   k = n.head
@@ -256,9 +256,13 @@ module _ (t : Table Node) (us : List Unit) (key : NodeKey) (effect : Effect) (n 
     kept_between = kept-map g same_g (λ m. kept_given (λ (x : Node). x.gone) k (λ x. refl) s.keys m) t between given.same.first
         given.same.len given.look given.parents ss opens.kept
 
+    unit_has : HasUnits us nodes
+    unit_has = all_at (λ (c : Collection). HasUnits us c.nodes) (map (collection_in t) ss) opens.units c0
+        (In-map-back (collection_in t) ss s (In-find (λ (x : Shelf). x.id == s.id) ss s opens.found).0)
+
     calm_between : IsCalm (collection_in between s)
     calm_between = subst IsCalm (sym between_is)
-        (calm_given c0 whole.sound k child0 (none_below t ss opens.kept s opens.found k none) opens.calm)
+        (calm_given c0 whole.sound k child0 (none_below t ss opens.kept s opens.found k us unit_has none) opens.calm)
 
     node_between : node_at between key ≡ Some (given_buffers k n)
     node_between = given.look key ∙ (ap (option_map g) was ∙ ap Some (given_in k s.keys n (listed n on)))
@@ -444,22 +448,22 @@ module _ (t : Table Node) (us : List Unit) (key : NodeKey) (effect : Effect) (n 
 -- as it was asked and done
 pub served_by : (t now : Table Node) (us : List Unit) (key : NodeKey) (effect : Effect) (n : Node) → node_at t key ≡ Some n →
     (ss : List Shelf) (s : Shelf) (strong : ℕ) → IsOpen t us ss s (Change.Effect key effect) strong → (next : Unit) (lives : ℕ)
-    (after : Node) → after ≡ affected key effect n → AreLess us strong n after lives next → may_serve t s.keys s.buffers n after ≡ true →
+    (after : Node) → after ≡ affected key effect n → AreLess us strong n after lives next → may_serve t s.keys us s.buffers n after ≡ true →
     IsServedAt t now n.head s.keys (given_buffers n.head after) →
     IsServed t now (set us n.head.slot next) ss s (Change.Effect key effect) lives
 served_by t now us key effect n was ss s strong opens next lives after is less may served = by s.buffers refl may
   where
-    by : (o : Option Buffers) → s.buffers ≡ o → may_serve t s.keys o n after ≡ true →
+    by : (o : Option Buffers) → s.buffers ≡ o → may_serve t s.keys us o n after ≡ true →
         IsServed t now (set us n.head.slot next) ss s (Change.Effect key effect) lives
     by None has h = cc
     by (Some b) has h =
         let one = and_right (not n.allocated) _ h in
         let two = and_right (has_turn_at t n.head) _ one in
-        let none : list_any (hangs_below_at t n.head) s.keys ≡ false =
-        not-true _ (and_left (not (list_any (hangs_below_at t n.head) s.keys)) _ two) in
+        let none : list_any (hangs_below_at t us n.head) s.keys ≡ false =
+        not-true _ (and_left (not (list_any (hangs_below_at t us n.head) s.keys)) _ two) in
         let enough : are_enough b (reserved_with t s.keys) (asked_with t s.keys n.head (affected key effect n)) ≡ true =
         subst (λ (m : Node). are_enough b (reserved_with t s.keys) (asked_with t s.keys n.head m) ≡ true) is
-        (and_right (not (list_any (hangs_below_at t n.head) s.keys)) _ two) in
+        (and_right (not (list_any (hangs_below_at t us n.head) s.keys)) _ two) in
         served_made t us key effect n was ss s strong opens b has (not-true n.allocated (and_left (not n.allocated) _ h))
         (and_left (has_turn_at t n.head) _ one) none enough served.between served.given now
         (subst (λ (m : Node). now ≡ table_with_node served.between (given_buffers n.head m).key (given_buffers n.head m)) is served.becomes)
