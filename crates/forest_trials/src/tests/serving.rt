@@ -66,3 +66,21 @@ fn an_attached_unit_that_asks_for_too_many_fails_beside_many(rt: HostRuntime) ->
     assert!(rt; is_allocated(&ground, root) && ground.forest().strong_live(HERE));
     Ok(())
 }
+
+#[test]
+fn a_unit_is_served_above_one_that_waits_or_is_ready(rt: HostRuntime) -> Result<(), Fail> {
+    let (mut ground, root) = served_family(rt.alloc())?;
+    let upper = pair(&mut ground, root)?;
+    let lower = pair(&mut ground, upper[1])?;
+    ask_each(&mut ground, &upper)?;
+    assert!(rt; are_served(&ground, upper) && !is_allocated(&ground, lower[0]));
+    ask_each(&mut ground, &lower)?;
+    assert!(rt; are_served(&ground, lower));
+    let upper = pair(&mut ground, root)?;
+    let lower = pair(&mut ground, upper[0])?;
+    ask_each(&mut ground, &lower)?;
+    assert!(rt; !is_allocated(&ground, lower[0]));
+    ask_each(&mut ground, &upper)?;
+    assert!(rt; are_served(&ground, upper) && are_served(&ground, lower));
+    Ok(())
+}
