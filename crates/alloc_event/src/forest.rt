@@ -79,7 +79,7 @@ impl Forest {
     /// heads a unit, and one that leaves its unit ready and without buffers, unless the unit above
     /// has none either. Where that unit is attached, a node of it stays live, no other unit that is
     /// ready hangs below it and the buffers are enough for it, it is allocated in its place, which
-    /// costs three reads of each node of the collection, a write of each node of the unit and no
+    /// costs some reads of each node of the collection, a write of each node of the unit and no
     /// memory. A loss costs what `fall` costs and a binary search, where a node stays live of the
     /// unit above what it takes, and where that unit does not become ready by it or has its buffers.
     /// So does the release of the last live node at or below the head of an attached unit, which

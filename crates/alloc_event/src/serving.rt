@@ -1,6 +1,6 @@
 //! Attached units that become ready by an effect, allocated in their places.
 ghost use Rattle.std.specs.List.{filter_map, list_any, sum_by};
-ghost use Rattle.std.specs.Prelude.{◌≡◌, ◌≤◌, ◌+◌, ◌^◌, ◌∷◌, [], ℕ, List, None, Some, true, false, IfSome, IsSome};
+ghost use Rattle.std.specs.Prelude.{◌≡◌, ◌≤◌, ◌+◌, ◌^◌, ◌&&◌, not, if◌then◌else◌, ◌∷◌, [], ℕ, List, None, Some, true, false, IfSome, IsSome};
 ghost use Rattle.sm_names.specs.Demands.{Demand};
 ghost use Rattle.sm_names.specs.Members.{greatest};
 ghost use Rattle.sm_names.specs.declared.keys.NodeKey.{NodeKey as Key};
@@ -10,8 +10,9 @@ ghost use Rattle.alloc_event.specs.declared.node.Node.{Node as Kept};
 ghost use Rattle.alloc_event.specs.Calm.{AreCounted};
 ghost use Rattle.alloc_event.specs.Counts.{HaveUnits};
 ghost use Rattle.alloc_event.specs.InPlace.{IsOpen};
-ghost use Rattle.alloc_event.specs.Kept.{Finishes, IsStored, SameTable, Shelf, forest_of, shelf_of, shelves_of, written};
+ghost use Rattle.alloc_event.specs.Kept.{Finishes, IsStored, SameTable, Shelf, forest_of, shelf_of, shelves_of};
 ghost use Rattle.alloc_event.specs.Nodes.{given_buffers};
+ghost use Rattle.alloc_event.specs.Questions.{is_in_unit};
 ghost use Rattle.alloc_event.specs.Scenes.{has_tracker_room};
 ghost use Rattle.alloc_event.specs.Serving.{AreLess, IsGivenAt, IsServed, IsServedAt, are_enough, asked_at, asked_with, hangs_below, hangs_below_at, has_turn_at, is_of_unit, is_served_there, may_serve, reserved_with, served_at};
 ghost use Rattle.alloc_event.specs.Settling.{Handles, MayChange, changed, collection_or_new, no_key};
@@ -107,19 +108,15 @@ fn hangs_below_at(table: &NodeTable<Node>, units: &[Unit], head: NodeKey, key: N
     }
 }
 
-/// Whether one of the nodes with these keys does.
-fn is_some_below(table: &NodeTable<Node>, keys: &[NodeKey], units: &[Unit], head: NodeKey) -> bool
-    ensures { result ≡ list_any (hangs_below_at table.now units.now head) keys.now }
+/// What the node asks for, if it is of the unit with this head and not gone.
+fn unit_demand(node: &Node, head: NodeKey) -> Option<Constraints>
+    ensures { result ≡ (if is_in_unit head node.now then node.now.constraints else None) }
 {
-    keys.iter()
-        .any(|key| hangs_below_at(table, units, head, *key))
-}
-
-/// The second node, if it has the key of the first.
-fn put_for(node: &Node, after: &Node) -> Node
-    ensures { result ≡ written after.now node.now }
-{
-    if after.key == node.key { *after } else { *node }
+    if !node.gone && node.head == head {
+        node.constraints
+    } else {
+        None
+    }
 }
 
 /// What the node with this key asks for, if it is of the unit with this head and not gone, where this
@@ -132,20 +129,29 @@ fn asked_at(
 ) -> Option<Constraints>
     ensures { result ≡ asked_at table.now head after.now key }
 {
-    let node = put_for(table.get(key)?, after);
-    if !node.gone && node.head == head {
-        node.constraints
+    let node = table.get(key)?;
+    if after.key == node.key {
+        unit_demand(after, head)
     } else {
-        None
+        unit_demand(node, head)
     }
 }
 
-/// What the nodes with these keys ask for so.
-fn asks_with(table: &NodeTable<Node>, keys: &[NodeKey], head: NodeKey, after: &Node) -> Asks
-    ensures camping { result.camping ≡ sum_by (λ (d : Demand). d.camping) (asked_with table.now keys.now head after.now) }
-    ensures at_least { result.at_least ≡ greatest (λ d. d.at_least) (asked_with table.now keys.now head after.now) }
-    ensures size { result.size ≡ greatest (λ d. d.size) (asked_with table.now keys.now head after.now) }
-    ensures few { result.camping ≤ 2 ^ 70 }
+/// What the nodes with these keys ask for so, if none of them heads a unit right below this one that
+/// waits for no node, by the counts.
+fn asks_with(
+    table: &NodeTable<Node>,
+    keys: &[NodeKey],
+    units: &[Unit],
+    head: NodeKey,
+    after: &Node,
+) -> Option<Asks>
+    ensures none { result ≡ None → list_any (hangs_below_at table.now units.now head) keys.now ≡ true }
+    ensures some { IfSome result (λ asks. list_any (hangs_below_at table.now units.now head) keys.now ≡ false) }
+    ensures camping { IfSome result (λ asks. asks.camping ≡ sum_by (λ (d : Demand). d.camping) (asked_with table.now keys.now head after.now)) }
+    ensures at_least { IfSome result (λ asks. asks.at_least ≡ greatest (λ d. d.at_least) (asked_with table.now keys.now head after.now)) }
+    ensures size { IfSome result (λ asks. asks.size ≡ greatest (λ d. d.size) (asked_with table.now keys.now head after.now)) }
+    ensures few { IfSome result (λ asks. asks.camping ≤ 2 ^ 70) }
 {
     let mut asks = Asks {
         camping: 0,
@@ -153,13 +159,16 @@ fn asks_with(table: &NodeTable<Node>, keys: &[NodeKey], head: NodeKey, after: &N
         size: 0,
     };
     for key in keys {
+        if hangs_below_at(table, units, head, *key) {
+            return None;
+        }
         if let Some(demand) = asked_at(table, head, after, *key) {
             asks.camping += demand.camping() as u128;
             asks.at_least = asks.at_least.max(demand.at_least());
             asks.size = asks.size.max(demand.size());
         }
     }
-    asks
+    Some(asks)
 }
 
 /// What the node with this key asks for, if its unit has its buffers and it is not gone.
@@ -196,18 +205,22 @@ fn reserved_by(table: &NodeTable<Node>, keys: &[NodeKey]) -> u128
     camping
 }
 
-/// Whether the buffers are enough for the unit with this head, once this node is in the place of the
-/// one with its key.
-fn are_enough(
+/// Whether no unit that is ready hangs right below the one with this head, and the buffers are enough
+/// for that, once this node is in the place of the one with its key.
+fn fits(
     table: &NodeTable<Node>,
     keys: &[NodeKey],
+    units: &[Unit],
     head: NodeKey,
     after: &Node,
     buffers: Buffers,
 ) -> bool
-    ensures { result ≡ are_enough buffers (reserved_with table.now keys.now) (asked_with table.now keys.now head after.now) }
+    ensures { result ≡ (not (list_any (hangs_below_at table.now units.now head) keys.now)
+        && are_enough buffers (reserved_with table.now keys.now) (asked_with table.now keys.now head after.now)) }
 {
-    let asks = asks_with(table, keys, head, after);
+    let Some(asks) = asks_with(table, keys, units, head, after) else {
+        return false;
+    };
     let count = buffers.count as u128;
     let reserved = reserved_with(table, keys);
     count >= reserved + asks.camping && count >= asks.at_least as u128 && buffers.size >= asks.size
@@ -231,8 +244,7 @@ fn may_serve(
     };
     !node.allocated
         && has_turn(table, node.head)
-        && !is_some_below(table, keys, units, node.head)
-        && are_enough(table, keys, node.head, after, buffers)
+        && fits(table, keys, units, node.head, after, buffers)
 }
 
 /// The nodes with these keys that are of the unit with this head have its buffers then.
@@ -314,7 +326,7 @@ fn serve_effect(
 /// with it, if the buffers are enough for it, no unit that is ready hangs below it, and the counts
 /// tell that nothing more is forced: a strong node of the collection is live after it, and one of the unit.
 /// Answers whether it did; if not, nothing changed. It takes no memory. It costs a binary search and
-/// a constant; where the unit is ready and due, three reads of each node of the collection besides,
+/// a constant; where the unit is ready and due, some reads of each node of the collection besides,
 /// and a write of each node of the unit.
 pub(crate) fn serve_in_place(
     table: &mut NodeTable<Node>,

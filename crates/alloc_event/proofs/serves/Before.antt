@@ -19,7 +19,6 @@ use Rattle.alloc_event.specs.Questions.{is_ready_node, is_served}
 use Rattle.alloc_event.specs.Scenes.{IsSound, heads_itself}
 use Rattle.alloc_event.specs.Serving.{hangs_below, hangs_below_at, has_turn_at, is_of_unit, is_served_there, is_waiting_head}
 use Rattle.alloc_event.specs.Settling.{is_root_of}
-use Rattle.alloc_event.specs.Units.{is_head}
 use Rattle.alloc_event.proofs.calm.Steps.{all-In, found_by_key}
 use Rattle.alloc_event.proofs.changes.Altering.{found_whole}
 use Rattle.alloc_event.proofs.tables.Hanging.{in_all, looked_there}

@@ -1,5 +1,5 @@
 -- An attached unit that becomes ready is what is allocated next, and nothing after it.
-use Rattle.std.proofs.Common.{◌≡◌, refl, ap, sym, ◌∙◌, subst, Bool, true, false, not, ◌&&◌, ◌||◌, inl, inr, is_none, List, [], ◌∷◌, map, Option, Some, None}
+use Rattle.std.proofs.Common.{◌≡◌, refl, ap, sym, ◌∙◌, subst, Bool, true, false, not, ◌&&◌, ◌||◌, inl, inr, is_none, List, Option, Some, None}
 use Rattle.std.proofs.lemmas.Bool.{not-true}
 use Rattle.std.specs.List.{list_any, list_all, find}
 use Rattle.std.specs.Option.{option_map, option_map_or, option_and_then}
@@ -11,11 +11,10 @@ use Rattle.sm_names.specs.Words.{when}
 use Rattle.sm_names.proofs.ListLaws.{In, In-find, In-list_any, In-map, In-map-back}
 use Rattle.sm_names.proofs.SamenessLaws.{and_both, and_left, and_right, both_ways, either_way, false_if, or_none_left, or_none_right, or_right, same_key-comm, same_key-true}
 use Rattle.sm_names.proofs.StandingLaws.{In-any}
-use Rattle.alloc_event.specs.declared.decision.Decision.{Decision}
 use Rattle.alloc_event.specs.declared.decision.Decision.TheVariants.{Allocates, Loses}
 use Rattle.alloc_event.specs.declared.node.Node.{Node}
 use Rattle.alloc_event.specs.Calm.{IsCalm}
-use Rattle.alloc_event.specs.Decisions.{decided, has_strong, late_failure, later_step, waiting}
+use Rattle.alloc_event.specs.Decisions.{decided, has_strong, late_failure, later_step}
 use Rattle.alloc_event.specs.Forest.{Collection, with_nodes}
 use Rattle.alloc_event.specs.Nodes.{after_allocation, given_buffers, is_of}
 use Rattle.alloc_event.specs.Questions.{is_allocated_node, is_deserted_node, is_next_node, is_ready_node, is_root_left}
@@ -26,7 +25,7 @@ use Rattle.alloc_event.proofs.calm.Steps.{all-In}
 use Rattle.alloc_event.proofs.newborns.Members.{find-none, none-find}
 use Rattle.alloc_event.proofs.tables.Rooted.{distinct_one}
 use Rattle.alloc_event.proofs.tallies.Holding.{hangs_in}
-use Rattle.alloc_event.proofs.turns.Serving.{AreCalm, deserted_same, losing, next_decided, ready_on, root_on, root_same, wait_on}
+use Rattle.alloc_event.proofs.turns.Serving.{deserted_same, losing, next_decided, ready_on, root_on, root_same, wait_on}
 
 none_made : (nodes : List Node) (b : Buffers) (o : Option Node) → option_map (λ (n : Node). later_step nodes b n.key) o ≡ None → o ≡ None
 none_made nodes b None h = refl

@@ -1,5 +1,5 @@
 -- An effect by which an attached unit becomes ready, and the unit's allocation with it, in their places.
-use Rattle.std.proofs.Common.{◌≡◌, ◌≢◌, ℕ, ◌+◌, ◌<◌, ◌==◌, nat_lt, refl, ap, sym, ◌∙◌, subst, Bool, true, false, not, ◌&&◌, if◌then◌else◌, ◌⊎◌, inl, inr, List, [], ◌∷◌, ◌++◌, map, length, set, Option, Some, None, option_map, arith}
+use Rattle.std.proofs.Common.{◌≡◌, ◌≢◌, ℕ, ◌+◌, ◌<◌, ◌==◌, nat_lt, refl, ap, sym, ◌∙◌, subst, Bool, true, false, not, ◌&&◌, if◌then◌else◌, inl, inr, List, [], ◌∷◌, ◌++◌, map, set, Option, Some, None, option_map, arith}
 use Rattle.std.proofs.lemmas.Bool.{eqb-false, eqb-true, le-ltb, lt-ltb, not-true}
 use Rattle.std.specs.List.{find, list_all, list_any, sum_by}
 use Rattle.std.specs.Option.{option_map_or}
@@ -34,7 +34,7 @@ use Rattle.alloc_event.specs.Nodes.{affected, after_allocation, given_buffers}
 use Rattle.alloc_event.specs.Questions.{demands_of, is_allocated_node, is_in_unit, is_live_node, is_next_node, is_ready_node, is_served}
 use Rattle.alloc_event.specs.Scenes.{IsSound}
 use Rattle.alloc_event.specs.Serving.{AreLess, IsGivenAt, IsServed, IsServedAt, are_enough, asked_with, given_at, hangs_below_at, has_turn_at, may_serve, reserved_with}
-use Rattle.alloc_event.specs.Settling.{Handles, MayChange, Rests, Settles, changed, collection_or_new, given_back, is_root_of, is_there, no_key, put, standing}
+use Rattle.alloc_event.specs.Settling.{Handles, Rests, Settles, changed, collection_or_new, given_back, is_root_of, is_there, no_key, put, standing}
 use Rattle.alloc_event.proofs.calm.Calming.{any_map, count_none, rests_strong, times_map}
 use Rattle.alloc_event.proofs.calm.Forcing.{forced_made}
 use Rattle.alloc_event.proofs.calm.Settlings.{step_settles}

@@ -7,16 +7,15 @@ use Rattle.sm_names.specs.declared.outcomes.Buffers.{Buffers}
 use Rattle.sm_names.specs.declared.outcomes.Failure.{Failure}
 use Rattle.sm_names.specs.Demands.{Demand}
 use Rattle.sm_names.specs.Members.{greatest}
-use Rattle.sm_names.specs.Sameness.{same_key}
 use Rattle.sm_names.specs.Words.{first_some, when}
 use Rattle.sm_names.proofs.ListLaws.{In}
-use Rattle.sm_names.proofs.SamenessLaws.{and_left, and_right, either_way}
+use Rattle.sm_names.proofs.SamenessLaws.{either_way}
 use Rattle.node_table.specs.Table.{Table, node_at}
 use Rattle.alloc_event.specs.declared.node.Node.{Node}
 use Rattle.alloc_event.specs.Decisions.{late_failure}
 use Rattle.alloc_event.specs.Kept.{nodes_with, written}
 use Rattle.alloc_event.specs.Questions.{demands_of, is_in_unit, is_served}
-use Rattle.alloc_event.specs.Serving.{IsLess, are_enough, asked_at, asked_with, reserved_with, served_at}
+use Rattle.alloc_event.specs.Serving.{IsLess, are_enough, asked_with, served_at}
 
 -- tests that are others
 pub less_by : (count counted result : ℕ) (was w is i : Bool) → IsLess count was is result → count ≡ counted → was ≡ w → is ≡ i →

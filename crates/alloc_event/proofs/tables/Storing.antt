@@ -1,9 +1,6 @@
 -- Nodes that are written one after another, each in the place of the one with its key.
-use Rattle.std.proofs.Common.{◌≡◌, ℕ, zero, suc, ◌+◌, ◌<◌, Bool, true, false, List, [], ◌∷◌, ◌++◌, length, get_or, take, ◌⊎◌, inl, inr, Option, Some, None, option_map, is_some, cond, if◌then◌else◌, refl, ap, ◌∙◌, arith, IsSome}
-use Rattle.std.specs.List.{filter_map, cons_option}
+use Rattle.std.proofs.Common.{◌≡◌, ℕ, zero, suc, ◌<◌, Bool, true, false, List, [], ◌∷◌, ◌++◌, length, get_or, ◌⊎◌, inl, inr, Option, Some, None, option_map, is_some, cond, if◌then◌else◌, refl, ap, ◌∙◌, arith, IsSome}
 use Rattle.std.proofs.lemmas.Bool.{false≢true}
-use Rattle.std.proofs.lemmas.List.{take_more}
-use Rattle.std.proofs.lemmas.List.Elements.{filter_map-append}
 use Rattle.sm_names.specs.declared.keys.NodeKey.{NodeKey}
 use Rattle.sm_names.specs.Sameness.{same_key}
 use Rattle.sm_names.proofs.ListLaws.{In}
@@ -14,7 +11,6 @@ use Rattle.node_table.specs.Lending.{table_with_node}
 use Rattle.node_table.proofs.Keys.{true-same_key}
 use Rattle.alloc_event.specs.declared.node.Node.{Node}
 use Rattle.alloc_event.specs.Kept.{written, stored, Stores, have_places}
-use Rattle.alloc_event.proofs.lists.Lookups.{Look}
 use Rattle.alloc_event.proofs.tables.Writing.{look-written, parents-written}
 
 -- by whether they have one key

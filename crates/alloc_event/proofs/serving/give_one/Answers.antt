@@ -4,7 +4,6 @@ use Rattle.node_table.specs.Changes.{Writes}
 use Rattle.node_table.specs.Lending.{table_with_node}
 use Rattle.node_table.specs.Table.{node_at}
 use Rattle.alloc_event.specs.declared.node.Node.{Node}
-use Rattle.alloc_event.specs.Nodes.{given_buffers}
 use Rattle.alloc_event.proofs.serves.Giving.{given_written}
 use Rattle.alloc_event.proofs.serving.give_one.Goals as goal
 

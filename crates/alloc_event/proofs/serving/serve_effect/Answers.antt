@@ -1,5 +1,5 @@
 -- The effect is made and the unit allocated.
-use Rattle.std.proofs.Common.{◌≡◌, is_some, List, set, Some, true, sym, ◌∙◌, ap, subst}
+use Rattle.std.proofs.Common.{◌≡◌, is_some, List, Some, true, sym, ◌∙◌, ap, subst}
 use Rattle.node_table.specs.Table.{node_at}
 use Rattle.alloc_event.specs.declared.change.Change.{Change}
 use Rattle.alloc_event.specs.declared.node.Node.{Node}
