@@ -253,11 +253,21 @@ fn give(table: &mut NodeTable<Node>, keys: &[NodeKey], head: NodeKey)
     ensures { IsGivenAt table.old table.new head keys.now }
 {
     for key in keys {
-        give_one(table, *key, head);
+        give_at(table, *key, head);
     }
 }
 
 /// The node with this key has its unit's buffers then, if it is of the unit with this head.
+fn give_at(table: &mut NodeTable<Node>, key: NodeKey, head: NodeKey)
+    requires named { (key : Key) (n : Kept) → node_at table.old key ≡ Some n → n.key ≡ key }
+    ensures { IsGivenAt table.old table.new head (key ∷ []) }
+{
+    if is_of_unit(table, head, key) {
+        give_one(table, key, head);
+    }
+}
+
+/// The same, by a copy of the node.
 fn give_one(table: &mut NodeTable<Node>, key: NodeKey, head: NodeKey)
     requires named { (key : Key) (n : Kept) → node_at table.old key ≡ Some n → n.key ≡ key }
     ensures { IsGivenAt table.old table.new head (key ∷ []) }

@@ -1,6 +1,7 @@
 -- Nodes of a unit that are given its buffers, one after another.
 use Rattle.std.proofs.Common.{◌≡◌, refl, ap, sym, ◌∙◌, subst, Bool, true, false, ◌||◌, if◌then◌else◌, List, [], ◌∷◌, ◌++◌, Option, Some, None, option_map}
 use Rattle.std.specs.List.{list_any}
+use Rattle.std.specs.Option.{option_map_or}
 use Rattle.sm_names.specs.declared.keys.NodeKey.{NodeKey}
 use Rattle.sm_names.specs.Sameness.{same_key}
 use Rattle.sm_names.proofs.SamenessLaws.{false_if, same_key-refl, same_key-true}
@@ -9,8 +10,9 @@ use Rattle.node_table.specs.Lending.{table_with_node}
 use Rattle.node_table.specs.Table.{Table, node_at}
 use Rattle.alloc_event.specs.declared.node.Node.{Node}
 use Rattle.alloc_event.specs.Nodes.{given_buffers}
-use Rattle.alloc_event.specs.Serving.{IsGivenAt, given_at}
+use Rattle.alloc_event.specs.Serving.{IsGivenAt, given_at, is_of_unit}
 use Rattle.alloc_event.proofs.changes.Altering.{any-append}
+use Rattle.alloc_event.proofs.lists.Lookups.{same_key-swap}
 use Rattle.alloc_event.proofs.tables.Writing.{IsSameNode, look-changed, parents-written}
 
 -- each node of the unit, or of none but these, as it was
@@ -99,6 +101,14 @@ module _ (t : Table Node) (named : (key : NodeKey) (n : Node) → node_at t key 
     parents = λ k. refl;
     same = record { first = refl; nexts = refl; limit = refl; len = refl };
   }
+
+  -- one of another unit does
+  pub given_apart : is_of_unit t head key ≡ false → IsGivenAt t t head (key ∷ [])
+  given_apart e = given_still (λ n is.
+      let other : same_key n.head head ≡ false =
+      sym (ap (λ (o : Option Node). option_map_or (λ (m : Node). same_key m.head head) o false) is) ∙ e in
+      let apart : same_key head n.head ≡ false = same_key-swap head n.head ∙ other in
+      λ i. record n { allocated = apart i || n.allocated })
 
   -- a node is written so
   pub given_written : (now : Table Node) (n : Node) → node_at t key ≡ Some n →
