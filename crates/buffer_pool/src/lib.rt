@@ -8,6 +8,7 @@ mod marked;
 pub mod pages;
 pub mod placement;
 mod row;
+mod turning;
 
 pub use pages::{MAX_PAGES, Pool};
 pub use placement::{Placed, PoolFault};

@@ -1,0 +1,17 @@
+-- A run ends with its block, or where that goes on at its start.
+use Rattle.std.proofs.Common.{◌/◌, ◌%◌, arith}
+use Rattle.buffer_pool.proofs.Places.{run_past, run_near, run_far}
+use Rattle.buffer_pool.proofs.turning.run_from.Goals as goal
+
+pub returns-then-block-heads-clause-run : goal.returns-then-block-heads-clause-run
+returns-then-block-heads-clause-run c = run_past c.args.heads.now c.args.at c.args.most (omega (arith, c.if-block-heads.true))
+
+pub returns-then-within-lt-BLOCK-clause-run : goal.returns-then-within-lt-BLOCK-clause-run
+returns-then-within-lt-BLOCK-clause-run c =
+    run_near c.args.heads.now c.args.at (c.args.at / 512) (c.args.at % 512) _ c.requires.heads (omega arith) (omega (arith, c.if-block-heads.false))
+    (omega (arith, c.if-within-lt-BLOCK.true))
+
+pub returns-else-within-lt-BLOCK-clause-run : goal.returns-else-within-lt-BLOCK-clause-run
+returns-else-within-lt-BLOCK-clause-run c =
+    run_far c.args.heads.now c.args.at (c.args.at / 512) (c.args.at % 512) _ c.requires.heads (omega arith) (omega (arith, c.if-block-heads.false))
+    (omega (arith, c.if-within-lt-BLOCK.false)) (omega arith)
