@@ -19,8 +19,14 @@ camped n = option_map_or (λ (d : Demand). d.camping) (if is_served n then n.con
 
 -- what the effect makes its node ask for, if it sets its constraints
 abbrev pub asked_by : Effect → Option Demand
+asked_by Effect.Bound = None
+asked_by Effect.Dispensable = None
+asked_by Effect.Weak = None
+asked_by (Effect.WeakOk children) = None
 asked_by (Effect.Constrained demand) = Some demand
-asked_by _ = None
+asked_by Effect.Taken = None
+asked_by Effect.Released = None
+asked_by Effect.Tracked = None
 
 -- the nodes once the change is made, if it is none of nodes, or an effect
 abbrev pub effected : Change → List Node → List Node
