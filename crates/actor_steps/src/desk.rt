@@ -328,7 +328,7 @@ impl Desk {
     /// of no more use.
     ///
     /// Costs a constant number of look-ups for each thing that came or went.
-    pub fn note(&mut self, step: Step, asked: &Asked, reply: &Reply) -> Result<(), AllocError>
+    pub fn note_reply(&mut self, step: Step, asked: &Asked, reply: &Reply) -> Result<(), AllocError>
         ensures known { OnOk result
             (known self.new ≡ desk_after (known self.old) step asked.now reply.now) }
         ensures things { OnOk result ((known self.new).things

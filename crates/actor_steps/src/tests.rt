@@ -61,7 +61,7 @@ fn told(desk: &mut Desk, step: Step, reply: Reply) -> Option<Option<usize>> {
     if !is_meant(&asked.call) {
         return None;
     }
-    match desk.note(same, &asked, &reply) {
+    match desk.note_reply(same, &asked, &reply) {
         Ok(()) => Some(slot),
         Err(_) => None,
     }

@@ -6,6 +6,7 @@ use Rattle.sm_names.specs.declared.messages.Call.{Call}
 use Rattle.sm_names.specs.declared.messages.Reply.{Reply}
 use Rattle.client_ends.specs.declared.held.End.{End}
 use Rattle.client_ends.specs.Clients.{Grip, Made, Seen, Tag}
+use Rattle.client_ends.specs.Collecting.{holder_of}
 use Rattle.actor_steps.specs.declared.thing.Thing.{Thing}
 use Rattle.actor_steps.specs.Desks.{given, spends}
 use Rattle.client_actors.specs.declared.brought.Brought.{Brought}
@@ -26,12 +27,6 @@ thing_seen (End.Token t) = token_seen t
 thing_seen (End.Collection c) = collection_seen c
 thing_seen (End.Handle h) = handle_seen h
 
--- who holds it
-abbrev pub holder : {E S W : Type 0} → End E S W → ℕ
-holder (End.Token t) = t.client
-holder (End.Collection c) = c.client
-holder (End.Handle h) = h.client
-
 -- what lies in a slot
 abbrev pub there : {E S W : Type 0} → Option (End E S W) → Option Thing
 there slot = option_map thing_seen slot
@@ -39,7 +34,7 @@ there slot = option_map thing_seen slot
 -- if it is something, it is this client's
 abbrev pub IsOf : {E S W : Type 0} → ℕ → Option (End E S W) → Type 0
 IsOf client None = ⊤
-IsOf client (Some end) = holder end ≡ client
+IsOf client (Some end) = holder_of end ≡ client
 
 -- the things that were brought
 abbrev pub things_in : {E S W : Type 0} → Brought E S W → List Thing
@@ -51,7 +46,7 @@ things_in (Brought.Tracker tracker) = []
 -- they are this client's
 abbrev pub AreOf : {E S W : Type 0} → ℕ → Brought E S W → Type 0
 AreOf client Brought.Nothing = ⊤
-AreOf client (Brought.One end) = holder end ≡ client
+AreOf client (Brought.One end) = holder_of end ≡ client
 AreOf client (Brought.Handles handles) = All (λ (h : Grip). h.client ≡ client) handles.items
 AreOf client (Brought.Tracker tracker) = ⊤
 

@@ -97,7 +97,7 @@ impl<E: Ledger, S: Ledger, W: Ledger> Actor<E, S, W> {
     }
 
     // Makes the call of a step.
-    fn make<R: Wait>(
+    fn make_call<R: Wait>(
         &mut self,
         rt: &R,
         alloc: Global,
@@ -118,7 +118,7 @@ impl<E: Ledger, S: Ledger, W: Ledger> Actor<E, S, W> {
         let Some(reply) = self.client.last() else {
             unreachable!();
         };
-        if self.desk.note(step, asked, &reply).is_err() {
+        if self.desk.note_reply(step, asked, &reply).is_err() {
             return Err(StepFault::NoMemory);
         }
         Ok(reply)
@@ -143,7 +143,7 @@ impl<E: Ledger, S: Ledger, W: Ledger> Actor<E, S, W> {
         let again = step;
         match self.desk.call(clients, step) {
             Some(asked) => {
-                let reply = self.make(rt, alloc, service, again, &asked)?;
+                let reply = self.make_call(rt, alloc, service, again, &asked)?;
                 Ok(Some(reply))
             }
             None => Ok(None),

@@ -1,7 +1,8 @@
 //! The slots in which an actor's things lie.
 ghost use Rattle.std.specs.Prelude.{◌≡◌, ◌+◌, ◌≤◌, ◌++◌, Some, None, false, true, map, MatchResult, vec_len, vec_capacity};
 ghost use Rattle.actor_steps.specs.Desks.{FitsThere, FitsThing};
-ghost use Rattle.client_actors.specs.Asking.{Did, IsOf, Lent, full, holder, may_spend, there, thing_seen};
+ghost use Rattle.client_ends.specs.Collecting.{holder_of};
+ghost use Rattle.client_actors.specs.Asking.{Did, IsOf, Lent, full, may_spend, there, thing_seen};
 
 use crate::asking::{on_collection, on_handle, on_token};
 use crate::brought::Brought;
@@ -38,7 +39,7 @@ fn lend<E: Ledger, S: Ledger, W: Ledger, R: Wait>(
     end: &End<E, S, W>,
     call: Call,
 ) -> Result<Brought<E, S, W>, StepFault>
-    requires holder { holder end.now ≡ client.old.id }
+    requires holder { holder_of end.now ≡ client.old.id }
     requires fits { FitsThing (thing_seen end.now) call }
     requires lends { may_spend call ≡ false }
     ensures { MatchResult result

@@ -2,7 +2,8 @@
 ghost use Rattle.std.specs.Prelude.{◌≡◌, Some, true, MatchResult};
 ghost use Rattle.actor_steps.specs.Desks.{FitsEnd, FitsHandle, FitsThing, FitsToken, spends};
 ghost use Rattle.client_ends.specs.Clients.{MadeOr};
-ghost use Rattle.client_actors.specs.Asking.{Spends, Spent, holder, may_spend, thing_seen, token_seen};
+ghost use Rattle.client_ends.specs.Collecting.{holder_of};
+ghost use Rattle.client_actors.specs.Asking.{Spends, Spent, may_spend, thing_seen, token_seen};
 
 use crate::brought::Brought;
 use client_ends::{Client, End, EndOf, Handle, Kept, TokenEnd, Why};
@@ -95,7 +96,7 @@ pub(crate) fn spend<E: Ledger, S: Ledger, W: Ledger, R: Wait>(
     end: End<E, S, W>,
     call: Call,
 ) -> Result<Brought<E, S, W>, Kept<End<E, S, W>>>
-    requires holder { holder end ≡ client.old.id }
+    requires holder { holder_of end ≡ client.old.id }
     requires fits { FitsThing (thing_seen end) call }
     requires spends { may_spend call ≡ true }
     ensures { MatchResult result

@@ -85,7 +85,7 @@ impl<E: Ledger, S: Ledger, W: Ledger> Account<E, S, W> {
     }
 
     /// Makes one event, and counts it.
-    pub fn make(
+    pub fn apply_and_count(
         &mut self,
         state: &mut State<E, S, W>,
         client: ClientId,
@@ -139,7 +139,7 @@ impl<E: Ledger, S: Ledger, W: Ledger> Account<E, S, W> {
             ↔ (state.old.limits.events ≤ length state.old.history) }
     {
         pass(state, unit, &mut self.units, strength);
-        let made = self.make(state, client, call);
+        let made = self.apply_and_count(state, client, call);
         if !was_done(&made) {
             pass(state, &mut self.units, unit, strength);
         }
@@ -169,7 +169,7 @@ impl<E: Ledger, S: Ledger, W: Ledger> Account<E, S, W> {
             ↔ (state.old.limits.events ≤ length state.old.history) }
     {
         let asked = call;
-        let reply = self.make(state, client, call)?;
+        let reply = self.apply_and_count(state, client, call)?;
         if let Some(strength) = gained(&asked, &reply) {
             pass(state, &mut self.units, unit, strength);
         }
@@ -200,7 +200,7 @@ impl<E: Ledger, S: Ledger, W: Ledger> Account<E, S, W> {
         ensures full { (result ≡ Err Fault.HistoryFull)
             ↔ (state.old.limits.events ≤ length state.old.history) }
     {
-        let reply = self.make(state, client, Call::Take(key))?;
+        let reply = self.apply_and_count(state, client, Call::Take(key))?;
         if let Some(taken) = taken_by(&reply) {
             hand_out(state, &mut self.units, room, client, &taken);
         }

@@ -129,7 +129,7 @@ impl<E: Ledger, S: Ledger, W: Ledger> Client<E, S, W> {
         ensures full { (result ≡ Err Fault.HistoryFull)
             ↔ (state.old.limits.events ≤ length state.old.history) }
     {
-        self.account.make(state, self.id, call)
+        self.account.apply_and_count(state, self.id, call)
     }
 
     // The same, which takes the lock.
@@ -169,7 +169,7 @@ impl<E: Ledger, S: Ledger, W: Ledger> Client<E, S, W> {
     }
 
     // Whether the event was answered Done.
-    pub(crate) fn done<R: Wait>(
+    pub(crate) fn answered_done<R: Wait>(
         &mut self,
         rt: &R,
         service: &Service<E, S, W>,

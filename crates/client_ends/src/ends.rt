@@ -159,7 +159,7 @@ impl<K> EndOf<K> {
             (λ k. (k.value ≡ self)
             × MadeOr is_done client.old client.new (Asked.Give self.key to) k.why) }
     {
-        match client.done(rt, service, Call::Give(self.key, to)) {
+        match client.answered_done(rt, service, Call::Give(self.key, to)) {
             Ok(()) => {
                 self.used_up();
                 Ok(())
@@ -206,7 +206,7 @@ impl<K> EndOf<K> {
             (λ k. (k.value ≡ self)
             × MadeOr is_done client.old client.new (Asked.Close self.key) k.why) }
     {
-        match client.done(rt, service, Call::Close(self.key)) {
+        match client.answered_done(rt, service, Call::Close(self.key)) {
             Ok(()) => {
                 self.used_up();
                 Ok(())

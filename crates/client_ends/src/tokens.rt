@@ -59,7 +59,7 @@ impl TokenEnd {
             (λ k. (k.value ≡ self)
             × MadeOr is_done client.old client.new (Asked.Bind self.key) k.why) }
     {
-        match client.done(rt, service, Call::Bind(self.key())) {
+        match client.answered_done(rt, service, Call::Bind(self.key())) {
             Ok(()) => Ok(self.into_kind()),
             Err(why) => Err(Kept { value: self, why }),
         }

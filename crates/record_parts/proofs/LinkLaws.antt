@@ -5,7 +5,7 @@ use Rattle.std.proofs.lemmas.List.{drop_more, drop_all, get_or_default, get_or_r
 use Rattle.std.specs.Prelude.{nat_lt}
 use Rattle.sm_names.specs.Marks.{Entry}
 use Rattle.record_parts.specs.Links.{Links, Stands, first_from, rest_at}
-use Rattle.record_parts.specs.Parts.{is_own, note, part, part_from}
+use Rattle.record_parts.specs.Parts.{is_own, own_entry, part, part_from}
 
 -- ---- whose an event is
 
@@ -202,7 +202,7 @@ stands_within history client event some stands = either (nat_lt (length history)
 
 -- one event of the client's part, and the next
 pub record Steps (history : List Entry) (client event : ℕ) (entry : Entry) (next : ℕ) : Type 0 where
-  pub rest : rest_at history client event ≡ note event entry ∷ rest_at history client next
+  pub rest : rest_at history client event ≡ own_entry event entry ∷ rest_at history client next
   pub stands : Stands history client next
 
 steps_at : (history : List Entry) (client k : ℕ) (entry : Entry) (first next : List ℕ) → Stands history client (k + 1) →
@@ -233,10 +233,10 @@ steps_at history client k entry first next stands is links = both (is_own client
         let on = jumps history client (k + 1) (drop (k + 1) history) refl in
         let here : rest_at history client (k + 1) ≡ part_from client (k + 1) (entry ∷ (drop (k + 1) history)) =
         rw (ne_eqb (k + 1) 0 (λ z. absurd (omega (arith, z)))) (ap (part_from client (k + 1)) split) in
-        let taken : part_from client (k + 1) (entry ∷ (drop (k + 1) history)) ≡ note (k + 1) entry ∷ part_from client (k + 1 + 1)
+        let taken : part_from client (k + 1) (entry ∷ (drop (k + 1) history)) ≡ own_entry (k + 1) entry ∷ part_from client (k + 1 + 1)
         (drop (k + 1) history) = rw own refl in
         record {
-          rest = here ∙ (taken ∙ ap (λ l. note (k + 1) entry ∷ l) (sym on.rest ∙ ap (rest_at history client) (sym linked)));
+          rest = here ∙ (taken ∙ ap (λ l. own_entry (k + 1) entry ∷ l) (sym on.rest ∙ ap (rest_at history client) (sym linked)));
           stands = subst (Stands history client) (sym linked) on.stands;
         }
       where

@@ -29,7 +29,7 @@ use Rattle.record_parts.specs.declared.line.ClientLine.{ClientLine}
 use Rattle.record_parts.specs.declared.own.Own.{Own}
 use Rattle.record_parts.specs.Lines.{gained_by, gains, line_of, lines_of, losses, lost_by}
 use Rattle.record_parts.specs.Members.{is_join, joined, joined_from}
-use Rattle.record_parts.specs.Parts.{is_own, note, part, part_from}
+use Rattle.record_parts.specs.Parts.{is_own, own_entry, part, part_from}
 use Rattle.record_parts.proofs.LinkLaws.{own_not_yet}
 
 -- ---- what one event brings its client, and takes from it
@@ -114,7 +114,7 @@ module _ (client : ℕ) (amount : Call → Reply → ℕ) (one two : Mark → �
             arith,
             more,
             this,
-            sum_by-cons (λ (o : Own). amount o.call o.reply) (note event e) (part_from client (event + 1) es),
+            sum_by-cons (λ (o : Own). amount o.call o.reply) (own_entry event e) (part_from client (event + 1) es),
             sum_by-cons (λ (x : Entry). one (mark_of x)) e es,
             sum_by-cons (λ (x : Entry). two (mark_of x)) e es,
           ))

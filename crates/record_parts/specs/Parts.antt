@@ -4,8 +4,8 @@ use Rattle.sm_names.specs.Marks.{Entry}
 use Rattle.record_parts.specs.declared.own.Own.{Own}
 
 -- an entry of the record, as its client was told of it
-abbrev pub note : ℕ → Entry → Own
-note event entry = record { event = event; call = entry.1; reply = entry.2 }
+abbrev pub own_entry : ℕ → Entry → Own
+own_entry event entry = record { event = event; call = entry.1; reply = entry.2 }
 
 -- the client made the event, after its Join, whose number is the client's id
 abbrev pub is_own : ℕ → ℕ → Entry → Bool
@@ -16,7 +16,7 @@ abbrev pub part_from : ℕ → ℕ → List Entry → List Own
 part_from client event [] = []
 part_from client event (e ∷ es) =
     let later = part_from client (event + 1) es in
-    if is_own client event e then note event e ∷ later else later
+    if is_own client event e then own_entry event e ∷ later else later
 
 -- the client's part of the record: all that it made after its Join, in order
 abbrev pub part : ℕ → List Entry → List Own

@@ -3,7 +3,7 @@ ghost use Rattle.std.specs.Prelude.{◌≡◌, ◌∷◌, ◌<◌, ◌*◌, ◌^
 ghost use Rattle.record_parts.specs.Lines.{line_of, lines_of};
 ghost use Rattle.record_parts.specs.Links.{Links, Stands, rest_at};
 ghost use Rattle.record_parts.specs.Members.{AreAmong, IsFirstAbsent, Marks, is_join, joined};
-ghost use Rattle.record_parts.specs.Parts.{DifferAt, note, part};
+ghost use Rattle.record_parts.specs.Parts.{DifferAt, own_entry, part};
 
 use crate::line::{Balance, ClientLine, NOTHING};
 use crate::own::Own;
@@ -35,7 +35,7 @@ impl<'a> Model for Parts<'a> {
 
 // An entry of the record, as its client was told of it.
 fn noted(event: u64, entry: &(ClientId, Call, Reply)) -> Own
-    ensures { result ≡ note event entry.now }
+    ensures { result ≡ own_entry event entry.now }
 {
     let (_, call, reply) = *entry;
     Own { event, call, reply }

@@ -104,7 +104,7 @@ impl Player {
     }
 
     // Gives up for want of memory, at the next line or behind the last.
-    pub(crate) fn give_in<W: Write>(&self, writer: &mut W) -> ScriptFault
+    pub(crate) fn give_up_for_memory<W: Write>(&self, writer: &mut W) -> ScriptFault
         ensures at { (line : List ℕ) →
             Failed self.now (W.contents writer.old) (W.contents writer.new) (line ∷ []) result }
         ensures behind { (rest : List ℕ) → rest ≢ [] →

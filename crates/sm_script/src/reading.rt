@@ -28,7 +28,7 @@ pub(crate) fn end_line<W: Write>(
     }
     match front.extend_from_slice(line) {
         Ok(()) => {}
-        Err(_) => return Err(player.give_in(writer)),
+        Err(_) => return Err(player.give_up_for_memory(writer)),
     }
     match player.take_line(writer, front.as_slice()) {
         Ok(()) => {
@@ -68,6 +68,6 @@ pub(crate) fn take_piece<W: Write>(
     }
     match front.extend_from_slice(rest) {
         Ok(()) => Ok(()),
-        Err(_) => Err(player.give_in(writer)),
+        Err(_) => Err(player.give_up_for_memory(writer)),
     }
 }

@@ -82,7 +82,7 @@ fn read_on<R: Read, W: Write>(
     'turns: loop {
         match reader.read(block) {
             Err(_) => return Err(ScriptFault::ReadFault),
-            Ok(0) => return finish(writer, front.as_slice(), player.lines),
+            Ok(0) => return end_run(writer, front.as_slice(), player.lines),
             Ok(n) if left < n => return Err(too_long(writer, player, front, &block[..left])),
             Ok(n) => {
                 match answer_all(writer, player, front, &block[..n]) {
@@ -139,7 +139,7 @@ fn answer_all<W: Write>(
 }
 
 // Ends a run after so many lines, where this is left of the last one.
-fn finish<W: Write>(writer: &mut W, front: &[u8], lines: u64) -> Result<(), ScriptFault>
+fn end_run<W: Write>(writer: &mut W, front: &[u8], lines: u64) -> Result<(), ScriptFault>
     requires { lines + 1 < 2 ^ 64 }
     ensures kept { Keeps (W.contents writer.old) (W.contents writer.new) }
     ensures ok { OnOk result (front.now ≡ []) }

@@ -11,7 +11,7 @@ use sm_names::{ClientId, StepFault};
 use std::alloc::Global;
 
 // Makes the call that the words say.
-fn make(core: &mut Core, client: ClientId, asked: &CallWords, told: &mut ReplyWords) -> u32
+fn step_by_words(core: &mut Core, client: ClientId, asked: &CallWords, told: &mut ReplyWords) -> u32
     ensures done { result ≡ 0 → IsStep core.old core.new client asked.now told.new }
     ensures failed { result ≢ 0 → StaysAs core.old core.new }
     ensures untold { result ≢ 0 → told.new ≡ told.old }
@@ -64,7 +64,7 @@ pub extern "C" fn sysmem_step(
     let Some(mut core) = take(alloc, handle) else {
         return NOT_OPEN;
     };
-    let code = make(&mut core, client, asked, told);
+    let code = step_by_words(&mut core, client, asked, told);
     put(handle, core);
     code
 }

@@ -1,5 +1,5 @@
 //! Two actors, each of whom waits for the other.
-use super::together::{done, two};
+use super::together::{gather_and_end, two};
 use client_actors::Gate;
 use service_lock::Service;
 use sm_names::{ClientId, Reply};
@@ -90,5 +90,5 @@ pub fn meeting<
         gave_up,
     } = gate;
     assert!(rt; is_answered.load(Ordering::SeqCst) && !gave_up.load(Ordering::SeqCst));
-    done(rt, alloc, service, parts);
+    gather_and_end(rt, alloc, service, parts);
 }

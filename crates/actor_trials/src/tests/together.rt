@@ -63,7 +63,7 @@ fn is_all(report: &Report) -> bool {
 }
 
 /// All is gathered, and the service ends.
-pub fn done<E: Ledger, S: Ledger, W: Ledger, R: Wait + Abort>(
+pub fn gather_and_end<E: Ledger, S: Ledger, W: Ledger, R: Wait + Abort>(
     rt: &R,
     alloc: Global,
     service: Service<E, S, W>,
@@ -82,5 +82,5 @@ pub fn together<
     R: Threads + Wait + Clock + Abort + Sync,
 >(rt: &R, alloc: Global, service: Service<E, S, W>) {
     let parts = two(rt, alloc, &service, &Silent);
-    done(rt, alloc, service, parts);
+    gather_and_end(rt, alloc, service, parts);
 }

@@ -78,7 +78,7 @@ impl Holdings {
 
     /// Notes what the client got and gave away by the call that was answered so, and whether it held
     /// what it gave away.
-    pub fn note(&mut self, client: ClientId, call: &Call, reply: &Reply) -> bool {
+    pub fn take_reply(&mut self, client: ClientId, call: &Call, reply: &Reply) -> bool {
         if let Reply::Taken {
             collection,
             strength,

@@ -20,7 +20,7 @@ impl Log {
     }
 
     /// Keeps the call, where there is room.
-    pub fn note(&mut self, client: ClientId, call: Call, reply: Reply) {
+    pub fn add_entry(&mut self, client: ClientId, call: Call, reply: Reply) {
         if self.calls.len() < ROOM {
             let _ = self.calls.push((client, call));
             let _ = self.replies.push(reply);

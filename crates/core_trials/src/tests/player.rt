@@ -79,7 +79,7 @@ impl Player {
     /// has the key of another, and where a client lost what it did not hold.
     pub fn ask(&mut self, client: ClientId, call: Call) -> Option<Reply> {
         let reply = self.core.step(client, call).ok()?;
-        self.log.note(client, call, reply);
+        self.log.add_entry(client, call, reply);
         match reply {
             Reply::Joined(newest) => {
                 self.clients = newest;
@@ -87,7 +87,7 @@ impl Player {
             Reply::Token { key, .. } => self.name(key)?,
             _ => {}
         }
-        if self.holdings.note(client, &call, &reply) {
+        if self.holdings.take_reply(client, &call, &reply) {
             Some(reply)
         } else {
             None

@@ -40,7 +40,7 @@ pub fn told<R: Abort>(rt: &R, asked: Result<Reply, StepFault>) -> Reply
 }
 
 /// The call was answered Done.
-pub fn done<R: Abort>(rt: &R, asked: Result<Reply, StepFault>)
+pub fn assert_done<R: Abort>(rt: &R, asked: Result<Reply, StepFault>)
     ensures { asked ≡ Ok Told.Done }
 {
     match asked {

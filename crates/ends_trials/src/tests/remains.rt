@@ -1,7 +1,7 @@
 //! What is left when the service ends.
 ghost use Rattle.std.specs.Prelude.{◌≡◌};
 
-use super::asking::{constraints, done, joined, made, spent, stands};
+use super::asking::{assert_done, constraints, joined, made, spent, stands};
 use client_ends::{Client, CollectionEnd, Kept, Why, end, join};
 use service_lock::Service;
 use sm_names::{Refusal, Reply};
@@ -43,7 +43,7 @@ pub fn remains<E: Ledger, S: Ledger, W: Ledger, R: Wait + Abort>(
     let root = spent(rt, root.bind(rt, &service, &mut client));
     let root = kept(rt, &service, &mut client, root);
     let asked = constraints(rt, 2, 0, 4096);
-    done(rt, root.set_constraints(rt, &service, &mut client, asked));
+    assert_done(rt, root.set_constraints(rt, &service, &mut client, asked));
     let mut handles = made(rt, root.take(rt, alloc, &service, &mut client));
     assert!(rt; stands(rt, &service, &client, 6, 2, 0));
     let ended = end(service);

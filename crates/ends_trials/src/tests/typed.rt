@@ -1,7 +1,7 @@
 //! One client who makes every call: 28 events.
 ghost use Rattle.std.specs.Prelude.{◌≡◌};
 
-use super::asking::{constraints, done, joined, made, spent, stands, told};
+use super::asking::{assert_done, constraints, joined, made, spent, stands, told};
 use client_ends::{Client, CollectionEnd, End, Handle, TokenEnd, join};
 use service_lock::Service;
 use sm_names::{Fired, Reply, Strength};
@@ -24,11 +24,11 @@ fn open<E: Ledger, S: Ledger, W: Ledger, R: Wait + Abort>(
     let root = made(rt, client.open_root(rt, service));
     let mut tracker = made(rt, root.track_node(rt, service, client));
     assert!(rt; tracker.poll().is_none());
-    done(rt, root.set_weak_ok(rt, service, client, true));
+    assert_done(rt, root.set_weak_ok(rt, service, client, true));
     let child = made(rt, root.duplicate(rt, service, client));
-    done(rt, child.set_dispensable(rt, service, client));
-    done(rt, child.set_weak(rt, service, client));
-    done(rt, child.sync(rt, service, client));
+    assert_done(rt, child.set_dispensable(rt, service, client));
+    assert_done(rt, child.set_weak(rt, service, client));
+    assert_done(rt, child.sync(rt, service, client));
     (root, child, tracker)
 }
 
@@ -46,9 +46,9 @@ fn allocate<E: Ledger, S: Ledger, W: Ledger, R: Wait + Abort>(
     ensures token { result.0.client ≡ client.new.id }
 {
     let one = constraints(rt, 1, 1, 4096);
-    done(rt, root.set_constraints(rt, service, client, one));
+    assert_done(rt, root.set_constraints(rt, service, client, one));
     let none = constraints(rt, 0, 0, 1);
-    done(rt, child.set_constraints(rt, service, client, none));
+    assert_done(rt, child.set_constraints(rt, service, client, none));
     let token = made(rt, root.attach_token(rt, service, client));
     let mut tracker = made(rt, root.track_lifetime(rt, service, client, 0));
     assert!(rt; tracker.poll().is_none());

@@ -175,7 +175,7 @@ impl Ground {
     }
 
     // The call takes effect, and was answered Done.
-    fn make(&mut self, call: Call) -> Result<(), Fail> {
+    fn settle_done(&mut self, call: Call) -> Result<(), Fail> {
         match effect_of(&call, &Reply::Done) {
             Some(effect) => {
                 self.change(effect)?;
@@ -187,17 +187,17 @@ impl Ground {
 
     /// The node asks for this.
     pub fn ask(&mut self, key: NodeKey, asked: Constraints) -> Result<(), Fail> {
-        self.make(Call::SetConstraints(key, asked))
+        self.settle_done(Call::SetConstraints(key, asked))
     }
 
     /// The node is released.
     pub fn release(&mut self, key: NodeKey) -> Result<(), Fail> {
-        self.make(Call::Release(key))
+        self.settle_done(Call::Release(key))
     }
 
     /// The node's failure goes no further up, once its unit has its buffers.
     pub fn make_dispensable(&mut self, key: NodeKey) -> Result<(), Fail> {
-        self.make(Call::SetDispensable(key))
+        self.settle_done(Call::SetDispensable(key))
     }
 
     /// The node fails.

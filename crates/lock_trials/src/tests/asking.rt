@@ -25,7 +25,7 @@ pub fn ask<E: Ledger, S: Ledger, W: Ledger, R: Abort>(
 }
 
 /// Makes one event that is answered Done.
-pub fn done<E: Ledger, S: Ledger, W: Ledger, R: Abort>(
+pub fn ask_done<E: Ledger, S: Ledger, W: Ledger, R: Abort>(
     rt: &R,
     state: &mut State<E, S, W>,
     units: &mut Units<E, S, W>,

@@ -1,7 +1,7 @@
 //! Handles that are taken, doubled, passed, given, collected and dropped.
 ghost use Rattle.service_lock.specs.Units.{HasOne};
 
-use super::asking::{ask, done, empty, stands, token};
+use super::asking::{ask, ask_done, empty, stands, token};
 use service_lock::{Service, State, Units, entries, pass};
 use sm_names::{BufferName, Call, Constraints, NodeKey, Refusal, Reply, Strength};
 use std::process::Abort;
@@ -21,7 +21,7 @@ fn ask_for_page<E: Ledger, S: Ledger, W: Ledger, R: Abort>(
     node: NodeKey,
 ) {
     match Constraints::new(1, 1, 4096) {
-        Some(constraints) => done(rt, state, units, 1, Call::SetConstraints(node, constraints)),
+        Some(constraints) => ask_done(rt, state, units, 1, Call::SetConstraints(node, constraints)),
         None => panic!(rt; "constraints"),
     }
 }
@@ -34,11 +34,11 @@ fn open<E: Ledger, S: Ledger, W: Ledger, R: Abort>(
 ) {
     assert_eq!(rt; ask(rt, state, units, 0, Call::Join), Reply::Joined(1));
     let root = token(rt, state, units, 1, Call::OpenRoot);
-    done(rt, state, units, 1, Call::SetWeakOk(root, true));
+    ask_done(rt, state, units, 1, Call::SetWeakOk(root, true));
     let child = token(rt, state, units, 1, Call::Duplicate(root));
-    done(rt, state, units, 1, Call::SetWeak(child));
-    done(rt, state, units, 1, Call::Bind(root));
-    done(rt, state, units, 1, Call::Bind(child));
+    ask_done(rt, state, units, 1, Call::SetWeak(child));
+    ask_done(rt, state, units, 1, Call::Bind(root));
+    ask_done(rt, state, units, 1, Call::Bind(child));
     ask_for_page(rt, state, units, root);
     ask_for_page(rt, state, units, child);
     for (node, strength) in [(root, Strength::Strong), (child, Strength::Weak)] {
@@ -64,7 +64,7 @@ fn drop_elsewhere<E: Ledger, S: Ledger, W: Ledger, R: Abort>(
     match strength {
         Strength::Strong => {
             pass(state, units, &mut others, Strength::Strong);
-            done(
+            ask_done(
                 rt,
                 state,
                 &mut others,
@@ -74,7 +74,7 @@ fn drop_elsewhere<E: Ledger, S: Ledger, W: Ledger, R: Abort>(
         }
         Strength::Weak => {
             pass(state, units, &mut others, Strength::Weak);
-            done(
+            ask_done(
                 rt,
                 state,
                 &mut others,
@@ -92,8 +92,8 @@ fn send<E: Ledger, S: Ledger, W: Ledger, R: Abort>(
     units: &mut Units<E, S, W>,
     strength: Strength,
 ) {
-    done(rt, state, units, 1, Call::DupHandle(FIRST, strength));
-    done(rt, state, units, 1, Call::GiveHandle(FIRST, strength, 1));
+    ask_done(rt, state, units, 1, Call::DupHandle(FIRST, strength));
+    ask_done(rt, state, units, 1, Call::GiveHandle(FIRST, strength, 1));
 }
 
 // It comes out of the parcel, and is dropped by others: two events.

@@ -1,5 +1,5 @@
 //! A tracker that outlives the guard.
-use super::asking::{ask, done, empty, token};
+use super::asking::{ask, ask_done, empty, token};
 use service_lock::{Service, State, Units, take_tracker};
 use sm_names::{Call, Fired, NodeKey, Reply};
 use std::process::Abort;
@@ -35,7 +35,7 @@ pub fn tracker<E: Ledger, S: Ledger, W: Ledger, R: Wait + Abort>(
     assert!(rt; tracker.poll().is_none());
     let mut second = service.lock(rt);
     assert!(rt; take_tracker(second.state_mut(), 3).is_none());
-    done(rt, second.state_mut(), &mut units, 1, Call::Close(root));
+    ask_done(rt, second.state_mut(), &mut units, 1, Call::Close(root));
     drop(second);
     let fired = Fired {
         tracker: 3,

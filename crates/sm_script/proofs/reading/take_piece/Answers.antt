@@ -26,4 +26,4 @@ returns-in-Ok-extend_from_slice-clause-rest g c = c.in-Ok-extend_from_slice.ensu
 pub returns-in-Err-extend_from_slice-clause-err : goal.returns-in-Err-extend_from_slice-clause-err
 returns-in-Err-extend_from_slice-clause-err g c =
     all-failed _ _ _ _ _ _ _ _ c.loop-at.invariant (sym c.line_end.ensures.value ∙ c.in_default.is) _ _
-    (c.give_in.ensures.behind _ (some_behind _ c.loop-at.rest.now (sym c.is_empty.ensures ∙ c.if-is_empty.false)))
+    (c.give_up_for_memory.ensures.behind _ (some_behind _ c.loop-at.rest.now (sym c.is_empty.ensures ∙ c.if-is_empty.false)))

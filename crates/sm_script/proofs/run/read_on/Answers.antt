@@ -12,8 +12,8 @@ pub returns-in-Ok-eq0 : goal.returns-in-Ok-eq0
 returns-in-Ok-eq0 g c = λ setting start.
     let room : 0 < length c.read.new.buf = omega (arith, c.read.auto.buf, c.requires.room.0) in
     let both = read-end _ _ c.in-Ok-eq0.field-0 c.read.new.buf c.in-Ok-eq0.field-0-test room c.in-Ok-eq0.ensures.bytes in
-    runs-ended _ _ _ _ _ _ _ _ c.turns.invariant setting start _ _ both.0 both.1 c.finish.ensures.kept c.finish.result
-    (rw c.as_slice.ensures.value at c.finish.ensures.ok) (rw c.as_slice.ensures.value at c.finish.ensures.err)
+    runs-ended _ _ _ _ _ _ _ _ c.turns.invariant setting start _ _ both.0 both.1 c.end_run.ensures.kept c.end_run.result
+    (rw c.as_slice.ensures.value at c.end_run.ensures.ok) (rw c.as_slice.ensures.value at c.end_run.ensures.err)
 
 -- the bytes that may still come, and those behind them
 pub returns-in-Ok : goal.returns-in-Ok

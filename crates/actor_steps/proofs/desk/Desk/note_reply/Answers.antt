@@ -2,7 +2,7 @@ use Rattle.std.proofs.Common.{◌∙◌, ap}
 use Rattle.actor_steps.specs.Desks.{Known}
 use Rattle.actor_steps.specs.Tables.{known}
 use Rattle.actor_steps.proofs.TableLaws.{noted, things_noted}
-use Rattle.actor_steps.proofs.desk.Desk.note.Goals as goal
+use Rattle.actor_steps.proofs.desk.Desk.note_reply.Goals as goal
 
 pub returns-clause-known : goal.returns-clause-known
 returns-clause-known c =

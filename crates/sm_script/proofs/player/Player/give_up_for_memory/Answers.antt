@@ -2,7 +2,7 @@ use Rattle.std.proofs.Common.{List, ℕ, append-nil, sym, subst}
 use Rattle.sm_script.specs.declared.stop.Stop.{Stop}
 use Rattle.sm_script.specs.Players.{Breaks}
 use Rattle.sm_script.proofs.Playing.{so_far-behind, so_far-stop}
-use Rattle.sm_script.proofs.player.Player.give_in.Goals as goal
+use Rattle.sm_script.proofs.player.Player.give_up_for_memory.Goals as goal
 
 pub returns-clause-at : goal.returns-clause-at
 returns-clause-at g c line = λ setting old lines far.
