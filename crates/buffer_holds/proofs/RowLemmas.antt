@@ -28,7 +28,12 @@ module _ {K X : Type 0} (weight : K × X → ℕ) (test : K → Bool) (key : K) 
             let old : weight (key, v) ≡ weight e = λ i. weight (here i, back i) in
             let new : weight (e.0, w) ≡ weight (key, w) = cc in
             omega (arith, sum_by-cons weight (e.0, w) es, sum_by-cons weight e es)
-        | false ↦ λ miss is. omega (arith, sum_by-set_value-key es v w is, sum_by-cons weight e (set_value test es w), sum_by-cons weight e es)
+        | false ↦ λ miss is. omega (
+          arith,
+          sum_by-set_value-key es v w is,
+          sum_by-cons weight e (set_value test es w),
+          sum_by-cons weight e es,
+        )
       ] refl found
 
   -- without the entry
@@ -89,7 +94,12 @@ module _ {K X : Type 0} where
   sum_by-set_value_at weight [] place w d within = absurd (omega (arith, within))
   sum_by-set_value_at weight (e ∷ es) zero w d within = omega (arith, sum_by-cons weight (e.0, w) es, sum_by-cons weight e es)
   sum_by-set_value_at weight (e ∷ es) (suc place) w d within =
-      omega (arith, sum_by-set_value_at weight es place w d (omega (arith, within)), sum_by-cons weight e (set_value_at es place w), sum_by-cons weight e es)
+      omega (
+        arith,
+        sum_by-set_value_at weight es place w d (omega (arith, within)),
+        sum_by-cons weight e (set_value_at es place w),
+        sum_by-cons weight e es,
+      )
 
   -- a value that is written back
   set_value_at-get_or : (es : List (K × X)) (place : ℕ) (d : K × X) → set_value_at es place (get_or es place d).1 ≡ es
@@ -192,6 +202,11 @@ module _ {K X S : Type 0} (eq same : K → K → Bool) (is : eq ≡ same) (one :
       told eq same is one m n key None (Some w) (record {
         had = none;
         finds = updates.0;
-        weighs = λ weight. omega (arith, ap (sum_by weight) last, sum_by-append weight m.entries ((key, w) ∷ []), sum_by-cons weight (key, w) []);
+        weighs = λ weight. omega (
+          arith,
+          ap (sum_by weight) last,
+          sum_by-append weight m.entries ((key, w) ∷ []),
+          sum_by-cons weight (key, w) [],
+        );
         distinct = distinct;
       })

@@ -63,7 +63,13 @@ module _ (limit : ℕ) (rows rows' : List (Hold × ℕ)) (tallies tallies' : Lis
       clients = omega (arith, more_clients, raises.longer, one_row-added (row_at rows hold));
       within = within;
     };
-    needed = λ some. omega (arith, more_clients, raises.longer, one_row-added (row_at rows hold), one_row-le-clients limit rows tallies sound hold);
+    needed = λ some. omega (
+      arith,
+      more_clients,
+      raises.longer,
+      one_row-added (row_at rows hold),
+      one_row-le-clients limit rows tallies sound hold,
+    );
   }
 
 -- a row of 0 goes, and with it a tally that says nothing
@@ -74,16 +80,30 @@ module _ (limit : ℕ) (rows rows' : List (Hold × ℕ)) (tallies tallies' : Lis
     (without_client (tally_at tallies hold.kind))) where
   -- the other clients' rows of the kind
   others : sum_by (one_of hold.kind) rows' + 1 ≡ sum_by (one_of hold.kind) rows
-  others = omega (arith, resets.weighs (one_of hold.kind), weight_at-one_of hold.kind hold (row_at rows hold) true (same_kind-refl hold.kind), ap one_row idle)
+  others = omega (
+    arith,
+    resets.weighs (one_of hold.kind),
+    weight_at-one_of hold.kind hold (row_at rows hold) true (same_kind-refl hold.kind),
+    ap one_row idle,
+  )
 
   -- what they have is what all have
   same_share : sum_by (share hold.kind) rows' ≡ sum_by (share hold.kind) rows
   same_share =
-      omega (arith, resets.weighs (share hold.kind), weight_at-share hold.kind hold (row_at rows hold) true (same_kind-refl hold.kind), ap (λ o. unwrap_or o 0) idle)
+      omega (
+        arith,
+        resets.weighs (share hold.kind),
+        weight_at-share hold.kind hold (row_at rows hold) true (same_kind-refl hold.kind),
+        ap (λ o. unwrap_or o 0) idle,
+      )
 
   -- the tally with one client less that has a row
   abbrev left : Tally
-  left = record { total = (tally_at tallies hold.kind).total; moving = (tally_at tallies hold.kind).moving; clients = (tally_at tallies hold.kind).clients - 1 }
+  left = record {
+    total = (tally_at tallies hold.kind).total;
+    moving = (tally_at tallies hold.kind).moving;
+    clients = (tally_at tallies hold.kind).clients - 1;
+  }
 
   -- a tally that says nothing has nothing open
   nothing_left : is_idle left ≡ true → ((tally_at tallies hold.kind).total ≡ 0) × ((tally_at tallies hold.kind).moving ≡ 0) ×
@@ -93,8 +113,11 @@ module _ (limit : ℕ) (rows rows' : List (Hold × ℕ)) (tallies tallies' : Lis
       let both = and-both (left.clients == 0) (left.moving == 0) is in
       let clients : (tally_at tallies hold.kind).clients - 1 ≡ 0 = nat-one left.clients 0 both.0 in
       let moving : (tally_at tallies hold.kind).moving ≡ 0 = nat-one left.moving 0 both.1 in
-      let nobody : sum_by (one_of hold.kind) rows' ≡ 0 = omega (arith, others, tallied.clients, clients) in
-      (omega (arith, tallied.total, same_share, sum_by-share-none hold.kind rows' nobody, moving), moving, omega (arith, others, tallied.clients, clients))
+      let nobody : sum_by (one_of hold.kind) rows' ≡ 0 = omega (arith, others, tallied.clients, clients) in (
+        omega (arith, tallied.total, same_share, sum_by-share-none hold.kind rows' nobody, moving),
+        moving,
+        omega (arith, others, tallied.clients, clients),
+      )
 
   -- a tally that says something
   something_left : is_idle left ≡ false → 0 < left.clients + left.moving
@@ -171,8 +194,22 @@ module _ {limit : ℕ} {rows rows' : List (Hold × ℕ)} {tallies tallies' : Lis
       let was = step.sound.tallied kind in
       let row = row_at rows hold in
       record {
-        total = omega (arith, was.total, step.keeps.total, step.resets.weighs (share kind), weight_at-share kind hold row true (same_kind-refl kind), weight_at-share kind hold row' true (same_kind-refl kind));
-        clients = omega (arith, was.clients, step.keeps.clients, step.resets.weighs (one_of kind), weight_at-one_of kind hold row true (same_kind-refl kind), weight_at-one_of kind hold row' true (same_kind-refl kind));
+        total = omega (
+          arith,
+          was.total,
+          step.keeps.total,
+          step.resets.weighs (share kind),
+          weight_at-share kind hold row true (same_kind-refl kind),
+          weight_at-share kind hold row' true (same_kind-refl kind),
+        );
+        clients = omega (
+          arith,
+          was.clients,
+          step.keeps.clients,
+          step.resets.weighs (one_of kind),
+          weight_at-one_of kind hold row true (same_kind-refl kind),
+          weight_at-one_of kind hold row' true (same_kind-refl kind),
+        );
         within = step.keeps.within;
       }
 
@@ -181,8 +218,20 @@ module _ {limit : ℕ} {rows rows' : List (Hold × ℕ)} {tallies tallies' : Lis
       let was = step.sound.tallied kind in
       let row = row_at rows hold in
       record {
-        total = omega (arith, was.total, step.resets.weighs (share kind), weight_at-share kind hold row false e, weight_at-share kind hold row' false e);
-        clients = omega (arith, was.clients, step.resets.weighs (one_of kind), weight_at-one_of kind hold row false e, weight_at-one_of kind hold row' false e);
+        total = omega (
+          arith,
+          was.total,
+          step.resets.weighs (share kind),
+          weight_at-share kind hold row false e,
+          weight_at-share kind hold row' false e,
+        );
+        clients = omega (
+          arith,
+          was.clients,
+          step.resets.weighs (one_of kind),
+          weight_at-one_of kind hold row false e,
+          weight_at-one_of kind hold row' false e,
+        );
         within = was.within;
       }
 

@@ -40,7 +40,11 @@ in_order-wider low high low' high' [] l u h = let r : low ≤ high = leb-true _ 
 in_order-wider low high low' high' (i ∷ is) l u h =
     let f = first_in_order low high i is h in
     in_order-cons low' high' i is
-    (record { from = omega (arith, f.from); has_pages = f.has_pages; rest = in_order-wider (end_of i) high (end_of i) high' is (omega arith) u f.rest })
+    (record {
+      from = omega (arith, f.from);
+      has_pages = f.has_pages;
+      rest = in_order-wider (end_of i) high (end_of i) high' is (omega arith) u f.rest;
+    })
 
 -- where each interval of an order lies
 pub in_order-at : (low high : ℕ) (is : List Interval) → in_order low high is ≡ true → (k : ℕ) (d : Interval) → k < length is →

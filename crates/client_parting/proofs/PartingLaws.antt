@@ -286,7 +286,13 @@ no_more : {A : Type 0} (f : Thing → List A) (g : Reply → List Thing) → ((r
     length (flat_map f (flat_map g told)) ≤ length told
 no_more f g each [] = omega arith
 no_more f g each (r ∷ rs) =
-    omega (arith, ap length (flat-append f (g r) (flat_map g rs)), length-append (flat_map f (g r)) (flat_map f (flat_map g rs)), each r, no_more f g each rs)
+    omega (
+      arith,
+      ap length (flat-append f (g r) (flat_map g rs)),
+      length-append (flat_map f (g r)) (flat_map f (flat_map g rs)),
+      each r,
+      no_more f g each rs,
+    )
 
 none_of : {A : Type 0} (f : Thing → List A) (g : Reply → List Thing) → ((r : Reply) → flat_map f (g r) ≡ []) → (told : List Reply) →
     flat_map f (flat_map g told) ≡ []

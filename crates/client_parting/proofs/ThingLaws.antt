@@ -106,10 +106,40 @@ pub room_put : {E S W : Type 0} (old new : Held E S W) (x y : Thing) (all later 
     vec_capacity new.tokens ≡ vec_capacity old.tokens → vec_capacity new.collections ≡ vec_capacity old.collections →
     vec_capacity new.handles ≡ vec_capacity old.handles → HasRoomFor new later
 room_put old new x y all later is room same put tokens collections handles = record {
-  tokens = omega (arith, room.tokens, many token_in, grown (λ h. h.tokens), length-append (held_in old).tokens (token_in y), ap (λ t. length (token_in t)) same, new.tokens.ok.0, old.tokens.ok.0, tokens);
+  tokens = omega (
+    arith,
+    room.tokens,
+    many token_in,
+    grown (λ h. h.tokens),
+    length-append (held_in old).tokens (token_in y),
+    ap (λ t. length (token_in t)) same,
+    new.tokens.ok.0,
+    old.tokens.ok.0,
+    tokens,
+  );
   collections =
-      omega (arith, room.collections, many collection_in, grown (λ h. h.collections), length-append (held_in old).collections (collection_in y), ap (λ t. length (collection_in t)) same, new.collections.ok.0, old.collections.ok.0, collections);
-  handles = omega (arith, room.handles, many handle_in, grown (λ h. h.handles), length-append (held_in old).handles (handle_in y), ap (λ t. length (handle_in t)) same, new.handles.ok.0, old.handles.ok.0, handles);
+      omega (
+        arith,
+        room.collections,
+        many collection_in,
+        grown (λ h. h.collections),
+        length-append (held_in old).collections (collection_in y),
+        ap (λ t. length (collection_in t)) same,
+        new.collections.ok.0,
+        old.collections.ok.0,
+        collections,
+      );
+  handles = omega (
+    arith,
+    room.handles,
+    many handle_in,
+    grown (λ h. h.handles),
+    length-append (held_in old).handles (handle_in y),
+    ap (λ t. length (handle_in t)) same,
+    new.handles.ok.0,
+    old.handles.ok.0,
+    handles,
+  );
 }
   where
     many : {A : Type 0} (f : Thing → List A) → length (flat_map f all) ≡ length (f x) + length (flat_map f later)

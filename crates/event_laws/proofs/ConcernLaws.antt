@@ -67,8 +67,10 @@ made_of_one limits marks client (Reply.Tracker id) (Call.TrackLifetime key most)
     answer.told in
     let n : Named marks key = named limits marks client none_key (Call.TrackLifetime key most) (Reply.Tracker id) key effective refl in
     let is : Condition.Lifetime key (collection_of_node marks key) most ≡ t.condition = cc in
-    let here : IsOf marks n.birth.collection (Condition.Lifetime key (collection_of_node marks key) most) =
-    (ap (λ (o : Option Birth). option_map_or (λ (b : Birth). b.collection) o 0) n.found, ap (option_map (λ (b : Birth). b.collection)) n.found) in
+    let here : IsOf marks n.birth.collection (Condition.Lifetime key (collection_of_node marks key) most) = (
+      ap (λ (o : Option Birth). option_map_or (λ (b : Birth). b.collection) o 0) n.found,
+      ap (option_map (λ (b : Birth). b.collection)) n.found,
+    ) in
     (n.birth.collection, subst (IsOf marks n.birth.collection) is here)
 made_of_one limits marks client (Reply.Tracker id) (Call.TrackWeak buffer) t answer h =
     let is : Condition.Weak buffer ≡ t.condition = cc in

@@ -15,27 +15,111 @@ use Rattle.sm_names.proofs.KeptLaws.{kept-after}
 pub same_hands : (marks : Timeline) (mark : Mark) → is_event mark ≡ false → SameHands marks (mark ∷ marks)
 same_hands marks (Called client reply call) h = cc
 same_hands marks (Loss origin cause) h =
-    record { born = refl; joined = refl; shut = refl; had = refl; in_parcels = refl; in_all = refl; waiting = refl; over = refl; under_way = refl; holders = refl; kinds = refl }
+    record {
+      born = refl;
+      joined = refl;
+      shut = refl;
+      had = refl;
+      in_parcels = refl;
+      in_all = refl;
+      waiting = refl;
+      over = refl;
+      under_way = refl;
+      holders = refl;
+      kinds = refl;
+    }
 same_hands marks (Allocated head) h =
-    record { born = refl; joined = refl; shut = refl; had = refl; in_parcels = refl; in_all = refl; waiting = refl; over = refl; under_way = refl; holders = refl; kinds = refl }
+    record {
+      born = refl;
+      joined = refl;
+      shut = refl;
+      had = refl;
+      in_parcels = refl;
+      in_all = refl;
+      waiting = refl;
+      over = refl;
+      under_way = refl;
+      holders = refl;
+      kinds = refl;
+    }
 same_hands marks (Ended top) h =
-    record { born = refl; joined = refl; shut = refl; had = refl; in_parcels = refl; in_all = refl; waiting = refl; over = refl; under_way = refl; holders = refl; kinds = refl }
+    record {
+      born = refl;
+      joined = refl;
+      shut = refl;
+      had = refl;
+      in_parcels = refl;
+      in_all = refl;
+      waiting = refl;
+      over = refl;
+      under_way = refl;
+      holders = refl;
+      kinds = refl;
+    }
 
 -- and so do any number of them
 still_same : (first marks : Timeline) (mark : Mark) → is_event mark ≡ false → SameHands first marks → SameHands first (mark ∷ marks)
 still_same first marks (Called client reply call) h s = cc
 still_same first marks (Loss origin cause) h s =
-    record { born = s.born; joined = s.joined; shut = s.shut; had = s.had; in_parcels = s.in_parcels; in_all = s.in_all; waiting = s.waiting; over = s.over; under_way = s.under_way; holders = s.holders; kinds = s.kinds }
+    record {
+      born = s.born;
+      joined = s.joined;
+      shut = s.shut;
+      had = s.had;
+      in_parcels = s.in_parcels;
+      in_all = s.in_all;
+      waiting = s.waiting;
+      over = s.over;
+      under_way = s.under_way;
+      holders = s.holders;
+      kinds = s.kinds;
+    }
 still_same first marks (Allocated head) h s =
-    record { born = s.born; joined = s.joined; shut = s.shut; had = s.had; in_parcels = s.in_parcels; in_all = s.in_all; waiting = s.waiting; over = s.over; under_way = s.under_way; holders = s.holders; kinds = s.kinds }
+    record {
+      born = s.born;
+      joined = s.joined;
+      shut = s.shut;
+      had = s.had;
+      in_parcels = s.in_parcels;
+      in_all = s.in_all;
+      waiting = s.waiting;
+      over = s.over;
+      under_way = s.under_way;
+      holders = s.holders;
+      kinds = s.kinds;
+    }
 still_same first marks (Ended top) h s =
-    record { born = s.born; joined = s.joined; shut = s.shut; had = s.had; in_parcels = s.in_parcels; in_all = s.in_all; waiting = s.waiting; over = s.over; under_way = s.under_way; holders = s.holders; kinds = s.kinds }
+    record {
+      born = s.born;
+      joined = s.joined;
+      shut = s.shut;
+      had = s.had;
+      in_parcels = s.in_parcels;
+      in_all = s.in_all;
+      waiting = s.waiting;
+      over = s.over;
+      under_way = s.under_way;
+      holders = s.holders;
+      kinds = s.kinds;
+    }
 
 -- so all marks that an event forces leave them as its own mark does
 pub same_after : (pool : ℕ) (marks : Timeline) (entry : Entry) → SameHands (mark_of entry ∷ marks) (after pool marks entry)
 same_after pool marks entry =
     kept-after (SameHands (mark_of entry ∷ marks)) (still_same (mark_of entry ∷ marks)) pool marks entry
-    (record { born = refl; joined = refl; shut = refl; had = refl; in_parcels = refl; in_all = refl; waiting = refl; over = refl; under_way = refl; holders = refl; kinds = refl })
+    (record {
+      born = refl;
+      joined = refl;
+      shut = refl;
+      had = refl;
+      in_parcels = refl;
+      in_all = refl;
+      waiting = refl;
+      over = refl;
+      under_way = refl;
+      holders = refl;
+      kinds = refl;
+    })
 
 -- a legal history with one more event
 pub record NextEvent (pool : ℕ) (limits : Bound) (history : List Entry) (entry : Entry) : Type 0 where

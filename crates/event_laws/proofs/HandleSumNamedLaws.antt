@@ -57,7 +57,12 @@ zero_if (suc n) none = absurd (none (omega arith))
 none_on : (h : ℕ → ℕ) (a m : ℕ) → ((i : ℕ) → a ≤ i → h i ≡ 0) → sum_by h (range_with_len a m) ≡ 0
 none_on h a zero none = refl
 none_on h a (suc m) none =
-    omega (arith, sum_by-cons h a (range_with_len (a + 1) m), none a (omega arith), none_on h (a + 1) m (λ i le. none i (omega (arith, le))))
+    omega (
+      arith,
+      sum_by-cons h a (range_with_len (a + 1) m),
+      none a (omega arith),
+      none_on h (a + 1) m (λ i le. none i (omega (arith, le))),
+    )
 
 -- so a longer range adds up to no more
 longer_range : (h : ℕ → ℕ) (a n m : ℕ) → n ≤ m → ((i : ℕ) → a + n ≤ i → h i ≡ 0) →

@@ -302,7 +302,13 @@ module _ (limits : Bound) (marks : Timeline) (caller : ℕ) (reply : Reply) (cal
 -- so it is with each end
 pub end_at : (pool : ℕ) (limits : Bound) (marks : Timeline) → Grows pool limits [] marks → (node : NodeKey) → EndAt marks node
 end_at pool limits _ Stays node =
-    record { place = 0; waits = λ c. sym (none_of (0 == c) false refl); joined = λ h. cc; unspent = λ h. cc; unborn = λ h. (refl, refl, refl, refl) }
+    record {
+      place = 0;
+      waits = λ c. sym (none_of (0 == c) false refl);
+      joined = λ h. cc;
+      unspent = λ h. cc;
+      unborn = λ h. (refl, refl, refl, refl);
+    }
 end_at pool limits _ (Answers before caller reply call g answer) node =
     end_mark limits before caller reply call answer (counted pool limits before g).drawn node (end_at pool limits before g node)
 end_at pool limits _ (Loses before origin cause g born) node =

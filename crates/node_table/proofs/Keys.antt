@@ -35,7 +35,10 @@ key_cases a b =
 -- the test of equal keys holds
 pub same_key-true : (a b : NodeKey) → a ≡ b → same_key a b ≡ true
 same_key-true a b same =
-    rw (eq-true a.slot b.slot (ap (λ (k : NodeKey). k.slot) same), eq-true a.generation b.generation (ap (λ (k : NodeKey). k.generation) same)) refl
+    rw (
+      eq-true a.slot b.slot (ap (λ (k : NodeKey). k.slot) same),
+      eq-true a.generation b.generation (ap (λ (k : NodeKey). k.generation) same),
+    ) refl
 
 -- the test of other keys fails
 pub same_key-false : (a b : NodeKey) → a ≢ b → same_key a b ≡ false

@@ -139,7 +139,11 @@ module _ (next prev : ℕ → Option NodeKey) where
           | inl here ↦
               let both : Some head ≡ Some other = here.0 in
               let same : head ≡ other = cc in
-              inr (subst (λ k. Contains (head ∷ rest) k) same (Contains-head head rest), ap (λ (k : NodeKey). next k.slot) (sym same) ∙ here.1)
+              inr (
+                subst (λ k. Contains (head ∷ rest) k) same (Contains-head head rest),
+                ap (λ (k : NodeKey). next k.slot) (sym same)
+                    ∙ here.1,
+              )
           | inr found ↦ inr (Contains-tail head other rest found.0, found.1)
         ]
       ]

@@ -126,7 +126,12 @@ module _ {N : Type 0} (slots : Slab (Slot N)) (nexts : List ℕ) (first limit : 
     -- the node of a key that is there is its entry's
     pub node-there : node_at (table_of slots.slots nexts first limit) key ≡ Some e.node
     node-there =
-        rw (next-there (table_of slots.slots nexts first limit) key there, eq-true (key.generation + 1) (key.generation + 1) refl, row-at slots.slots (given_count first nexts) key.slot, was) refl
+        rw (
+          next-there (table_of slots.slots nexts first limit) key there,
+          eq-true (key.generation + 1) (key.generation + 1) refl,
+          row-at slots.slots (given_count first nexts) key.slot,
+          was,
+        ) refl
 
 module _ {N : Type 0} (t : Table N) (key : NodeKey) (node : N) (there : IsSome (row_at t key)) where
   -- the table with this node

@@ -27,7 +27,8 @@ all_to_come pool list s same =
     }
 
 -- what begins elsewhere stays
-stays : (start : ℕ) (i : Interval) (is : List Interval) → i.start ≢ start → (k : ℕ) → k < length is → get_or is k i ≡ i → Contains (without start is) i
+stays : (start : ℕ) (i : Interval) (is : List Interval) → i.start ≢ start → (k : ℕ) → k < length is → get_or is k i ≡ i
+    → Contains (without start is) i
 stays start i [] other k lt at = absurd (omega arith)
 stays start i (x ∷ is) other zero lt at =
     let keep : (x.start == start) ≡ false = ne_eqb _ _ (λ e. other (ap (λ (y : Interval). y.start) (sym at) ∙ e)) in
@@ -41,13 +42,15 @@ stays start i (x ∷ is) other (suc k) lt at =
     ]
 
 -- one goes back
-pub one_goes : (at : ℕ) (list held : List Interval) (back : Interval) → at < length list → back ≡ get_or list at back → AreToCome at list held → AreToCome (at + 1) list (without back.start held)
+pub one_goes : (at : ℕ) (list held : List Interval) (back : Interval) → at < length list → back ≡ get_or list at back
+    → AreToCome at list held → AreToCome (at + 1) list (without back.start held)
 one_goes at list held back lt is t =
     record {
       there = λ k d from within.
           let c = t.there k d (omega arith) within in
           let here : get_or list at d ≡ back = get_or_default list at d back lt ∙ sym is in
-          let other : (get_or list k d).start ≢ back.start = λ e. t.apart at k d (omega arith) within (ap (λ (y : Interval). y.start) here ∙ sym e) in
+          let other : (get_or list k d).start ≢ back.start =
+          λ e. t.apart at k d (omega arith) within (ap (λ (y : Interval). y.start) here ∙ sym e) in
           stays back.start (get_or list k d) held other c.0 c.1 c.2;
       apart = t.apart;
     }

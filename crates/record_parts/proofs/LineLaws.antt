@@ -30,13 +30,23 @@ lost_most strength _ _ = omega arith
 pub gains_most : (strength : Strength) (own : List Own) → gains strength own ≤ length own * 64
 gains_most strength [] = omega arith
 gains_most strength (o ∷ os) =
-    omega (arith, sum_by-cons (λ (x : Own). gained_by strength x.call x.reply) o os, gained_most strength o.call o.reply, gains_most strength os)
+    omega (
+      arith,
+      sum_by-cons (λ (x : Own). gained_by strength x.call x.reply) o os,
+      gained_most strength o.call o.reply,
+      gains_most strength os,
+    )
 
 -- and takes no more
 pub losses_most : (strength : Strength) (own : List Own) → losses strength own ≤ length own * 64
 losses_most strength [] = omega arith
 losses_most strength (o ∷ os) =
-    omega (arith, sum_by-cons (λ (x : Own). lost_by strength x.call x.reply) o os, lost_most strength o.call o.reply, losses_most strength os)
+    omega (
+      arith,
+      sum_by-cons (λ (x : Own). lost_by strength x.call x.reply) o os,
+      lost_most strength o.call o.reply,
+      losses_most strength os,
+    )
 
 -- a part is no longer than the record
 pub part_most : (client event : ℕ) (history : List Entry) → length (part_from client event history) ≤ length history

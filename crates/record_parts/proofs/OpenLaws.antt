@@ -121,7 +121,13 @@ module _ (client : ℕ) (amount : Call → Reply → ℕ) (one two : Mark → �
       either more false is =
           let own : is_own client event e ≡ false = rw is refl in
           let this : one (mark_of e) + two (mark_of e) ≡ 0 = rw is at (each e.0 e.1 e.2) in
-          rw own (omega (arith, more, this, sum_by-cons (λ (x : Entry). one (mark_of x)) e es, sum_by-cons (λ (x : Entry). two (mark_of x)) e es))
+          rw own (omega (
+            arith,
+            more,
+            this,
+            sum_by-cons (λ (x : Entry). one (mark_of x)) e es,
+            sum_by-cons (λ (x : Entry). two (mark_of x)) e es,
+          ))
 
 -- ---- the first events of a history
 

@@ -23,7 +23,12 @@ opened_most strength _ = omega arith
 pub opened_le : (strength : Strength) (history : List Entry) → opened anyone strength history ≤ length history * 64
 opened_le strength [] = omega arith
 opened_le strength (e ∷ es) =
-    omega (arith, sum_by-cons (λ (x : Entry). opened_at anyone strength (mark_of x)) e es, opened_most strength (mark_of e), opened_le strength es)
+    omega (
+      arith,
+      sum_by-cons (λ (x : Entry). opened_at anyone strength (mark_of x)) e es,
+      opened_most strength (mark_of e),
+      opened_le strength es,
+    )
 
 -- what the event takes from its client, the client had
 pub lost_le_needed : (strength : Strength) (call : Call) (reply : Reply) →

@@ -84,8 +84,14 @@ module _ (pool : ℕ) (a b : Timeline) (collection : ℕ) (s : SameIn pool a b c
   born_in node here =
       let t = map-Some (λ (x : Birth). x.collection) (birth_of a node) collection here in
       let x : Birth = t.0 in
-      let f = birth_is a node x t.1 in
-      (x, t.1, f.1, t.2, In-reverse-back _ x (In-filter-back (λ (y : Birth). y.collection == collection) (births a) x f.0 (eq-eqb x.collection collection t.2)))
+      let f = birth_is a node x t.1 in (
+        x,
+        t.1,
+        f.1,
+        t.2,
+        In-reverse-back _ x
+            (In-filter-back (λ (y : Birth). y.collection == collection) (births a) x f.0 (eq-eqb x.collection collection t.2)),
+      )
 
   -- each of its nodes stands as it stood
   member_at : (x : Birth) → In x (births_in a collection) → member b x ≡ member a x

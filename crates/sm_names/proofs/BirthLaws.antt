@@ -99,7 +99,14 @@ pub named : (limits : Bound) (marks : Timeline) (client : ℕ) (new : NodeKey) (
 named limits marks client new call reply key t is =
     let e = has_end marks client call key t.has_end is in
     let f = birth_is marks key e.birth e.is in
-    record { birth = e.birth; there = f.0; is = f.1; found = e.is; unspent = e.unspent; unfailed = has_no_fault marks call key e is t.not_gone }
+    record {
+      birth = e.birth;
+      there = f.0;
+      is = f.1;
+      found = e.is;
+      unspent = e.unspent;
+      unfailed = has_no_fault marks call key e is t.not_gone;
+    }
 
 -- a child comes below a node that is there, and is told its collection
 child_of : (limits : Bound) (before : Timeline) (client : ℕ) (key parent : NodeKey) (collection : ℕ) (call : Call) →
@@ -126,7 +133,13 @@ comes limits before client event (Reply.Token key collection) Call.OpenRoot b an
     let told : Reply.Token key collection ≡ Reply.Token key (events before + 1) = t.answered in
     let now : collection ≡ events before + 1 = cc in
     subst (Comes before client (Reply.Token key collection) Call.OpenRoot) is
-    (record { told = refl; fresh = fresh_key before key answer.is_new; from = inl (refl, now); bears = rw (same_key-refl key) refl; below = refl })
+    (record {
+      told = refl;
+      fresh = fresh_key before key answer.is_new;
+      from = inl (refl, now);
+      bears = rw (same_key-refl key) refl;
+      below = refl;
+    })
 comes limits before client event (Reply.Token key collection) (Call.Duplicate parent) b answer h =
     let t = took_effect_all limits (readings before) client key (Call.Duplicate parent) (Reply.Token key collection) refl refl
     answer.told in
@@ -135,7 +148,13 @@ comes limits before client event (Reply.Token key collection) (Call.Duplicate pa
     let is : record { node = key; parent = Some parent; attached = false; collection = collection; event = event; client = client } ≡ b =
     cc in
     subst (Comes before client (Reply.Token key collection) (Call.Duplicate parent)) is
-    (record { told = refl; fresh = fresh_key before key answer.is_new; from = inr (child_of limits before client key parent collection (Call.Duplicate parent) refl t t.answered); bears = rw (same_key-refl key) refl; below = refl })
+    (record {
+      told = refl;
+      fresh = fresh_key before key answer.is_new;
+      from = inr (child_of limits before client key parent collection (Call.Duplicate parent) refl t t.answered);
+      bears = rw (same_key-refl key) refl;
+      below = refl;
+    })
 comes limits before client event (Reply.Token key collection) (Call.AttachToken parent) b answer h =
     let t = took_effect_all limits (readings before) client key (Call.AttachToken parent) (Reply.Token key collection) refl refl
     answer.told in
@@ -144,7 +163,13 @@ comes limits before client event (Reply.Token key collection) (Call.AttachToken 
     let is : record { node = key; parent = Some parent; attached = true; collection = collection; event = event; client = client } ≡ b =
     cc in
     subst (Comes before client (Reply.Token key collection) (Call.AttachToken parent)) is
-    (record { told = refl; fresh = fresh_key before key answer.is_new; from = inr (child_of limits before client key parent collection (Call.AttachToken parent) refl t t.answered); bears = rw (same_key-refl key) refl; below = refl })
+    (record {
+      told = refl;
+      fresh = fresh_key before key answer.is_new;
+      from = inr (child_of limits before client key parent collection (Call.AttachToken parent) refl t t.answered);
+      bears = rw (same_key-refl key) refl;
+      below = refl;
+    })
 comes limits before client event reply call b answer h = cc
 
 -- ---- what a birth leaves

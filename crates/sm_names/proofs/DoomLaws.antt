@@ -197,7 +197,14 @@ module _ (pool : ℕ) (limits : Bound) (before : Timeline) (client : ℕ) (reply
                     | inl g ↦ both_ways (spent before p.node) (released_spent before p.node g) r.4
                     | inr n ↦ n
                   ] in
-                  record { birth = p; there = r.1; ours = subst (λ (c : ℕ). c == collection ≡ true) r.3 s.ours; here = here; kept = kept; strong = strong }
+                  record {
+                    birth = p;
+                    there = r.1;
+                    ours = subst (λ (c : ℕ). c == collection ≡ true) r.3 s.ours;
+                    here = here;
+                    kept = kept;
+                    strong = strong;
+                  }
             ]
         | inr on ↦ record {
           birth = s.birth;
@@ -262,7 +269,14 @@ doomed_loss before origin cause buffer d = record {
     | inl y ↦
         let s : StrongLive (Loss origin cause ∷ before) buffer.collection = strong_live (Loss origin cause ∷ before) buffer.collection y in
         let was : StrongLive before buffer.collection =
-        record { birth = s.birth; there = s.there; ours = s.ours; here = (or_parts (reaches before origin s.birth.node) _ s.here).1; kept = s.kept; strong = s.strong } in
+        record {
+          birth = s.birth;
+          there = s.there;
+          ours = s.ours;
+          here = (or_parts (reaches before origin s.birth.node) _ s.here).1;
+          kept = s.kept;
+          strong = s.strong;
+        } in
         both_ways (some_strong_live (members before buffer.collection)) (live_strong before buffer.collection was) d.none_strong
   ];
 }
@@ -277,7 +291,14 @@ doomed_end before top buffer d = record {
     | inl y ↦
         let s : StrongLive (Ended top ∷ before) buffer.collection = strong_live (Ended top ∷ before) buffer.collection y in
         let was : StrongLive before buffer.collection =
-        record { birth = s.birth; there = s.there; ours = s.ours; here = (or_parts (is_at_or_below (births before) top s.birth.node) _ s.here).1; kept = s.kept; strong = s.strong } in
+        record {
+          birth = s.birth;
+          there = s.there;
+          ours = s.ours;
+          here = (or_parts (is_at_or_below (births before) top s.birth.node) _ s.here).1;
+          kept = s.kept;
+          strong = s.strong;
+        } in
         both_ways (some_strong_live (members before buffer.collection)) (live_strong before buffer.collection was) d.none_strong
   ];
 }

@@ -102,7 +102,16 @@ module _ (limits : Bound) (before : Timeline) (client : ℕ) (key : NodeKey) (ca
             inl (no_end_rejects r client release),
             (
               inl (in_transit_rejects r release),
-              (inr closes, (inr fault, (inl (wrong_kind_rejects r release), (inr misused, (inr handle, limits_reject closed P limits r release))))),
+              (
+                inr closes,
+                (
+                  inr fault,
+                  (
+                    inl (wrong_kind_rejects r release),
+                    (inr misused, (inr handle, limits_reject closed P limits r release)),
+                  ),
+                ),
+              ),
             ),
           ),
         ),
@@ -267,7 +276,8 @@ module _ (pool : ℕ) (limits : Bound) (history : List Entry) (legal : IsLegal p
       both_ways (is_live t.0) here (ap is_live r.2 ∙ none_live r.0 r.1)))
 
   -- each placed buffer is home
-  all_home : ((buffer : BufferName) (strength : Strength) → open_total now buffer strength ≡ 0) → (h : HeldBuffer) → In h (placed pool now) →
+  all_home : ((buffer : BufferName) (strength : Strength) → open_total now buffer strength ≡ 0) → (h : HeldBuffer) → In h (placed pool now)
+      →
       home now h.buffer ≡ true
   all_home none h on =
       let given : is_some (buffers_of now h.buffer.collection) ≡ true = placed_given pool now h on in

@@ -117,8 +117,12 @@ key_in before client reply call key b ord e is =
     let there : In b (births called) = In_old (birth_at (events before + 1) (Called client reply call)) (births before) b f.0 in
     let now : birth_of called key ≡ Some b =
     subst (λ (k : NodeKey). birth_of called k ≡ Some b) f.1 (find_birth (births called) b ord.sound there) in
-    let k : option_and_then (birth_of called) (key_of call) ≡ Some b = ap (option_and_then (birth_of called)) is ∙ now in
-    (now, ap (λ (o : Option Birth). first_some (option_map (λ (b : Birth). b.collection) o ∷ option_map (λ (b : BufferName). b.collection) (buffer_of call) ∷ opened_by call reply ∷ [])) k)
+    let k : option_and_then (birth_of called) (key_of call) ≡ Some b = ap (option_and_then (birth_of called)) is ∙ now in (
+      now,
+      ap (λ (o : Option Birth). first_some
+          (option_map (λ (b : Birth). b.collection) o ∷ option_map (λ (b : BufferName). b.collection) (buffer_of call)
+          ∷ opened_by call reply ∷ [])) k,
+    )
 
 -- that of the root that it makes
 root_in : (before : Timeline) (client event : ℕ) (reply : Reply) (call : Call) (b : Birth) →
@@ -292,7 +296,15 @@ module _ (pool : ℕ) (limits : Bound) (before : Timeline) (client theirs : ℕ)
       let lines : ancestors (births called) n ≡ ancestors (births before) n =
       ancestors_old new (births before) n (In-was_born (births before) b on) (λ c e.
       (comes limits before client (events before + 1) reply call c answer e).fresh) in
-      λ i. record (member before b) { above = lines i; head = heads i; allocated = allocates i; released = releases i; dispensable = dispenses i; weak = weakens i; constraints = constrains i }
+      λ i. record (member before b) {
+        above = lines i;
+        head = heads i;
+        allocated = allocates i;
+        released = releases i;
+        dispensable = dispenses i;
+        weak = weakens i;
+        constraints = constrains i;
+      }
 
   -- and its end tells what it told
   end_same : (b : Birth) → In b (births before) → b.collection == theirs ≡ true → end_state called b.node ≡ end_state before b.node
@@ -422,7 +434,14 @@ module _ (pool : ℕ) (limits : Bound) (before : Timeline) (client theirs : ℕ)
   same_forced : (m : Timeline) (ours : ℕ) (next : Mark) → IsWhole m → (ours == theirs) ≡ false → Why pool ours m next →
       SameIn pool m (next ∷ m) theirs
   same_forced m ours _ w other (No_live b on h free none) =
-      record { born = refl; nodes = members_end m ours theirs w other b.node (of_ours m ours w b on h); given = refl; handles = λ buffer is strength. refl; places = refl; ends = λ node there. refl }
+      record {
+        born = refl;
+        nodes = members_end m ours theirs w other b.node (of_ours m ours w b on h);
+        given = refl;
+        handles = λ buffer is strength. refl;
+        places = refl;
+        ends = λ node there. refl;
+      }
   same_forced m ours _ w other (Fails b cause on h free) = same_loss m ours w other b.node cause (of_ours m ours w b on h)
   same_forced m ours _ w other (Initial b on h root free waits found fits) = same_allocation m ours w other b.node (of_ours m ours w b on h)
   same_forced m ours _ w other (Logical b on h child free waits attached) = same_allocation m ours w other b.node (of_ours m ours w b on h)

@@ -264,7 +264,8 @@ module _ (pool : ℕ) (limits : Bound) (before : Timeline) (mark : Mark) (first 
   stays_out h k = not_turned (home before h.buffer) (home (mark ∷ before) h.buffer) (λ e.
       home_on pool limits before first h.buffer e (mark ∷ before) step) k
 
-  out_part : (new : List HeldBuffer) → layout_at pool before pages_in mark ≡ new → Part (held pool (mark ∷ before)) (new ++ held pool before)
+  out_part : (new : List HeldBuffer) → layout_at pool before pages_in mark ≡ new
+      → Part (held pool (mark ∷ before)) (new ++ held pool before)
   out_part new e =
       let p = part_append (λ (h : HeldBuffer). not (home (mark ∷ before) h.buffer)) (λ (h : HeldBuffer). not (home before h.buffer)) new
       (placed pool before) stays_out in

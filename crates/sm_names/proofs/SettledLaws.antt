@@ -211,8 +211,15 @@ module _ (pool collection : ℕ) (marks : Timeline) (mark : Mark) where
       let f = In-find (λ m. is_root m && not m.gone) (members marks collection) m e in
       let r = member_birth marks collection m f.0 in
       let b : Birth = r.0 in
-      let left : (is_none b.parent && not (gone marks b.node)) ≡ true = subst (λ (m : Member). (is_root m && not m.gone) ≡ true) r.2 f.1 in
-      (b, r.1, r.2, r.3, none_if b.parent (and_left (is_none b.parent) (not (gone marks b.node)) left), not_back (gone marks b.node) (and_right (is_none b.parent) (not (gone marks b.node)) left))
+      let left : (is_none b.parent && not (gone marks b.node)) ≡ true =
+      subst (λ (m : Member). (is_root m && not m.gone) ≡ true) r.2 f.1 in (
+        b,
+        r.1,
+        r.2,
+        r.3,
+        none_if b.parent (and_left (is_none b.parent) (not (gone marks b.node)) left),
+        not_back (gone marks b.node) (and_right (is_none b.parent) (not (gone marks b.node)) left),
+      )
 
   -- why the root is lost, with nothing strong left
   abandoned_why : abandoned now ≡ Some mark → Why pool collection marks mark
@@ -285,7 +292,11 @@ allocation_changes marks b sound on heads waits = record {
   no_event = refl;
   birth = b;
   there = on;
-  new = inr (waits, or_left (same_key b.node (head (births marks) b.node)) _ (rw (head_itself (births marks) b sound on heads) (same_key-refl b.node)));
+  new = inr (
+    waits,
+    or_left (same_key b.node (head (births marks) b.node)) _
+        (rw (head_itself (births marks) b sound on heads) (same_key-refl b.node)),
+  );
 }
 
 -- each of them changes something
@@ -352,7 +363,11 @@ pub settled_rests : (pool collection : ℕ) (marks : Timeline) → AreSound (bir
     (next_forced pool collection (settled pool collection marks) ≡ None) × Settles pool collection marks (settled pool collection marks)
 settled_rests pool collection marks sound =
     let few : left_over marks ≤ 2 * length (births marks) =
-    omega (arith, times-le-length (λ (b : Birth). not (gone marks b.node)) (births marks), times-le-length (λ (b : Birth). not (allocated marks b.node)) (births marks)) in
+    omega (
+      arith,
+      times-le-length (λ (b : Birth). not (gone marks b.node)) (births marks),
+      times-le-length (λ (b : Birth). not (allocated marks b.node)) (births marks),
+    ) in
     settled_within_rests pool collection (2 * length (births marks)) marks sound few
 
 -- marks that force nothing settle as they are

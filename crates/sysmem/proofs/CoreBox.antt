@@ -16,7 +16,11 @@ use Rattle.sysmem.specs.contracts.place.Place as place
 use Rattle.sysmem.specs.contracts.unboxed.Unboxed as unboxed
 
 abbrev pub E : Bx
-E = record { row = core.the_row; laws = core_laws.the_row_laws; al = record { row = heap.the_row; laws = heap_laws.the_row_laws; g = ghosts; d = dict; drops = impl [] tnil dnil } }
+E = record {
+  row = core.the_row;
+  laws = core_laws.the_row_laws;
+  al = record { row = heap.the_row; laws = heap_laws.the_row_laws; g = ghosts; d = dict; drops = impl [] tnil dnil };
+}
 
 abbrev pub Handle : RattleType
 Handle = heap.the_row

@@ -70,7 +70,8 @@ module _ (limit capacity capacity' spare spare' : ℕ) (rows rows' : List Tracke
   -- the table is right with one row more
   pub sound_push : (cell : ℕ) (t : Waiting) → AllByRecursion (λ (r : TrackerRow). r.id < t.id) rows → count_by is_waiting rows < limit →
       length rows + 1 ≤ capacity' → count_by is_waiting rows + 1 ≤ spare' → rows' ≡ rows ++ attached cell t ∷ [] →
-      ((k : ℕ) (f : Wish → ℕ) → weigh f (entries_of new k) ≡ (if k == t.collection then f (t.condition, length rows) + weigh f (entries_of old k) else weigh
+      ((k : ℕ) (f : Wish → ℕ) → weigh f (entries_of new k)
+      ≡ (if k == t.collection then f (t.condition, length rows) + weigh f (entries_of old k) else weigh
       f (entries_of old k))) → IsTableSound limit rows' fired' capacity' spare' new
   sound_push cell t all room_left room spare_left pushed filed =
       let row : TrackerRow = attached cell t in

@@ -112,7 +112,12 @@ one_asked place n id cell (Waits p c) has more =
 few_asked : (place n : ℕ) (rows : List TrackerRow) → length (awaited_from place n rows) ≤ count_by is_waiting rows
 few_asked place n [] = omega arith
 few_asked place n (row ∷ rows) =
-    omega (arith, one_asked place n row.id row.cell row.stage row.has_reader (awaited_from place (n + 1) rows), few_asked place (n + 1) rows, sum_by-cons (λ r. cond (is_waiting r) 1 0) row rows)
+    omega (
+      arith,
+      one_asked place n row.id row.cell row.stage row.has_reader (awaited_from place (n + 1) rows),
+      few_asked place (n + 1) rows,
+      sum_by-cons (λ r. cond (is_waiting r) 1 0) row rows,
+    )
 
 -- so there is room for those that are due
 pub due_fit : (w : World) (place : ℕ) (rows : List TrackerRow) (entries : List Wish) → AreAlike entries (awaited_from place 0 rows) →

@@ -120,7 +120,12 @@ weigh_push f qs q = ap (weigh f) (entries_append qs (q ∷ []) ∙ ap (λ l. ent
 weigh_between : (f : Wish → ℕ) (xs : List Group) (q : Group) (ys : List Group) →
     weigh f (entries_in (xs ++ q ∷ ys)) ≡ weigh f (asking q) + (weigh f (entries_in xs) + weigh f (entries_in ys))
 weigh_between f xs q ys =
-    omega (arith, ap (weigh f) (entries_append xs (q ∷ ys)), weigh_append f (entries_in xs) (asking q ++ entries_in ys), weigh_append f (asking q) (entries_in ys))
+    omega (
+      arith,
+      ap (weigh f) (entries_append xs (q ∷ ys)),
+      weigh_append f (entries_in xs) (asking q ++ entries_in ys),
+      weigh_append f (asking q) (entries_in ys),
+    )
 
 -- those up to a place and those from it on are all
 weigh_halves : (f : Wish → ℕ) (qs : List Group) (at : ℕ) →
@@ -134,7 +139,12 @@ weigh_set : (f : Wish → ℕ) (qs : List Group) (at : ℕ) (q d : Group) → at
 weigh_set f [] at q d within = absurd (omega arith)
 weigh_set f (x ∷ xs) zero q d within = omega (arith, weigh_append f (asking q) (entries_in xs), weigh_append f (asking x) (entries_in xs))
 weigh_set f (x ∷ xs) (suc at) q d within =
-    omega (arith, weigh_set f xs at q d (omega (arith, within)), weigh_append f (asking x) (entries_in (set xs at q)), weigh_append f (asking x) (entries_in xs))
+    omega (
+      arith,
+      weigh_set f xs at q d (omega (arith, within)),
+      weigh_append f (asking x) (entries_in (set xs at q)),
+      weigh_append f (asking x) (entries_in xs),
+    )
 
 -- a group with one place more
 pub put_step : (f : Wish → ℕ) (qs : List Group) (at : ℕ) (was now : Group) (condition : Condition) (place : ℕ) → at < length qs →
@@ -252,7 +262,13 @@ module _ (w : World) where
       (due_in w (asking was))
   due_step f qs start at was within there others here =
       let g : Wish → ℕ = weigh_met (λ (wish : Wish). f wish.1) in
-      omega (arith, weigh_due f (entries_in (take at start)), weigh_due f (asking was), weigh_due f (entries_in (take (at + 1) start)), asks_more g qs start at was within there others here)
+      omega (
+        arith,
+        weigh_due f (entries_in (take at start)),
+        weigh_due f (asking was),
+        weigh_due f (entries_in (take (at + 1) start)),
+        asks_more g qs start at was within there others here,
+      )
 
   -- one group less what is due
   pub kept_part : (f : Wish → ℕ) (was now : List Wish) → weigh f now ≡ weigh f (undue_in w was) →

@@ -161,7 +161,14 @@ module _ (w : World) (e : ℕ) where
   count_after (row ∷ rows) =
       let joined : length (cons_option (fires w e row) (filter_map (fires w e) rows)) ≡ length (option_to_list (fires w e row)) + length
       (filter_map (fires w e) rows) = length_cons_option (fires w e row) (filter_map (fires w e) rows) in
-      omega (arith, joined, balance w e row, count_after rows, sum_by-cons (λ r. cond (is_waiting r) 1 0) row rows, sum_by-cons (λ r. cond (is_waiting r) 1 0) (after w e row) (map (after w e) rows))
+      omega (
+        arith,
+        joined,
+        balance w e row,
+        count_after rows,
+        sum_by-cons (λ r. cond (is_waiting r) 1 0) row rows,
+        sum_by-cons (λ r. cond (is_waiting r) 1 0) (after w e row) (map (after w e) rows),
+      )
 
   -- each firing is found under its id
   told_after : (fired : List Fired) (rows : List TrackerRow) → AreRising rows →

@@ -114,8 +114,10 @@ rising_same (x ∷ xs) (y ∷ ys) left right alike =
 -- a sorted list rises
 pub do_rise : (xs : List ℕ) → IsNonDecreasing xs → DoRise xs
 do_rise [] sorted = tt
-do_rise (x ∷ xs) sorted =
-    (first 0 xs (λ k d within. sorted 0 (suc k) d (omega arith) (omega (arith, within))), do_rise xs (λ i j d le within. sorted (suc i) (suc j) d (omega (arith, le)) (omega (arith, within))))
+do_rise (x ∷ xs) sorted = (
+  first 0 xs (λ k d within. sorted 0 (suc k) d (omega arith) (omega (arith, within))),
+  do_rise xs (λ i j d le within. sorted (suc i) (suc j) d (omega (arith, le)) (omega (arith, within))),
+)
   where
     first : (n : ℕ) (ys : List ℕ) → ((k : ℕ) (d : ℕ) → k < length ys → x ≤ get_or ys k d) → AllByRecursion (λ (y : ℕ). x ≤ y) ys
     first n [] at = tt

@@ -96,11 +96,13 @@ module _ (c : Collection) (whole : IsWhole c) (falls : NodeKey → Bool) (top ab
         | inl e ↦ both_ways (falls y.key) (ap falls (same_key-true y.key top.key e) ∙ falls_top) out
         | inr e ↦
             let at : is_below nodes y.key above.key ≡ true =
-            sym (ap (list_any (same_key y.key)) (step nodes whole.sound.distinct whole.sound.heads whole.rooted whole.united top on_top top_here
+            sym (ap (list_any (same_key y.key))
+            (step nodes whole.sound.distinct whole.sound.heads whole.rooted whole.united top on_top top_here
             above.key top_up)) ∙ e in
             let high : is_below nodes y.key above.head ≡ true =
             head_above nodes whole.sound.distinct whole.sound.heads whole.rooted whole.united
-            (suc (length (line nodes whole.sound.distinct whole.sound.heads whole.rooted whole.united above.key))) above above_on above_here y
+            (suc (length (line nodes whole.sound.distinct whole.sound.heads whole.rooted whole.united above.key))) above above_on above_here
+            y
             on head at (omega arith) in
             below_through nodes whole.sound.distinct whole.sound.heads whole.rooted whole.united y.key above.head w.key
             (left_in nodes w w_on (lives_here w w_lives))

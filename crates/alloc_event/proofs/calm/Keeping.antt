@@ -157,7 +157,8 @@ module _ (nodes : List Node) (f : Node → Node) (same : (n : Node) → IsSameNo
     ready_before guard h in_nodes waiting turn all =
         each_all (is_ready_node h.key) nodes (λ m there. elim (either_way (same_key n.key m.key)) [
           | inl e ↦ ap (is_ready_node h.key) (one m there e) ∙ own guard (either_way (same_key n.head h.key))
-          | inr e ↦ ap (is_ready_node h.key) (sym (alone m there e)) ∙ all-In (is_ready_node h.key) now (f m) (In-map-back f nodes m there) all
+          | inr e ↦ ap (is_ready_node h.key) (sym (alone m there e))
+              ∙ all-In (is_ready_node h.key) now (f m) (In-map-back f nodes m there) all
         ])
       where
         own : (waits_in n.head n ≡ false) ⊎ ((0 < times (waits_in n.head) now) ⊎ (((h : Node) → In h nodes → h.key ≡ n.head →

@@ -61,7 +61,8 @@ after_first (m ∷ older) newer n distinct =
 -- ---- lines
 
 -- nodes with other keys are passed
-skip : (newer rest : List Node) (key : NodeKey) → list_any (is_of key) newer ≡ false → above_among (newer ++ rest) key ≡ above_among rest key
+skip : (newer rest : List Node) (key : NodeKey) → list_any (is_of key) newer ≡ false → above_among (newer ++ rest) key
+    ≡ above_among rest key
 skip [] rest key none = refl
 skip (n ∷ newer) rest key none =
     let other : same_key n.key key ≡ false = or_none_left (is_of key n) (list_any (is_of key) newer) none in

@@ -111,7 +111,8 @@ ended_by taken n mark is = from n.gone refl
 
     from : (g : Bool) → n.gone ≡ g → record n { gone = mark || n.gone } ≡ record n { gone = taken || n.gone }
     from false e = ap (λ (b : Bool). record n { gone = b || n.gone }) (is e)
-    from true e = ap (λ (b : Bool). record n { gone = b }) (ap (λ (g : Bool). mark || g) e ∙ or_true mark ∙ sym (ap (λ (g : Bool). taken || g) e ∙ or_true taken))
+    from true e = ap (λ (b : Bool). record n { gone = b }) (ap (λ (g : Bool). mark || g) e ∙ or_true mark
+        ∙ sym (ap (λ (g : Bool). taken || g) e ∙ or_true taken))
 
 -- what stands where the changed ones end
 rest_at : {A : Type 0} (f : A → A) (xs : List A) (at : ℕ) → slice_get (map f (take at xs) ++ drop at xs) at ≡ slice_get xs at

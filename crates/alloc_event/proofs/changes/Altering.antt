@@ -318,7 +318,12 @@ module _ (t : Table Node) (ss : List Shelf) (ok : IsStored t ss) (id : ℕ) (s :
   pub altered-united : are_united (reverse now.nodes) ≡ true
   altered-united =
       subst (λ (d : Collection). are_united (reverse d.nodes) ≡ true) (sym is_made)
-      (united_mapped made.of (record { key = λ n. (made.same n).key; parent = λ n. (made.same n).parent; attached = λ n. (made.same n).attached; head = λ n. (made.same n).head }) (nodes_with t s.keys) ∙ before.united)
+      (united_mapped made.of (record {
+        key = λ n. (made.same n).key;
+        parent = λ n. (made.same n).parent;
+        attached = λ n. (made.same n).attached;
+        head = λ n. (made.same n).head;
+      }) (nodes_with t s.keys) ∙ before.united)
 
   -- and the nodes before are tied to the table
   pub altered-tied : IsTied t c.nodes

@@ -94,7 +94,11 @@ module _ (handles : Handles) (t : Table Node) (ss : List Shelf) (start worked ba
         subst (AllByRecursion IsWhole) (put-map t (shelf_in start) ss) (whole-map t (put_shelf (shelf_in start) ss) kept.whole) in
         whole-unmap now (put_shelf shelf_back ss) (subst (AllByRecursion IsWhole) (sym finished-collections)
         (whole-put (given_back handles (collection_of worked)) (collection_in t (shelf_in start)) (map (collection_in t) ss) (sym same_id)
-        (record { sound = sound-given_back handles (collection_of worked) sound; rooted = hung.rooted; united = united_frames worked.nodes.items start.nodes.items frames united }) before))
+        (record {
+          sound = sound-given_back handles (collection_of worked) sound;
+          rooted = hung.rooted;
+          united = united_frames worked.nodes.items start.nodes.items frames united;
+        }) before))
 
     -- all that holds of forests holds
     pub finished-kept : IsHung t worked.nodes.items → are_united (reverse start.nodes.items) ≡ true → IsStored now (put_shelf shelf_back ss)

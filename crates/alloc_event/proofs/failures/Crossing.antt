@@ -90,8 +90,11 @@ module _ (c : Collection) (whole : IsWhole c) (falls : NodeKey → Bool) (top ab
     | inl e ↦ both_ways (falls x.key) f (ap falls (sym (own_head nodes distinct heads whole.rooted whole.united x on e)) ∙ out)
     | inr e ↦ elim (up x on here f) [
       | inl is ↦
-          let q = shared nodes distinct heads whole.rooted whole.united x on here e above.key (up_of x on here is) in
-          (sym q.3 ∙ ap (λ (n : Node). n.head) (above_one q.0 q.1 q.2), ap (λ (n : Node). n.attached) (sym is) ∙ second_false (is_none x.parent) x.attached e)
+          let q = shared nodes distinct heads whole.rooted whole.united x on here e above.key (up_of x on here is) in (
+            sym q.3 ∙ ap (λ (n : Node). n.head) (above_one q.0 q.1 q.2),
+            ap (λ (n : Node). n.attached) (sym is)
+                ∙ second_false (is_none x.parent) x.attached e,
+          )
       | inr more ↦
           let q = shared nodes distinct heads whole.rooted whole.united x on here e more.0 more.1 in
           let left : is_left_of nodes q.0.key ≡ true =

@@ -453,7 +453,12 @@ module _ (t : Table Node) (us : List Unit) (ss : List Shelf) (s : Shelf) (going 
       whole_after = record {
         sound = IsSound-map f same (collection_in t s) whole.sound;
         rooted = rooted_now;
-        united = united_mapped f (record { key = λ n. (same n).key; parent = λ n. (same n).parent; attached = λ n. (same n).attached; head = λ n. (same n).head }) nodes ∙ whole.united;
+        united = united_mapped f (record {
+          key = λ n. (same n).key;
+          parent = λ n. (same n).parent;
+          attached = λ n. (same n).attached;
+          head = λ n. (same n).head;
+        }) nodes ∙ whole.united;
       }
 
       beside_same : (x : Shelf) → x.id ≢ s.id → list_all (is_filed t x.id) x.keys ≡ true → collection_in now x ≡ collection_in t x

@@ -291,8 +291,11 @@ module _ (t now : Table Node) (key : NodeKey) (out : TakesOut t now key) where
       (ss : List Shelf) → AllByRecursion (λ (s : Shelf). IsWhole (collection_in t s)) ss →
       AllByRecursion (λ (s : Shelf). IsWhole (collection_in now s)) (map (thinned now) ss)
   whole-kept goes named [] all = tt
-  whole-kept goes named (s ∷ ss) all =
-      (rw (nodes_left named s.keys) (IsWhole-filter (λ n. not (is_of key n)) (collection_in t s) (looked_gone t named key goes s.keys) all.0), whole-kept goes named ss all.1)
+  whole-kept goes named (s ∷ ss) all = (
+    rw (nodes_left named s.keys) (IsWhole-filter (λ n. not (is_of key n)) (collection_in t s) (looked_gone t named key goes s.keys)
+        all.0),
+    whole-kept goes named ss all.1,
+  )
 
   -- a node that is not gone keeps its parent, where the other is gone
   linked-kept : ((m : Node) → node_at t key ≡ Some m → m.gone ≡ true) → (ss : List Shelf) → IsStored t ss → (k : NodeKey) (n : Node) →

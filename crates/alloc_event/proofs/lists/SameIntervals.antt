@@ -87,7 +87,13 @@ insert-swap x y (z ∷ zs) differ = elim (cases_lt z.start x.start) [
     | inr yz ↦ elim (cases_lt x.start y.start) [
       | inl xy ↦ rw (le-ltb z.start x.start xz, le-ltb z.start y.start yz, le-ltb y.start x.start (omega arith), lt-ltb x.start y.start xy)
           refl
-      | inr yx ↦ rw (le-ltb z.start x.start xz, le-ltb z.start y.start yz, lt-ltb y.start x.start (less_of x.start y.start differ yx), le-ltb x.start y.start yx, le-ltb z.start x.start xz) refl
+      | inr yx ↦ rw (
+        le-ltb z.start x.start xz,
+        le-ltb z.start y.start yz,
+        lt-ltb y.start x.start (less_of x.start y.start differ yx),
+        le-ltb x.start y.start yx,
+        le-ltb z.start x.start xz,
+      ) refl
     ]
   ]
 ]

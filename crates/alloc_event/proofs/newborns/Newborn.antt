@@ -216,7 +216,8 @@ above_shares t ss ok id (Some _) false client event (Some _) (Child up n is own 
           let found = found_above t ss ok c up n is (before.nodes ∙ ap (λ (i : ℕ). nodes_with t (keys_before i ss)) (sym own)) in
           let same : q ≡ n = distinct_one c.nodes before.whole.sound.distinct q n on (In-find (is_of up) c.nodes n found).0
           (true-same_key q.key n.key e) in
-          or_right (not (same_key q.key n.key)) (same_key q.head n.head) (ap (λ (x : Node). same_key x.head n.head) same ∙ same_key-refl n.head)
+          or_right (not (same_key q.key n.key)) (same_key q.head n.head) (ap (λ (x : Node). same_key x.head n.head) same
+          ∙ same_key-refl n.head)
       | inr e ↦ rw e refl
     ]
 

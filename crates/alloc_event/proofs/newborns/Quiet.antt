@@ -84,7 +84,10 @@ still_out handles c b fresh here out =
     (λ h e. ap (λ l. not (is_home (handles h.buffer Strength.Strong) (handles h.buffer Strength.Weak) l)) live
     ∙ out_more (handles h.buffer Strength.Strong) (handles h.buffer Strength.Weak) (some_strong_live (members_of c.nodes))
     (some_strong_live (member_of (c.nodes ++ b ∷ []) b ∷ [])) e) out in
-    λ i. record c { nodes = c.nodes ++ b ∷ []; held = keep_all (λ (h : HeldBuffer). not (is_home_in handles (record c { nodes = c.nodes ++ b ∷ [] }) h.buffer)) c.held out' i }
+    λ i. record c {
+      nodes = c.nodes ++ b ∷ [];
+      held = keep_all (λ (h : HeldBuffer). not (is_home_in handles (record c { nodes = c.nodes ++ b ∷ [] }) h.buffer)) c.held out' i;
+    }
 
 -- a node that is born is not gone
 pub born_here : (above : Option Node) (attached : Bool) (id event client : ℕ) (key : NodeKey) →

@@ -214,8 +214,10 @@ counted_set t (e ∷ es) (suc n) new own all = (all.0, counted_set t es n new (�
 pub filed_every : (t : Table Node) (id : ℕ) (es : List Entry) → are_filed t (shelves_of es) ≡ true →
     AllByRecursion (λ (e : Entry). e.id ≢ id → list_all (is_filed t e.id) e.keys.items ≡ true) es
 filed_every t id [] all = tt
-filed_every t id (e ∷ es) all =
-    (λ differ. and_left (list_all (is_filed t e.id) e.keys.items) _ all, filed_every t id es (and_right (list_all (is_filed t e.id) e.keys.items) _ all))
+filed_every t id (e ∷ es) all = (
+  λ differ. and_left (list_all (is_filed t e.id) e.keys.items) _ all,
+  filed_every t id es (and_right (list_all (is_filed t e.id) e.keys.items) _ all),
+)
 
 pub filed_but : (t : Table Node) (new : Shelf) (es : List Entry) → AreRising (shelves_of es) →
     are_filed t (put_shelf new (shelves_of es)) ≡ true →
@@ -224,14 +226,18 @@ filed_but t new [] rising filed = tt
 filed_but t new (e ∷ es) rising filed =
     cases_place e.id new.id (AllByRecursion (λ (x : Entry). x.id ≢ new.id → list_all (is_filed t x.id) x.keys.items ≡ true) (e ∷ es))
     (λ same.
-    let all : are_filed t (new ∷ shelves_of es) ≡ true = rw same at filed in
-    (λ differ. absurd (differ (eqb-true e.id new.id same)), filed_every t new.id es (and_right (list_all (is_filed t new.id) new.keys) _ all)))
+    let all : are_filed t (new ∷ shelves_of es) ≡ true = rw same at filed in (
+      λ differ. absurd (differ (eqb-true e.id new.id same)),
+      filed_every t new.id es (and_right (list_all (is_filed t new.id) new.keys) _ all),
+    ))
     (λ other above.
     let all : are_filed t (new ∷ shelf_of e ∷ shelves_of es) ≡ true = rw (other, above) at filed in
     filed_every t new.id (e ∷ es) (and_right (list_all (is_filed t new.id) new.keys) _ all))
     (λ other below.
-    let all : are_filed t (shelf_of e ∷ put_shelf new (shelves_of es)) ≡ true = rw (other, below) at filed in
-    (λ differ. and_left (list_all (is_filed t e.id) e.keys.items) _ all, filed_but t new es rising.1 (and_right (list_all (is_filed t e.id) e.keys.items) _ all)))
+    let all : are_filed t (shelf_of e ∷ put_shelf new (shelves_of es)) ≡ true = rw (other, below) at filed in (
+      λ differ. and_left (list_all (is_filed t e.id) e.keys.items) _ all,
+      filed_but t new es rising.1 (and_right (list_all (is_filed t e.id) e.keys.items) _ all),
+    ))
 
 -- ---- keys without a node
 
@@ -415,7 +421,11 @@ noted_set P id (e ∷ es) at new rising told untidy =
         AllByRecursion (λ (x : Entry). x.id ≡ id → P x) (set (e ∷ es) at new)
     from on true here behind is told =
         let first : zero ≡ at = cc in
-        rw (← first) (λ same. untidy, above es (subst (λ (low : ℕ). AllByRecursion (λ (later : Shelf). low < later.id) (shelves_of es)) (eqb-true e.id id here) rising.0))
+        rw (← first) (
+          λ same. untidy,
+          above es
+              (subst (λ (low : ℕ). AllByRecursion (λ (later : Shelf). low < later.id) (shelves_of es)) (eqb-true e.id id here) rising.0),
+        )
     from on false other None is told = absurd (cc)
     from on false other (Some n) is told =
         let next : at ≡ suc n = omega (arith, Some-inj (n + 1) at told) in

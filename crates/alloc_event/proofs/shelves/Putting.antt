@@ -43,7 +43,10 @@ above-put low new (s ∷ ss) less all = cases_place s.id new.id (AllByRecursion 
 pub rising-put : (new : Shelf) (ss : List Shelf) → AreRising ss → AreRising (put_shelf new ss)
 rising-put new [] rising = (tt, tt)
 rising-put new (s ∷ ss) rising = cases_place s.id new.id (AreRising (put_shelf new (s ∷ ss)))
-    (λ same. rw same (subst (λ (id : ℕ). AllByRecursion (λ (later : Shelf). id < later.id) ss) (eqb-true s.id new.id same) rising.0, rising.1))
+    (λ same. rw same (
+      subst (λ (id : ℕ). AllByRecursion (λ (later : Shelf). id < later.id) ss) (eqb-true s.id new.id same) rising.0,
+      rising.1,
+    ))
     (λ other above. let less : new.id < s.id = ltb-true _ _ above in
     rw (other, above) ((less, above-weaker new.id s.id ss less rising.0), rising))
     (λ other below. let less : s.id < new.id = less_of new.id s.id (λ same. eqb-false s.id new.id other (sym same)) (ltb-false _ _ below) in
@@ -102,7 +105,8 @@ filed-put t one other (s ∷ ss) ids keys =
 -- ---- pages
 
 -- the pages of collections are those of the buffers that hold any
-pub pages_held : (cs : List Collection) → map (λ (h : HeldBuffer). h.pages) (flat_map (λ (c : Collection). c.held) cs) ≡ flat_map pages_in cs
+pub pages_held : (cs : List Collection) → map (λ (h : HeldBuffer). h.pages) (flat_map (λ (c : Collection). c.held) cs)
+    ≡ flat_map pages_in cs
 pages_held [] = refl
 pages_held (c ∷ cs) = map-append (λ (h : HeldBuffer). h.pages) c.held (flat_map (λ (d : Collection). d.held) cs)
     ∙ ap (λ is. pages_in c ++ is) (pages_held cs)
@@ -123,7 +127,11 @@ pages-put t c [] rising = Alike-refl (pages_in c ++ [])
 pages-put t c (s ∷ ss) rising =
     cases_place s.id c.id (Alike (flat_map pages_in (put c (map (collection_in t) (s ∷ ss)))) (pages_in c ++ flat_map pages_in
     (filter (λ (d : Collection). not (d.id == c.id)) (map (collection_in t) (s ∷ ss)))))
-    (λ same. rw (same, others-above t c.id ss (subst (λ (id : ℕ). AllByRecursion (λ (later : Shelf). id < later.id) ss) (eqb-true s.id c.id same) rising.0)) (Alike-refl _))
+    (λ same. rw (
+      same,
+      others-above t c.id ss
+          (subst (λ (id : ℕ). AllByRecursion (λ (later : Shelf). id < later.id) ss) (eqb-true s.id c.id same) rising.0),
+    ) (Alike-refl _))
     (λ other above. let less : c.id < s.id = ltb-true _ _ above in
     rw (other, above, others-above t c.id ss (above-weaker c.id s.id ss less rising.0)) (Alike-refl _))
     (λ other below. rw (other, below)

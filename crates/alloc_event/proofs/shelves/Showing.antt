@@ -105,7 +105,11 @@ pub collection_some : (t : Table Node) (es : List Entry) → IsStored t (shelves
 collection_some t es ok id e found =
     let shelf = shelf_found id es ∙ ap (option_map shelf_of) found in
     ap (option_map summary_of) (collection_is t id (shelves_of es) ∙ ap (option_map (collection_in t)) shelf)
-    ∙ (λ i. Some (record { nodes = filed-length t e.id e.keys.items (filed_found t id (shelves_of es) ok.filed (shelf_of e) shelf) i; buffers = e.buffers; held = length e.held.items }))
+    ∙ (λ i. Some (record {
+      nodes = filed-length t e.id e.keys.items (filed_found t id (shelves_of es) ok.filed (shelf_of e) shelf) i;
+      buffers = e.buffers;
+      held = length e.held.items;
+    }))
 
 -- and where none is found
 pub collection_none : (t : Table Node) (es : List Entry) (id : ℕ) → find (λ (x : Entry). x.id == id) es ≡ None →

@@ -67,7 +67,12 @@ module _ (f : Node → Node) (same : (n : Node) → IsSameNode (f n) n) where
     sound = IsSound-map c ok.sound;
     rooted = (rooted_same c.nodes (whole_rooted c ok) f
         (record { key = λ n. (same n).key; parent = λ n. (same n).parent; gone = gone })).rooted;
-    united = united_mapped f (record { key = λ n. (same n).key; parent = λ n. (same n).parent; attached = λ n. (same n).attached; head = λ n. (same n).head }) c.nodes ∙ ok.united;
+    united = united_mapped f (record {
+      key = λ n. (same n).key;
+      parent = λ n. (same n).parent;
+      attached = λ n. (same n).attached;
+      head = λ n. (same n).head;
+    }) c.nodes ∙ ok.united;
   }
 
   -- a key is filed where it was
@@ -108,8 +113,10 @@ module _ (f : Node → Node) (same : (n : Node) → IsSameNode (f n) n) where
       ((key : NodeKey) → node_at now key ≡ option_map f (node_at t key)) → (es : List Shelf) →
       AllByRecursion (λ (e : Shelf). IsWhole (collection_in t e)) es → AllByRecursion (λ (e : Shelf). IsWhole (collection_in now e)) es
   whole-map gone t now each [] whole = tt
-  whole-map gone t now each (e ∷ es) whole =
-      (rw (looked-map f (node_at t) (node_at now) each e.keys) (IsWhole-map gone (collection_in t e) whole.0), whole-map gone t now each es whole.1)
+  whole-map gone t now each (e ∷ es) whole = (
+    rw (looked-map f (node_at t) (node_at now) each e.keys) (IsWhole-map gone (collection_in t e) whole.0),
+    whole-map gone t now each es whole.1,
+  )
 
   -- all stays so, where no node comes back, and the collections stay whole
   pub kept-with : ((n : Node) → (f n).gone ≡ false → n.gone ≡ false) → (t now : Table Node) → now.first ≡ t.first →

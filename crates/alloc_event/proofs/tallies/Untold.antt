@@ -65,7 +65,10 @@ without_takes n us k within one live unready = elim (either_way (n.head.slot == 
 ]
   where
     less : NodeKey → Unit
-    less h = record { live = lowered (is_live_node n) (unit_at us h.slot).live; unready = lowered (is_unready n) (unit_at us h.slot).unready }
+    less h = record {
+      live = lowered (is_live_node n) (unit_at us h.slot).live;
+      unready = lowered (is_unready n) (unit_at us h.slot).unready;
+    }
 
 -- ---- all nodes
 

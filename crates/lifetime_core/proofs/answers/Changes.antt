@@ -120,7 +120,12 @@ module _ (s : State) (marks : Timeline) (shown : IsAfter s marks) (limits : Boun
       birth_at 0 (Called client reply call) ≡ None → ((n : Node) → said call reply n ≡ n) → own_loss marks call reply ≡ None →
       opens_alike call reply ≡ true → IsIdle marks client reply call
   changes_none client reply call answer bears says loses opens =
-      record { bears_none = bears; says_nothing = says; loses_none = loses; opens_alike = alike_called s.pool limits marks grown client reply call answer opens }
+      record {
+        bears_none = bears;
+        says_nothing = says;
+        loses_none = loses;
+        opens_alike = alike_called s.pool limits marks grown client reply call answer opens;
+      }
 
   -- a Close that is no work: its node is gone
   idle_close : (client : ℕ) (key : NodeKey) → IsAnswer limits (readings marks) client (Call.Close key) Reply.Done →

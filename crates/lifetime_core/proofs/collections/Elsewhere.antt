@@ -242,7 +242,13 @@ module _ (pool : ℕ) (limits : Bound) (marks : Timeline) (grown : Grows pool li
       let t = own_loss_origin pool limits [] marks call reply mark e in
       let end : HasEnd marks t.0 = not_refused_end limits marks client call reply t.0 answer t.4 t.3 in
       let b = birth_is marks t.0 end.birth end.is in
-      record { birth = end.birth; there = b.0; cause = t.1; is = t.2 ∙ ap (λ (k : NodeKey). Loss k t.1) (sym b.1); names = t.3 ∙ ap Some (sym b.1) }
+      record {
+        birth = end.birth;
+        there = b.0;
+        cause = t.1;
+        is = t.2 ∙ ap (λ (k : NodeKey). Loss k t.1) (sym b.1);
+        names = t.3 ∙ ap Some (sym b.1);
+      }
 
   module _ (theirs : ℕ) (away : collection_of (Called client reply call ∷ marks) call reply ≡ Some theirs → ⊥)
       (ends_here : (p : Place) → end_by client call reply ≡ Some p → key_of call ≡ Some p.key) where

@@ -68,7 +68,12 @@ buffers_root (mark ∷ before) collection given =
     ]
   where
     born : HasRoot (births before) collection → HasRoot (births (mark ∷ before)) collection
-    born r = record { root = r.root; there = In_old (birth_at (events before + 1) mark) (births before) r.root r.there; is_root = r.is_root; ours = r.ours }
+    born r = record {
+      root = r.root;
+      there = In_old (birth_at (events before + 1) mark) (births before) r.root r.there;
+      is_root = r.is_root;
+      ours = r.ours;
+    }
 
     of_birth : (head : NodeKey) (o : Option Birth) → birth_of before head ≡ o →
         option_map_or (λ (b : Birth). is_none b.parent && b.collection == collection) o false ≡ true → HasRoot (births before) collection

@@ -138,9 +138,19 @@ module _ (place : NodeKey → End → End) where
       ∙ inside (is_root_of c head)
     where
       inside : (b : Bool) →
-          cond b (record { id = c.id; nodes = placed_nodes (after_allocation head c.nodes); buffers = Some (asked (members_of c.nodes)); held = layout pool c.id (asked (members_of c.nodes)) (pages_in c ++ others) ++ c.held })
+          cond b (record {
+            id = c.id;
+            nodes = placed_nodes (after_allocation head c.nodes);
+            buffers = Some (asked (members_of c.nodes));
+            held = layout pool c.id (asked (members_of c.nodes)) (pages_in c ++ others) ++ c.held;
+          })
           (record c { nodes = placed_nodes (after_allocation head c.nodes) })
-          ≡ placed_in (cond b (record { id = c.id; nodes = after_allocation head c.nodes; buffers = Some (asked (members_of c.nodes)); held = layout pool c.id (asked (members_of c.nodes)) (pages_in c ++ others) ++ c.held })
+          ≡ placed_in (cond b (record {
+            id = c.id;
+            nodes = after_allocation head c.nodes;
+            buffers = Some (asked (members_of c.nodes));
+            held = layout pool c.id (asked (members_of c.nodes)) (pages_in c ++ others) ++ c.held;
+          })
           (with_nodes (after_allocation head) c))
       inside true = refl
       inside false = refl

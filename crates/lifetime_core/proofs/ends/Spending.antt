@@ -253,7 +253,8 @@ module _ (f g : Forest) (id : ℕ) (leaving : Option NodeKey) (amid : IsAmid f i
   tidy_left c there =
       let old = left_from c there in
       let again : tidied (tidied (spent_in_one leaving old.0)) ≡ tidied (spent_in_one leaving old.0) =
-      λ i. record (spent_in_one leaving old.0) { nodes = filter-twice (λ (n : Node). not (is_over n)) (spent_in_one leaving old.0).nodes i } in
+      λ i. record (spent_in_one leaving old.0)
+      { nodes = filter-twice (λ (n : Node). not (is_over n)) (spent_in_one leaving old.0).nodes i } in
       record {
         tidied = ap tidied old.2 ∙ (again ∙ sym old.2);
         kept = old.3;

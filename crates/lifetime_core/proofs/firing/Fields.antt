@@ -68,7 +68,10 @@ module _ (limits : Bound) (s : State) (client : ℕ) where
       let all = took_effect_all limits (readings_of s) client no_key call (Reply.Tracker id) refl going told in
       let fits : nat_le limits.trackers (length s.trackers.unfired) ≡ false =
       passed _ Refusal.TrackersFull (rw makes at all.trackers_fit) in
-      record { number = sym is ∙ id_is id (s.events + 1) (all.answered ∙ tells); room = leb-false limits.trackers (length s.trackers.unfired) fits }
+      record {
+        number = sym is ∙ id_is id (s.events + 1) (all.answered ∙ tells);
+        room = leb-false limits.trackers (length s.trackers.unfired) fits;
+      }
     where
       id_is : (a b : ℕ) → Reply.Tracker a ≡ Reply.Tracker b → a ≡ b
       id_is a b h = cc

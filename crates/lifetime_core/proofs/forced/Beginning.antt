@@ -239,7 +239,10 @@ module _ (s : State) (marks : Timeline) (shown : IsAfter s marks) (limits : Boun
       p.node ≡ above → collection ≡ p.collection → spent marks p.node ≡ false →
       changed (Change.Birth (Some above) attached client (s.events + 1)) key (collection_or_new s.forest collection)
       ≡ record (collection_after s.pool marks
-      collection) { nodes = (collection_after s.pool marks collection).nodes ++ new_child attached key (s.events + 1) client (node_after marks p) ∷ [] }
+      collection) {
+        nodes = (collection_after s.pool marks collection).nodes ++ new_child attached key (s.events + 1) client
+            (node_after marks p) ∷ [];
+      }
   child_changed client key collection attached above p on is ours unspent =
       let kept : is_kept marks p.node ≡ true = or_right (not (gone marks p.node)) _ (ap not unspent) in
       let c : Collection = collection_after s.pool marks collection in

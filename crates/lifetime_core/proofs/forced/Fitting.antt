@@ -324,7 +324,12 @@ module _ (Known : NodeKey → Type 0) (id : ℕ) (leaving : Option NodeKey) wher
   child_born attached key event client c above None is known own = nothing Known id leaving c
   child_born attached key event client c above (Some n) is known own =
       born c (new_child attached key event client n)
-      (λ fit. record { key = known; collection = (fit n (In-find (is_of above) c.nodes n is).0).collection; failed = λ gone. cc; left = λ released. cc }) own
+      (λ fit. record {
+        key = known;
+        collection = (fit n (In-find (is_of above) c.nodes n is).0).collection;
+        failed = λ gone. cc;
+        left = λ released. cc;
+      }) own
 
   -- what the event changes
   pub changed_keeps : (change : Change) (key : NodeKey) (c : Collection) → c.id ≡ id → (is_birth change ≡ true → Known key × IsOwn c key) →

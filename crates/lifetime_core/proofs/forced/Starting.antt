@@ -87,7 +87,8 @@ module _ (s : State) (marks : Timeline) (shown : IsAfter s marks) (limits : Boun
       (map page (filter (is_beside id) (flat_map (held_after s.pool marks) (kept_ids marks)))) =
       mixed_map page (filter (is_beside id) (held s.pool marks))
       (filter (is_beside id) (flat_map (held_after s.pool marks) (kept_ids marks)))
-      (mixed_filter (is_beside id) (held s.pool marks) (flat_map (held_after s.pool marks) (kept_ids marks)) (subst (λ (l : List HeldBuffer).
+      (mixed_filter (is_beside id) (held s.pool marks) (flat_map (held_after s.pool marks) (kept_ids marks))
+      (subst (λ (l : List HeldBuffer).
       Mixed (held s.pool marks) l) all (mixed_held s marks shown limits grown))) in
       ap (λ (cs : List Collection). list_any test (flat_map pages_in (filter (λ (c : Collection). not (c.id == id)) cs))) shown.collections
       ∙ (ap (list_any test) (beside_ids s.pool marks id (kept_ids marks)) ∙ any-mixed test (pages_beside s.pool marks id) _ mixed)

@@ -77,7 +77,15 @@ tallied w next out got (c ∷ cs) each =
     let on : sum_by w (map next cs) + sum_by out (ids cs) ≡ sum_by w cs + sum_by got (ids cs) =
     tallied w next out got cs (λ d there. each d (inr there)) in
     let here : w (next c) + out c.id ≡ w c + got c.id = each c (inl refl) in
-    omega (arith, on, here, sum_by-cons w (next c) (map next cs), sum_by-cons out c.id (ids cs), sum_by-cons w c cs, sum_by-cons got c.id (ids cs))
+    omega (
+      arith,
+      on,
+      here,
+      sum_by-cons w (next c) (map next cs),
+      sum_by-cons out c.id (ids cs),
+      sum_by-cons w c cs,
+      sum_by-cons got c.id (ids cs),
+    )
 
 -- a new client has nothing that waits
 new_waits : (buffer : BufferName) (strength : Strength) (o : Option ℕ) →
@@ -89,7 +97,11 @@ new_waits buffer strength (Some id) = refl
 with_new : (buffer : BufferName) (strength : Strength) (mark : Mark) (cs : List Client) →
     sum_by (waiting_in buffer strength) (clients_by mark cs) ≡ sum_by (waiting_in buffer strength) (map (client_by mark) cs)
 with_new buffer strength mark cs =
-    omega (arith, sum_by-append (waiting_in buffer strength) (map (client_by mark) cs) (map new_client (cons_option (joined_at mark) [])), new_waits buffer strength (joined_at mark))
+    omega (
+      arith,
+      sum_by-append (waiting_in buffer strength) (map (client_by mark) cs) (map new_client (cons_option (joined_at mark) [])),
+      new_waits buffer strength (joined_at mark),
+    )
 
 -- what waits for a client after the mark
 waits_after : (buffer : BufferName) (strength : Strength) (mark : Mark) (c : Client) →
@@ -129,7 +141,11 @@ module _ (limits : Bound) (s : State) (client : ℕ) (sent : AreSent s.clients (
       (counts_of s.holds))
   end_given key to = unmoved s (Called client Reply.Done (Call.Give key to)) sent (λ buffer strength. refl) (λ buffer strength.
       refl) (λ buffer strength c on.
-      omega (arith, waits_after buffer strength (Called client Reply.Done (Call.Give key to)) c, not_counted buffer strength (to == c.id) key))
+      omega (
+        arith,
+        waits_after buffer strength (Called client Reply.Done (Call.Give key to)) c,
+        not_counted buffer strength (to == c.id) key,
+      ))
 
   -- a handle that is given waits for its receiver
   handle_given : (name : BufferName) (given : Strength) (to : ℕ) →
@@ -200,7 +216,11 @@ module _ (limits : Bound) (s : State) (client : ℕ) (sent : AreSent s.clients (
       one ((client == n) && t)) (ids s.clients)
       ≡ sum_by (waiting_in buffer strength) s.clients + sum_by (λ (n : ℕ). 0) (ids s.clients) =
       tallied (waiting_in buffer strength) (client_by mark) (λ n. one ((client == n) && t)) (λ n. 0) s.clients (λ c on.
-      omega (arith, waits_after buffer strength mark c, loses c (client == c.id) head.0 (λ e. collects_from (Parcel.Handle name given) head.0 head.1 c on e))) in
+      omega (
+        arith,
+        waits_after buffer strength mark c,
+        loses c (client == c.id) head.0 (λ e. collects_from (Parcel.Handle name given) head.0 head.1 c on e),
+      )) in
       let once : sum_by (λ n. one ((client == n) && t)) (ids s.clients) ≡ one_if t =
       sum_once client t (ids s.clients) (rise_once (ids s.clients) rising) (λ e. is_one s.clients row.0 client row.1 row.2) in
       omega (arith, sent buffer strength, all, once, sum_by-zero (ids s.clients), with_new buffer strength mark s.clients)

@@ -74,7 +74,21 @@ passes : (limits : Bound) (r : Readings) (client : ℕ) (new key : NodeKey) (cal
     TookEffect limits r client new call reply → closing call ≡ None →
     answer limits r client key call ≡ effect r client key call
 passes limits r client new key call reply all going =
-    rw (all.known, all.not_shut, all.has_end, all.not_in_transit, going, all.not_gone, all.right_kind, all.no_misuse, all.has_handle, all.nodes_fit, all.collections_fit, all.trackers_fit, all.handles_fit) refl
+    rw (
+      all.known,
+      all.not_shut,
+      all.has_end,
+      all.not_in_transit,
+      going,
+      all.not_gone,
+      all.right_kind,
+      all.no_misuse,
+      all.has_handle,
+      all.nodes_fit,
+      all.collections_fit,
+      all.trackers_fit,
+      all.handles_fit,
+    ) refl
 
 -- a token with its key
 token_told : (limits : Bound) (s : State) (client : ℕ) (call : Call) (first key : NodeKey) (c : ℕ) →

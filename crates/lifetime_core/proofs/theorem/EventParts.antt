@@ -95,8 +95,12 @@ carried_there s client (Call.Give key to) Reply.Done place known is =
     ((named_so.node, named_so.at, named_so.unspent), refl)
 carried_there s client Call.Collect (Reply.Collected key kind collection) place known is =
     let same : record { key = key; end = End.Held client } ≡ place = cc in
-    subst (λ (p : Place). ((n : Node) × (node_at s.forest p.key ≡ Some n) × (is_spent n.end ≡ false)) × (is_spent p.end ≡ false)) same
-    (by ((readings_of s).waiting client) (took_effect_all s.limits (readings_of s) client no_key Call.Collect (Reply.Collected key kind collection) refl refl known.told).answered, refl)
+    subst (λ (p : Place). ((n : Node) × (node_at s.forest p.key ≡ Some n) × (is_spent n.end ≡ false)) × (is_spent p.end ≡ false)) same (
+      by ((readings_of s).waiting client)
+          (took_effect_all s.limits (readings_of s) client no_key Call.Collect (Reply.Collected key kind collection) refl refl
+          known.told).answered,
+      refl,
+    )
   where
     of : (k : NodeKey) (o : Option OpenEnd) → (readings_of s).end_of k ≡ o →
         Reply.Collected key kind collection ≡ option_map_or (λ (e : OpenEnd). Reply.Collected k e.kind e.collection) o Reply.Empty →
@@ -206,7 +210,15 @@ module _ (s : State) (client : ℕ) (call : Call) (asked reply : Reply) (task : 
           (sweeps : trackers ≡ swept (world_in parts.forest (total parts.holds)) (s.events + 1) parts.trackers) where
         -- the state after the event
         abbrev pub after : State
-        after = record { pool = s.pool; limits = s.limits; events = s.events + 1; clients = parts.clients; forest = forest; holds = parts.holds; trackers = trackers }
+        after = record {
+          pool = s.pool;
+          limits = s.limits;
+          events = s.events + 1;
+          clients = parts.clients;
+          forest = forest;
+          holds = parts.holds;
+          trackers = trackers;
+        }
 
         -- the end is where the event puts it
         placed_is : end_placed task carried ≡ end_by client call (with_key asked takes.key)

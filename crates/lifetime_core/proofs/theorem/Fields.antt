@@ -122,7 +122,10 @@ clients_rise limits s client call asked told rise all =
     by : (o : Option ℕ) → joined_at (Called client asked call) ≡ o → Rise (ids s.clients ++ cons_option o []) ×
         AllByRecursion (λ (n : ℕ). n ≤ s.events + 1) (ids s.clients ++ cons_option o [])
     by None is =
-        rw (append-nil (ids s.clients)) (rise, weaken (λ n. n ≤ s.events) (λ n. n ≤ s.events + 1) (λ n less. omega arith) (ids s.clients) each)
+        rw (append-nil (ids s.clients)) (
+          rise,
+          weaken (λ n. n ≤ s.events) (λ n. n ≤ s.events + 1) (λ n less. omega arith) (ids s.clients) each,
+        )
     by (Some made) is =
         let number : made ≡ s.events + 1 =
         joined_number limits (readings_of s) client no_key call made (sym (joined_told client call asked made is) ∙ told) in (

@@ -111,18 +111,72 @@ no_key_told call _ idle = refl
 
 none_sees : (client : ℕ) (call : Call) (asked : Reply) → changes_nothing call asked ≡ true → IsUnseen (Called client asked call)
 none_sees client (Call.Sync key) Reply.Done idle =
-    record { opened = λ who b s. refl; dropped = λ who b s. refl; lifted = λ who b s. refl; landed = λ who b s. refl; joined = refl; shut = λ c. refl; collected = λ c. refl; given = λ c. refl }
+    record {
+      opened = λ who b s. refl;
+      dropped = λ who b s. refl;
+      lifted = λ who b s. refl;
+      landed = λ who b s. refl;
+      joined = refl;
+      shut = λ c. refl;
+      collected = λ c. refl;
+      given = λ c. refl;
+    }
 none_sees client _ Reply.Done idle = cc
 none_sees client call Reply.Empty idle =
-    record { opened = λ who b s. refl; dropped = λ who b s. refl; lifted = λ who b s. refl; landed = λ who b s. refl; joined = refl; shut = λ c. refl; collected = λ c. refl; given = λ c. refl }
+    record {
+      opened = λ who b s. refl;
+      dropped = λ who b s. refl;
+      lifted = λ who b s. refl;
+      landed = λ who b s. refl;
+      joined = refl;
+      shut = λ c. refl;
+      collected = λ c. refl;
+      given = λ c. refl;
+    }
 none_sees client call Reply.Pending idle =
-    record { opened = λ who b s. refl; dropped = λ who b s. refl; lifted = λ who b s. refl; landed = λ who b s. refl; joined = refl; shut = λ c. refl; collected = λ c. refl; given = λ c. refl }
+    record {
+      opened = λ who b s. refl;
+      dropped = λ who b s. refl;
+      lifted = λ who b s. refl;
+      landed = λ who b s. refl;
+      joined = refl;
+      shut = λ c. refl;
+      collected = λ c. refl;
+      given = λ c. refl;
+    }
 none_sees client call (Reply.Allocated count size) idle =
-    record { opened = λ who b s. refl; dropped = λ who b s. refl; lifted = λ who b s. refl; landed = λ who b s. refl; joined = refl; shut = λ c. refl; collected = λ c. refl; given = λ c. refl }
+    record {
+      opened = λ who b s. refl;
+      dropped = λ who b s. refl;
+      lifted = λ who b s. refl;
+      landed = λ who b s. refl;
+      joined = refl;
+      shut = λ c. refl;
+      collected = λ c. refl;
+      given = λ c. refl;
+    }
 none_sees client call (Reply.Refused refusal) idle =
-    record { opened = λ who b s. refl; dropped = λ who b s. refl; lifted = λ who b s. refl; landed = λ who b s. refl; joined = refl; shut = λ c. refl; collected = λ c. refl; given = λ c. refl }
+    record {
+      opened = λ who b s. refl;
+      dropped = λ who b s. refl;
+      lifted = λ who b s. refl;
+      landed = λ who b s. refl;
+      joined = refl;
+      shut = λ c. refl;
+      collected = λ c. refl;
+      given = λ c. refl;
+    }
 none_sees client call (Reply.PeerClosed cause origin) idle =
-    record { opened = λ who b s. refl; dropped = λ who b s. refl; lifted = λ who b s. refl; landed = λ who b s. refl; joined = refl; shut = λ c. refl; collected = λ c. refl; given = λ c. refl }
+    record {
+      opened = λ who b s. refl;
+      dropped = λ who b s. refl;
+      lifted = λ who b s. refl;
+      landed = λ who b s. refl;
+      joined = refl;
+      shut = λ c. refl;
+      collected = λ c. refl;
+      given = λ c. refl;
+    }
 none_sees client call _ idle = cc
 
 -- ---- the event

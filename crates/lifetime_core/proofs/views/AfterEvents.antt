@@ -138,8 +138,12 @@ module _ (s : State) (marks : Timeline) (shown : IsAfter s marks) (limits : Boun
         as_told n b.0 b.2;
     found = λ b on ours kept.
         let there : In (node_after marks b) (nodes_after marks id) =
-        In-map-back (node_after marks) (births_in marks id) b (in_order marks id b on ours) in
-        (node_after marks b, In-filter-back (λ n. not (is_over n)) (nodes_after marks id) (node_after marks b) there (not_over marks b ∙ kept), refl);
+        In-map-back (node_after marks) (births_in marks id) b (in_order marks id b on ours) in (
+          node_after marks b,
+          In-filter-back (λ n. not (is_over n)) (nodes_after marks id) (node_after marks b) there (not_over marks b
+              ∙ kept),
+          refl,
+        );
   }
 
   -- ---- events

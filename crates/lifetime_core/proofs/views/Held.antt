@@ -95,7 +95,8 @@ have_pages pool f is sound h on =
 -- ---- the held buffers of a state
 
 -- buffers that lie apart, each with a page, start at different ones
-apart_numbered : (hs : List HeldBuffer) → AreApart (map (λ (h : HeldBuffer). h.pages) hs) → ((h : HeldBuffer) → In h hs → 0 < h.pages.pages) →
+apart_numbered : (hs : List HeldBuffer) → AreApart (map (λ (h : HeldBuffer). h.pages) hs) → ((h : HeldBuffer) → In h hs → 0 < h.pages.pages)
+    →
     AreNumbered (λ (h : HeldBuffer). h.pages.start) hs
 apart_numbered [] apart paged = tt
 apart_numbered (h ∷ hs) apart paged = ((λ k on same. meet k on same), apart_numbered hs apart.1 (λ k on. paged k (inr on)))

@@ -21,8 +21,11 @@ by_both (Err e) p q both = tt
 -- the count tells that the collection is still
 pub bear_counted-requires-clause-still : goal.bear_counted-requires-clause-still
 bear_counted-requires-clause-still c =
-    let watched = rw c.deref.ensures.value at c.is_watched.ensures in
-    (total c.args.holds.now, watched_still c.args.table.now c.args.entries.now.items c.args.id c.requires.counted (sym watched ∙ c.if-is_watched.true) (total c.args.holds.now))
+    let watched = rw c.deref.ensures.value at c.is_watched.ensures in (
+      total c.args.holds.now,
+      watched_still c.args.table.now c.args.entries.now.items c.args.id c.requires.counted (sym watched
+          ∙ c.if-is_watched.true) (total c.args.holds.now),
+    )
 
 pub returns-then-is_watched-clause-ok : goal.returns-then-is_watched-clause-ok
 returns-then-is_watched-clause-ok c =

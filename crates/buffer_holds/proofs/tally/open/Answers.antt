@@ -63,7 +63,14 @@ pub overflow_add-tally-2 : goal.overflow_add-tally-2
 overflow_add-tally-2 c =
     let kept = tally_lent_at c.args.tallies.now c.args.hold.kind c.in-Some.place c.in-Some.ensures.found c.get_index_mut.result
     c.get_index_mut.ensures.value c.get_index_mut.ensures.unique c.unwrap-tally.result c.unwrap-tally.ensures in
-    omega (arith, c.requires.listed, c.len-before.ensures.len, c.len-before.ensures.small, c.len.ensures.small, ap (λ (t : Tally). t.clients) kept)
+    omega (
+      arith,
+      c.requires.listed,
+      c.len-before.ensures.len,
+      c.len-before.ensures.small,
+      c.len.ensures.small,
+      ap (λ (t : Tally). t.clients) kept,
+    )
 
 pub returns-clause-too_many : goal.returns-clause-too_many
 returns-clause-too_many c =

@@ -5,7 +5,8 @@ use Rattle.event_laws.proofs.amounts.size_of.Goals as goal
 use Rattle.event_laws.proofs.amounts.size_of.Goals.{then-has_buffer, else-has_buffer}
 
 pub overflow_add-size : goal.overflow_add-size
-overflow_add-size c = let most = below_most c.loop-index.index c.args.set in omega (arith, most, c.loop-index-test.true, c.loop-index.invariant.1)
+overflow_add-size c = let most = below_most c.loop-index.index c.args.set in
+    omega (arith, most, c.loop-index-test.true, c.loop-index.invariant.1)
 
 pub loop-index-preserved : goal.loop-index-preserved
 loop-index-preserved c =

@@ -36,7 +36,8 @@ pub returns-in_default-reply-4 : goal.returns-in_default-reply-4
 returns-in_default-reply-4 c =
     record {
       ok = rw c.in-GiveHandle.is
-          (not_handed c.args.client c.args.reply.now c.args.clients.now.items c.in-GiveHandle.buffer c.in-GiveHandle.strength c.in-GiveHandle.to c.in_default-reply-4.not-Done);
+          (not_handed c.args.client c.args.reply.now c.args.clients.now.items c.in-GiveHandle.buffer c.in-GiveHandle.strength
+          c.in-GiveHandle.to c.in_default-reply-4.not-Done);
       err = tt;
       why = tt;
     }
@@ -45,7 +46,8 @@ pub returns-in_default-reply-5 : goal.returns-in_default-reply-5
 returns-in_default-reply-5 c =
     record {
       ok = rw c.in-Collect.is
-          (not_collected c.args.client c.args.reply.now c.args.clients.now.items c.in_default-reply-5.not-Collected c.in_default-reply-5.not-CollectedHandle);
+          (not_collected c.args.client c.args.reply.now c.args.clients.now.items c.in_default-reply-5.not-Collected
+          c.in_default-reply-5.not-CollectedHandle);
       err = tt;
       why = tt;
     }
@@ -53,4 +55,9 @@ returns-in_default-reply-5 c =
 pub returns-in_default : goal.returns-in_default
 returns-in_default c =
     let rest = c.in_default in
-    record { ok = not_theirs c.args.client c.args.reply.now c.args.clients.now.items c.args.call.now rest.not-Join rest.not-Shut rest.not-Give rest.not-GiveHandle rest.not-Collect; err = tt; why = tt }
+    record {
+      ok = not_theirs c.args.client c.args.reply.now c.args.clients.now.items c.args.call.now rest.not-Join rest.not-Shut
+          rest.not-Give rest.not-GiveHandle rest.not-Collect;
+      err = tt;
+      why = tt;
+    }

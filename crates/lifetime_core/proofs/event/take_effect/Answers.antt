@@ -20,7 +20,8 @@ returns-clause-ok c =
       key = c.in-Ok-make_change.key;
       told = refl;
       clients = c.in-Ok-note_client.ensures.ok;
-      handles = moves_to c.args.contents.now.holds c.hand_over.new.holds c.tidy_up.new.holds (Called c.args.client c.args.asked.now c.args.call.now)
+      handles = moves_to c.args.contents.now.holds c.hand_over.new.holds c.tidy_up.new.holds
+          (Called c.args.client c.args.asked.now c.args.call.now)
           c.in_ok-hand_over.ensures.ok same;
       work = subst (λ (h : Handles). Reworked c.args.contents.now.pool.size h c.args.contents.now.forest
           (work_in c.args.task.now) c.in-Ok-make_change.key

@@ -32,7 +32,10 @@ loop-index-preserved c =
           record { all = omega (arith, bit, fits.0, w.set-is, c.loop-index.invariant.all); small = omega (arith, fits.0, fits.1, w.set-is) }
       | else-not-is_doomed w ↦
           let bit = rw (← w.if-not-is_doomed.ensures) at next in
-          record { all = omega (arith, bit, w.set-is, c.loop-index.invariant.all); small = omega (arith, fits.1, w.set-is, c.loop-index.invariant.small) }
+          record {
+            all = omega (arith, bit, w.set-is, c.loop-index.invariant.all);
+            small = omega (arith, fits.1, w.set-is, c.loop-index.invariant.small);
+          }
     ]
 
 pub returns : goal.returns

@@ -81,7 +81,12 @@ returns-clause-made g c =
       history = log;
       untaken = c.state.inside.core.trackers.untaken;
     } in
-    let next : ◌≡◌ {A = View} (record { pool = c.step.new.self.pool; limits = c.state.inside.limits; history = c.push_reserved.new.self.items; untaken = c.step.new.self.trackers.untaken }) (after seen e.0 e.1 e.2) =
+    let next : ◌≡◌ {A = View} (record {
+      pool = c.step.new.self.pool;
+      limits = c.state.inside.limits;
+      history = c.push_reserved.new.self.items;
+      untaken = c.step.new.self.trackers.untaken;
+    }) (after seen e.0 e.1 e.2) =
     λ i. record { pool = pools i; limits = c.state.inside.limits; history = items i; untaken = ids i } in
     next ∙ ap (λ (s : View). after s e.0 e.1 e.2) c.state.view_is
 

@@ -28,7 +28,13 @@ loop-place-preserved g c =
     let new = asking c.take_widest.new.group in
     let place = c.in-Some.place in
     record {
-      due = λ f. omega (arith, ap (weigh f) c.push_reserved.ensures.items, weigh_append f c.loop-place.due.items (place ∷ []), taken_due w old new place c.in-Some.ensures.some f, c.loop-place.invariant.due f);
+      due = λ f. omega (
+        arith,
+        ap (weigh f) c.push_reserved.ensures.items,
+        weigh_append f c.loop-place.due.items (place ∷ []),
+        taken_due w old new place c.in-Some.ensures.some f,
+        c.loop-place.invariant.due f,
+      );
       kept = λ f. sym (taken_undue w old new place c.in-Some.ensures.some f) ∙ c.loop-place.invariant.kept f;
       capacity = c.push_reserved.ensures.capacity ∙ c.loop-place.invariant.capacity;
     }

@@ -5,13 +5,22 @@ use Rattle.trackers.proofs.walk.fire_due.Goals as goal
 
 pub index_mut-requires : goal.index_mut-requires
 index_mut-requires g c =
-    omega (arith, stands_within _ _ _ _ _ _ _ _ (stand_here _ _ _ _ _ _ c.args.due.now c.loop-at.at-index c.loop-at-test.true c.loop-at.invariant.walked))
+    omega (
+      arith,
+      stands_within _ _ _ _ _ _ _ _
+          (stand_here _ _ _ _ _ _ c.args.due.now c.loop-at.at-index c.loop-at-test.true c.loop-at.invariant.walked),
+    )
 
 pub visit-requires : goal.visit-requires
 visit-requires g c =
     let stands = stand_here _ _ _ _ _ _ c.args.due.now c.loop-at.at-index c.loop-at-test.true c.loop-at.invariant.walked in
     let within = stands_within _ _ _ _ _ _ _ _ stands in
-    record { room = λ waits. omega (arith, counted_here c.loop-at.rows.items _ c.index_mut.result.now within (sym c.index_mut.ensures.value) waits) }
+    record {
+      room = λ waits. omega (
+        arith,
+        counted_here c.loop-at.rows.items _ c.index_mut.result.now within (sym c.index_mut.ensures.value) waits,
+      );
+    }
 
 pub loop-at-preserved : goal.loop-at-preserved
 loop-at-preserved g c =

@@ -76,5 +76,9 @@ returns-clause-room c = λ room.
     let hold = hold_of c.args.client c.args.buffer c.args.strength in
     let row = subst (λ counts. IsTrue (has_handle_room counts c.args.client c.args.buffer c.args.strength)) (sym c.self.view_is) room in
     let kept = kept_from_something (tally_row inside.tallies.entries hold.kind)
-    (omega (arith, one_row-IsSome (row_at inside.rows.entries hold) row, one_row-le-clients inside.limit inside.rows.entries inside.tallies.entries c.self.invariant hold)) in
+    (omega (
+      arith,
+      one_row-IsSome (row_at inside.rows.entries hold) row,
+      one_row-le-clients inside.limit inside.rows.entries inside.tallies.entries c.self.invariant hold,
+    )) in
     c.open.ensures.room row kept

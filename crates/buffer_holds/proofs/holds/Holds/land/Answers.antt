@@ -26,7 +26,12 @@ pub unwrap-tally-requires : goal.unwrap-tally-requires
 unwrap-tally-requires c =
     let inside = c.self.inside in
     lent_from_something inside.tallies (kind_of c.args.buffer c.args.strength) _ c.get_mut.ensures.value
-    (omega (arith, c.requires, ap (λ counts. moving counts c.args.buffer c.args.strength) c.self.view_is, moving_is inside.limit inside.rows.entries inside.tallies.entries c.args.buffer c.args.strength))
+    (omega (
+      arith,
+      c.requires,
+      ap (λ counts. moving counts c.args.buffer c.args.strength) c.self.view_is,
+      moving_is inside.limit inside.rows.entries inside.tallies.entries c.args.buffer c.args.strength,
+    ))
 
 pub overflow_sub-tally : goal.overflow_sub-tally
 overflow_sub-tally c =

@@ -13,7 +13,11 @@ unwrap-tally-requires c =
     let inside = c.self.inside in
     let hold = hold_of c.args.client c.args.buffer c.args.strength in
     lent_from_something inside.tallies hold.kind _ c.get_mut.ensures.value
-    (omega (arith, one_row-some (row_at inside.rows.entries hold) (c.if-not-lower.ensures.had.0 refl), one_row-le-clients inside.limit inside.rows.entries inside.tallies.entries c.self.invariant hold))
+    (omega (
+      arith,
+      one_row-some (row_at inside.rows.entries hold) (c.if-not-lower.ensures.had.0 refl),
+      one_row-le-clients inside.limit inside.rows.entries inside.tallies.entries c.self.invariant hold,
+    ))
 
 -- the client's handle is one of all
 pub overflow_sub-tally : goal.overflow_sub-tally

@@ -13,8 +13,11 @@ returns-then-not-has_rooms-clause-full c =
     let test = c.has_rooms.ensures in
     let found : rooms c.args.pages_each c.seek-first.new.holes.items < c.args.count = leb-false _ _ (sym test ∙ c.if-not-has_rooms.true) in
     let few = subst (λ (l : Listed). rooms c.args.pages_each l.items < c.args.count) c.seek-first.ensures.same found in
-    rw (← c.self.view_is)
-    (λ _. is_full c.self.inside.size c.self.inside.free c.args.count c.args.pages_each c.self.inside.holes.items c.self.inside.held.items c.self.inside.holes.capacity c.requires.1 c.self.invariant few, λ _. refl)
+    rw (← c.self.view_is) (
+      λ _. is_full c.self.inside.size c.self.inside.free c.args.count c.args.pages_each c.self.inside.holes.items c.self.inside.held.items
+          c.self.inside.holes.capacity c.requires.1 c.self.invariant few,
+      λ _. refl,
+    )
 
 pub returns-then-not-has_rooms-clause-sound : goal.returns-then-not-has_rooms-clause-sound
 returns-then-not-has_rooms-clause-sound c =
@@ -62,7 +65,14 @@ invariant_of-self c = rw c.seek-first.ensures.same c.self.invariant
 pub invariant_of-self-in-Ok : goal.invariant_of-self-in-Ok
 invariant_of-self-in-Ok c =
     let k = (all_fit (goal.at.invariant_of-self-in-Ok c).Else-not-has_rooms).kept in
-    rw (c.fill-placed.ensures.holes, c.fill-placed.ensures.held, c.fill-placed.ensures.capacity, c.reserve.ensures.holes, c.reserve.ensures.held, c.seek-first.ensures.same)
+    rw (
+      c.fill-placed.ensures.holes,
+      c.fill-placed.ensures.held,
+      c.fill-placed.ensures.capacity,
+      c.reserve.ensures.holes,
+      c.reserve.ensures.held,
+      c.seek-first.ensures.same,
+    )
     (k c.reserve.new.holes.capacity (rw c.reserve.ensures.held at c.in-Ok.ensures.holes_room))
 
 pub returns-in-Ok : goal.returns-in-Ok
@@ -78,7 +88,11 @@ returns-in-Ok c =
     (record {
       ok = p;
       err = tt;
-      full = (λ same. cc, not_full c.self.inside.size c.args.pages_each c.args.count c.self.inside.held.items c.fill-placed.result.starts.items _ p.starts_are);
+      full = (
+        λ same. cc,
+        not_full c.self.inside.size c.args.pages_each c.args.count c.self.inside.held.items
+            c.fill-placed.result.starts.items _ p.starts_are,
+      );
       sound = rw (c.fill-placed.ensures.held, c.reserve.ensures.holes, c.reserve.ensures.held, c.seek-first.ensures.same)
           (sound_from c.self.inside.size _ kept.sized kept.in_order);
     })

@@ -10,4 +10,5 @@ returns-clause-made g c =
     (record { client = c.ask.new.client; slots = c.ask.new.slots; held = c.make_room.new.held; desk = c.note_reply.new.self })
     c.make_room.new.slots.items
     c.in_ok-ask.ensures.asked c.make_room.ensures.slots.0 (sym c.in-Some.is
-    ∙ c.last.ensures.value) (on_ok c.note_reply.result _ fine c.note_reply.ensures.known) (on_ok c.note_reply.result _ fine c.note_reply.ensures.things)
+    ∙ c.last.ensures.value) (on_ok c.note_reply.result _ fine c.note_reply.ensures.known)
+    (on_ok c.note_reply.result _ fine c.note_reply.ensures.things)

@@ -15,5 +15,6 @@ pub returns-in_err-reply-in-Some-clause-faltered : goal.returns-in_err-reply-in-
 returns-in_err-reply-in-Some-clause-faltered g c =
     let asked = sym c.call.ensures.asked ∙ c.in-Some.is in
     on_err c.from_residual.result _
-    (faltered c.args.clients.now c.args.step c.in-Some.asked c.args.self.now c.make_call.new.self asked c.in_err-reply-in-Some.ensures.falters
+    (faltered c.args.clients.now c.args.step c.in-Some.asked c.args.self.now c.make_call.new.self asked
+    c.in_err-reply-in-Some.ensures.falters
     c.requires.aware)

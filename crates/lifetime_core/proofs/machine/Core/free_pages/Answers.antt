@@ -14,7 +14,8 @@ returns c =
     let all : sum_by (λ (i : Interval). i.pages) c.self.inside.contents.pool.held ≡ sum_by (λ (h : HeldBuffer).
     h.pages.pages) (all_held c.self.inside.contents.forest) =
     ap (sum_by (λ (i : Interval). i.pages)) c.self.invariant.pages
-    ∙ (sum-sorted (λ (i : Interval). i.pages) (λ (i : Interval). i.start) (map (λ (h : HeldBuffer). h.pages) (all_held c.self.inside.contents.forest))
+    ∙ (sum-sorted (λ (i : Interval). i.pages) (λ (i : Interval). i.start)
+    (map (λ (h : HeldBuffer). h.pages) (all_held c.self.inside.contents.forest))
     ∙ sum-map (λ (i : Interval). i.pages) (λ (h : HeldBuffer). h.pages) (all_held c.self.inside.contents.forest)) in
     let value : c.free_pages.result ≡ (views_of c.args.self.now).free =
     rw (← c.self.view_is) (omega (arith, c.free_pages.ensures.free, all)) in

@@ -10,7 +10,8 @@ use Rattle.lifetime_core.proofs.machine.Core.held.Goals as goal
 pub returns-clause-shown : goal.returns-clause-shown
 returns-clause-shown c =
     let paged : HavePages c.args.self.now.forest =
-    subst (λ (s : State). HavePages s.forest) c.self.view_is (have_pages c.self.inside.contents.pool c.self.inside.contents.forest c.self.invariant.pages
+    subst (λ (s : State). HavePages s.forest) c.self.view_is
+    (have_pages c.self.inside.contents.pool c.self.inside.contents.forest c.self.invariant.pages
     c.free_pages-free.ensures.sound) in
     IfOk-weaker c.held.result _ _
     (λ held is history shows. is ∙ (ap (λ (s : State). held_by_page s.forest) c.self.view_is
@@ -20,6 +21,7 @@ returns-clause-shown c =
 pub returns-clause-apart : goal.returns-clause-apart
 returns-clause-apart c =
     IfOk-weaker c.held.result _ _
-    (λ held is. subst (AllPairs EndsBefore) (sym is) (held_in_order c.self.inside.contents.pool c.self.inside.contents.forest c.self.invariant.pages
+    (λ held is. subst (AllPairs EndsBefore) (sym is)
+    (held_in_order c.self.inside.contents.pool c.self.inside.contents.forest c.self.invariant.pages
     c.free_pages-free.ensures.sound))
     c.held.ensures

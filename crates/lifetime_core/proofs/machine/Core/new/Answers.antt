@@ -4,4 +4,13 @@ use Rattle.lifetime_core.proofs.machine.Core.new.Goals as goal
 -- nothing happened yet
 pub returns-clause-shows : goal.returns-clause-shows
 returns-clause-shows c =
-    rw (c.in_ok-pool.ensures.ok, c.new-2.ensures.items, c.new-3.ensures, c.nodes.ensures.value, c.new-4.ensures, c.handles.ensures.value, c.new-5.ensures, c.trackers.ensures.value) (shows_nothing c.args.pages c.args.limits)
+    rw (
+      c.in_ok-pool.ensures.ok,
+      c.new-2.ensures.items,
+      c.new-3.ensures,
+      c.nodes.ensures.value,
+      c.new-4.ensures,
+      c.handles.ensures.value,
+      c.new-5.ensures,
+      c.trackers.ensures.value,
+    ) (shows_nothing c.args.pages c.args.limits)

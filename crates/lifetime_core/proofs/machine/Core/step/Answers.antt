@@ -33,7 +33,15 @@ answer-asked-requires c = record {
 pub take_effect-requires : goal.take_effect-requires
 take_effect-requires c =
     let s : State =
-    record { pool = c.self.inside.contents.pool.size; limits = c.self.inside.limits; events = c.self.inside.events; clients = c.self.inside.contents.clients.items; forest = c.self.inside.contents.forest; holds = c.self.inside.contents.holds; trackers = c.self.inside.contents.trackers } in
+    record {
+      pool = c.self.inside.contents.pool.size;
+      limits = c.self.inside.limits;
+      events = c.self.inside.events;
+      clients = c.self.inside.contents.clients.items;
+      forest = c.self.inside.contents.forest;
+      holds = c.self.inside.contents.holds;
+      trackers = c.self.inside.contents.trackers;
+    } in
     let b : Begins s c.args.client c.args.call c.answer-asked.result c.task_of-task.result c.tracking_of-tracking.result =
     begins c.self.inside.contents.pool s c.args.self.now c.args.client c.args.call c.answer-asked.result c.task_of-task.result
     c.tracking_of-tracking.result c.self.view_is c.self.invariant c.answer-asked.ensures
@@ -77,19 +85,36 @@ tracking_of-tracking-requires c =
 pub invariant_of-self : goal.invariant_of-self
 invariant_of-self c =
     let s : State =
-    record { pool = c.self.inside.contents.pool.size; limits = c.self.inside.limits; events = c.self.inside.events; clients = c.self.inside.contents.clients.items; forest = c.self.inside.contents.forest; holds = c.self.inside.contents.holds; trackers = c.self.inside.contents.trackers } in
+    record {
+      pool = c.self.inside.contents.pool.size;
+      limits = c.self.inside.limits;
+      events = c.self.inside.events;
+      clients = c.self.inside.contents.clients.items;
+      forest = c.self.inside.contents.forest;
+      holds = c.self.inside.contents.holds;
+      trackers = c.self.inside.contents.trackers;
+    } in
     let i : Idles s c.args.client c.args.call c.answer-asked.result =
     idles c.self.inside.contents.pool s c.args.self.now c.args.client c.args.call c.answer-asked.result c.self.view_is c.self.invariant
     c.answer-asked.ensures (sym c.changes_nothing.ensures ∙ c.if-changes_nothing.true) in
     let next : c.next_event-self-inside.result ≡ s.events + 1 =
     c.next_event-self-inside.ensures ∙ ap (λ (x : State). x.events + 1) (sym c.self.view_is) in
-    rw next (idle_whole s c.args.client c.args.call c.answer-asked.result i c.self.inside.contents.pool c.self.invariant (omega arith) (omega arith))
+    rw next (idle_whole s c.args.client c.args.call c.answer-asked.result i c.self.inside.contents.pool c.self.invariant (omega arith)
+    (omega arith))
 
 -- and the new state follows
 pub returns-then-changes_nothing : goal.returns-then-changes_nothing
 returns-then-changes_nothing c =
     let s : State =
-    record { pool = c.self.inside.contents.pool.size; limits = c.self.inside.limits; events = c.self.inside.events; clients = c.self.inside.contents.clients.items; forest = c.self.inside.contents.forest; holds = c.self.inside.contents.holds; trackers = c.self.inside.contents.trackers } in
+    record {
+      pool = c.self.inside.contents.pool.size;
+      limits = c.self.inside.limits;
+      events = c.self.inside.events;
+      clients = c.self.inside.contents.clients.items;
+      forest = c.self.inside.contents.forest;
+      holds = c.self.inside.contents.holds;
+      trackers = c.self.inside.contents.trackers;
+    } in
     let i : Idles s c.args.client c.args.call c.answer-asked.result =
     idles c.self.inside.contents.pool s c.args.self.now c.args.client c.args.call c.answer-asked.result c.self.view_is c.self.invariant
     c.answer-asked.ensures (sym c.changes_nothing.ensures ∙ c.if-changes_nothing.true) in
@@ -118,23 +143,38 @@ returns-then-changes_nothing c =
 pub invariant_of-self-in_default : goal.invariant_of-self-in_default
 invariant_of-self-in_default c =
     let kept = c.in_default.ensures.err in
-    whole_same c.self.inside.contents.pool c.take_effect.new.contents.pool c.self.inside.limits c.self.inside.events c.self.inside.contents.clients.items
+    whole_same c.self.inside.contents.pool c.take_effect.new.contents.pool c.self.inside.limits c.self.inside.events
+    c.self.inside.contents.clients.items
     c.take_effect.new.contents.clients.items c.self.inside.contents.forest c.take_effect.new.contents.forest
-    c.self.inside.contents.holds c.take_effect.new.contents.holds c.self.inside.contents.trackers c.take_effect.new.contents.trackers kept.0 kept.1 kept.2 kept.3 kept.4
+    c.self.inside.contents.holds c.take_effect.new.contents.holds c.self.inside.contents.trackers c.take_effect.new.contents.trackers kept.0
+    kept.1 kept.2 kept.3 kept.4
     c.take_effect.ensures.limit c.self.invariant
 
 -- trackers elsewhere are not due
 pub sweep-requires : goal.sweep-requires
 sweep-requires c =
     let s : State =
-    record { pool = c.self.inside.contents.pool.size; limits = c.self.inside.limits; events = c.self.inside.events; clients = c.self.inside.contents.clients.items; forest = c.self.inside.contents.forest; holds = c.self.inside.contents.holds; trackers = c.self.inside.contents.trackers } in
+    record {
+      pool = c.self.inside.contents.pool.size;
+      limits = c.self.inside.limits;
+      events = c.self.inside.events;
+      clients = c.self.inside.contents.clients.items;
+      forest = c.self.inside.contents.forest;
+      holds = c.self.inside.contents.holds;
+      trackers = c.self.inside.contents.trackers;
+    } in
     let b : Begins s c.args.client c.args.call c.answer-asked.result c.task_of-task.result c.tracking_of-tracking.result =
     begins c.self.inside.contents.pool s c.args.self.now c.args.client c.args.call c.answer-asked.result c.task_of-task.result
     c.tracking_of-tracking.result c.self.view_is c.self.invariant c.answer-asked.ensures
     c.task_of-task.ensures.work c.task_of-task.ensures.spends c.task_of-task.ensures.there c.task_of-task.ensures.some
     c.tracking_of-tracking.ensures in
     let parts : Parts =
-    record { clients = c.take_effect.new.contents.clients.items; forest = c.take_effect.new.contents.forest; holds = c.take_effect.new.contents.holds; trackers = c.take_effect.new.contents.trackers } in
+    record {
+      clients = c.take_effect.new.contents.clients.items;
+      forest = c.take_effect.new.contents.forest;
+      holds = c.take_effect.new.contents.holds;
+      trackers = c.take_effect.new.contents.trackers;
+    } in
     record {
       elsewhere = rw (c.place_to_sweep-place.ensures, c.changed_by.ensures)
           (none_elsewhere s c.args.client c.args.call c.answer-asked.result
@@ -145,14 +185,27 @@ sweep-requires c =
 pub put_end-requires : goal.put_end-requires
 put_end-requires c =
     let s : State =
-    record { pool = c.self.inside.contents.pool.size; limits = c.self.inside.limits; events = c.self.inside.events; clients = c.self.inside.contents.clients.items; forest = c.self.inside.contents.forest; holds = c.self.inside.contents.holds; trackers = c.self.inside.contents.trackers } in
+    record {
+      pool = c.self.inside.contents.pool.size;
+      limits = c.self.inside.limits;
+      events = c.self.inside.events;
+      clients = c.self.inside.contents.clients.items;
+      forest = c.self.inside.contents.forest;
+      holds = c.self.inside.contents.holds;
+      trackers = c.self.inside.contents.trackers;
+    } in
     let b : Begins s c.args.client c.args.call c.answer-asked.result c.task_of-task.result c.tracking_of-tracking.result =
     begins c.self.inside.contents.pool s c.args.self.now c.args.client c.args.call c.answer-asked.result c.task_of-task.result
     c.tracking_of-tracking.result c.self.view_is c.self.invariant c.answer-asked.ensures
     c.task_of-task.ensures.work c.task_of-task.ensures.spends c.task_of-task.ensures.there c.task_of-task.ensures.some
     c.tracking_of-tracking.ensures in
     let parts : Parts =
-    record { clients = c.take_effect.new.contents.clients.items; forest = c.take_effect.new.contents.forest; holds = c.take_effect.new.contents.holds; trackers = c.take_effect.new.contents.trackers } in
+    record {
+      clients = c.take_effect.new.contents.clients.items;
+      forest = c.take_effect.new.contents.forest;
+      holds = c.take_effect.new.contents.holds;
+      trackers = c.take_effect.new.contents.trackers;
+    } in
     record {
       task = finishes s c.args.client c.args.call c.answer-asked.result (with_key c.answer-asked.result c.in-Ok.key) c.task_of-task.result
           c.tracking_of-tracking.result b parts c.in-Ok.ensures.ok;
@@ -167,16 +220,30 @@ put_end-requires c =
 pub invariant_of-self-2 : goal.invariant_of-self-2
 invariant_of-self-2 c =
     let s : State =
-    record { pool = c.self.inside.contents.pool.size; limits = c.self.inside.limits; events = c.self.inside.events; clients = c.self.inside.contents.clients.items; forest = c.self.inside.contents.forest; holds = c.self.inside.contents.holds; trackers = c.self.inside.contents.trackers } in
+    record {
+      pool = c.self.inside.contents.pool.size;
+      limits = c.self.inside.limits;
+      events = c.self.inside.events;
+      clients = c.self.inside.contents.clients.items;
+      forest = c.self.inside.contents.forest;
+      holds = c.self.inside.contents.holds;
+      trackers = c.self.inside.contents.trackers;
+    } in
     let b : Begins s c.args.client c.args.call c.answer-asked.result c.task_of-task.result c.tracking_of-tracking.result =
     begins c.self.inside.contents.pool s c.args.self.now c.args.client c.args.call c.answer-asked.result c.task_of-task.result
     c.tracking_of-tracking.result c.self.view_is c.self.invariant c.answer-asked.ensures
     c.task_of-task.ensures.work c.task_of-task.ensures.spends c.task_of-task.ensures.there c.task_of-task.ensures.some
     c.tracking_of-tracking.ensures in
     let parts : Parts =
-    record { clients = c.take_effect.new.contents.clients.items; forest = c.take_effect.new.contents.forest; holds = c.take_effect.new.contents.holds; trackers = c.take_effect.new.contents.trackers } in
+    record {
+      clients = c.take_effect.new.contents.clients.items;
+      forest = c.take_effect.new.contents.forest;
+      holds = c.take_effect.new.contents.holds;
+      trackers = c.take_effect.new.contents.trackers;
+    } in
     whole_then s c.args.client c.args.call c.answer-asked.result (with_key c.answer-asked.result c.in-Ok.key) c.task_of-task.result
-    c.tracking_of-tracking.result b parts c.in-Ok.ensures.ok c.self.inside.contents.pool c.take_effect.new.contents.pool c.put_end.new.forest
+    c.tracking_of-tracking.result b parts c.in-Ok.ensures.ok c.self.inside.contents.pool c.take_effect.new.contents.pool
+    c.put_end.new.forest
     (end_placed c.task_of-task.result c.carried_end-carried.result) c.sweep.new.trackers c.self.invariant c.take_effect.ensures.size
     c.take_effect.ensures.pool c.put_end.ensures.held c.take_effect.ensures.limit
     (omega arith) (omega arith) c.put_end.ensures.collections c.put_end.ensures.keys c.put_end.ensures.sound c.put_end.ensures.ids
@@ -186,18 +253,32 @@ invariant_of-self-2 c =
 pub returns : goal.returns
 returns c =
     let s : State =
-    record { pool = c.self.inside.contents.pool.size; limits = c.self.inside.limits; events = c.self.inside.events; clients = c.self.inside.contents.clients.items; forest = c.self.inside.contents.forest; holds = c.self.inside.contents.holds; trackers = c.self.inside.contents.trackers } in
+    record {
+      pool = c.self.inside.contents.pool.size;
+      limits = c.self.inside.limits;
+      events = c.self.inside.events;
+      clients = c.self.inside.contents.clients.items;
+      forest = c.self.inside.contents.forest;
+      holds = c.self.inside.contents.holds;
+      trackers = c.self.inside.contents.trackers;
+    } in
     let b : Begins s c.args.client c.args.call c.answer-asked.result c.task_of-task.result c.tracking_of-tracking.result =
     begins c.self.inside.contents.pool s c.args.self.now c.args.client c.args.call c.answer-asked.result c.task_of-task.result
     c.tracking_of-tracking.result c.self.view_is c.self.invariant c.answer-asked.ensures
     c.task_of-task.ensures.work c.task_of-task.ensures.spends c.task_of-task.ensures.there c.task_of-task.ensures.some
     c.tracking_of-tracking.ensures in
     let parts : Parts =
-    record { clients = c.take_effect.new.contents.clients.items; forest = c.take_effect.new.contents.forest; holds = c.take_effect.new.contents.holds; trackers = c.take_effect.new.contents.trackers } in
+    record {
+      clients = c.take_effect.new.contents.clients.items;
+      forest = c.take_effect.new.contents.forest;
+      holds = c.take_effect.new.contents.holds;
+      trackers = c.take_effect.new.contents.trackers;
+    } in
     let answers = step_answers s c.args.client c.args.call c.answer-asked.result (with_key c.answer-asked.result c.in-Ok.key)
     c.task_of-task.result c.tracking_of-tracking.result b parts c.in-Ok.ensures.ok in
     let follows = step_follows s c.args.client c.args.call c.answer-asked.result (with_key c.answer-asked.result c.in-Ok.key)
-    c.task_of-task.result c.tracking_of-tracking.result b parts c.in-Ok.ensures.ok c.carried_end-carried.result c.carried_end-carried.ensures
+    c.task_of-task.result c.tracking_of-tracking.result b parts c.in-Ok.ensures.ok c.carried_end-carried.result
+    c.carried_end-carried.ensures
     c.put_end.new.forest c.sweep.new.trackers
     c.put_end.ensures.collections c.put_end.ensures.keys c.sweep.ensures in
     let room : s.events < s.limits.events = omega arith in

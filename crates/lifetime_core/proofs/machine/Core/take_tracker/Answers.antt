@@ -8,5 +8,13 @@ use Rattle.lifetime_core.proofs.machine.Core.take_tracker.Goals as goal
 pub returns-clause-shows : goal.returns-clause-shows
 returns-clause-shows c history shows =
     let s : State =
-    record { pool = c.self.inside.contents.pool.size; limits = c.self.inside.limits; events = c.self.inside.events; clients = c.self.inside.contents.clients.items; forest = c.self.inside.contents.forest; holds = c.self.inside.contents.holds; trackers = c.self.inside.contents.trackers } in
+    record {
+      pool = c.self.inside.contents.pool.size;
+      limits = c.self.inside.limits;
+      events = c.self.inside.events;
+      clients = c.self.inside.contents.clients.items;
+      forest = c.self.inside.contents.forest;
+      holds = c.self.inside.contents.holds;
+      trackers = c.self.inside.contents.trackers;
+    } in
     rw c.take_tracker.ensures.taken (take_shows s c.args.id history (subst (λ (x : State). Shows x history) (sym c.self.view_is) shows))

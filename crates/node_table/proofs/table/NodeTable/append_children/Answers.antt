@@ -21,7 +21,12 @@ children-preserved g c =
 
 pub children-init : goal.children-init
 children-init g c =
-    record { appends = appends-none (children_at c.args.self.now c.args.key) c.args.keys.now.items c.first_child-at.result c.first_child-at.ensures.value; forest = c.first_child-at.ensures.forest; capacity = omega arith }
+    record {
+      appends = appends-none (children_at c.args.self.now c.args.key) c.args.keys.now.items c.first_child-at.result
+          c.first_child-at.ensures.value;
+      forest = c.first_child-at.ensures.forest;
+      capacity = omega arith;
+    }
 
 pub children-smaller : goal.children-smaller
 children-smaller g c =

@@ -7,11 +7,17 @@ pub invariant_of-result : goal.invariant_of-result
 invariant_of-result g c =
     let slots = c.in-Ok.ensures.cases in
     let nexts = c.in-Ok-clone.ensures.cases in
-    rw (each_same c.self.inside.nexts.items c.in-Ok-clone.nexts.items nexts.0, copied c.self.inside.slots.slots c.in-Ok.slots.slots slots.slots) c.self.invariant
+    rw (
+      each_same c.self.inside.nexts.items c.in-Ok-clone.nexts.items nexts.0,
+      copied c.self.inside.slots.slots c.in-Ok.slots.slots slots.slots,
+    ) c.self.invariant
 
 -- the copy and the table have one value
 pub returns : goal.returns
 returns g c =
     let slots = c.in-Ok.ensures.cases in
     let nexts = c.in-Ok-clone.ensures.cases in
-    rw (copied c.self.inside.slots.slots c.in-Ok.slots.slots slots.slots, each_same c.self.inside.nexts.items c.in-Ok-clone.nexts.items nexts.0) c.self.view_is
+    rw (
+      copied c.self.inside.slots.slots c.in-Ok.slots.slots slots.slots,
+      each_same c.self.inside.nexts.items c.in-Ok-clone.nexts.items nexts.0,
+    ) c.self.view_is

@@ -7,7 +7,13 @@ use Rattle.record_parts.proofs.parts.Parts.line.Goals as goal
 
 pub overflow_add-events : goal.overflow_add-events
 overflow_add-events c =
-    omega (arith, c.loop-event.invariant.events, part_most c.args.client 1 c.args.self.now, c.first_of-event.ensures.few, ap length c.step-own.ensures.rest)
+    omega (
+      arith,
+      c.loop-event.invariant.events,
+      part_most c.args.client 1 c.args.self.now,
+      c.first_of-event.ensures.few,
+      ap length c.step-own.ensures.rest,
+    )
 
 pub count-requires-clause-gained : goal.count-requires-clause-gained
 count-requires-clause-gained c =

@@ -50,5 +50,8 @@ returns-clause-full c =
       | in-Ok w ↦ rw (w.result-is, ← c.self.view_is)
           ((λ e. absurd (cc)), (λ full. absurd (omega (arith, shown, full, held.counted, c.len.ensures, c.len-2.ensures))))
       | in-Err w ↦
-          rw (w.result-is, ← c.self.view_is) ((λ e. absurd (cc)), (λ full. absurd (omega (arith, shown, full, held.counted, c.len.ensures, c.len-2.ensures))))
+          rw (w.result-is, ← c.self.view_is) (
+            (λ e. absurd (cc)),
+            (λ full. absurd (omega (arith, shown, full, held.counted, c.len.ensures, c.len-2.ensures))),
+          )
     ]
