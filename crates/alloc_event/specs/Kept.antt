@@ -78,13 +78,9 @@ forest_of t ss = record { limit = t.limit; collections = map (collection_in t) s
 abbrev pub all_keys : List Shelf → List NodeKey
 all_keys ss = flat_map (λ (s : Shelf). s.keys) ss
 
--- neither gone nor released
-abbrev pub is_live : Node → Bool
-is_live n = not n.gone && not n.released
-
 -- live and strong
 abbrev pub is_strong : Node → Bool
-is_strong n = is_live n && not n.weak
+is_strong n = is_live_node n && not n.weak
 
 -- no key stands twice
 abbrev pub are_apart : List NodeKey → Bool

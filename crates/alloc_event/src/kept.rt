@@ -4,21 +4,16 @@ ghost use Rattle.std.specs.List.{filter, flat_map, list_any};
 ghost use Rattle.sm_names.specs.Words.{sorted_by};
 ghost use Rattle.alloc_event.specs.declared.entry.Entry.{Entry as Kept};
 ghost use Rattle.alloc_event.specs.Calm.{strong_count};
-ghost use Rattle.alloc_event.specs.Kept.{all_keys, nodes_with, shelves_of, is_live, is_strong};
+ghost use Rattle.alloc_event.specs.Kept.{all_keys, nodes_with, shelves_of, is_strong};
 ghost use Rattle.alloc_event.specs.Nodes.{is_over};
+ghost use Rattle.alloc_event.specs.Questions.{is_live_node};
 
 use crate::entry::Entry;
 use crate::node::{End, Node};
+use crate::questions::is_live;
 use node_table::NodeTable;
 use sm_names::{HeldBuffer, NodeKey};
 use std::alloc::{AllocError, Global};
-
-/// Whether the node is neither gone nor released.
-fn is_live(node: &Node) -> bool
-    ensures { result ≡ is_live node.now }
-{
-    !node.gone && !node.released
-}
 
 /// Whether the node is live and strong.
 pub(crate) fn is_strong(node: &Node) -> bool
@@ -60,7 +55,7 @@ fn add_live(
     table: &NodeTable<Node>,
     keys: &[NodeKey],
 ) -> Result<(), AllocError>
-    ensures { IfOk result (λ _. nodes.new.items ≡ nodes.old.items ++ filter is_live (nodes_with table.now keys.now)) }
+    ensures { IfOk result (λ _. nodes.new.items ≡ nodes.old.items ++ filter is_live_node (nodes_with table.now keys.now)) }
 {
     for key in keys {
         if let Some(node) = table.get(*key) {
@@ -79,7 +74,7 @@ pub(crate) fn live_by_birth(
     entries: &[Entry],
 ) -> Result<Vec<NodeKey>, AllocError>
     ensures { IfOk result (λ keys. keys.items
-        ≡ map (λ n. n.key) (sorted_by (λ n. n.event) (filter is_live (nodes_with table.now (all_keys (shelves_of entries.now)))))) }
+        ≡ map (λ n. n.key) (sorted_by (λ n. n.event) (filter is_live_node (nodes_with table.now (all_keys (shelves_of entries.now)))))) }
 {
     let mut nodes = Vec::new(alloc);
     for entry in entries {

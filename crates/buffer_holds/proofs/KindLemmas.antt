@@ -1,14 +1,15 @@
 -- The tests of keys that are derived are those of the specs, and keys that pass them are one.
-use Rattle.std.proofs.Common.{◌≡◌, refl, Bool, true, false, ◌&&◌, ◌==◌, arith, ℕ}
+use Rattle.std.proofs.Common.{◌≡◌, refl, true, ◌&&◌, ◌==◌, arith}
 use Rattle.std.proofs.lemmas.Grind.{common_steps}
+use Rattle.std.proofs.lemmas.Bool.{and_parts, eqb-true}
 use Rattle.sm_names.specs.Sameness.{same_buffer, same_strength}
 use Rattle.sm_names.specs.declared.keys.Strength.{Strength}
-use Rattle.sm_names.specs.declared.keys.BufferName.{BufferName}
 use Rattle.sm_names.specs.declared.keys.Strength.TheVariants.{Strong, Weak}
 use Rattle.buffer_holds.specs.declared.kinds.HandleKind.{HandleKind}
 use Rattle.buffer_holds.specs.declared.kinds.Hold.{Hold}
 use Rattle.buffer_holds.specs.Kinds.{same_kind, same_hold}
 use Rattle.sm_names.specs.contracts.keys.StrengthPartialEq.TheImpl as strength
+use Rattle.sm_names.proofs.HandleLaws.{same_buffer-true, same_strength-true}
 use Rattle.buffer_holds.specs.contracts.kinds.HandleKindPartialEq.TheImpl as kind
 use Rattle.buffer_holds.specs.contracts.kinds.HoldPartialEq.TheImpl as hold
 
@@ -27,39 +28,17 @@ derived_kind = λ i a b. same_buffer a.buffer b.buffer && derived_strength a.str
 pub derived_hold : (hold.eq-value).it ≡ same_hold
 derived_hold = λ i a b. a.client == b.client && derived_kind i a.kind b.kind
 
--- strengths that are the same are one
-same_strength-one : (a b : Strength) → same_strength a b ≡ true → a ≡ b
-same_strength-one Strong Strong e = refl
-same_strength-one Strong Weak e = cc
-same_strength-one Weak Strong e = cc
-same_strength-one Weak Weak e = refl
-
--- where two tests pass together, each does
-pub and-both : (a b : Bool) → a && b ≡ true → (a ≡ true) × (b ≡ true)
-and-both true b e = (refl, e)
-and-both false b e = cc
-
--- numbers that pass the test are one
-pub nat-one : (a b : ℕ) → (a == b) ≡ true → a ≡ b
-nat-one a b e = grind (arith, common_steps)
-
--- buffers that are the same are one
-same_buffer-one : (a b : BufferName) → same_buffer a b ≡ true → a ≡ b
-same_buffer-one a b e =
-    let both = and-both (a.collection == b.collection) (a.index == b.index) e in
-    λ i. record { collection = nat-one a.collection b.collection both.0 i; index = nat-one a.index b.index both.1 i }
-
 -- kinds that are the same are one
 pub same_kind-one : (a b : HandleKind) → same_kind a b ≡ true → a ≡ b
 same_kind-one a b e =
-    let both = and-both (same_buffer a.buffer b.buffer) (same_strength a.strength b.strength) e in
-    λ i. record { buffer = same_buffer-one a.buffer b.buffer both.0 i; strength = same_strength-one a.strength b.strength both.1 i }
+    let both = and_parts (same_buffer a.buffer b.buffer) (same_strength a.strength b.strength) e in
+    λ i. record { buffer = same_buffer-true a.buffer b.buffer both.0 i; strength = same_strength-true a.strength b.strength both.1 i }
 
 -- holds that are the same are one
 pub same_hold-one : (a b : Hold) → same_hold a b ≡ true → a ≡ b
 same_hold-one a b e =
-    let both = and-both (a.client == b.client) (same_kind a.kind b.kind) e in
-    λ i. record { client = nat-one a.client b.client both.0 i; kind = same_kind-one a.kind b.kind both.1 i }
+    let both = and_parts (a.client == b.client) (same_kind a.kind b.kind) e in
+    λ i. record { client = eqb-true a.client b.client both.0 i; kind = same_kind-one a.kind b.kind both.1 i }
 
 -- a kind is the same as itself
 pub same_kind-refl : (a : HandleKind) → same_kind a a ≡ true

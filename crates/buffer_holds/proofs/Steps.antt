@@ -1,6 +1,7 @@
 -- One row and the tally of its kind change together.
 use Rattle.std.proofs.Common.{◌≡◌, ◌+◌, ◌≤◌, ◌-◌, ◌<◌, refl, sym, ap, subst, ◌∙◌, ℕ, Bool, true, false, cond, zero, suc, ◌==◌, ◌&&◌, sum_by, length, List, Option, Some, None, arith, IsSome, unwrap_or, is_some, ◌||◌, nat_lt}
 use Rattle.std.specs.Map.{lookup}
+use Rattle.std.proofs.lemmas.Bool.{and_parts, eqb-true}
 use Rattle.sm_names.specs.declared.keys.BufferName.{BufferName}
 use Rattle.sm_names.specs.declared.keys.Strength.{Strength}
 use Rattle.buffer_holds.specs.declared.kinds.HandleKind.{HandleKind}
@@ -11,7 +12,7 @@ use Rattle.buffer_holds.specs.Changes.{Sets, Tidies}
 use Rattle.buffer_holds.specs.Kinds.{kind_of, hold_of, same_kind, same_hold}
 use Rattle.buffer_holds.specs.Rows.{Resets, Raises, row_at, count_at}
 use Rattle.buffer_holds.specs.Sound.{Tallies, IsSound, tally_at, tally_row, no_tally, one_of, is_idle, without_client}
-use Rattle.buffer_holds.proofs.KindLemmas.{and-both, nat-one, same_kind-one, same_hold-one, same_kind-refl}
+use Rattle.buffer_holds.proofs.KindLemmas.{same_kind-one, same_hold-one, same_kind-refl}
 use Rattle.buffer_holds.proofs.SoundLemmas.{one_row, one_row-some, one_row-added, one_row-le-clients, weight_at-share, weight_at-one_of, sum_by-share-none, counts_of, moving_is, total_is}
 
 -- the tally keeps up with the row
@@ -110,9 +111,9 @@ module _ (limit : ℕ) (rows rows' : List (Hold × ℕ)) (tallies tallies' : Lis
       ((tally_at tallies hold.kind).clients ≡ 1)
   nothing_left is =
       let tallied = sound.tallied hold.kind in
-      let both = and-both (left.clients == 0) (left.moving == 0) is in
-      let clients : (tally_at tallies hold.kind).clients - 1 ≡ 0 = nat-one left.clients 0 both.0 in
-      let moving : (tally_at tallies hold.kind).moving ≡ 0 = nat-one left.moving 0 both.1 in
+      let both = and_parts (left.clients == 0) (left.moving == 0) is in
+      let clients : (tally_at tallies hold.kind).clients - 1 ≡ 0 = eqb-true left.clients 0 both.0 in
+      let moving : (tally_at tallies hold.kind).moving ≡ 0 = eqb-true left.moving 0 both.1 in
       let nobody : sum_by (one_of hold.kind) rows' ≡ 0 = omega (arith, others, tallied.clients, clients) in (
         omega (arith, tallied.total, same_share, sum_by-share-none hold.kind rows' nobody, moving),
         moving,

@@ -1,7 +1,6 @@
 mod Backs
 mod Filling
 mod Fits
-mod Fronts
 mod Gaps
 mod Greatest
 mod Keeping

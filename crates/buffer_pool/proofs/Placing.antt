@@ -1,13 +1,14 @@
 -- Buffers placed one after another by first fit are placed as the definition says.
-use Rattle.std.proofs.Common.{ℕ, zero, suc, ◌≡◌, ◌+◌, ◌-◌, ◌*◌, ◌/◌, ◌<◌, ◌≤◌, refl, ap, sym, subst, ◌∙◌, Bool, true, false, cond, not, ◌&&◌, ◌||◌, List, [], ◌∷◌, length, inl, inr, arith, nat_lt, nat_le, ◌==◌, Some, None}
-use Rattle.std.specs.List.{prefix_len, list_any, find, range_with_len}
-use Rattle.std.specs.Option.{option_map, option_and_then}
+use Rattle.std.proofs.Common.{ℕ, zero, suc, ◌≡◌, ◌+◌, ◌-◌, ◌*◌, ◌/◌, ◌<◌, ◌≤◌, refl, ap, sym, subst, ◌∙◌, Bool, true, false, cond, ◌||◌, List, [], ◌∷◌, length, inl, inr, arith, nat_lt, nat_le, ◌==◌, Some, None}
+use Rattle.std.specs.List.{prefix_len, list_any}
+use Rattle.std.specs.Option.{option_map}
 use Rattle.std.proofs.Math.Nat.{div-eq_of_lt, div-eq-sub-div, mul-le-mul_right, mul_comm, suc-mul}
 use Rattle.std.proofs.lemmas.Bool.{cases_Bool, ltb-true, ltb-false, le-leb, lt-leb, eqb-true}
 use Rattle.std.proofs.lemmas.List.Sums.{sum_by-cons}
 use Rattle.sm_names.specs.declared.keys.Interval.{Interval}
 use Rattle.sm_names.specs.Apart.{at_pages}
-use Rattle.sm_names.specs.Pages.{meets, places}
+use Rattle.sm_names.specs.Pages.{places}
+use Rattle.sm_names.proofs.PlaceLaws.{places_same}
 use Rattle.buffer_pool.specs.Holes.{end_of, holes_of}
 use Rattle.buffer_pool.specs.Holdings.{in_order, pages_in, with_interval, with_buffers}
 use Rattle.buffer_pool.specs.Looks.{looks_at, looks_for}
@@ -117,17 +118,6 @@ list_any-with_interval p new (i ∷ is) =
     turned true false c = refl
     turned false b c = refl
 
--- where buffers go does not depend on the order of what is held
-pub places-same : (size pages count : ℕ) (held other : List Interval) → ((p : Interval → Bool) → list_any p held ≡ list_any p other) →
-    places size pages count held ≡ places size pages count other
-places-same size pages zero held other same = refl
-places-same size pages (suc count) held other same =
-    λ k. option_and_then
-    (λ start. option_map (λ starts. start ∷ starts)
-    (places-same size pages count (record { start = start; pages = pages } ∷ held) (record { start = start; pages = pages } ∷ other) (λ p j.
-    p (record { start = start; pages = pages }) || same p j) k))
-    (find (λ start. nat_le (start + pages) size && not (same (meets (record { start = start; pages = pages })) k)) (range_with_len 0 size))
-
 -- where some buffer has room, some hole is long enough
 pub rooms-some : (pages : ℕ) (hs : List Interval) → 1 ≤ pages → 0 < rooms pages hs → prefix_len (too_small pages) hs < length hs
 rooms-some pages [] one some = let none : rooms pages [] ≡ 0 = refl in absurd (omega arith)
@@ -172,7 +162,7 @@ places-more size pages count held one f =
     let start : ℕ = first_fit pages (holes_of size held) in
     let new : Interval = at_pages pages start in
     rw (least_start-fit size pages held one f)
-    (ap (option_map (λ starts. start ∷ starts)) (places-same size pages count (new ∷ held) (with_interval new held) (λ p.
+    (ap (option_map (λ starts. start ∷ starts)) (places_same size pages count (new ∷ held) (with_interval new held) (λ p.
     sym (list_any-with_interval p new held))))
 
 -- one more buffer before others

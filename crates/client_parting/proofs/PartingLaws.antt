@@ -18,10 +18,6 @@ use Rattle.client_parting.proofs.ThingLaws.{both_none, flat-append, flat_collect
 
 -- ---- collecting
 
--- no Collect yet
-pub collects_none : (s : Seen) → Collects s s [] [] []
-collects_none s = record { made = made_none s; ends_are = refl; handles_are = refl }
-
 replicate_push : (n : ℕ) (c : Call) → replicate (n + 1) c ≡ replicate n c ++ c ∷ []
 replicate_push n c = sym (replicate-append-replicate n 1 c)
 

@@ -1,8 +1,8 @@
 -- A unit that was given its buffers stays so.
-use Rattle.std.proofs.Common.{ℕ, ◌≡◌, ◌+◌, ap, ◌∙◌, true, List, ◌∷◌, Option, Some, None}
-use Rattle.std.specs.List.{list_any, cons_option}
+use Rattle.std.proofs.Common.{ℕ, ◌≡◌, ◌+◌, ap, ◌∙◌, true, ◌∷◌}
+use Rattle.std.specs.List.{list_any}
 use Rattle.sm_names.specs.declared.keys.NodeKey.{NodeKey}
-use Rattle.sm_names.specs.Births.{Birth, births, birth_at, head, was_born}
+use Rattle.sm_names.specs.Births.{births, birth_at, head, was_born}
 use Rattle.sm_names.specs.Bounds.{Bound}
 use Rattle.sm_names.specs.Losses.{allocated, is_allocation}
 use Rattle.sm_names.specs.Marks.{Timeline, Called, events}
@@ -10,11 +10,7 @@ use Rattle.sm_names.specs.Sameness.{same_key}
 use Rattle.sm_names.proofs.BirthLaws.{comes, head_old}
 use Rattle.sm_names.proofs.GrowthLaws.{Grows, Stays, Answers, Loses, Allocates, Ends}
 use Rattle.sm_names.proofs.SamenessLaws.{or_right}
-
--- a node that was born is born still, whatever is born
-born_old : (o : Option Birth) (bs : List Birth) (node : NodeKey) → was_born bs node ≡ true → was_born (cons_option o bs) node ≡ true
-born_old None bs node h = h
-born_old (Some b) bs node h = or_right (same_key b.node node) _ h
+use Rattle.sm_names.proofs.LifeLaws.{born_old}
 
 module _ (pool : ℕ) (limits : Bound) (start : Timeline) (node : NodeKey) where
   -- so is it as the marks go on

@@ -18,20 +18,9 @@ use Rattle.event_laws.proofs.MomentLaws.{moment_earlier, last_match-kept, events
 use Rattle.event_laws.proofs.NumberLaws.{numbered, made_id}
 use Rattle.sm_names.proofs.SamenessLaws.{and_left, false_if}
 use Rattle.sm_names.proofs.StandingLaws.{In-any}
+use Rattle.sm_names.proofs.FiredLaws.{fired_early}
 
 -- ---- after any marks
-
--- a tracker fired at an event that was
-pub fired_by : (marks : Timeline) (t : Tracked) (event : ℕ) → fired_at marks t ≡ Some event → event ≤ events marks
-fired_by marks t event h = from (last_match (fires_at t) (moments marks)) refl h
-  where
-    from : (o : Option Timeline) → last_match (fires_at t) (moments marks) ≡ o → option_map events o ≡ Some event → event ≤ events marks
-    from None e h = cc
-    from (Some moment) e h =
-        let is : events moment ≡ event = cc in
-        let few : events moment ≤ events marks = last_match-kept (λ m. events m ≤ events marks) (fires_at t) (moments marks) (λ m on _.
-        (moment_earlier marks m on).few) moment e in
-        omega (arith, is, few)
 
 -- a tracker with an id that none has has not fired
 pub none_fired : (marks : Timeline) (t : Tracked) → ((u : Tracked) → In u (tracked marks) → u.id == t.id ≡ false) → fired_at marks t ≡ None
@@ -110,7 +99,7 @@ fires_now pool marks entry t on =
         option_map_or (λ e. e == now) (option_map_or Some o (cond b (Some now) None)) false ≡ (is_none o && b)
     from (Some event) e b = false_if (event == now) (λ h.
         (let is : event ≡ now = eqb-true event now h in
-        let early : event ≤ events marks = fired_by marks t event e in
+        let early : event ≤ events marks = fired_early marks t event e in
         let next : now ≡ events marks + 1 = events_after pool marks entry in
         omega (arith, is, early, next)))
     from None e true = eq-eqb now now refl

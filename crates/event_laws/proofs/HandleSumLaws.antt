@@ -23,6 +23,7 @@ use Rattle.sm_names.proofs.SumLaws.{one, one_of, AreOnce, times-cons, sum_by-sam
 use Rattle.event_laws.specs.ByEvent.{anyone, only, mark_of}
 use Rattle.event_laws.specs.HandleSums.{ListsAllocated, all_moving, all_open, all_open_of, allocated_collections, opened_at, dropped_at, sent_at, got_at, opened, dropped, sent, got, indices_in, over_buffers}
 use Rattle.event_laws.proofs.HandleSumNamedLaws.{IsThere, lists_allocated, opens_there, drops_there, lifts_there, lands_there}
+use Rattle.event_laws.proofs.HandleCaseLaws.{same_buffer-refl}
 
 -- ---- numbers that are listed once
 
@@ -99,10 +100,6 @@ one_by_one : (w x y s : Bool) → (w && ((x && y) && s)) ≡ (w && (x && (y && s
 one_by_one w true y s = refl
 one_by_one w false y s = refl
 
--- the buffer is itself
-same_buffer-self : (b : BufferName) → same_buffer b b ≡ true
-same_buffer-self b = rw (eq-eqb b.collection b.collection refl, eq-eqb b.index b.index refl) refl
-
 -- a set is as large as its elements are many
 set_size : (w s : Bool) (p : ℕ → Bool) (is : List ℕ) → sum_by (λ i. one (w && (s && p i))) is ≡ cond (w && s) (length (filter p is)) 0
 set_size true true p is = sym (length-filter p is)
@@ -166,7 +163,7 @@ module _ (cs is : List ℕ) (once : AreOnce cs) (once_is : AreOnce is) (same_set
   -- a test of one buffer passes at it
   at_itself : (w s : Bool) (name : BufferName) → (w && s) ≡ true → (w && (same_buffer name name && s)) ≡ true
   at_itself w s name h =
-      and_both w (same_buffer name name && s) (and_left w s h) (and_both (same_buffer name name) s (same_buffer-self name)
+      and_both w (same_buffer name name && s) (and_left w s h) (and_both (same_buffer name name) s (same_buffer-refl name)
       (and_right w s h))
 
   -- what it opens

@@ -1,5 +1,6 @@
 -- What an event adds to the moments, and what was so at an earlier one.
-use Rattle.std.proofs.Common.{ℕ, ◌≡◌, ◌≤◌, ◌+◌, refl, ◌∙◌, Bool, true, false, cond, inl, inr, List, [], ◌∷◌, Option, Some, None, arith}
+use Rattle.std.proofs.Common.{ℕ, ◌≡◌, ◌≤◌, ◌+◌, refl, ◌∙◌, Bool, true, false, cond, inl, inr, List, [], ◌∷◌, length, Option, Some, None, arith}
+use Rattle.std.specs.List.{fold}
 use Rattle.std.specs.Option.{option_map_or}
 use Rattle.sm_names.specs.Marks.{Entry, Mark, Timeline, Called, Loss, Allocated, Ended, events, is_event}
 use Rattle.sm_names.specs.Timelines.{after}
@@ -86,3 +87,9 @@ uncounted marks mark h = rw h refl
 pub events_after : (pool : ℕ) (marks : Timeline) (entry : Entry) → events (after pool marks entry) ≡ events marks + 1
 events_after pool marks entry =
     kept-after (λ m. events m ≡ events marks + 1) (λ m mark quiet e. uncounted m mark quiet ∙ e) pool marks entry refl
+
+-- and so does each of more
+pub events-fold : (pool : ℕ) (marks : Timeline) (history : List Entry) →
+    events (fold (after pool) marks history) ≡ events marks + length history
+events-fold pool marks [] = omega arith
+events-fold pool marks (entry ∷ more) = omega (arith, events-fold pool (after pool marks entry) more, events_after pool marks entry)

@@ -3,6 +3,7 @@ use Rattle.std.proofs.Common.{ℕ, ◌≡◌, ◌<◌, ◌+◌, refl, ap, sym, �
 use Rattle.std.proofs.lemmas.Bool.{eqb-true, eq-eqb}
 use Rattle.std.specs.List.{list_any, cons_option}
 use Rattle.std.specs.Option.{option_map_or}
+use Rattle.std.proofs.Math.Bool.{and-false, and-true}
 use Rattle.sm_names.specs.declared.keys.NodeKey.{NodeKey}
 use Rattle.sm_names.specs.declared.messages.Call.{Call}
 use Rattle.sm_names.specs.declared.messages.Parcel.{Parcel}
@@ -29,11 +30,6 @@ use Rattle.sm_names.proofs.SumLaws.{any_one}
 
 -- ---- which parcels an event adds and takes
 
--- no test holds with one that fails
-neither : (b : Bool) → (b && false) ≡ false
-neither true = refl
-neither false = refl
-
 -- the receiver of an end that is given, and 0 of any other call
 abbrev taker : Call → ℕ
 taker (Call.Give key to) = to
@@ -54,7 +50,7 @@ module _ (node : NodeKey) where
   got_is c caller (Reply.CollectedHandle buffer strength) Call.Collect =
       elim (caller == c) as (λ (b : Bool). option_map_or (is_end_of node) (cond b (Some (Parcel.Handle buffer strength)) None)
       false ≡ (b && false)) [ true ↦ refl | false ↦ refl ]
-  got_is c caller _ _ = sym (neither (caller == c))
+  got_is c caller _ _ = sym (and-false (caller == c))
 
   -- the parcel that is given is the end, where the mark sends it
   brought_is : (c caller : ℕ) (reply : Reply) (call : Call) →
@@ -65,8 +61,8 @@ module _ (node : NodeKey) where
       false ≡ (b && same_key key node)) [ true ↦ refl | false ↦ refl ]
   brought_is c caller Reply.Done (Call.GiveHandle buffer strength to) =
       elim (to == c) as (λ (b : Bool). option_map_or (is_end_of node) (cond b (Some (Parcel.Handle buffer strength)) None)
-      false ≡ (0 == c && false)) [ true ↦ sym (neither (0 == c)) | false ↦ sym (neither (0 == c)) ]
-  brought_is c caller reply call = sym (neither (taker call == c))
+      false ≡ (0 == c && false)) [ true ↦ sym (and-false (0 == c)) | false ↦ sym (and-false (0 == c)) ]
+  brought_is c caller reply call = sym (and-false (taker call == c))
 
   -- what sends the end delivers none
   sends_alone : (mark : Mark) → sends node mark ≡ true → (delivers node mark ≡ false) × (spends node mark ≡ false)
@@ -103,7 +99,7 @@ transit_is marks node place t waits joined =
     by_test : (t : Bool) → (t ≡ true → has_joined marks place ≡ true) → list_any (λ c. place == c && t) (clients marks) ≡ t
     by_test false joined = false_if (list_any (λ c. place == c && false) (clients marks)) (λ h.
         let a = In-list_any (λ c. place == c && false) (clients marks) h in
-        both_ways (place == a.0 && false) a.2 (neither (place == a.0)))
+        both_ways (place == a.0 && false) a.2 (and-false (place == a.0)))
     by_test true joined =
         let a = In-list_any (λ c. c == place) (clients marks) (joined refl) in
         let is : a.0 ≡ place = eqb-true a.0 place a.2 in
@@ -119,7 +115,7 @@ record Goes (marks : Timeline) (node : NodeKey) (t : Bool) : Type 0 where
 
 -- one of a test that fails is none
 none_of : (b t : Bool) → t ≡ false → one_if (b && t) ≡ 0
-none_of b t e = ap (λ (x : Bool). one_if (b && x)) e ∙ ap one_if (neither b)
+none_of b t e = ap (λ (x : Bool). one_if (b && x)) e ∙ ap one_if (and-false b)
 
 -- and with one that holds it is the other
 all_of : (b t : Bool) → t ≡ true → one_if (b && t) ≡ one_if b
@@ -204,7 +200,7 @@ module _ (limits : Bound) (marks : Timeline) (caller : ℕ) (reply : Reply) (cal
             | inr d ↦
                 let idle : one_if (caller == c && delivers node mark) ≡ 0 = none_of (caller == c) (delivers node mark) d in
                 let kept : (in_transit marks node && not (delivers node mark)) ≡ in_transit marks node =
-                ap (λ (b : Bool). in_transit marks node && not b) d ∙ and_true (in_transit marks node) in
+                ap (λ (b : Bool). in_transit marks node && not b) d ∙ and-true (in_transit marks node) in
                 let here : times (is_end_of node) (parcels (mark ∷ marks) c) ≡ one_if (old.place == c && in_transit marks node) =
                 omega (arith, w, none, idle) in
                 here ∙ ap (λ (b : Bool). one_if (old.place == c && b)) (sym kept)
@@ -215,14 +211,10 @@ module _ (limits : Bound) (marks : Timeline) (caller : ℕ) (reply : Reply) (cal
                 let taken : one_if (caller == c && delivers node mark) ≡ one_if (caller == c) =
                 all_of (caller == c) (delivers node mark) d in
                 let over : (in_transit marks node && not (delivers node mark)) ≡ false =
-                ap (λ (b : Bool). in_transit marks node && not b) d ∙ neither (in_transit marks node) in
+                ap (λ (b : Bool). in_transit marks node && not b) d ∙ and-false (in_transit marks node) in
                 let here : times (is_end_of node) (parcels (mark ∷ marks) c) ≡ 0 = omega (arith, w, none, was, taken) in
                 here ∙ sym (none_of (old.place == c) (in_transit marks node && not (delivers node mark)) over)
           ]
-        where
-          and_true : (b : Bool) → (b && true) ≡ b
-          and_true true = refl
-          and_true false = refl
 
   -- it is in a parcel after the mark, if it was sent, or was in one and was not delivered
   pub transit_mark : in_transit (Called caller reply call ∷ marks) node ≡ (sends node (Called caller reply call) || (in_transit marks

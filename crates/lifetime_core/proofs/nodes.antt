@@ -7,4 +7,3 @@ pub mod Members
 pub mod Misused
 pub mod Newborn
 pub mod Unborn
-pub mod Wants

@@ -2,6 +2,7 @@
 use Rattle.std.proofs.Common.{◌≡◌, ◌≢◌, ℕ, ◌+◌, ◌<◌, ◌≤◌, ◌^◌, ◌==◌, ◌&&◌, ◌||◌, nat_le, nat_lt, Bool, true, false, List, [], Option, Some, None, is_some, IsSome, IfSome, count_by, option_map, arith, refl, ap, sym, ◌∙◌, slice_index_or, inl, inr, subst}
 use Rattle.std.proofs.lemmas.Bool.{cases_eq}
 use Rattle.std.proofs.lemmas.Bool.Decides.{nat_tests}
+use Rattle.std.proofs.Math.Bool.{and-false}
 use Rattle.sm_names.specs.declared.keys.NodeKey.{NodeKey}
 use Rattle.sm_names.specs.Sameness.{same_key}
 use Rattle.node_table.specs.Table.{Row, Table, row_at, parent_at, parent_in, children_at, children_in, next_at, was_given}
@@ -15,11 +16,6 @@ use Rattle.node_table.proofs.Links.{IsLinked-birth}
 use Rattle.node_table.proofs.Depths.{none-then}
 use Rattle.node_table.proofs.Slots.{row-at, map-then, is_some-option_map, slot_as_parent, vacant-before}
 use Rattle.node_table.proofs.Readings.{given-between}
-
--- `&&` with false is false
-and-false : (b : Bool) → (b && false) ≡ false
-and-false true = refl
-and-false false = refl
 
 -- one generation more was given, and no other
 given-more : (first generation next : ℕ) → generation ≢ next →

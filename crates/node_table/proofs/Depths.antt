@@ -2,11 +2,12 @@
 use Rattle.std.proofs.Common.{◌≡◌, ℕ, zero, suc, ◌+◌, ◌-◌, ◌<◌, ◌≤◌, ◌==◌, ◌&&◌, nat_lt, Bool, true, false, cond, if◌then◌else◌, List, [], ◌∷◌, length, Option, Some, None, is_some, IsSome, count_by, Contains, slice_index_or, arith, refl, ap}
 use Rattle.std.proofs.lemmas.Bool.Decides.{nat_tests}
 use Rattle.std.proofs.lemmas.List.Sums.{sum_by-cons}
+use Rattle.std.proofs.lemmas.Bool.{eqb-true}
 use Rattle.sm_names.specs.declared.keys.NodeKey.{NodeKey}
 use Rattle.node_table.specs.Table.{Row, Table, row_at, parent_at, parent_in, children_at, children_in, next_at, table_len}
 use Rattle.node_table.specs.Forest.{parents_above, depth_at}
 use Rattle.node_table.specs.Sound.{IsLinked}
-use Rattle.node_table.proofs.Keys.{same-fields, true-eq}
+use Rattle.node_table.proofs.Keys.{same-fields}
 
 -- 1 for a taken slot that ranks below this number, and 0 for another
 abbrev counts : Bool → ℕ → ℕ → ℕ
@@ -120,7 +121,8 @@ module _ {N : Type 0} where
   -- a key that is there is the last that its slot gave
   pub next-there : (t : Table N) (key : NodeKey) → IsSome (row_at t key) → next_at t key.slot ≡ key.generation + 1
   next-there t key there =
-      true-eq (next_at t key.slot) (key.generation + 1) (then-row (next_at t key.slot == key.generation + 1) (slice_index_or t.rows key.slot
+      eqb-true (next_at t key.slot) (key.generation + 1)
+      (then-row (next_at t key.slot == key.generation + 1) (slice_index_or t.rows key.slot
       None) there)
 
   -- a key that is there has its slot taken

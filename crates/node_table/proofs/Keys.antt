@@ -13,10 +13,6 @@ eq-false a b differ = grind (arith, nat_tests)
 pub eq-true : (a b : ℕ) → a ≡ b → (a == b) ≡ true
 eq-true a b same = grind (arith, nat_tests)
 
--- numbers that `==` ties are equal
-pub true-eq : (a b : ℕ) → (a == b) ≡ true → a ≡ b
-true-eq a b test = grind (arith, nat_tests)
-
 -- keys with equal fields are equal
 pub same-fields : (a b : NodeKey) → a.slot ≡ b.slot → a.generation ≡ b.generation → a ≡ b
 same-fields a b slots generations = λ i. record { slot = slots i; generation = generations i }

@@ -1,7 +1,7 @@
 -- What a change of the slots does to the table that they make.
 use Rattle.std.proofs.Common.{◌≡◌, ◌≢◌, ℕ, zero, suc, ◌+◌, ◌==◌, Bool, true, false, List, [], ◌∷◌, map, Option, Some, None, is_some, IsSome, IfSome, cond, count_by, option_map, arith, refl, ap, sym, ◌∙◌, slice_index_or, slice_set, inl, inr, subst, if◌then◌else◌}
 use Rattle.std.proofs.Math.ListN.{get_or-map}
-use Rattle.std.proofs.lemmas.Bool.{cases_eq}
+use Rattle.std.proofs.lemmas.Bool.{cases_eq, eqb-true}
 use Rattle.sm_names.specs.declared.keys.NodeKey.{NodeKey}
 use Rattle.node_table.specs.Table.{Row, Table, row_at, next_at}
 use Rattle.node_table.specs.Changes.{at_parent}
@@ -10,7 +10,7 @@ use Rattle.node_table.specs.declared.slot.Entry.{Entry}
 use Rattle.node_table.specs.declared.slot.Slot.{Slot}
 use Rattle.node_table.specs.declared.slot.Slot.TheVariants.{Retired, Taken}
 use Rattle.node_table.proofs.Rows.{count-same}
-use Rattle.node_table.proofs.Keys.{eq-true, eq-false, true-eq, slot_tells_key}
+use Rattle.node_table.proofs.Keys.{eq-true, eq-false, slot_tells_key}
 use Rattle.node_table.proofs.Depths.{next-there, slot-there}
 
 -- a value is there after a map as before
@@ -119,7 +119,7 @@ module _ {N : Type 0} where
       same : p.slot ≡ key.slot → p.generation ≡ key.generation
       same slots =
           let one : next_at t p.slot ≡ p.generation + 1 = next-there t p there in
-          let two : next_at t key.slot ≡ key.generation + 1 = true-eq (next_at t key.slot) (key.generation + 1) test in
+          let two : next_at t key.slot ≡ key.generation + 1 = eqb-true (next_at t key.slot) (key.generation + 1) test in
           let both : next_at t p.slot ≡ next_at t key.slot = ap (next_at t) slots in
           omega arith
 

@@ -11,10 +11,6 @@ use Rattle.record_parts.specs.Members.{AreAmong, Marks, is_among, is_join, joine
 pub record IsMarked (present : List Bool) (rest ids : List ℕ) : Type 0 where
   pub each : (k : ℕ) → k < length present → (get_or present k false || is_among rest (k + 1)) ≡ is_among ids (k + 1)
 
-or_true : (b : Bool) → (b || true) ≡ true
-or_true true = refl
-or_true false = refl
-
 -- ---- the clients of a record, as far as it was read
 
 -- the clients of the first events, and those of the rest, are all

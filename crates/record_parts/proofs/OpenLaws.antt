@@ -4,7 +4,7 @@ use Rattle.std.proofs.lemmas.Bool.{lt-ltb}
 use Rattle.std.proofs.lemmas.List.{reverse-append}
 use Rattle.std.proofs.lemmas.List.Elements.{All-cons, All-map, All-nil}
 use Rattle.std.proofs.lemmas.List.Sums.{sum_by-append, sum_by-cons}
-use Rattle.std.specs.List.{All, cons_option, fold, range_with_len, sum_by}
+use Rattle.std.specs.List.{All, cons_option, range_with_len, sum_by}
 use Rattle.sm_names.specs.declared.keys.BufferName.{BufferName}
 use Rattle.sm_names.specs.declared.keys.Strength.{Strength}
 use Rattle.sm_names.specs.declared.keys.Strength.TheVariants.{Strong, Weak}
@@ -23,7 +23,7 @@ use Rattle.event_laws.specs.ByEvent.{mark_of, only}
 use Rattle.event_laws.specs.HandleSums.{all_open_of, allocated_collections, dropped_at, got_at, indices_in, opened_at, sent_at}
 use Rattle.event_laws.proofs.HandleBufferLaws.{stranger_has_none}
 use Rattle.event_laws.proofs.HandleSumLaws.{all_client_adds}
-use Rattle.event_laws.proofs.MomentLaws.{events_after}
+use Rattle.event_laws.proofs.MomentLaws.{events-fold}
 use Rattle.event_laws.proofs.ParcelEventLaws.{clients_event, made_event}
 use Rattle.record_parts.specs.declared.line.ClientLine.{ClientLine}
 use Rattle.record_parts.specs.declared.own.Own.{Own}
@@ -143,12 +143,6 @@ front_legal pool limits xs ys legal = record {
   within = (let most : length (xs ++ ys) ≤ limits.events = legal.within in omega (arith, most, length-append xs ys));
 }
 
--- and their timeline has each of them
-events_fold : (pool : ℕ) (marks : Timeline) (history : List Entry) →
-    events (fold (after pool) marks history) ≡ events marks + length history
-events_fold pool marks [] = omega arith
-events_fold pool marks (e ∷ es) = omega (arith, events_fold pool (after pool marks e) es, events_after pool marks e)
-
 -- nothing on each buffer is nothing
 over_none : (cs is : List ℕ) (f : BufferName → ℕ) → ((b : BufferName) → f b ≡ 0) →
     sum_by (λ c. sum_by (λ i. f (record { collection = c; index = i })) is) cs ≡ 0
@@ -191,7 +185,7 @@ module _ (pool : ℕ) (limits : Bound) (history : List Entry) (legal : IsLegal p
         (has_joined (timeline pool before) made ≡ false)
     made_now made is =
         let so = made_event pool limits before e legal_front made is in
-        let many : events (timeline pool before) ≡ length before = omega (arith, events_fold pool [] before) in
+        let many : events (timeline pool before) ≡ length before = omega (arith, events-fold pool [] before) in
         (omega (arith, so.0, many), so.1)
 
     -- the part begins after the Join

@@ -57,7 +57,7 @@ birth_was_born marks key b h =
     ap (was_born (births marks)) (sym f.1) ∙ In-was_born (births marks) b f.0
 
 -- and a node of which PeerClosed is not answered has no fault
-has_no_fault : (marks : Timeline) (call : Call) (key : NodeKey) → HasEnd marks key → key_of call ≡ Some key →
+pub has_no_fault : (marks : Timeline) (call : Call) (key : NodeKey) → HasEnd marks key → key_of call ≡ Some key →
     peer_closed (readings marks) call ≡ None → fault marks key ≡ None
 has_no_fault marks call key e is h =
     let h' : option_map (λ (f : Fault). Reply.PeerClosed f.cause f.origin) (fault marks e.birth.node) ≡ None =

@@ -28,7 +28,7 @@ twice : (a : ℕ) → 2 ^ (a + 1) ≡ 2 * 2 ^ a
 twice a = let s : a + 1 ≡ suc a = omega arith in ap (λ k. 2 ^ k) s ∙ pow-succ' 2 a
 
 -- no number is below 0
-none_below : (j : ℕ) → nat_lt j 0 ≡ false
+pub none_below : (j : ℕ) → nat_lt j 0 ≡ false
 none_below j = elim (either_way (nat_lt j 0)) [
   | inl e ↦ let x : j < 0 = ltb-true j 0 e in absurd (omega arith)
   | inr e ↦ e

@@ -1,6 +1,6 @@
 -- The handles that are open are those of the clients and those in parcels.
 use Rattle.std.proofs.Common.{ℕ, subst, ◌≡◌, ◌≤◌, ◌+◌, refl, ap, sym, ◌∙◌, Bool, true, false, cond, not, ◌&&◌, ◌||◌, ◌==◌, inl, inr, List, [], ◌∷◌, drop, Option, Some, None, arith}
-use Rattle.std.proofs.lemmas.Bool.{eqb-true}
+use Rattle.std.proofs.lemmas.Bool.{eqb-true, not-false}
 use Rattle.std.specs.List.{cons_option, sum_by}
 use Rattle.std.specs.Option.{option_map_or}
 use Rattle.sm_names.specs.declared.keys.BufferName.{BufferName}
@@ -272,11 +272,6 @@ known_of true true h = cc
 known_of true false h = (refl, refl)
 known_of false c h = cc
 
--- a test whose opposite fails holds
-not_false : (b : Bool) → not b ≡ false → b ≡ true
-not_false true h = refl
-not_false false h = cc
-
 -- who moves a handle has joined
 pub caller_joined : (limits : Bound) (marks : Timeline) (client : ℕ) (reply : Reply) (call : Call) →
     IsAnswer limits (readings marks) client call reply → moves (Called client reply call) ≡ true → has_joined marks client ≡ true
@@ -302,7 +297,7 @@ receiver_joined : (limits : Bound) (marks : Timeline) (client : ℕ) (reply : Re
     IsAnswer limits (readings marks) client call reply → gives (Called client reply call) ≡ true →
     has_joined marks (receiver (Called client reply call)) ≡ true
 receiver_joined limits marks client Reply.Done (Call.GiveHandle name strength to) answer h =
-    not_false (has_joined marks to)
+    not-false (has_joined marks to)
     (known_of (has_joined marks client) (not (has_joined marks to)) (took_effect_all limits (readings marks) client
     (record { slot = 0; generation = 0 }) (Call.GiveHandle name strength to) Reply.Done refl refl answer.told).known).1
 receiver_joined limits marks client _ _ answer h = cc

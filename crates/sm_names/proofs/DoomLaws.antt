@@ -1,6 +1,6 @@
 -- What is doomed or home stays so.
 use Rattle.std.proofs.Common.{ℕ, ◌≡◌, ◌≤◌, ◌<◌, ◌+◌, refl, sym, ◌∙◌, subst, Bool, true, false, not, ◌&&◌, ◌==◌, inl, inr, [], ◌∷◌, Option, Some, None, is_some, is_none, arith}
-use Rattle.std.proofs.lemmas.Bool.{eqb-true, eq-eqb}
+use Rattle.std.proofs.lemmas.Bool.{eqb-true, eq-eqb, not-true}
 use Rattle.std.specs.List.{list_any}
 use Rattle.std.specs.Option.{option_map_or}
 use Rattle.sm_names.specs.declared.keys.BufferName.{BufferName}
@@ -26,7 +26,7 @@ use Rattle.sm_names.proofs.HandleLaws.{dup_was_open, same_buffer-true, same_stre
 use Rattle.sm_names.proofs.LifeLaws.{IsOrdered, ordered, In_new, members_on}
 use Rattle.sm_names.proofs.ListLaws.{In, In-list_any}
 use Rattle.sm_names.proofs.SamenessLaws.{either_way, and_left, and_right, or_parts, and_both, both_ways}
-use Rattle.sm_names.proofs.SettledLaws.{member_birth, not_back}
+use Rattle.sm_names.proofs.SettledLaws.{member_birth}
 use Rattle.sm_names.proofs.TakeLaws.{take_opens}
 use Rattle.sm_names.proofs.StandingLaws.{In-any}
 use Rattle.sm_names.proofs.SumLaws.{times-cons}
@@ -112,7 +112,7 @@ taken_none limits before client key buffer strength taken collection set h answe
           y in
           let t : (list_any (λ name. same_buffer name buffer) (buffer_names before collection) && not (doomed before buffer)) ≡ true =
           sym (take_opens limits before client collection taken set key answer buffer) ∙ y' in
-          both_ways (doomed before buffer) h (not_back (doomed before buffer) (and_right (list_any (λ name.
+          both_ways (doomed before buffer) h (not-true (doomed before buffer) (and_right (list_any (λ name.
           same_buffer name buffer) (buffer_names before collection)) _ t))
     ]
 
@@ -152,7 +152,7 @@ doomed_parts marks buffer h =
     record {
       given = and_left (is_some (buffers_of marks buffer.collection)) _ h;
       none_open = eqb-true _ _ (and_left (open_total marks buffer Strength.Strong == 0) _ rest);
-      none_strong = not_back _ (and_right (open_total marks buffer Strength.Strong == 0) _ rest);
+      none_strong = not-true _ (and_right (open_total marks buffer Strength.Strong == 0) _ rest);
     }
 
 -- and such a buffer is doomed

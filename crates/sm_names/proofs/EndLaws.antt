@@ -2,6 +2,7 @@
 use Rattle.std.proofs.Common.{ℕ, ◌≡◌, refl, ap, sym, ◌∙◌, subst, Bool, true, false, cond, not, ◌&&◌, ◌||◌, ◌==◌, ◌⊎◌, inl, inr, List, [], ◌∷◌, map, reverse, Option, Some, None, is_some}
 use Rattle.std.specs.List.{fold, cons_option}
 use Rattle.std.specs.Option.{option_map, option_and_then, unwrap_or}
+use Rattle.std.proofs.lemmas.Bool.{and_right}
 use Rattle.sm_names.specs.declared.keys.BufferName.{BufferName}
 use Rattle.sm_names.specs.declared.keys.NodeKey.{NodeKey}
 use Rattle.sm_names.specs.declared.keys.Strength.{Strength}
@@ -245,11 +246,6 @@ not_both true r h = refl
 not_both false true h = refl
 not_both false false h = cc
 
--- both fail where one does
-and_false : (a b : Bool) → b ≡ false → (a && b) ≡ false
-and_false true b h = h
-and_false false b h = refl
-
 module _ (pool : ℕ) (limits : Bound) (history : List Entry) (legal : IsLegal pool limits history) (all_spent : (b : Birth) →
     In b (births (timeline pool history)) → spent (timeline pool history) b.node ≡ true) where
   -- the marks of the history
@@ -265,7 +261,7 @@ module _ (pool : ℕ) (limits : Bound) (history : List Entry) (legal : IsLegal p
   no_live_nodes =
       ap (map (λ (b : Birth). b.node))
       (filter-none (λ (b : Birth). live now b.node) (reverse (births now)) (λ b on.
-      and_false (is_some (birth_of now b.node)) _ (none_live b (In-reverse (births now) b on))))
+      and_right (is_some (birth_of now b.node)) _ (none_live b (In-reverse (births now) b on))))
 
   -- no collection has a strong live node
   none_strong : (collection : ℕ) → some_strong_live (members now collection) ≡ false

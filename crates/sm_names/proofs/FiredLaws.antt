@@ -59,7 +59,7 @@ moment_early (mark ∷ before) moment on =
     at_event h = h
 
 -- a tracker fired at an event that was
-fired_early : (marks : Timeline) (t : Tracked) (event : ℕ) → fired_at marks t ≡ Some event → event ≤ events marks
+pub fired_early : (marks : Timeline) (t : Tracked) (event : ℕ) → fired_at marks t ≡ Some event → event ≤ events marks
 fired_early marks t event h = from (last_match (fires_at t) (moments marks)) refl h
   where
     from : (o : Option Timeline) → last_match (fires_at t) (moments marks) ≡ o → option_map events o ≡ Some event → event ≤ events marks

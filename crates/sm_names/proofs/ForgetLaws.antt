@@ -2,6 +2,8 @@
 use Rattle.std.proofs.Common.{ℕ, ◌≡◌, refl, ap, sym, ◌∙◌, Bool, true, false, cond, not, ◌&&◌, ◌||◌, inl, inr, List, [], ◌∷◌, Option, Some, None}
 use Rattle.std.specs.List.{list_any, list_all, find, filter, filter_map}
 use Rattle.std.specs.Option.{option_map_or, option_map, option_and_then}
+use Rattle.std.proofs.lemmas.Bool.{not-false}
+use Rattle.std.proofs.Math.Bool.{and-false}
 use Rattle.sm_names.specs.declared.keys.NodeKey.{NodeKey}
 use Rattle.sm_names.specs.Births.{births, AreSound}
 use Rattle.sm_names.specs.Changes.{without_gone}
@@ -92,11 +94,6 @@ map-same {A = A} f g o p same is = ap (option_map f) is ∙ at p
     at None = refl
     at (Some x) = ap Some (same x)
 
--- no test holds together with one that fails
-and_false : (a : Bool) → (a && false) ≡ false
-and_false true = refl
-and_false false = refl
-
 -- ---- the nodes that are left
 
 -- the node is not gone
@@ -115,18 +112,13 @@ gone_not_live m h = rw h refl
 gone_not_strong : (m : Member) → is_left m ≡ false → (is_live m && not m.weak) ≡ false
 gone_not_strong m h = rw h refl
 
--- what is not left is gone
-is_gone : (b : Bool) → not b ≡ false → b ≡ true
-is_gone true h = refl
-is_gone false h = cc
-
 -- a node that is gone waits for nothing more
 gone_settled : (m : Member) → is_left m ≡ false → is_settled m ≡ true
-gone_settled m h = rw (is_gone m.gone h) refl
+gone_settled m h = rw (not-false m.gone h) refl
 
 -- nor does it ask for any buffers
 gone_asks_nothing : (m : Member) → is_left m ≡ false → cond m.gone None m.constraints ≡ None
-gone_asks_nothing m h = rw (is_gone m.gone h) refl
+gone_asks_nothing m h = rw (not-false m.gone h) refl
 
 -- so the nodes that are left tell whether some strong node is live
 pub strong-left : (ms : List Member) → some_strong_live (left_of ms) ≡ some_strong_live ms
@@ -155,7 +147,7 @@ root-left ms = find-left (λ m. is_root m && not m.gone) is_left (λ m. is_root 
     twice false false = refl
 
 -- and what the root unit asks for
-asked-left : (ms : List Member) → asked (left_of ms) ≡ asked ms
+pub asked-left : (ms : List Member) → asked (left_of ms) ≡ asked ms
 asked-left ms = ap (λ (o : Option Member). wanted (option_map_or (λ (root : Member). unit root.key (left_of ms)) o [])) (root-left ms)
     ∙ of_root (root_left ms)
   where
@@ -224,14 +216,14 @@ module _ (pool : ℕ) (s : Standing) where
       above_left m on free (Some p) up =
           any-left (λ (n : Member). n.allocated && same_key n.key p) is_left s.members (λ n there lost.
           elim (either_way (same_key n.key p)) [
-            | inl e ↦ both_ways n.gone (is_gone n.gone lost) (closed m n on there free (up ∙ ap Some (sym (same_key-true n.key p e))))
-            | inr e ↦ rw e (and_false n.allocated)
+            | inl e ↦ both_ways n.gone (not-false n.gone lost) (closed m n on there free (up ∙ ap Some (sym (same_key-true n.key p e))))
+            | inr e ↦ rw e (and-false n.allocated)
           ])
 
       next : (m : Member) → In m s.members → (is_left m && is_next_head (left_of s.members) m) ≡ is_next_head s.members m
       next m on =
           elim (either_way m.gone) [
-            | inl e ↦ rw e (sym (and_false m.attached))
+            | inl e ↦ rw e (sym (and-false m.attached))
             | inr e ↦ rw (e, above_left m on e m.parent refl, ready-left m.key s.members) refl
           ]
 

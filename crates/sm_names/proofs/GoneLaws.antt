@@ -3,6 +3,7 @@ use Rattle.std.proofs.Common.{ℕ, ◌≡◌, ◌+◌, refl, ap, sym, ◌∙◌,
 use Rattle.std.proofs.lemmas.List.Sums.{fold-append}
 use Rattle.std.specs.List.{list_any, fold}
 use Rattle.std.specs.Option.{option_map_or, option_map}
+use Rattle.std.proofs.Math.Bool.{and-false}
 use Rattle.sm_names.specs.declared.keys.NodeKey.{NodeKey}
 use Rattle.sm_names.specs.declared.outcomes.Fault.{Fault}
 use Rattle.sm_names.specs.Births.{Birth, births, birth_of, ancestors, was_born, is_at_or_below, AreSound}
@@ -107,14 +108,9 @@ fault_on pool history more node why h =
 
 -- ---- which nodes are live
 
--- no test holds with one that does not
-never : (b : Bool) → (b && false) ≡ false
-never true = refl
-never false = refl
-
 -- a node that is gone is not live
 pub not_live : (marks : Timeline) (node : NodeKey) → gone marks node ≡ true → live marks node ≡ false
-not_live marks node h = rw h (never (is_some (birth_of marks node)))
+not_live marks node h = rw h (and-false (is_some (birth_of marks node)))
 
 -- a node that was born is live if it is neither gone nor released
 pub live_born : (marks : Timeline) (node : NodeKey) → was_born (births marks) node ≡ true →
@@ -147,7 +143,7 @@ listed_once marks node sound =
     same_live : (b : Birth) → (live marks b.node && same_key b.node node) ≡ (live marks node && same_key b.node node)
     same_live b = elim (either_way (same_key b.node node)) [
       | inl e ↦ ap (λ (k : NodeKey). live marks k && same_key b.node node) (same_key-true b.node node e)
-      | inr e ↦ rw e (never (live marks b.node) ∙ sym (never (live marks node)))
+      | inr e ↦ rw e (and-false (live marks b.node) ∙ sym (and-false (live marks node)))
     ]
 
     counted : (l : Bool) → live marks node ≡ l → times (λ (b : Birth). l && same_key b.node node) (births marks) ≡ cond l 1 0

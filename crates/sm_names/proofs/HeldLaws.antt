@@ -1,6 +1,6 @@
 -- What is held: buffers apart from one another, each of them allocated and not home.
 use Rattle.std.proofs.Common.{ℕ, ◌≡◌, ◌≤◌, ◌+◌, refl, ap, sym, ◌∙◌, subst, Bool, true, false, cond, not, ◌&&◌, ◌==◌, nat_lt, ◌⊎◌, inl, inr, List, [], ◌∷◌, ◌++◌, map, length, Option, Some, None, is_some, is_none, arith}
-use Rattle.std.proofs.lemmas.Bool.{eqb-true}
+use Rattle.std.proofs.lemmas.Bool.{eqb-true, not-true}
 use Rattle.std.proofs.lemmas.List.{length-map, map-append}
 use Rattle.std.proofs.lemmas.List.FromFn.{length-range_with_len}
 use Rattle.std.proofs.lemmas.List.Sums.{sum_by-cons}
@@ -31,7 +31,7 @@ use Rattle.sm_names.proofs.LifeLaws.{IsOrdered, ordered, In_new}
 use Rattle.sm_names.proofs.ListLaws.{In, times-append}
 use Rattle.sm_names.proofs.PageLaws.{ArePlaced, placed_apart, sum-le-pool}
 use Rattle.sm_names.proofs.SamenessLaws.{either_way, and_left, and_right, or_left, or_right, or_parts, or_both, and_both, both_ways, same_key-refl}
-use Rattle.sm_names.proofs.SettledLaws.{In-was_born, find_birth, head_itself, none_if, not_back, Why, Initial, Logical, forced_why}
+use Rattle.sm_names.proofs.SettledLaws.{In-was_born, find_birth, head_itself, none_if, Why, Initial, Logical, forced_why}
 use Rattle.sm_names.proofs.SumLaws.{one, any_one, times-filter}
 use Rattle.sm_names.specs.Words.{first_some, times, when}
 use Rattle.sm_names.specs.declared.outcomes.Buffers.{Buffers}
@@ -247,8 +247,8 @@ pub record AreHeld (pool : ℕ) (marks : Timeline) : Type 0 where
       same_buffer b x) (buffer_names marks x.collection)
 
 -- what was not so before is not so now, if it stays so once it is
-not_turned : (a b : Bool) → (a ≡ true → b ≡ true) → not b ≡ true → not a ≡ true
-not_turned true b h k = both_ways b (h refl) (not_back b k)
+pub not_turned : (a b : Bool) → (a ≡ true → b ≡ true) → not b ≡ true → not a ≡ true
+not_turned true b h k = both_ways b (h refl) (not-true b k)
 not_turned false b h k = refl
 
 -- there are as many names as buffers

@@ -35,7 +35,7 @@ In_old None xs x h = h
 In_old (Some y) xs x h = inr h
 
 -- a node that was born was born still
-born_old : (o : Option Birth) (bs : List Birth) (key : NodeKey) → was_born bs key ≡ true → was_born (cons_option o bs) key ≡ true
+pub born_old : (o : Option Birth) (bs : List Birth) (key : NodeKey) → was_born bs key ≡ true → was_born (cons_option o bs) key ≡ true
 born_old None bs key h = h
 born_old (Some b) bs key h = or_right (same_key b.node key) _ h
 

@@ -155,6 +155,13 @@ filter-In p q [] same = refl
 filter-In p q (x ∷ xs) same =
     λ i. cond (same x (inl refl) i) (x ∷ filter-In p q xs (λ y on. same y (inr on)) i) (filter-In p q xs (λ y on. same y (inr on)) i)
 
+-- a list whose elements all pass is kept whole
+pub filter-all : {A : Type 0} (test : A → Bool) (xs : List A) → ((x : A) → In x xs → test x ≡ true) → filter test xs ≡ xs
+filter-all test [] all = refl
+filter-all {A = A} test (x ∷ xs) all =
+    let e : test x ≡ true = all x (inl refl) in
+    rw e (ap (λ (ys : List A). x ∷ ys) (filter-all test xs (λ y on. all y (inr on))))
+
 -- maps that agree do so at each element
 pub map-at : {A B : Type 0} (f g : A → B) (xs : List A) → map f xs ≡ map g xs → (x : A) → In x xs → f x ≡ g x
 map-at f g [] same x on = absurd on

@@ -1,6 +1,6 @@
 -- Buffers are placed in the pool, apart from one another and from what is held.
 use Rattle.std.proofs.Common.{ℕ, zero, suc, ◌≡◌, ◌≤◌, ◌<◌, ◌+◌, refl, ap, sym, subst, Bool, true, false, cond, ◌&&◌, ◌||◌, nat_lt, nat_le, inl, inr, List, [], ◌∷◌, ◌++◌, map, length, Some, arith}
-use Rattle.std.proofs.lemmas.Bool.{ltb-true, ltb-false, leb-true, leb-false}
+use Rattle.std.proofs.lemmas.Bool.{ltb-true, ltb-false, leb-true, leb-false, not-true}
 use Rattle.std.proofs.lemmas.List.Sums.{sum_by-cons}
 use Rattle.std.specs.List.{list_any, range_with_len, sum_by}
 use Rattle.std.specs.Option.{option_map}
@@ -9,12 +9,12 @@ use Rattle.sm_names.specs.Pages.{meets, has_room, least_start, places}
 use Rattle.sm_names.specs.Apart.{AreApart, are_in, at_pages}
 use Rattle.sm_names.proofs.ListLaws.{In-find}
 use Rattle.sm_names.proofs.SamenessLaws.{either_way, and_left, and_right, or_parts, or_both, and_both}
-use Rattle.sm_names.proofs.SettledLaws.{not_back, and_then-Some, map-Some}
+use Rattle.sm_names.proofs.SettledLaws.{and_then-Some, map-Some}
 
 -- an interval that has room ends within the pool and meets nothing that is held
 room_apart : (pool : ℕ) (held : List Interval) (i : Interval) → has_room pool held i ≡ true → (nat_le (i.start + i.pages) pool ≡ true) ×
     (list_any (meets i) held ≡ false)
-room_apart pool held i h = (and_left (nat_le (i.start + i.pages) pool) _ h, not_back _ (and_right (nat_le (i.start + i.pages) pool) _ h))
+room_apart pool held i h = (and_left (nat_le (i.start + i.pages) pool) _ h, not-true _ (and_right (nat_le (i.start + i.pages) pool) _ h))
 
 -- there is room at the start that is found
 start_has_room : (pool pages start : ℕ) (held : List Interval) → least_start pool pages held ≡ Some start →

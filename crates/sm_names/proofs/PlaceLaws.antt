@@ -111,7 +111,7 @@ module _ (pool pages : ℕ) (held : List Interval) where
 -- ---- the starts of several buffers
 
 -- only what was not there maps to nothing
-map-None : {A B : Type 0} (f : A → B) (o : Option A) → option_map f o ≡ None → o ≡ None
+pub map-None : {A B : Type 0} (f : A → B) (o : Option A) → option_map f o ≡ None → o ≡ None
 map-None f None h = refl
 map-None f (Some x) h = cc
 

@@ -2,6 +2,7 @@
 use Rattle.std.proofs.Common.{◌&&◌, ℕ, zero, suc, ◌≡◌, ◌≤◌, ◌<◌, ◌+◌, ◌*◌, refl, ap, sym, ◌∙◌, subst, Bool, true, false, cond, not, ◌||◌, ◌==◌, ◌⊎◌, inl, inr, List, [], ◌∷◌, length, Option, Some, None, arith, is_some, is_none}
 use Rattle.std.specs.List.{list_any, find, filter}
 use Rattle.std.specs.Option.{option_map, option_map_or, option_and_then}
+use Rattle.std.proofs.lemmas.Bool.{not-true}
 use Rattle.sm_names.specs.declared.keys.NodeKey.{NodeKey}
 use Rattle.sm_names.specs.declared.outcomes.Cause.{Cause}
 use Rattle.sm_names.specs.declared.outcomes.Failure.{Failure}
@@ -73,11 +74,6 @@ same_births marks (Called client reply call) h = cc
 same_births marks (Loss node cause) h = refl
 same_births marks (Allocated node) h = refl
 same_births marks (Ended top) h = refl
-
--- a test whose opposite holds fails
-pub not_back : (b : Bool) → not b ≡ true → b ≡ false
-not_back true h = cc
-not_back false h = refl
 
 -- where neither test holds, the second does not
 not_or : (a b : Bool) → not (a || b) ≡ true → not b ≡ true
@@ -176,8 +172,8 @@ next_head_parts ms m h =
     let b : (not m.allocated && (parent && ready)) ≡ true = and_right (not m.gone) (not m.allocated && (parent && ready)) a in
     let c : (parent && ready) ≡ true = and_right (not m.allocated) (parent && ready) b in (
       and_left m.attached (not m.gone && (not m.allocated && (parent && ready))) h,
-      not_back m.gone (and_left (not m.gone) (not m.allocated && (parent && ready)) a),
-      not_back m.allocated (and_left (not m.allocated) (parent && ready) b),
+      not-true m.gone (and_left (not m.gone) (not m.allocated && (parent && ready)) a),
+      not-true m.allocated (and_left (not m.allocated) (parent && ready) b),
       has_parent ms m.parent (and_left parent ready c),
     )
 
@@ -198,9 +194,9 @@ module _ (pool collection : ℕ) (marks : Timeline) (mark : Mark) where
       let free : (not (gone marks b.node) && not (some_live (subtree b.node ms))) ≡ true =
       and_right (is_none b.parent || b.attached) (not (gone marks b.node) && not (some_live (subtree b.node ms))) test in
       let here : gone marks b.node ≡ false =
-      not_back (gone marks b.node) (and_left (not (gone marks b.node)) (not (some_live (subtree b.node ms))) free) in
+      not-true (gone marks b.node) (and_left (not (gone marks b.node)) (not (some_live (subtree b.node ms))) free) in
       let none : some_live (subtree b.node ms) ≡ false =
-      not_back (some_live (subtree b.node ms)) (and_right (not (gone marks b.node)) (not (some_live (subtree b.node ms))) free) in
+      not-true (some_live (subtree b.node ms)) (and_right (not (gone marks b.node)) (not (some_live (subtree b.node ms))) free) in
       subst (Why pool collection marks) t.2 (rw r.2 (No_live b r.1 r.3 here none))
 
   -- the root that is left
@@ -218,7 +214,7 @@ module _ (pool collection : ℕ) (marks : Timeline) (mark : Mark) where
         r.2,
         r.3,
         none_if b.parent (and_left (is_none b.parent) (not (gone marks b.node)) left),
-        not_back (gone marks b.node) (and_right (is_none b.parent) (not (gone marks b.node)) left),
+        not-true (gone marks b.node) (and_right (is_none b.parent) (not (gone marks b.node)) left),
       )
 
   -- why the root is lost, with nothing strong left
@@ -244,7 +240,7 @@ module _ (pool collection : ℕ) (marks : Timeline) (mark : Mark) where
       let r = root_is t.0 t.1 in
       let b : Birth = r.0 in
       let w = when-Some _ _ mark t.2 in
-      let waits : allocated marks b.node ≡ false = not_back _ (subst (λ (m : Member). not m.allocated ≡ true) r.2 (and_left _ _ w.0)) in
+      let waits : allocated marks b.node ≡ false = not-true _ (subst (λ (m : Member). not m.allocated ≡ true) r.2 (and_left _ _ w.0)) in
       let found : root_left (members marks collection) ≡ Some (member marks b) = t.1 ∙ ap Some r.2 in
       subst (Why pool collection marks) w.1 (rw r.2 (initial_outcome b (initial_failure pool now (asked now.members)) r.1 r.3 r.4 r.5 waits
       found refl))

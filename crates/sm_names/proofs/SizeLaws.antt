@@ -79,7 +79,7 @@ are_sized pool limits _ (Allocates before c head g e) =
     (forced_why pool c before (Allocated head) e))
 
 -- where each element passes, all do
-all_on : {A : Type 0} (test : A → Bool) (xs : List A) → ((x : A) → In x xs → test x ≡ true) → list_all test xs ≡ true
+pub all_on : {A : Type 0} (test : A → Bool) (xs : List A) → ((x : A) → In x xs → test x ≡ true) → list_all test xs ≡ true
 all_on test [] passes = refl
 all_on test (x ∷ xs) passes = rw (passes x (inl refl)) (all_on test xs (λ y on. passes y (inr on)))
 

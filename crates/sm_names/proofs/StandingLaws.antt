@@ -96,7 +96,7 @@ members-lost marks b cause sound together found =
 -- ---- what losses and ends give back
 
 -- what passes the narrower test may first be kept by the wider one
-filter-less : {A : Type 0} (p q : A → Bool) (xs : List A) → ((x : A) → p x ≡ true → q x ≡ true) → filter p xs ≡ filter p (filter q xs)
+pub filter-less : {A : Type 0} (p q : A → Bool) (xs : List A) → ((x : A) → p x ≡ true → q x ≡ true) → filter p xs ≡ filter p (filter q xs)
 filter-less p q [] less = refl
 filter-less p q (x ∷ xs) less =
     let on : filter p xs ≡ filter p (filter q xs) = filter-less p q xs less in

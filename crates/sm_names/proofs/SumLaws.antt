@@ -96,7 +96,7 @@ AreOnce [] = Unit {0}
 AreOnce (n ∷ ns) = (one_of ns n ≡ false) × AreOnce ns
 
 -- numbers differ both ways
-swap_eq : (a b : ℕ) → (a == b) ≡ false → (b == a) ≡ false
+pub swap_eq : (a b : ℕ) → (a == b) ≡ false → (b == a) ≡ false
 swap_eq a b differ = elim (either_way (b == a)) [
   | inl e ↦ both_ways (a == b) (eq-eqb a b (sym (eqb-true b a e))) differ
   | inr e ↦ e

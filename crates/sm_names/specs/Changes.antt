@@ -1,5 +1,5 @@
 -- What one more mark does to the nodes of a collection, as they stand.
-use Rattle.std.specs.Prelude.{Bool, true, false, ◌||◌, ◌&&◌, not, if◌then◌else◌, List, Some}
+use Rattle.std.specs.Prelude.{Bool, true, false, ◌||◌, ◌&&◌, not, List}
 use Rattle.std.specs.List.{list_any, filter}
 use Rattle.sm_names.specs.Forced.{Standing}
 use Rattle.sm_names.specs.declared.keys.NodeKey.{NodeKey}
@@ -45,12 +45,3 @@ is_quiet (Call.Sync key) Reply.Done = true
 is_quiet (Call.Release key) (Reply.PeerClosed cause origin) = false
 is_quiet call (Reply.PeerClosed cause origin) = true
 is_quiet _ _ = false
-
--- a call on the node that took effect: no other call changes what the forced steps read of a node
-abbrev pub after_call : Call → Member → Member
-after_call (Call.SetDispensable key) m = record m { dispensable = same_key key m.key || m.dispensable }
-after_call (Call.SetWeak key) m = record m { weak = same_key key m.key || m.weak }
-after_call (Call.SetConstraints key demand) m =
-    record m { constraints = if same_key key m.key then Some demand else m.constraints }
-after_call (Call.Release key) m = record m { released = same_key key m.key || m.released }
-after_call _ m = m

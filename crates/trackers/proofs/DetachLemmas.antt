@@ -4,7 +4,7 @@ use Rattle.std.specs.List.{filter_map, cons_option, AllByRecursion}
 use Rattle.std.specs.Option.{option_map_or, option_to_list}
 use Rattle.std.proofs.lemmas.Bool.{eqb-true, eq-eqb}
 use Rattle.std.proofs.lemmas.Bool.Decides.{nat_tests}
-use Rattle.std.proofs.lemmas.List.{map_push, length_push}
+use Rattle.std.proofs.lemmas.List.{map_push, length_push, same_from_push}
 use Rattle.std.proofs.lemmas.List.Sums.{sum_by-append, sum_by-cons}
 use Rattle.sm_names.specs.declared.tracking.Fired.{Fired}
 use Rattle.sm_names.specs.declared.tracking.Condition.{Condition}
@@ -19,19 +19,6 @@ use Rattle.trackers.proofs.Weights.{weigh_append}
 
 -- ---- the last of a list
 
--- lists that are the same with one more element were the same, and so is the element
-last_same : {A : Type 0} (xs ys : List A) (x y : A) → xs ++ x ∷ [] ≡ ys ++ y ∷ [] → (xs ≡ ys) × (x ≡ y)
-last_same [] [] x y same = (refl, cc)
-last_same [] (b ∷ []) x y same = cc
-last_same [] (b ∷ c ∷ ys) x y same = cc
-last_same (a ∷ []) [] x y same = cc
-last_same (a ∷ b ∷ xs) [] x y same = cc
-last_same (a ∷ xs) (b ∷ ys) x y same =
-    let here : a ≡ b = cc in
-    let rest : xs ++ x ∷ [] ≡ ys ++ y ∷ [] = cc in
-    let more = last_same xs ys x y rest in
-    ((λ i. here i ∷ more.0 i), more.1)
-
 -- what holds of all holds of the last
 last_of : {A : Type 0} (P : A → Type 0) (xs : List A) (x : A) → AllByRecursion P (xs ++ x ∷ []) → P x
 last_of P [] x all = all.0
@@ -41,11 +28,6 @@ last_of P (y ∷ ys) x all = last_of P ys x all.1
 front_of : {A : Type 0} (P : A → Type 0) (xs : List A) (x : A) → AllByRecursion P (xs ++ x ∷ []) → AllByRecursion P xs
 front_of P [] x all = tt
 front_of P (y ∷ ys) x all = (all.0, front_of P ys x all.1)
-
--- a list of no length is empty
-pub no_items : {A : Type 0} (xs : List A) → length xs ≡ 0 → xs ≡ []
-no_items [] none = refl
-no_items (x ∷ xs) none = absurd (omega (arith, none))
 
 -- ---- ids below that of the last row
 
@@ -92,7 +74,7 @@ module _ (limit : ℕ) (rows : List TrackerRow) (row : TrackerRow) (fired : List
     (attaches : Attaches before (table_of limit (rows ++ row ∷ []) fired) tracker) where
   -- its cell is the last
   cells_same : (map cell_of_row rows ≡ before.cells) × (cell_of_row row ≡ record { id = tracker.id; name = attaches.name })
-  cells_same = last_same (map cell_of_row rows) before.cells (cell_of_row row) (record { id = tracker.id; name = attaches.name })
+  cells_same = same_from_push (map cell_of_row rows) before.cells (cell_of_row row) (record { id = tracker.id; name = attaches.name })
       (sym (map_push cell_of_row rows row) ∙ ap (λ (t : Table). t.cells) attaches.next)
 
   -- so it has the tracker's id
@@ -116,7 +98,7 @@ module _ (limit : ℕ) (rows : List TrackerRow) (row : TrackerRow) (fired : List
           (waits_below row.id rows (below_last rows row rising))) in
           absurd (omega (arith, low, same_id))
       from (Some t) e =
-          let last = last_same (filter_map waiting_of_row rows) before.unfired t tracker (ap (λ o.
+          let last = same_from_push (filter_map waiting_of_row rows) before.unfired t tracker (ap (λ o.
           filter_map waiting_of_row rows ++ option_to_list o) (sym e) ∙ all) in
           (last.0, e ∙ ap Some last.1)
 
@@ -136,7 +118,7 @@ module _ (limit : ℕ) (rows : List TrackerRow) (row : TrackerRow) (fired : List
           (untaken_below row.id rows (below_last rows row rising))) in
           absurd (omega (arith, low, same_id))
       from (Some i) e =
-          (last_same (filter_map untaken_of_row rows) before.untaken i tracker.id (ap (λ o.
+          (same_from_push (filter_map untaken_of_row rows) before.untaken i tracker.id (ap (λ o.
           filter_map untaken_of_row rows ++ option_to_list o) (sym e) ∙ all)).0
 
   -- without it the table shows what it showed

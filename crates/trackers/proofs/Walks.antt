@@ -3,6 +3,7 @@ use Rattle.std.proofs.Common.{◌≡◌, ℕ, ◌+◌, ◌<◌, ◌≤◌, Bool,
 use Rattle.std.specs.List.{filter_map, cons_option}
 use Rattle.std.proofs.lemmas.List.{map-append, map_push, length-map, get_or_at, set_at, drop_more}
 use Rattle.std.proofs.lemmas.List.Sums.{sum_by-set}
+use Rattle.std.proofs.lemmas.List.Elements.{filter_map-append}
 use Rattle.sm_names.specs.declared.tracking.Fired.{Fired}
 use Rattle.sm_names.specs.Trackers.{World, holds}
 use Rattle.trackers.specs.Row.{TrackerRow, Stage, Waits, Over, is_waiting, waits}
@@ -16,15 +17,6 @@ filter_map_push h (y ∷ ys) x =
     elim (h y) as (λ o. cons_option o (filter_map h (ys ++ x ∷ [])) ≡ cons_option o (filter_map h ys) ++ option_to_list (h x)) [
       | None ↦ filter_map_push h ys x
       | Some z ↦ ap (λ l. z ∷ l) (filter_map_push h ys x)
-    ]
-
--- what h gives of two lists in a row
-pub filter_map_append : {X Y : Type 0} (h : X → Option Y) (xs ys : List X) → filter_map h (xs ++ ys) ≡ filter_map h xs ++ filter_map h ys
-filter_map_append h [] ys = refl
-filter_map_append h (x ∷ xs) ys =
-    elim (h x) as (λ o. cons_option o (filter_map h (xs ++ ys)) ≡ cons_option o (filter_map h xs) ++ filter_map h ys) [
-      | None ↦ filter_map_append h xs ys
-      | Some z ↦ ap (λ l. z ∷ l) (filter_map_append h xs ys)
     ]
 
 -- a row as the record of its fields
@@ -167,7 +159,7 @@ module _ (w : World) (e : ℕ) (start : List TrackerRow) (had : List Fired) wher
   walked_fired rows fired walked =
       walked.grown
       ∙ ap (λ l. had ++ l) (sym (ap (filter_map (fires w e)) walked.whole
-      ∙ filter_map_append (fires w e) walked.done walked.todo
+      ∙ filter_map-append (fires w e) walked.done walked.todo
       ∙ ap (λ l. filter_map (fires w e) walked.done ++ l) (none_due _ walked.todo walked.reach).1
       ∙ append-nil (filter_map (fires w e) walked.done)))
 

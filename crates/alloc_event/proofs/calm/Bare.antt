@@ -2,6 +2,7 @@
 use Rattle.std.proofs.Common.{◌≡◌, ◌++◌, ℕ, zero, suc, ◌<◌, refl, ap, sym, ◌∙◌, subst, Bool, true, false, not, ◌||◌, is_none, is_some, inl, inr, List, [], ◌∷◌, drop, map, length, Option, Some, None, option_map, arith}
 use Rattle.std.proofs.lemmas.Bool.{not-true}
 use Rattle.std.specs.List.{find, list_all, list_any}
+use Rattle.std.proofs.Math.Bool.{or-true}
 use Rattle.sm_names.specs.declared.keys.Interval.{Interval}
 use Rattle.sm_names.specs.declared.keys.NodeKey.{NodeKey}
 use Rattle.sm_names.specs.Forced.{forced}
@@ -26,13 +27,6 @@ use Rattle.alloc_event.proofs.tables.Rooted.{left_node, left_parent}
 use Rattle.alloc_event.proofs.calm.Steps.{all-In}
 use Rattle.alloc_event.proofs.calm.Topmost.{find_top}
 use Rattle.alloc_event.proofs.tables.Writing.{IsSound-map}
-
-or_true : (b : Bool) → (b || true) ≡ true
-or_true true = refl
-or_true false = refl
-
-or_one : (b c : Bool) → b ≡ true → (b || c) ≡ true
-or_one b c e = rw e refl
 
 -- a root that is found is the first node
 no_child : (n : Node) (ns : List Node) → list_all (λ (m : Node). is_some m.parent) (drop 1 (n ∷ ns)) ≡ true → (r : Node) → In r (n ∷ ns) →
@@ -148,10 +142,10 @@ module _ (c : Collection) (whole : IsWhole c) where
     takes_all : after_end root.key nodes ≡ map left_of nodes
     takes_all = map-In (ended nodes root.key) left_of nodes (λ n on. elim (either_way n.gone) [
       | inl e ↦ let went : (is_below nodes root.key n.key || n.gone) ≡ true =
-          ap (λ (b : Bool). is_below nodes root.key n.key || b) e ∙ or_true (is_below nodes root.key n.key) in
+          ap (λ (b : Bool). is_below nodes root.key n.key || b) e ∙ or-true (is_below nodes root.key n.key) in
           λ i. record n { gone = went i }
       | inr here ↦ let went : (is_below nodes root.key n.key || n.gone) ≡ true =
-          or_one (is_below nodes root.key n.key) n.gone (all_below n on here) in
+          or_left (is_below nodes root.key n.key) n.gone (all_below n on here) in
           λ i. record n { gone = went i }
     ])
 

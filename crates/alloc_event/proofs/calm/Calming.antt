@@ -3,6 +3,7 @@ use Rattle.std.proofs.Common.{◌≡◌, ℕ, ◌+◌, ◌++◌, refl, ap, sym, 
 use Rattle.std.proofs.lemmas.Bool.{not-true}
 use Rattle.std.specs.List.{list_any, list_all, find, filter}
 use Rattle.std.specs.Option.{option_map, option_map_or, option_and_then}
+use Rattle.std.proofs.Math.Bool.{or-true}
 use Rattle.sm_names.specs.declared.keys.Interval.{Interval}
 use Rattle.sm_names.specs.declared.keys.NodeKey.{NodeKey}
 use Rattle.sm_names.specs.declared.outcomes.Buffers.{Buffers}
@@ -11,8 +12,9 @@ use Rattle.sm_names.specs.Forced.{forced, is_deserted, is_next_head}
 use Rattle.sm_names.specs.Members.{Member, is_ready, root_left}
 use Rattle.sm_names.specs.Sameness.{same_key}
 use Rattle.sm_names.specs.Words.{first_some, when, times}
-use Rattle.sm_names.proofs.ListLaws.{In, In-filter, In-filter-back, filter-swap, map-In}
-use Rattle.sm_names.proofs.SamenessLaws.{either_way, both_ways}
+use Rattle.sm_names.proofs.ListLaws.{In, In-filter, In-filter-back, filter-swap, map-In, filter-all}
+use Rattle.sm_names.proofs.SamenessLaws.{either_way, both_ways, or_left}
+use Rattle.sm_names.proofs.PlaceLaws.{map-None}
 use Rattle.alloc_event.specs.declared.decision.Decision.{Decision}
 use Rattle.alloc_event.specs.declared.decision.Decision.TheVariants.{Ends, Loses}
 use Rattle.alloc_event.specs.declared.node.Node.{Node}
@@ -41,11 +43,6 @@ pub record AreNone (nodes : List Node) (buffers : Option Buffers) : Type 0 where
   pub no_root : waiting nodes ≡ None
   pub no_head : later nodes buffers ≡ None
 
--- what is made of nothing
-pub map_none : {A B : Type 0} (f : A → B) (o : Option A) → option_map f o ≡ None → o ≡ None
-map_none f None h = refl
-map_none f (Some x) h = cc
-
 -- none of four
 four_none : (a b c d : Option Decision) → first_some (a ∷ b ∷ c ∷ d ∷ []) ≡ None → (a ≡ None) × (b ≡ None) × (c ≡ None) × (d ≡ None)
 four_none None None None None h = (refl, refl, refl, refl)
@@ -63,8 +60,8 @@ pub decided_parts : (nodes : List Node) (buffers : Option Buffers) (strong_open 
 decided_parts nodes buffers strong_open h =
     let n = four_none _ _ _ _ h in
     record {
-      no_end = map_none (λ (n : Node). Ends n.key) (find (is_deserted_node nodes) nodes) n.0;
-      no_root = map_none (λ (n : Node). first_step nodes n.key) (waiting nodes) n.2;
+      no_end = map-None (λ (n : Node). Ends n.key) (find (is_deserted_node nodes) nodes) n.0;
+      no_root = map-None (λ (n : Node). first_step nodes n.key) (waiting nodes) n.2;
       no_head = n.3;
     }
 
@@ -90,16 +87,8 @@ none_decided nodes buffers strong_open some none =
     (ap (option_map (λ (n : Node). first_step nodes n.key)) none.no_root)
     none.no_head
 
--- one or the other
-or_true : (b : Bool) → (b || true) ≡ true
-or_true true = refl
-or_true false = refl
-
-or_this : (b c : Bool) → b ≡ true → (b || c) ≡ true
-or_this b c is = rw is refl
-
 pub calm_none : (c : Collection) → AreNone c.nodes c.buffers → IsCalm c
-calm_none c none = none_decided c.nodes c.buffers true (or_true (has_strong c.nodes)) none
+calm_none c none = none_decided c.nodes c.buffers true (or-true (has_strong c.nodes)) none
 
 pub none_calm : (c : Collection) → IsCalm c → AreNone c.nodes c.buffers
 none_calm c calm = decided_parts c.nodes c.buffers true calm
@@ -109,7 +98,7 @@ pub calm_rested : (pool : ℕ) (handles : Handles) (others : List Interval) (c :
     forced pool (standing handles others c) ≡ None → IsCalm c
 calm_rested pool handles others c h =
     calm_none c (decided_parts c.nodes c.buffers (standing handles others c).strong_open
-    (map_none (mark_of pool (pages_in c ++ others)) (decided c.nodes c.buffers (standing handles others c).strong_open)
+    (map-None (mark_of pool (pages_in c ++ others)) (decided c.nodes c.buffers (standing handles others c).strong_open)
     (sym (forced_made handles pool others c) ∙ h)))
 
 -- in a calm collection nothing is forced while a strong node lives
@@ -118,7 +107,7 @@ pub rests_strong : (c : Collection) → IsCalm c → has_strong c.nodes ≡ true
 rests_strong c calm strong pool handles others =
     forced_made handles pool others c
     ∙ ap (option_map (mark_of pool (pages_in c ++ others)))
-    (none_decided c.nodes c.buffers (standing handles others c).strong_open (or_this (has_strong c.nodes)
+    (none_decided c.nodes c.buffers (standing handles others c).strong_open (or_left (has_strong c.nodes)
     (standing handles others c).strong_open strong) (none_calm c calm))
 
 -- ---- counts
@@ -171,7 +160,7 @@ none_is (Some x) h = cc
 pub none_same : (old new : List Node) (buffers : Option Buffers) → members_of new ≡ members_of old → AreNone old buffers →
     AreNone new buffers
 none_same old new buffers same none = record {
-  no_end = map_none (member_of new) (find (is_deserted_node new) new)
+  no_end = map-None (member_of new) (find (is_deserted_node new) new)
       (sym (deserted_tie new) ∙ ap (λ (ms : List Member). find (is_deserted ms) ms) same ∙ deserted_tie old
       ∙ ap (option_map (member_of old)) none.no_end);
   no_root = none_is (waiting new)
@@ -185,14 +174,9 @@ none_same old new buffers same none = record {
     from None h = refl
     from (Some b) h =
         ap (option_map (λ (n : Node). later_step new b n.key))
-        (map_none (member_of new) (find (is_next_node new) new)
+        (map-None (member_of new) (find (is_next_node new) new)
         (sym (next_tie new) ∙ ap (λ (ms : List Member). find (is_next_head ms) ms) same ∙ next_tie old
-        ∙ ap (option_map (member_of old)) (map_none (λ (n : Node). later_step old b n.key) (find (is_next_node old) old) h)))
-
--- all stay that pass
-keep_each : {A : Type 0} (p : A → Bool) (xs : List A) → ((x : A) → In x xs → p x ≡ true) → filter p xs ≡ xs
-keep_each p [] each = refl
-keep_each p (x ∷ xs) each = rw (each x (inl refl)) (ap (λ ys. x ∷ ys) (keep_each p xs (λ y on. each y (inr on))))
+        ∙ ap (option_map (member_of old)) (map-None (λ (n : Node). later_step old b n.key) (find (is_next_node old) old) h)))
 
 module _ (c : Collection) (whole : IsWhole c) (p : Node → Bool) (over : (n : Node) → In n c.nodes → p n ≡ false → n.gone ≡ true) where
   abbrev nodes : List Node
@@ -228,7 +212,7 @@ module _ (c : Collection) (whole : IsWhole c) (p : Node → Bool) (over : (n : N
   members_filter =
       ap (map (member_of (filter p nodes)))
       (filter-swap (λ (n : Node). not n.gone) p nodes
-      ∙ keep_each p (filter (λ (n : Node). not n.gone) nodes)
+      ∙ filter-all p (filter (λ (n : Node). not n.gone) nodes)
       (λ n on. let x = In-filter (λ (n : Node). not n.gone) nodes n on in passes n x.0 (not-true n.gone x.1)))
       ∙ map-In (member_of (filter p nodes)) (member_of nodes) (filter (λ (n : Node). not n.gone) nodes)
       (λ n on. let x = In-filter (λ (n : Node). not n.gone) nodes n on in
@@ -368,7 +352,7 @@ module _ (nodes : List Node) (f : Node → Node) (plain : (n : Node) → IsPlain
       from (Some b) h =
           ap (option_map (λ (n : Node). later_step now b n.key))
           (find_map (is_next_node now) (is_next_node nodes) f nodes next_map
-          ∙ ap (option_map f) (map_none (λ (n : Node). later_step nodes b n.key) (find (is_next_node nodes) nodes) h))
+          ∙ ap (option_map f) (map-None (λ (n : Node). later_step nodes b n.key) (find (is_next_node nodes) nodes) h))
 
 -- and the collection stays calm
 pub calm_map : (c : Collection) (f : Node → Node) → ((n : Node) → IsPlain (f n) n) → IsCalm c → IsCalm (with_nodes (map f) c)

@@ -2,6 +2,7 @@
 use Rattle.std.proofs.Common.{◌≡◌, ◌++◌, ℕ, suc, refl, ap, sym, ◌∙◌, subst, Bool, true, false, not, ◌||◌, is_none, ◌⊎◌, inl, inr, if◌then◌else◌, List, [], ◌∷◌, map, length, Some, None, option_map, arith}
 use Rattle.std.proofs.lemmas.Bool.{not-true}
 use Rattle.std.specs.List.{find, list_any}
+use Rattle.std.proofs.Math.Bool.{or-true}
 use Rattle.sm_names.specs.declared.keys.Interval.{Interval}
 use Rattle.sm_names.specs.declared.keys.NodeKey.{NodeKey}
 use Rattle.sm_names.specs.Forced.{forced}
@@ -31,10 +32,6 @@ use Rattle.alloc_event.proofs.tables.Writing.{IsSameNode}
 maps : {A : Type 0} (f g : A → A) (xs : List A) → map f (map g xs) ≡ map (λ x. f (g x)) xs
 maps f g [] = refl
 maps f g (x ∷ xs) = ap (λ (ys : List _). f (g x) ∷ ys) (maps f g xs)
-
-or_true : (b : Bool) → (b || true) ≡ true
-or_true true = refl
-or_true false = refl
 
 -- the nodes at and below the highest one leave, and the unit above it has a live node that stays
 module _ (c : Collection) (whole : IsWhole c) (falls : NodeKey → Bool) (top above : Node)
@@ -205,7 +202,7 @@ module _ (c : Collection) (whole : IsWhole c) (falls : NodeKey → Bool) (top ab
           ended now top.key (g n) ≡ leaves n
       one n on (inl e) (inl gone) =
           let went : (is_below now top.key (g n).key || (g n).gone) ≡ true =
-          ap (λ (b : Bool). is_below now top.key (g n).key || b) (stays n gone) ∙ or_true (is_below now top.key (g n).key) in
+          ap (λ (b : Bool). is_below now top.key (g n).key || b) (stays n gone) ∙ or-true (is_below now top.key (g n).key) in
           (λ i. record (g n) { gone = went i }) ∙ (λ i. if sym e i then record (g n) { gone = true } else n)
       one n on (inl e) (inr here) =
           let went : (is_below now top.key (g n).key || (g n).gone) ≡ true =
@@ -213,7 +210,7 @@ module _ (c : Collection) (whole : IsWhole c) (falls : NodeKey → Bool) (top ab
           (λ i. record (g n) { gone = went i }) ∙ (λ i. if sym e i then record (g n) { gone = true } else n)
       one n on (inr e) (inl gone) =
           let went : (is_below now top.key (g n).key || (g n).gone) ≡ (g n).gone =
-          ap (λ (b : Bool). is_below now top.key (g n).key || b) (stays n gone) ∙ or_true (is_below now top.key (g n).key)
+          ap (λ (b : Bool). is_below now top.key (g n).key || b) (stays n gone) ∙ or-true (is_below now top.key (g n).key)
           ∙ sym (stays n gone) in
           (λ i. record (g n) { gone = went i }) ∙ alone n e ∙ (λ i. if sym e i then record (g n) { gone = true } else n)
       one n on (inr e) (inr here) =

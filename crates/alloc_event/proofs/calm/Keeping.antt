@@ -10,6 +10,7 @@ use Rattle.sm_names.specs.Words.{times, when}
 use Rattle.sm_names.proofs.ListLaws.{In, In-find, In-list_any, In-map, In-map-back}
 use Rattle.sm_names.proofs.SamenessLaws.{and_both, and_left, and_right, both_ways, either_way, false_if, or_left, or_right, same_key-true}
 use Rattle.sm_names.proofs.StandingLaws.{In-any}
+use Rattle.sm_names.proofs.SizeLaws.{all_on}
 use Rattle.alloc_event.specs.declared.node.Node.{Node}
 use Rattle.alloc_event.specs.Calm.{IsCalm}
 use Rattle.alloc_event.specs.Decisions.{later_step, waiting}
@@ -24,7 +25,6 @@ use Rattle.alloc_event.proofs.tallies.Holding.{are_held, hangs_in, held_where, h
 use Rattle.alloc_event.proofs.newborns.Members.{find-none, none-find}
 use Rattle.alloc_event.proofs.tables.Rooted.{distinct_one}
 use Rattle.alloc_event.proofs.calm.Steps.{all-In}
-use Rattle.alloc_event.proofs.calm.United.{each_all}
 use Rattle.alloc_event.proofs.tables.Writing.{IsSameNode, IsWhole-map}
 
 -- some pass where one does
@@ -155,7 +155,7 @@ module _ (nodes : List Node) (f : Node → Node) (same : (n : Node) → IsSameNo
         (h : Node) → In h nodes → h.allocated ≡ false → has_turn nodes h ≡ true → list_all (is_ready_node h.key) now ≡ true →
         list_all (is_ready_node h.key) nodes ≡ true
     ready_before guard h in_nodes waiting turn all =
-        each_all (is_ready_node h.key) nodes (λ m there. elim (either_way (same_key n.key m.key)) [
+        all_on (is_ready_node h.key) nodes (λ m there. elim (either_way (same_key n.key m.key)) [
           | inl e ↦ ap (is_ready_node h.key) (one m there e) ∙ own guard (either_way (same_key n.head h.key))
           | inr e ↦ ap (is_ready_node h.key) (sym (alone m there e))
               ∙ all-In (is_ready_node h.key) now (f m) (In-map-back f nodes m there) all
@@ -179,19 +179,15 @@ module _ (nodes : List Node) (f : Node → Node) (same : (n : Node) → IsSameNo
         own (inr (inl some)) (inl e) =
             let x = In-list_any (waits_in n.head) now (some_pass (waits_in n.head) now some) in
             let here : is_ready_node h.key x.0 ≡ true = all-In (is_ready_node h.key) now x.0 x.1 all in
-            let not_here : is_ready_node n.head x.0 ≡ false = not_is (is_ready_node n.head x.0) x.2 in
+            let not_here : is_ready_node n.head x.0 ≡ false = not-true (is_ready_node n.head x.0) x.2 in
             both_ways (is_ready_node n.head x.0) (subst (λ (k : NodeKey). is_ready_node k x.0 ≡ true) (sym (same_key-true n.head h.key e))
             here) not_here
-          where
-            not_is : (b : Bool) → not b ≡ true → b ≡ false
-            not_is true h = cc
-            not_is false h = refl
         own (inr (inr (inl given))) (inl e) = both_ways h.allocated (given h in_nodes (sym (same_key-true n.head h.key e))) waiting
         own (inr (inr (inr bare))) (inl e) = both_ways (has_turn nodes h) turn (bare h in_nodes (sym (same_key-true n.head h.key e)))
 
     -- each unit is held still, where something still holds the node's own
     held_still : list_any (holds_unit now n.head) now ≡ true → are_held nodes ≡ true → are_held now ≡ true
-    held_still some held = each_all (is_held now) now (λ m there.
+    held_still some held = all_on (is_held now) now (λ m there.
         let x = In-map f nodes m there in
         ap (is_held now) x.2 ∙ still x.0 x.1)
       where

@@ -3,6 +3,7 @@ use Rattle.std.proofs.Common.{◌≡◌, ◌<◌, ◌+◌, ℕ, refl, ap, sym, �
 use Rattle.std.proofs.lemmas.Bool.{not-true}
 use Rattle.std.proofs.lemmas.Option.{same_Some, slice_get-get_or, slice_get_within}
 use Rattle.std.specs.Option.{option_map_or}
+use Rattle.std.proofs.Math.Bool.{or-true}
 use Rattle.sm_names.specs.declared.keys.NodeKey.{NodeKey}
 use Rattle.sm_names.specs.declared.outcomes.Fault.{Fault}
 use Rattle.sm_names.specs.Sameness.{same_key}
@@ -105,14 +106,10 @@ pub ended_by : (taken : Bool) (n : Node) (mark : Bool) → (n.gone ≡ false →
     record n { gone = mark || n.gone } ≡ record n { gone = taken || n.gone }
 ended_by taken n mark is = from n.gone refl
   where
-    or_true : (b : Bool) → (b || true) ≡ true
-    or_true true = refl
-    or_true false = refl
-
     from : (g : Bool) → n.gone ≡ g → record n { gone = mark || n.gone } ≡ record n { gone = taken || n.gone }
     from false e = ap (λ (b : Bool). record n { gone = b || n.gone }) (is e)
-    from true e = ap (λ (b : Bool). record n { gone = b }) (ap (λ (g : Bool). mark || g) e ∙ or_true mark
-        ∙ sym (ap (λ (g : Bool). taken || g) e ∙ or_true taken))
+    from true e = ap (λ (b : Bool). record n { gone = b }) (ap (λ (g : Bool). mark || g) e ∙ or-true mark
+        ∙ sym (ap (λ (g : Bool). taken || g) e ∙ or-true taken))
 
 -- what stands where the changed ones end
 rest_at : {A : Type 0} (f : A → A) (xs : List A) (at : ℕ) → slice_get (map f (take at xs) ++ drop at xs) at ≡ slice_get xs at

@@ -2,6 +2,7 @@
 use Rattle.std.proofs.Common.{◌≡◌, ◌≤◌, ◌<◌, refl, ap, sym, ◌∙◌, subst, Bool, true, false, not, ◌&&◌, ◌||◌, cond, if◌then◌else◌, is_none, is_some, drop, reverse, List, [], ◌∷◌, map, Option, Some, None, inl, inr, arith}
 use Rattle.std.specs.List.{list_any, list_all}
 use Rattle.std.specs.Option.{option_map_or}
+use Rattle.std.proofs.lemmas.Bool.{not-true}
 use Rattle.sm_names.specs.declared.keys.NodeKey.{NodeKey}
 use Rattle.sm_names.specs.Losses.{top as topmost}
 use Rattle.sm_names.specs.Sameness.{same_key}
@@ -17,7 +18,6 @@ use Rattle.alloc_event.specs.Questions.{is_below}
 use Rattle.alloc_event.specs.Scenes.{are_distinct, frame_of, given_few, heads_itself, IsSound}
 use Rattle.alloc_event.specs.Settling.{is_root_of}
 use Rattle.alloc_event.proofs.tables.Links.{map-kept}
-use Rattle.alloc_event.proofs.calm.Steps.{not_true}
 use Rattle.alloc_event.proofs.failures.Takings.{highest_of, taken_found}
 
 -- ---- how many steps are left
@@ -76,8 +76,8 @@ given_lt : (head : NodeKey) (n : Node) → (same_key head n.head && (not n.gone 
 given_lt head n h =
     let s : same_key head n.head ≡ true = and_left (same_key head n.head) _ h in
     let rest = and_right (same_key head n.head) _ h in
-    let g : n.gone ≡ false = not_true n.gone (and_left (not n.gone) _ rest) in
-    let a : n.allocated ≡ false = not_true n.allocated (and_right (not n.gone) _ rest) in
+    let g : n.gone ≡ false = not-true n.gone (and_left (not n.gone) _ rest) in
+    let a : n.allocated ≡ false = not-true n.allocated (and_right (not n.gone) _ rest) in
     rw (g, s, a) (omega arith)
 
 -- a failure takes the node where it began
@@ -117,14 +117,14 @@ less_left old _ (Left top there) =
     (λ n. gone_le n (ended old top n) (is_below old top n.key) refl refl)
     (λ n on h. gone_lt n (ended old top n) (is_below old top n.key) refl
     (or_left (same_key top n.key) _ (same_key-comm n.key top (and_left (is_of top n) (not n.gone) h)))
-    (not_true n.gone (and_right (is_of top n) (not n.gone) h)))
+    (not-true n.gone (and_right (is_of top n) (not n.gone) h)))
     there
 less_left old _ (Lost fault there) =
     less_work (lost (is_taken old fault.origin) fault) (λ n. is_of fault.origin n && not n.gone) old
     (λ n. gone_le n (lost (is_taken old fault.origin) fault n) (is_taken old fault.origin n) refl refl)
     (λ n on h. gone_lt n (lost (is_taken old fault.origin) fault n) (is_taken old fault.origin n) refl
     (origin_taken old n fault.origin on (and_left (is_of fault.origin n) (not n.gone) h))
-    (not_true n.gone (and_right (is_of fault.origin n) (not n.gone) h)))
+    (not-true n.gone (and_right (is_of fault.origin n) (not n.gone) h)))
     there
 less_left old _ (Given head there) =
     less_work (given_buffers head) (λ n. same_key head n.head && (not n.gone && not n.allocated)) old

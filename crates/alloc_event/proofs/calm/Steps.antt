@@ -1,6 +1,6 @@
 -- A decision is on nodes that are there, and changes something.
 use Rattle.std.proofs.Common.{ℕ, ◌≡◌, ◌≤◌, zero, suc, refl, ap, sym, ◌∙◌, subst, Bool, true, false, not, ◌&&◌, ◌||◌, ◌==◌, nat_lt, is_none, List, [], ◌∷◌, Option, Some, None, inl, inr, arith}
-use Rattle.std.proofs.lemmas.Bool.{ltb-false}
+use Rattle.std.proofs.lemmas.Bool.{ltb-false, not-true}
 use Rattle.std.specs.List.{list_any, list_all, find}
 use Rattle.std.specs.Option.{option_map, option_map_or, option_and_then, IfSome}
 use Rattle.sm_names.specs.declared.keys.NodeKey.{NodeKey}
@@ -24,11 +24,6 @@ use Rattle.alloc_event.proofs.calm.Forcing.{asked_tie}
 
 -- ---- nodes by their keys
 
--- a test that fails, said the other way round
-pub not_true : (b : Bool) → not b ≡ true → b ≡ false
-not_true true h = cc
-not_true false h = refl
-
 -- what all pass, each passes
 pub all-In : {A : Type 0} (test : A → Bool) (xs : List A) (x : A) → In x xs → list_all test xs ≡ true → test x ≡ true
 all-In test [] x on h = absurd on
@@ -47,7 +42,7 @@ found_by_key (m ∷ ns) n h (inr on) =
     rw other (found_by_key ns n (and_right (not (list_any (is_of m.key) ns)) (are_distinct ns) h) on)
   where
     none : list_any (is_of m.key) ns ≡ false
-    none = not_true (list_any (is_of m.key) ns) (and_left (not (list_any (is_of m.key) ns)) (are_distinct ns) h)
+    none = not-true (list_any (is_of m.key) ns) (and_left (not (list_any (is_of m.key) ns)) (are_distinct ns) h)
 
     other : is_of n.key m ≡ false
     other = false_if (is_of n.key m) (λ e.
@@ -96,7 +91,7 @@ module _ (c : Collection) (sound : IsSound c) where
   ends_step (Some n) e =
       let f = In-find (is_deserted_node c.nodes) c.nodes n e in
       let rest = and_right (is_none n.parent || n.attached) _ f.1 in
-      left_is n f.0 (not_true n.gone (and_left (not n.gone) _ rest))
+      left_is n f.0 (not-true n.gone (and_left (not n.gone) _ rest))
 
   loses_step : (strong_open : Bool) (o : Option Node) → find is_root_left c.nodes ≡ o →
       IfSome (option_and_then (λ (root : Node). when (root.allocated && (not (has_strong c.nodes) && not strong_open))
@@ -105,7 +100,7 @@ module _ (c : Collection) (sound : IsSound c) where
   loses_step strong_open (Some n) e =
       let f = In-find is_root_left c.nodes n e in
       let is_left : is_left_of c.nodes n.key ≡ true =
-      left_is n f.0 (not_true n.gone (and_right (is_none n.parent) (not n.gone) f.1)) in
+      left_is n f.0 (not-true n.gone (and_right (is_none n.parent) (not n.gone) f.1)) in
       elim (n.allocated && (not (has_strong c.nodes) && not strong_open)) as
       (λ (b : Bool). IfSome (when b (Loses n.key Cause.NoStrong)) (IsStep c)) [
         | true ↦ is_left
@@ -136,11 +131,11 @@ module _ (c : Collection) (sound : IsSound c) where
       IsStep c (option_map_or (λ why. Loses n.key (Cause.Failed why)) o (Places n.key (wanted_by n.key c.nodes)))
   first_is n e waits (Some why) early =
       let f = In-find is_root_left c.nodes n e in
-      left_is n f.0 (not_true n.gone (and_right (is_none n.parent) (not n.gone) f.1))
+      left_is n f.0 (not-true n.gone (and_right (is_none n.parent) (not n.gone) f.1))
   first_is n e waits None early =
       let f = In-find is_root_left c.nodes n e in
       let root : is_none n.parent ≡ true = and_left (is_none n.parent) (not n.gone) f.1 in
-      let stays : n.gone ≡ false = not_true n.gone (and_right (is_none n.parent) (not n.gone) f.1) in
+      let stays : n.gone ≡ false = not-true n.gone (and_right (is_none n.parent) (not n.gone) f.1) in
       record {
         root = root_is n f.0 ∙ root;
         left = left_is n f.0 stays;
@@ -162,7 +157,7 @@ module _ (c : Collection) (sound : IsSound c) where
       from : (b : Bool) → (not n.allocated && list_all (is_ready_node n.key) c.nodes) ≡ b →
           IfSome (option_map (λ (n : Node). first_step c.nodes n.key) (when b n)) (IsStep c)
       from false h = tt
-      from true h = first_is n e (not_true n.allocated (and_left (not n.allocated) _ h)) (early_failure n.key c.nodes)
+      from true h = first_is n e (not-true n.allocated (and_left (not n.allocated) _ h)) (early_failure n.key c.nodes)
           refl
 
   later_is : (b : Buffers) (n : Node) → find (is_next_node c.nodes) c.nodes ≡ Some n → (o : Option Failure) →
@@ -171,9 +166,9 @@ module _ (c : Collection) (sound : IsSound c) where
       let f = In-find (is_next_node c.nodes) c.nodes n e in
       let attached : n.attached ≡ true = and_left n.attached _ f.1 in
       let rest = and_right n.attached _ f.1 in
-      let stays : n.gone ≡ false = not_true n.gone (and_left (not n.gone) _ rest) in
+      let stays : n.gone ≡ false = not-true n.gone (and_left (not n.gone) _ rest) in
       let more = and_right (not n.gone) _ rest in
-      let waits : n.allocated ≡ false = not_true n.allocated (and_left (not n.allocated) _ more) in
+      let waits : n.allocated ≡ false = not-true n.allocated (and_left (not n.allocated) _ more) in
       let above : option_map_or (λ parent. list_any (is_allocated_node parent) c.nodes) n.parent false ≡ true =
       and_left _ _ (and_right (not n.allocated) _ more) in
       from o f.0 attached stays waits (has_parent n.parent above)

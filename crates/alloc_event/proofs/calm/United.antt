@@ -6,15 +6,11 @@ use Rattle.std.specs.Option.{option_map_or}
 use Rattle.sm_names.specs.Sameness.{same_key}
 use Rattle.sm_names.proofs.ListLaws.{In, In-reverse}
 use Rattle.sm_names.proofs.SamenessLaws.{and_both, and_left, and_right, either_way}
+use Rattle.sm_names.proofs.SizeLaws.{all_on}
 use Rattle.alloc_event.specs.declared.node.Node.{Node}
 use Rattle.alloc_event.specs.Scenes.{frame_of}
 use Rattle.alloc_event.specs.Units.{are_united, shares_unit}
 use Rattle.alloc_event.proofs.tables.KeptRoots.{filter-reverse_aux, map-reverse_aux}
-
--- all pass where each does
-pub each_all : {A : Type 0} (p : A → Bool) (xs : List A) → ((x : A) → In x xs → p x ≡ true) → list_all p xs ≡ true
-each_all p [] each = refl
-each_all p (x ∷ xs) each = and_both (p x) (list_all p xs) (each x (inl refl)) (each_all p xs (λ y on. each y (inr on)))
 
 -- what is kept of a node that stays in its unit
 pub record KeepsUnit (f : Node → Node) : Type 0 where
@@ -80,5 +76,5 @@ pub united_born : (ns : List Node) (b : Node) → ((q : Node) → In q ns → sh
     are_united (reverse (ns ++ b ∷ [])) ≡ true
 united_born ns b shares united =
     ap are_united (reverse-append ns (b ∷ []))
-    ∙ and_both (list_all (shares_unit b) (reverse ns)) (are_united (reverse ns)) (each_all (shares_unit b) (reverse ns) (λ q on.
+    ∙ and_both (list_all (shares_unit b) (reverse ns)) (are_united (reverse ns)) (all_on (shares_unit b) (reverse ns) (λ q on.
     shares q (In-reverse ns q on))) united

@@ -1,8 +1,9 @@
 -- A change to a collection that is there: what it keeps of the nodes, and where they lie.
-use Rattle.std.proofs.Common.{◌≡◌, ℕ, ◌<◌, ◌==◌, nat_lt, Bool, true, false, ◌||◌, ◌&&◌, not, List, [], ◌∷◌, ◌++◌, map, reverse, Option, Some, None, option_map, is_some, cond, refl, sym, ap, subst, ◌∙◌, inl, inr, arith}
+use Rattle.std.proofs.Common.{◌≡◌, ℕ, ◌<◌, ◌==◌, nat_lt, Bool, true, false, ◌||◌, ◌&&◌, not, List, [], ◌∷◌, map, reverse, Option, Some, None, option_map, is_some, cond, refl, sym, ap, subst, ◌∙◌, inl, inr, arith}
 use Rattle.std.specs.List.{list_any, list_all, find, cons_option, AllByRecursion}
 use Rattle.std.specs.Option.{option_map_or, unwrap_or}
 use Rattle.std.proofs.lemmas.Bool.{eqb-true, eq-eqb, ne_eqb, ltb-true, lt-ltb, false≢true}
+use Rattle.std.proofs.lemmas.List.Folds.{list_any-append}
 use Rattle.sm_names.specs.declared.keys.NodeKey.{NodeKey}
 use Rattle.sm_names.specs.Sameness.{same_key}
 use Rattle.sm_names.proofs.SamenessLaws.{and_left, and_right, or_cases}
@@ -125,16 +126,6 @@ looked-of t id [] filed = refl
 looked-of t id (k ∷ ks) filed =
     looked-of-by id (node_at t k) (nodes_with t ks) (and_left _ _ filed) (looked-of t id ks (and_right _ _ filed))
 
--- the tests in a row
-or_assoc : (a b c : Bool) → ((a || b) || c) ≡ (a || (b || c))
-or_assoc true b c = refl
-or_assoc false b c = refl
-
--- a test on two lists
-pub any-append : {A : Type 0} (test : A → Bool) (xs ys : List A) → list_any test (xs ++ ys) ≡ (list_any test xs || list_any test ys)
-any-append test [] ys = refl
-any-append test (x ∷ xs) ys = ap (λ b. test x || b) (any-append test xs ys) ∙ sym (or_assoc (test x) (list_any test xs) (list_any test ys))
-
 -- a key that is filed has a node of the collection
 pub filed_at : (t : Table Node) (id : ℕ) (keys : List NodeKey) (key : NodeKey) (n : Node) → list_all (is_filed t id) keys ≡ true →
     node_at t key ≡ Some n → list_any (same_key key) keys ≡ true → (n.collection == id) ≡ true
@@ -157,7 +148,7 @@ found_behind s ss id found =
 pub kept_of : (t : Table Node) (ss : List Shelf) (key : NodeKey) (n : Node) → are_filed t ss ≡ true → node_at t key ≡ Some n →
     list_any (same_key key) (all_keys ss) ≡ true → is_some (find (λ (s : Shelf). s.id == n.collection) ss) ≡ true
 kept_of t [] key n filed is there = absurd (false≢true there)
-kept_of t (s ∷ ss) key n filed is there = elim (or_cases _ _ (sym (any-append (same_key key) s.keys (all_keys ss)) ∙ there)) [
+kept_of t (s ∷ ss) key n filed is there = elim (or_cases _ _ (sym (list_any-append (same_key key) s.keys (all_keys ss)) ∙ there)) [
   | inl here ↦
       let own : (n.collection == s.id) ≡ true = filed_at t s.id s.keys key n (and_left _ _ filed) is here in
       rw (eq-eqb s.id n.collection (sym (eqb-true _ _ own))) refl

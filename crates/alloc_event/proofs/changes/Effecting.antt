@@ -10,7 +10,7 @@ use Rattle.sm_names.specs.Forced.{forced}
 use Rattle.sm_names.specs.Sameness.{same_key}
 use Rattle.sm_names.specs.Words.{times}
 use Rattle.sm_names.proofs.ListLaws.{In, In-find, In-list_any, In-map, In-map-back}
-use Rattle.sm_names.proofs.SamenessLaws.{and_both, and_left, and_right, both_ways, either_way, false_if, or_right, same_key-refl, same_key-true}
+use Rattle.sm_names.proofs.SamenessLaws.{and_both, and_left, and_right, both_ways, either_way, false_if, or_right, same_key-refl, same_key-true, or_none_right}
 use Rattle.sm_names.proofs.StandingLaws.{In-any}
 use Rattle.node_table.specs.Table.{Table, node_at, parent_at}
 use Rattle.node_table.specs.Changes.{Writes}
@@ -100,11 +100,6 @@ remains_affected key Effect.Taken n = record { gone = refl; allocated = refl; ov
 remains_affected key Effect.Released n = record { gone = refl; allocated = refl; over = refl }
 remains_affected key Effect.Tracked n = record { gone = refl; allocated = refl; over = refl }
 
--- what is false of either is false of the second
-or_second : (a b : Bool) → (a || b) ≡ false → b ≡ false
-or_second true b h = cc
-or_second false b h = h
-
 -- a node is released for good, weak for good, and asks for good
 released_stays : (key : NodeKey) (effect : Effect) (n : Node) → (affected key effect n).released ≡ false → n.released ≡ false
 released_stays key Effect.Bound n h = h
@@ -113,13 +108,13 @@ released_stays key Effect.Weak n h = h
 released_stays key (Effect.WeakOk children) n h = h
 released_stays key (Effect.Constrained demand) n h = h
 released_stays key Effect.Taken n h = h
-released_stays key Effect.Released n h = or_second (same_key key n.key) n.released h
+released_stays key Effect.Released n h = or_none_right (same_key key n.key) n.released h
 released_stays key Effect.Tracked n h = h
 
 weak_stays : (key : NodeKey) (effect : Effect) (n : Node) → (affected key effect n).weak ≡ false → n.weak ≡ false
 weak_stays key Effect.Bound n h = h
 weak_stays key Effect.Dispensable n h = h
-weak_stays key Effect.Weak n h = or_second (same_key key n.key) n.weak h
+weak_stays key Effect.Weak n h = or_none_right (same_key key n.key) n.weak h
 weak_stays key (Effect.WeakOk children) n h = h
 weak_stays key (Effect.Constrained demand) n h = h
 weak_stays key Effect.Taken n h = h

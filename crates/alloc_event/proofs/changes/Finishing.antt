@@ -1,12 +1,13 @@
 -- What stays true where a collection that was worked on is put back.
-use Rattle.std.proofs.Common.{◌≡◌, ◌≢◌, ℕ, ◌<◌, ◌==◌, Bool, true, false, ◌||◌, ◌&&◌, not, List, [], ◌∷◌, map, Option, Some, None, option_map, is_some, cond, refl, sym, ap, subst, ◌∙◌, inl, inr, arith}
+use Rattle.std.proofs.Common.{◌≡◌, ◌≢◌, ℕ, ◌<◌, ◌==◌, Bool, true, false, ◌&&◌, not, List, [], ◌∷◌, map, Option, Some, None, option_map, is_some, cond, refl, sym, ap, subst, ◌∙◌, inl, inr, arith}
 use Rattle.std.specs.List.{list_any, list_all, AllByRecursion, cons_option}
 use Rattle.std.specs.Option.{option_map_or}
-use Rattle.std.proofs.lemmas.Bool.{eqb-true, eqb-false, cases_eq, false≢true, ltb-true}
+use Rattle.std.proofs.lemmas.Bool.{eqb-true, eqb-false, cases_eq, false≢true, ltb-true, not-true}
 use Rattle.sm_names.specs.declared.keys.NodeKey.{NodeKey}
 use Rattle.sm_names.specs.Sameness.{same_key}
 use Rattle.sm_names.proofs.ListLaws.{In}
-use Rattle.sm_names.proofs.SamenessLaws.{and_left, and_right, or_none_left}
+use Rattle.sm_names.proofs.SamenessLaws.{and_left, and_right, or_none_left, or_none_right}
+use Rattle.sm_names.proofs.StandingLaws.{and_both}
 use Rattle.node_table.specs.Table.{Table, node_at, parent_at}
 use Rattle.node_table.proofs.Keys.{true-same_key, same_key-true}
 use Rattle.alloc_event.specs.declared.node.Node.{Node}
@@ -26,18 +27,8 @@ keys_in ns = map (λ (n : Node). n.key) ns
 
 -- ---- what is written over what
 
--- where neither test holds, the second fails
-pub or_none_right : (a b : Bool) → (a || b) ≡ false → b ≡ false
-or_none_right true b h = absurd (false≢true (sym h))
-or_none_right false b h = h
-
--- a test whose opposite holds fails
-pub not-true : (b : Bool) → not b ≡ true → b ≡ false
-not-true true h = absurd (false≢true h)
-not-true false h = refl
-
 -- keys that are not one are so in either order
-swapped : (a b : NodeKey) → same_key a b ≡ false → same_key b a ≡ false
+pub swapped : (a b : NodeKey) → same_key a b ≡ false → same_key b a ≡ false
 swapped a b e = same_key-swap b a ∙ e
 
 -- no node of these has the key
@@ -81,12 +72,8 @@ looked-key : (id : ℕ) (key : NodeKey) (o : Option Node) (ns : List Node) (keys
 looked-key id key None ns keys named filed on = absurd (false≢true filed)
 looked-key id key (Some n) ns keys named filed on = λ i. named n refl i ∷ on i
 
--- both tests hold
-both : {a b : Bool} → a ≡ true → b ≡ true → (a && b) ≡ true
-both {a} {b} p q = rw (p, q) refl
-
 -- what is filed is there
-place-filed : (id : ℕ) (o : Option Node) → option_map_or (λ (n : Node). n.collection == id) o false ≡ true → is_some o ≡ true
+pub place-filed : (id : ℕ) (o : Option Node) → option_map_or (λ (n : Node). n.collection == id) o false ≡ true → is_some o ≡ true
 place-filed id None filed = absurd (false≢true filed)
 place-filed id (Some n) filed = refl
 
@@ -108,7 +95,8 @@ nodes-stored t now id ns keys look named filed own distinct =
 -- each node has a place where its key is filed
 pub places-filed : (t : Table Node) (id : ℕ) (ns : List Node) → list_all (is_filed t id) (keys_in ns) ≡ true → have_places t ns ≡ true
 places-filed t id [] filed = refl
-places-filed t id (n ∷ ns) filed = both (place-filed id (node_at t n.key) (and_left _ _ filed)) (places-filed t id ns (and_right _ _ filed))
+places-filed t id (n ∷ ns) filed =
+    and_both (place-filed id (node_at t n.key) (and_left _ _ filed)) (places-filed t id ns (and_right _ _ filed))
 
 -- ---- collections
 

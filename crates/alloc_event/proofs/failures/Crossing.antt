@@ -1,15 +1,17 @@
 -- A calm collection stays calm where nodes fall, as far as the counts of the unit above them tell.
 use Rattle.std.proofs.Common.{◌≡◌, ℕ, zero, suc, ◌<◌, refl, ap, sym, ◌∙◌, subst, Bool, true, false, not, ◌&&◌, ◌||◌, is_none, ◌⊎◌, inl, inr, List, [], ◌∷◌, map, length, Option, Some, None, arith}
-use Rattle.std.proofs.lemmas.Bool.{not-true}
+use Rattle.std.proofs.lemmas.Bool.{not-true, not-false}
 use Rattle.std.specs.List.{list_any, list_all, find}
 use Rattle.std.specs.Option.{option_map, option_map_or, option_and_then}
+use Rattle.std.proofs.Math.Bool.{or-true}
 use Rattle.sm_names.specs.declared.keys.NodeKey.{NodeKey}
 use Rattle.sm_names.specs.declared.outcomes.Buffers.{Buffers}
 use Rattle.sm_names.specs.Sameness.{same_key}
 use Rattle.sm_names.specs.Words.{times, when}
 use Rattle.sm_names.proofs.ListLaws.{In, In-find, In-list_any, In-map, In-map-back}
-use Rattle.sm_names.proofs.SamenessLaws.{and_both, and_left, and_right, both_ways, either_way, false_if, or_cases, same_key-true}
+use Rattle.sm_names.proofs.SamenessLaws.{and_both, and_left, and_right, both_ways, either_way, false_if, or_cases, same_key-true, or_none_right, or_none_left, some-injective}
 use Rattle.sm_names.proofs.StandingLaws.{In-any}
+use Rattle.sm_names.proofs.SizeLaws.{all_on}
 use Rattle.alloc_event.specs.declared.node.Node.{Node}
 use Rattle.alloc_event.specs.Calm.{IsCalm}
 use Rattle.alloc_event.specs.Counts.{lives_in, waits_in}
@@ -26,7 +28,6 @@ use Rattle.alloc_event.proofs.calm.Keeping.{any-In, lives_held, some_pass}
 use Rattle.alloc_event.proofs.newborns.Members.{find-none, none-find}
 use Rattle.alloc_event.proofs.tables.Rooted.{left_parent}
 use Rattle.alloc_event.proofs.calm.Steps.{all-In}
-use Rattle.alloc_event.proofs.calm.United.{each_all}
 use Rattle.alloc_event.proofs.tables.Writing.{IsSameNode}
 
 -- what is found, where tests agree
@@ -37,29 +38,6 @@ find-In {A = A} p q f (x ∷ xs) same = elim (either_way (q x)) [
   | inl e ↦ let h : p (f x) ≡ true = same x (inl refl) ∙ e in rw (h, e) refl
   | inr e ↦ let h : p (f x) ≡ false = same x (inl refl) ∙ e in rw (h, e) (find-In p q f xs (λ y on. same y (inr on)))
 ]
-
-one_parent : (a b : NodeKey) → Some a ≡ Some b → a ≡ b
-one_parent a b e = cc
-
-second_false : (a b : Bool) → (a || b) ≡ false → b ≡ false
-second_false true b h = cc
-second_false false b h = h
-
-first_false : (a b : Bool) → (a || b) ≡ false → a ≡ false
-first_false true b h = cc
-first_false false b h = refl
-
-not_not : (b : Bool) → not b ≡ false → b ≡ true
-not_not true h = refl
-not_not false h = cc
-
-not_is : (b : Bool) → not b ≡ true → b ≡ false
-not_is true h = cc
-not_is false h = refl
-
-or_last : (b : Bool) → (b || true) ≡ true
-or_last true = refl
-or_last false = refl
 
 -- nodes fall, of which all but the highest have their parents among them
 module _ (c : Collection) (whole : IsWhole c) (falls : NodeKey → Bool) (top above : Node)
@@ -93,7 +71,7 @@ module _ (c : Collection) (whole : IsWhole c) (falls : NodeKey → Bool) (top ab
           let q = shared nodes distinct heads whole.rooted whole.united x on here e above.key (up_of x on here is) in (
             sym q.3 ∙ ap (λ (n : Node). n.head) (above_one q.0 q.1 q.2),
             ap (λ (n : Node). n.attached) (sym is)
-                ∙ second_false (is_none x.parent) x.attached e,
+                ∙ or_none_right (is_none x.parent) x.attached e,
           )
       | inr more ↦
           let q = shared nodes distinct heads whole.rooted whole.united x on here e more.0 more.1 in
@@ -131,10 +109,10 @@ module _ (c : Collection) (whole : IsWhole c) (falls : NodeKey → Bool) (top ab
       subst (λ (k : NodeKey). is_left_of nodes k ≡ true) (sym key) (left_parent nodes whole.rooted x p on here is) in
       elim (up x on here f) [
         | inl top_is ↦
-            let same : p ≡ above.key = one_parent p above.key (sym is ∙ up_of x on here top_is) in
+            let same : p ≡ above.key = some-injective p above.key (sym is ∙ up_of x on here top_is) in
             sym unit ∙ ap (λ (n : Node). n.head) (above_one y.0 y.1 (key ∙ same))
         | inr more ↦
-            let same : more.0 ≡ p = one_parent more.0 p (sym more.1 ∙ is) in
+            let same : more.0 ≡ p = some-injective more.0 p (sym more.1 ∙ is) in
             (crossed y.0 y.1 (still_here nodes distinct heads whole.rooted whole.united y.0 y.1 left) (ap falls (key ∙ sym same)
             ∙ more.2) h unit out).0
       ]
@@ -145,7 +123,7 @@ module _ (c : Collection) (whole : IsWhole c) (falls : NodeKey → Bool) (top ab
     now = map f nodes
 
     stays : (n : Node) → (f n).gone ≡ false → (falls n.key ≡ false) × (n.gone ≡ false)
-    stays n h = (first_false (falls n.key) n.gone (sym (goes n) ∙ h), second_false (falls n.key) n.gone (sym (goes n) ∙ h))
+    stays n h = (or_none_left (falls n.key) n.gone (sym (goes n) ∙ h), or_none_right (falls n.key) n.gone (sym (goes n) ∙ h))
 
     unit_same : (p head : NodeKey) → list_any (λ (q : Node). is_of p q && same_key q.head head) now ≡ list_any (λ (q : Node).
         is_of p q && same_key q.head head) nodes
@@ -185,7 +163,7 @@ module _ (c : Collection) (whole : IsWhole c) (falls : NodeKey → Bool) (top ab
           rw (here, h) is
 
       held_now : are_held now ≡ true
-      held_now = each_all (is_held now) now (λ m there.
+      held_now = all_on (is_held now) now (λ m there.
           let x = In-map f nodes m there in
           ap (is_held now) x.2 ∙ from x.0 x.1 (either_way (f x.0).gone))
         where
@@ -202,7 +180,7 @@ module _ (c : Collection) (whole : IsWhole c) (falls : NodeKey → Bool) (top ab
       ready_before : (h : Node) → In h nodes → (f h).gone ≡ false → h.allocated ≡ false →
           list_all (is_ready_node h.key) now ≡ true → list_all (is_ready_node h.key) nodes ≡ true
       ready_before h on here waiting all =
-          each_all (is_ready_node h.key) nodes (λ m there.
+          all_on (is_ready_node h.key) nodes (λ m there.
           one m there (either_way (falls m.key)) (either_way m.gone) (either_way (same_key m.head h.key)))
         where
           own : (m : Node) → In m nodes → h.key ≡ above.head → top.attached ≡ false →
@@ -212,13 +190,13 @@ module _ (c : Collection) (whole : IsWhole c) (falls : NodeKey → Bool) (top ab
           own m there is link (inr (inl none)) =
               let no : list_any (waits_in above.head) nodes ≡ false = count_none (waits_in above.head) nodes none in
               subst (λ (k : NodeKey). is_ready_node k m ≡ true) (sym is)
-              (not_not (is_ready_node above.head m) (false_if (waits_in above.head m) (λ w.
+              (not-false (is_ready_node above.head m) (false_if (waits_in above.head m) (λ w.
               both_ways (list_any (waits_in above.head) nodes) (In-any (waits_in above.head) nodes m there w) no)))
           own m there is link (inr (inr (inl some))) =
               let x = In-list_any (waits_in above.head) now (some_pass (waits_in above.head) now some) in
               let ready : is_ready_node h.key x.0 ≡ true = all-In (is_ready_node h.key) now x.0 x.1 all in
               both_ways (is_ready_node above.head x.0) (subst (λ (k : NodeKey). is_ready_node k x.0 ≡ true) is ready)
-              (not_is (is_ready_node above.head x.0) x.2)
+              (not-true (is_ready_node above.head x.0) x.2)
           own m there is link (inr (inr (inr given))) = both_ways h.allocated (given h on is) waiting
 
           one : (m : Node) → In m nodes → (falls m.key ≡ true) ⊎ (falls m.key ≡ false) → (m.gone ≡ true) ⊎ (m.gone ≡ false) →
@@ -226,7 +204,7 @@ module _ (c : Collection) (whole : IsWhole c) (falls : NodeKey → Bool) (top ab
           one m there (inr e) g s =
               ap (is_ready_node h.key) (sym (alone m e)) ∙ all-In (is_ready_node h.key) now (f m) (In-map-back f nodes m there) all
           one m there (inl e) (inl g) s = rw g refl
-          one m there (inl e) (inr g) (inr s) = rw s (or_last m.gone)
+          one m there (inl e) (inr g) (inr s) = rw s (or-true m.gone)
           one m there (inl e) (inr g) (inl s) =
               let r = crossed m there g e h.key (same_key-true m.head h.key s) (stays h here).0 in
               own m there r.0 r.1 guard

@@ -4,6 +4,7 @@ use Rattle.std.proofs.lemmas.Bool.{eqb-false, eqb-true, ltb-true}
 use Rattle.std.proofs.lemmas.Map.Views.{Contains-from_any, list_any-from_Contains}
 use Rattle.std.specs.List.{AllByRecursion, Contains, cons_option, flat_map, list_all, list_any}
 use Rattle.std.specs.Option.{option_map_or}
+use Rattle.std.proofs.Math.Bool.{and-false, and-true}
 use Rattle.sm_names.specs.declared.keys.NodeKey.{NodeKey}
 use Rattle.sm_names.specs.declared.keys.Interval.{Interval}
 use Rattle.sm_names.specs.Forced.{forced}
@@ -96,21 +97,13 @@ gone_of going keys n = elim (either_way (list_any (same_key n.key) keys)) [
 
 -- ---- what is counted of nodes that go
 
-and_none : (b : Bool) → (b && false) ≡ false
-and_none true = refl
-and_none false = refl
-
-and_all : (b : Bool) → (b && true) ≡ b
-and_all true = refl
-and_all false = refl
-
 -- a test that no node that is gone passes
 but_is : (test : Node → Bool) → ((m : Node) → m.gone ≡ true → test m ≡ false) → (going : Going) (keys : List NodeKey) (n : Node) →
     test (goes_of going keys n) ≡ but test keys n
 but_is test none going keys n = elim (either_way (list_any (same_key n.key) keys)) [
   | inl e ↦ ap test (goes_in going keys n e) ∙ none (gone_by going n) (gone_is going n) ∙ sym (ap (λ (b : Bool). test n && not b) e
-      ∙ and_none (test n))
-  | inr e ↦ ap test (goes_not going keys n e) ∙ sym (ap (λ (b : Bool). test n && not b) e ∙ and_all (test n))
+      ∙ and-false (test n))
+  | inr e ↦ ap test (goes_not going keys n e) ∙ sym (ap (λ (b : Bool). test n && not b) e ∙ and-true (test n))
 ]
 
 strong_gone : (m : Node) → m.gone ≡ true → is_strong m ≡ false

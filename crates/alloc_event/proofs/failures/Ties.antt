@@ -14,13 +14,13 @@ use Rattle.sm_names.specs.Sameness.{same_key}
 use Rattle.sm_names.proofs.ListLaws.{In, In-filter, In-filter-back, In-find, In-list_any, In-map, In-map-back, is_some-find, map-In}
 use Rattle.sm_names.proofs.ReachLaws.{top_on}
 use Rattle.sm_names.proofs.SamenessLaws.{and_both, and_left, and_right, both_ways, either_way, or_right, same_key-comm, same_key-refl, same_key-true}
-use Rattle.sm_names.proofs.StandingLaws.{In-any, both_tests}
+use Rattle.sm_names.proofs.StandingLaws.{In-any, both_tests, top-same}
 use Rattle.node_table.specs.Table.{Table, node_at, parent_at}
 use Rattle.failure_domains.specs.Falls.{blocked_at}
 use Rattle.alloc_event.specs.declared.node.Node.{Node}
 use Rattle.alloc_event.specs.Decisions.{is_left_of}
 use Rattle.alloc_event.specs.Nodes.{above_among, after_loss, is_of, is_taken, lost, member_of, members_of, node_of}
-use Rattle.alloc_event.proofs.tables.Chains.{reached_by_line, top-along}
+use Rattle.alloc_event.proofs.tables.Chains.{reached_by_line}
 use Rattle.alloc_event.specs.Ties.{IsFall, IsTied, is_blocking}
 use Rattle.alloc_event.specs.Questions.{is_below}
 use Rattle.alloc_event.proofs.tables.Hanging.{in_all}
@@ -104,7 +104,7 @@ module _ (t : Table Node) (nodes : List Node) (tied : IsTied t nodes) where
 
   -- the two are one
   highest_same : (origin : NodeKey) → is_left_of nodes origin ≡ true → highest_at origin ≡ highest_among origin
-  highest_same origin left = top-along (blocked_at is_blocking t) blocks_among origin (line origin) each
+  highest_same origin left = top-same (blocked_at is_blocking t) blocks_among origin (line origin) each
     where
       each : (k : NodeKey) → In k (origin ∷ line origin) → blocked_at is_blocking t k ≡ blocks_among k
       each k (inl is) = blocks_same k (subst (λ (j : NodeKey). is_left_of nodes j ≡ true) (sym is) left)

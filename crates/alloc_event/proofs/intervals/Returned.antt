@@ -1,6 +1,6 @@
 -- A buffer that gives its pages back leaves those of the others in order.
 use Rattle.std.proofs.Common.{ℕ, ◌+◌, ◌≡◌, ◌≤◌, ◌<◌, refl, ap, sym, ◌∙◌, subst, Bool, true, false, not, ◌&&◌, ◌==◌, nat_lt, nat_le, cond, List, [], ◌∷◌, ◌++◌, length, take, drop, get_or, Contains, inl, inr, append_assoc, arith}
-use Rattle.std.proofs.lemmas.Bool.{ltb-true, ltb-false, leb-true, eqb-true, eq-eqb}
+use Rattle.std.proofs.lemmas.Bool.{ltb-true, ltb-false, leb-true, eqb-true, eq-eqb, not-true}
 use Rattle.std.proofs.lemmas.List.{take_more, at_drop_more}
 use Rattle.std.proofs.lemmas.List.Elements.{filter-append}
 use Rattle.std.specs.List.{list_all, filter}
@@ -46,13 +46,9 @@ all_from_less : (low less : ℕ) (is : List Interval) → less ≤ low → all_f
 all_from_less low less [] le h = refl
 all_from_less low less (i ∷ is) le h =
     let later : low ≤ i.start = ltb-false i.start low
-    (not_not (nat_lt i.start low) (and_left (not (nat_lt i.start low)) (all_from low is) h)) in
+    (not-true (nat_lt i.start low) (and_left (not (nat_lt i.start low)) (all_from low is) h)) in
     and_both (not (nat_lt i.start less)) (all_from less is) (ap not (not_lt i.start less (omega arith)))
     (all_from_less low less is le (and_right (not (nat_lt i.start low)) (all_from low is) h))
-  where
-    not_not : (b : Bool) → not b ≡ true → b ≡ false
-    not_not true h = cc
-    not_not false h = refl
 
 -- one more in its place keeps the order
 ascends_put : (new : Interval) (is : List Interval) → ascends is ≡ true → ascends (put_in new is) ≡ true
@@ -88,11 +84,7 @@ ascends_sorted (i ∷ is) = ascends_put i (by_page is) (ascends_sorted is)
 put_front : (new : Interval) (is : List Interval) → all_from new.start is ≡ true → put_in new is ≡ new ∷ is
 put_front new [] h = refl
 put_front new (i ∷ is) h = front new i is
-    (not_not (nat_lt i.start new.start) (and_left (not (nat_lt i.start new.start)) _ h))
-  where
-    not_not : (b : Bool) → not b ≡ true → b ≡ false
-    not_not true h = cc
-    not_not false h = refl
+    (not-true (nat_lt i.start new.start) (and_left (not (nat_lt i.start new.start)) _ h))
 
 -- what all pass, those that are kept pass
 all-filter_kept : (test keep : Interval → Bool) (is : List Interval) → list_all test is ≡ true →

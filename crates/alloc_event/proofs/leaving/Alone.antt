@@ -4,8 +4,8 @@ use Rattle.std.specs.List.{filter, list_all, list_any}
 use Rattle.std.specs.Option.{option_map_or}
 use Rattle.sm_names.specs.declared.keys.NodeKey.{NodeKey}
 use Rattle.sm_names.specs.Sameness.{same_key}
-use Rattle.sm_names.proofs.ListLaws.{In}
-use Rattle.sm_names.proofs.SamenessLaws.{both_ways, either_way, same_key-comm, same_key-refl, same_key-true}
+use Rattle.sm_names.proofs.ListLaws.{In, filter-In}
+use Rattle.sm_names.proofs.SamenessLaws.{both_ways, either_way, same_key-refl, same_key-true}
 use Rattle.sm_names.proofs.StandingLaws.{In-any}
 use Rattle.node_table.specs.Table.{Table, node_at}
 use Rattle.alloc_event.specs.declared.node.Node.{Node}
@@ -15,25 +15,12 @@ use Rattle.alloc_event.specs.Kept.{is_filed, nodes_with}
 use Rattle.alloc_event.specs.Nodes.{is_over}
 use Rattle.alloc_event.proofs.leaving.Forgotten.{in_nodes}
 use Rattle.alloc_event.proofs.calm.Steps.{all-In}
-
--- what passes one test passes the other
-filter-same : {A : Type 0} (p q : A → Bool) (xs : List A) → ((x : A) → In x xs → p x ≡ q x) → filter p xs ≡ filter q xs
-filter-same p q [] same = refl
-filter-same p q (x ∷ xs) same =
-    let here : p x ≡ q x = same x (inl refl) in
-    let rest : filter p xs ≡ filter q xs = filter-same p q xs (λ y on. same y (inr on)) in
-    rw (here, rest) refl
+use Rattle.alloc_event.proofs.changes.Finishing.{swapped}
 
 pass_alone : (b c : Bool) → (b && not c) ≡ false → c ≡ false → b ≡ false
 pass_alone b true h e = cc
 pass_alone true false h e = h
 pass_alone false false h e = refl
-
-swap : (a b : NodeKey) → same_key a b ≡ false → same_key b a ≡ false
-swap a b e = elim (either_way (same_key b a)) [
-  | inl h ↦ both_ways (same_key a b) (same_key-comm b a h) e
-  | inr h ↦ h
-]
 
 module _ (t : Table Node) (named : (k : NodeKey) (n : Node) → node_at t k ≡ Some n →
     n.key ≡ k) (keys : List NodeKey) (key : NodeKey) (only : IsAlone t keys key) where
@@ -66,7 +53,7 @@ module _ (t : Table Node) (named : (k : NodeKey) (n : Node) → node_at t k ≡ 
     where
       by : (list_any (same_key k) keys ≡ true) ⊎ (list_any (same_key k) keys ≡ false) → same_key k key ≡ false →
           node_at t k ≡ left_at t keys k
-      by (inl there) e = rw there (sym (unless_same k (node_at t k) refl there (swap k key e)))
+      by (inl there) e = rw there (sym (unless_same k (node_at t k) refl there (swapped k key e)))
       by (inr none) e = rw none refl
 
   -- and the table has all the others then
@@ -74,7 +61,7 @@ module _ (t : Table Node) (named : (k : NodeKey) (n : Node) → node_at t k ≡ 
       list_all (is_filed t id) keys ≡ true →
       option_map_or is_over (node_at t key) false ≡ true → filter (is_found now) keys ≡ filter (λ other. not (same_key key other)) keys
   alone_missing now look id filed over =
-      filter-same (is_found now) (λ other. not (same_key key other)) keys (λ k on. one k on (either_way (same_key key k)))
+      filter-In (is_found now) (λ other. not (same_key key other)) keys (λ k on. one k on (either_way (same_key key k)))
     where
       is_there : (o : Option Node) → option_map_or (λ (n : Node). n.collection == id) o false ≡ true → is_some o ≡ true
       is_there None h = cc

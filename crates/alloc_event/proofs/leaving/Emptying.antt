@@ -4,13 +4,12 @@ use Rattle.std.specs.List.{list_all, filter, find, remove, AllByRecursion}
 use Rattle.std.specs.Option.{option_map_or}
 use Rattle.std.proofs.lemmas.Bool.{eqb-true, ne_eqb}
 use Rattle.sm_names.specs.declared.keys.NodeKey.{NodeKey}
-use Rattle.sm_names.proofs.SamenessLaws.{and_left, and_right}
+use Rattle.sm_names.proofs.SamenessLaws.{and_left, and_right, some-injective}
 use Rattle.node_table.specs.Table.{Table}
 use Rattle.alloc_event.specs.declared.entry.Entry.{Entry}
 use Rattle.alloc_event.specs.declared.node.Node.{Node}
 use Rattle.alloc_event.specs.Forest.{Collection, collection_at, is_left}
 use Rattle.alloc_event.specs.Kept.{Shelf, shelf_of, shelves_of, place_in, AreRising, IsStored, IsWhole, collection_in, nodes_with, forest_of, all_keys, are_filed, is_filed}
-use Rattle.alloc_event.proofs.shelves.Entries.{Some-inj}
 use Rattle.alloc_event.proofs.shelves.Showing.{filed-length, filed_found, collection_is}
 
 -- of another collection
@@ -35,7 +34,7 @@ remove_shelf-by id x es at rising true here behind on told =
     rw (← first, here) (sym (others_kept id (shelves_of es) low))
 remove_shelf-by id x es at rising false other None on told = absurd (cc)
 remove_shelf-by id x es at rising false other (Some n) on told =
-    let next : at ≡ suc n = omega (arith, Some-inj (n + 1) at told) in
+    let next : at ≡ suc n = omega (arith, some-injective (n + 1) at told) in
     rw (next, other) (ap (λ l. shelf_of x ∷ l) (on n refl))
 
 -- the shelves without the entry that is removed

@@ -55,12 +55,6 @@ thin_filed t id (s ∷ ss) filed = λ i. by (s.id == id) i ∷ thin_filed t id s
     by true = thinned-same t s (and_left (list_all (is_filed t s.id) s.keys) _ filed)
     by false = refl
 
-pub thinned_filed : (t : Table Node) (ss : List Shelf) → are_filed t ss ≡ true → map (thinned t) ss ≡ ss
-thinned_filed t [] filed = refl
-thinned_filed t (s ∷ ss) filed =
-    λ i. thinned-same t s (and_left (list_all (is_filed t s.id) s.keys) _ filed) i ∷ thinned_filed t ss
-    (and_right (list_all (is_filed t s.id) s.keys) _ filed) i
-
 -- the node of a key is among those of the keys
 pub in_nodes : (t : Table Node) (keys : List NodeKey) (k : NodeKey) (n : Node) → node_at t k ≡ Some n → list_any (same_key k) keys ≡ true →
     In n (nodes_with t keys)

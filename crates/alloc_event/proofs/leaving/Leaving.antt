@@ -6,7 +6,7 @@ use Rattle.std.proofs.lemmas.Bool.{eqb-true, eqb-false, false≢true}
 use Rattle.std.proofs.lemmas.List.Elements.{filter-append}
 use Rattle.sm_names.specs.declared.keys.NodeKey.{NodeKey}
 use Rattle.sm_names.specs.Sameness.{same_key}
-use Rattle.sm_names.proofs.SamenessLaws.{and_left, and_right, either_way}
+use Rattle.sm_names.proofs.SamenessLaws.{and_left, and_right, either_way, some-injective}
 use Rattle.node_table.specs.Table.{Table, node_at, parent_at}
 use Rattle.node_table.proofs.Keys.{true-same_key, same_key-true}
 use Rattle.alloc_event.specs.declared.entry.Entry.{Entry}
@@ -15,7 +15,7 @@ use Rattle.alloc_event.specs.Forest.{with_nodes}
 use Rattle.alloc_event.specs.Kept.{Shelf, shelf_of, shelves_of, place_in, AreRising, IsStored, IsWhole, TakesOut, collection_in, all_keys, are_filed, is_filed}
 use Rattle.alloc_event.specs.Nodes.{is_of}
 use Rattle.alloc_event.proofs.changes.Altering.{filed_at, kept_of}
-use Rattle.alloc_event.proofs.shelves.Entries.{none_in, Some-inj}
+use Rattle.alloc_event.proofs.shelves.Entries.{none_in}
 use Rattle.alloc_event.proofs.tables.Hanging.{looked_gone}
 use Rattle.alloc_event.proofs.tables.LeftParents.{childless}
 use Rattle.alloc_event.proofs.lists.Lookups.{looked-without, looked-kept}
@@ -190,7 +190,7 @@ set_without-by t key node new x es at was filed rising is true here behind on to
     rw (← first) (λ i. own i ∷ sym rest i)
 set_without-by t key node new x es at was filed rising is false other None on told = absurd (cc)
 set_without-by t key node new x es at was filed rising is false other (Some n) on told =
-    let next : at ≡ suc n = omega (arith, Some-inj (n + 1) at told) in
+    let next : at ≡ suc n = omega (arith, some-injective (n + 1) at told) in
     let first = lacks_without t key node (shelf_of x) was (and_left _ _ filed) (λ same. eqb-false x.id node.collection other same) in
     let own : shelf_of new ≡ shelf_without key (shelf_of (get_or es n new)) = rw next at is in
     let rest = on n refl own in

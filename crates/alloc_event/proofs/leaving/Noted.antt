@@ -1,6 +1,7 @@
 -- Nodes that are over, but for one that is noted.
 use Rattle.std.proofs.Common.{◌≡◌, refl, ap, ◌∙◌, Bool, true, false, not, ◌&&◌, List, [], ◌∷◌, Option, Some, None}
 use Rattle.std.specs.List.{list_any}
+use Rattle.std.proofs.Math.Bool.{and-false}
 use Rattle.sm_names.specs.Sameness.{same_key}
 use Rattle.sm_names.proofs.SamenessLaws.{or_none_left, or_none_right}
 use Rattle.alloc_event.specs.declared.node.Node.{Node}
@@ -15,11 +16,7 @@ not_over_but (Some key) n e = ap (λ (b : Bool). b && not (same_key key n.key)) 
 
 -- nor is the one that is noted
 pub noted_not : (key : NodeKey) (n : Node) → same_key key n.key ≡ true → over_but (Some key) n ≡ false
-noted_not key n e = ap (λ (b : Bool). is_over n && not b) e ∙ and_none (is_over n)
-  where
-    and_none : (b : Bool) → (b && false) ≡ false
-    and_none true = refl
-    and_none false = refl
+noted_not key n e = ap (λ (b : Bool). is_over n && not b) e ∙ and-false (is_over n)
 
 -- where none is over, none is but one
 pub fewer_over : (one : Option NodeKey) (ns : List Node) → list_any is_over ns ≡ false → list_any (over_but one) ns ≡ false

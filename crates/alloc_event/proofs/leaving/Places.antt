@@ -1,17 +1,14 @@
 -- A key of a list in which no key stands twice, and its place.
 use Rattle.std.proofs.Common.{◌≡◌, ℕ, zero, suc, ◌<◌, refl, ap, sym, ◌∙◌, subst, Bool, true, false, not, ◌||◌, ◌==◌, cond, get_or, List, [], ◌∷◌, ◌++◌, length, Some, arith}
 use Rattle.std.specs.List.{filter, find, list_any, remove}
-use Rattle.std.proofs.lemmas.Bool.{false≢true}
+use Rattle.std.proofs.lemmas.Bool.{false≢true, not-true}
+use Rattle.std.proofs.lemmas.List.Folds.{list_any-append}
 use Rattle.sm_names.specs.declared.keys.NodeKey.{NodeKey}
 use Rattle.sm_names.specs.Sameness.{same_key}
 use Rattle.sm_names.proofs.SamenessLaws.{and_both, and_left, and_right, false_if, or_none_left, or_left, or_right, same_key-refl, same_key-true}
 use Rattle.alloc_event.specs.Kept.{Shelf, all_keys, are_apart}
-use Rattle.alloc_event.proofs.changes.Altering.{any-append, Some-shelf}
+use Rattle.alloc_event.proofs.changes.Altering.{Some-shelf}
 use Rattle.alloc_event.proofs.leaving.Thinning.{lacks-filter}
-
-not_true : (b : Bool) → not b ≡ true → b ≡ false
-not_true true h = absurd (false≢true h)
-not_true false h = refl
 
 -- what stands at a place is listed
 pub listed_at : (key : NodeKey) (ks : List NodeKey) (at : ℕ) → at < length ks → get_or ks at key ≡ key → list_any (same_key key) ks ≡ true
@@ -26,12 +23,12 @@ without_at key [] at apart within is = absurd (omega (arith, within))
 without_at key (k ∷ ks) zero apart within is =
     let here : same_key key k ≡ true = subst (λ (x : NodeKey). same_key key x ≡ true) (sym is) (same_key-refl key) in
     let lone : list_any (same_key key) ks ≡ false =
-    subst (λ (x : NodeKey). list_any (same_key x) ks ≡ false) is (not_true _ (and_left _ _ apart)) in
+    subst (λ (x : NodeKey). list_any (same_key x) ks ≡ false) is (not-true _ (and_left _ _ apart)) in
     rw here (lacks-filter key ks lone)
 without_at key (k ∷ ks) (suc n) apart within is =
     let there : list_any (same_key key) ks ≡ true = listed_at key ks n (omega (arith, within)) is in
     let other : same_key key k ≡ false = false_if (same_key key k) (λ same.
-    false≢true (sym (not_true _ (and_left _ _ apart))
+    false≢true (sym (not-true _ (and_left _ _ apart))
     ∙ subst (λ (x : NodeKey). list_any (same_key x) ks ≡ true) (same_key-true key k same) there)) in
     rw other (ap (λ l. k ∷ l) (without_at key ks n (and_right _ _ apart) (omega (arith, within)) is))
 
@@ -40,7 +37,7 @@ apart_left : (xs ys : List NodeKey) → are_apart (xs ++ ys) ≡ true → are_ap
 apart_left [] ys h = refl
 apart_left (x ∷ xs) ys h =
     let both : (list_any (same_key x) xs || list_any (same_key x) ys) ≡ false =
-    sym (any-append (same_key x) xs ys) ∙ not_true _ (and_left _ _ h) in
+    sym (list_any-append (same_key x) xs ys) ∙ not-true _ (and_left _ _ h) in
     and_both _ _ (ap not (or_none_left _ _ both)) (apart_left xs ys (and_right _ _ h))
 
 apart_right : (xs ys : List NodeKey) → are_apart (xs ++ ys) ≡ true → are_apart ys ≡ true

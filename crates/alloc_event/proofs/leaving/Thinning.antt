@@ -2,7 +2,7 @@
 use Rattle.std.proofs.Common.{◌≡◌, ℕ, suc, ◌+◌, ◌==◌, ◌<◌, Bool, true, false, ◌||◌, not, List, [], ◌∷◌, ◌++◌, map, length, drop, Option, Some, None, is_some, cond, refl, sym, ap, subst, ◌∙◌, inl, inr, arith}
 use Rattle.std.specs.List.{list_any, list_all, filter, cons_option, AllByRecursion}
 use Rattle.std.specs.Option.{option_map_or}
-use Rattle.std.proofs.lemmas.Bool.{false≢true}
+use Rattle.std.proofs.lemmas.Bool.{false≢true, not-true}
 use Rattle.std.proofs.lemmas.List.Elements.{filter-append}
 use Rattle.sm_names.specs.declared.keys.NodeKey.{NodeKey}
 use Rattle.sm_names.specs.Sameness.{same_key}
@@ -23,6 +23,7 @@ use Rattle.alloc_event.proofs.lists.Lookups.{looked-without}
 use Rattle.alloc_event.proofs.tables.Rooted.{whole_rooted}
 use Rattle.alloc_event.proofs.tables.TakingOut.{same_first}
 use Rattle.alloc_event.proofs.calm.United.{united_filter}
+use Rattle.alloc_event.proofs.changes.Finishing.{place-filed}
 
 -- ---- lists of which some elements are kept
 
@@ -78,14 +79,10 @@ pub apart-filter : (p : NodeKey → Bool) (ks : List NodeKey) → are_apart ks �
 apart-filter p [] apart = refl
 apart-filter p (k ∷ ks) apart = elim (p k) as (λ b. are_apart (cond b (k ∷ filter p ks) (filter p ks)) ≡ true) [
   | true ↦
-      let lone : list_any (same_key k) (filter p ks) ≡ false = none-filter p (same_key k) ks (not_true _ (and_left _ _ apart)) in
+      let lone : list_any (same_key k) (filter p ks) ≡ false = none-filter p (same_key k) ks (not-true _ (and_left _ _ apart)) in
       and_both _ _ (ap not lone) (apart-filter p ks (and_right _ _ apart))
   | false ↦ apart-filter p ks (and_right _ _ apart)
 ]
-  where
-    not_true : (b : Bool) → not b ≡ true → b ≡ false
-    not_true true h = absurd (false≢true h)
-    not_true false h = refl
 
 -- a key that passes is still there
 pub there-filter : (p : NodeKey → Bool) (key : NodeKey) (ks : List NodeKey) → p key ≡ true → list_any (same_key key) ks ≡ true →
@@ -125,11 +122,7 @@ pub one_less : (key : NodeKey) (ks : List NodeKey) → are_apart ks ≡ true →
     length (filter (λ k. not (same_key key k)) ks) + 1 ≡ length ks
 one_less key [] apart there = absurd (false≢true there)
 one_less key (k ∷ ks) apart there =
-    one_less-by key k ks (same_key key k) refl (not_true _ (and_left _ _ apart)) there (one_less key ks (and_right _ _ apart))
-  where
-    not_true : (b : Bool) → not b ≡ true → b ≡ false
-    not_true true h = absurd (false≢true h)
-    not_true false h = refl
+    one_less-by key k ks (same_key key k) refl (not-true _ (and_left _ _ apart)) there (one_less key ks (and_right _ _ apart))
 
 -- ---- collections
 
@@ -138,14 +131,10 @@ distinct-filter : (p : Node → Bool) (ns : List Node) → are_distinct ns ≡ t
 distinct-filter p [] h = refl
 distinct-filter p (n ∷ ns) h = elim (p n) as (λ b. are_distinct (cond b (n ∷ filter p ns) (filter p ns)) ≡ true) [
   | true ↦
-      let lone : list_any (is_of n.key) (filter p ns) ≡ false = none-filter p (is_of n.key) ns (not_true _ (and_left _ _ h)) in
+      let lone : list_any (is_of n.key) (filter p ns) ≡ false = none-filter p (is_of n.key) ns (not-true _ (and_left _ _ h)) in
       and_both _ _ (ap not lone) (distinct-filter p ns (and_right _ _ h))
   | false ↦ distinct-filter p ns (and_right _ _ h)
 ]
-  where
-    not_true : (b : Bool) → not b ≡ true → b ≡ false
-    not_true true h = absurd (false≢true h)
-    not_true false h = refl
 
 -- a collection stays sound with some of its nodes
 IsSound-filter : (p : Node → Bool) (c : Collection) → IsSound c → IsSound (with_nodes (filter p) c)
@@ -184,15 +173,10 @@ thinned-keys t [] = refl
 thinned-keys t (s ∷ ss) =
     ap (λ ks. filter (is_found t) s.keys ++ ks) (thinned-keys t ss) ∙ sym (filter-append (is_found t) s.keys (all_keys ss))
 
--- a filed key has a node
-filed_found-by : (id : ℕ) (o : Option Node) → option_map_or (λ (n : Node). n.collection == id) o false ≡ true → is_some o ≡ true
-filed_found-by id None h = absurd (false≢true h)
-filed_found-by id (Some n) h = refl
-
 -- so have all
 pub filed_all : (t : Table Node) (id : ℕ) (ks : List NodeKey) → list_all (is_filed t id) ks ≡ true → list_all (is_found t) ks ≡ true
 filed_all t id [] h = refl
-filed_all t id (k ∷ ks) h = and_both _ _ (filed_found-by id (node_at t k) (and_left _ _ h)) (filed_all t id ks (and_right _ _ h))
+filed_all t id (k ∷ ks) h = and_both _ _ (place-filed id (node_at t k) (and_left _ _ h)) (filed_all t id ks (and_right _ _ h))
 
 -- a shelf whose keys are filed has only keys that the table has
 pub thinned-same : (t : Table Node) (s : Shelf) → list_all (is_filed t s.id) s.keys ≡ true → thinned t s ≡ s
@@ -239,7 +223,7 @@ module _ (t now : Table Node) (key : NodeKey) (out : TakesOut t now key) where
         rw none (filed-kept id ks (and_right _ _ filed))
     | inr other ↦
         let there : node_at now k ≡ node_at t k = out.look k ∙ (rw other refl) in
-        let found : is_found now k ≡ true = ap is_some there ∙ filed_found-by id (node_at t k) (and_left _ _ filed) in
+        let found : is_found now k ≡ true = ap is_some there ∙ place-filed id (node_at t k) (and_left _ _ filed) in
         let own : is_filed now id k ≡ true =
         ap (λ o. option_map_or (λ (n : Node). n.collection == id) o false) there ∙ and_left _ _ filed in
         rw found (and_both _ _ own (filed-kept id ks (and_right _ _ filed)))

@@ -2,7 +2,7 @@
 use Rattle.std.proofs.Common.{◌≡◌, ℕ, suc, ◌==◌, ◌<◌, Bool, true, false, ◌&&◌, not, List, [], ◌∷◌, ◌++◌, map, length, Option, Some, None, is_some, cond, refl, sym, ap, ◌∙◌, inl, inr, arith}
 use Rattle.std.specs.List.{find, list_any, list_all, filter, cons_option, AllByRecursion}
 use Rattle.std.specs.Option.{option_map_or}
-use Rattle.std.proofs.lemmas.Bool.{false≢true, eqb-true, eqb-false, ne_eqb, eq-eqb}
+use Rattle.std.proofs.lemmas.Bool.{false≢true, eqb-true, eqb-false, ne_eqb, eq-eqb, false_from_ne_true}
 use Rattle.sm_names.specs.declared.keys.NodeKey.{NodeKey}
 use Rattle.sm_names.specs.Sameness.{same_key}
 use Rattle.sm_names.proofs.SamenessLaws.{and_both, and_left, and_right, or_cases, or_left, or_right}
@@ -30,11 +30,6 @@ one_collection-by : (one two : ℕ) (o : Option Node) → option_map_or (λ (n :
 one_collection-by one two None a b = absurd (false≢true a)
 one_collection-by one two (Some n) a b = sym (eqb-true _ _ a) ∙ eqb-true _ _ b
 
--- two tests that are not both true
-not_both : (b : Bool) → (b ≡ true → ⊥) → b ≡ false
-not_both true h = absurd (h refl)
-not_both false h = refl
-
 -- the first that is left
 unless_first : (o : Option Node) (ns : List Node) → cons_option (unless_over o) (filter (λ n. not (is_over n)) ns) ≡ filter (λ n.
     not (is_over n)) (cons_option o ns)
@@ -48,7 +43,8 @@ module _ (t now : Table Node) (s : Shelf) (filed : list_all (is_filed t s.id) s.
   other_look : (id : ℕ) (key : NodeKey) → (id == s.id) ≡ false → is_filed t id key ≡ true → node_at now key ≡ node_at t key
   other_look id key other own =
       let off : list_any (same_key key) s.keys ≡ false =
-      not_both _ (λ there. eqb-false id s.id other (one_collection-by id s.id (node_at t key) own (filed_there t s.id s.keys key filed
+      false_from_ne_true _ (λ there. eqb-false id s.id other
+      (one_collection-by id s.id (node_at t key) own (filed_there t s.id s.keys key filed
       there))) in
       look key ∙ (rw off refl)
 

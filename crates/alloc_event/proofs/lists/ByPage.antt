@@ -7,6 +7,7 @@ use Rattle.sm_names.specs.Apart.{at_pages}
 use Rattle.sm_names.specs.Words.{insert_by}
 use Rattle.sm_names.proofs.SamenessLaws.{either_way}
 use Rattle.alloc_event.specs.Scenes.{by_page}
+use Rattle.alloc_event.proofs.lists.SameIntervals.{or_swap}
 use Rattle.buffer_pool.specs.Holdings.{with_buffers, with_interval}
 
 -- with one more, in its place
@@ -130,13 +131,6 @@ with_buffers_sorted pages (s ∷ ss) is =
     ap (with_buffers pages ss) (put_is (at_pages pages s) (by_page is))
     ∙ (with_buffers_put pages s ss (by_page is)
     ∙ ap (put_in (at_pages pages s)) (with_buffers_sorted pages ss is))
-
--- one of three tests, in another order
-or_swap : (a b c : Bool) → (a || (b || c)) ≡ (b || (a || c))
-or_swap true true c = refl
-or_swap true false c = refl
-or_swap false true c = refl
-or_swap false false c = refl
 
 -- what is asked of some interval, in order or not
 any_put : (test : Interval → Bool) (new : Interval) (is : List Interval) →

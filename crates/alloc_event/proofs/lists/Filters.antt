@@ -3,8 +3,10 @@ use Rattle.std.proofs.Common.{ℕ, ◌≡◌, ◌<◌, ◌≤◌, max, nat_lt, r
 use Rattle.std.specs.List.{list_any, list_all, find, filter, filter_map, fold, cons_option}
 use Rattle.std.specs.Option.{option_map}
 use Rattle.std.proofs.lemmas.Bool.{ltb-true, ltb-false, lt-ltb}
+use Rattle.std.proofs.Math.Bool.{or_assoc}
 use Rattle.sm_names.proofs.SamenessLaws.{either_way, or_cases, or_false, or_right}
 use Rattle.sm_names.proofs.StandingLaws.{both_tests}
+use Rattle.sm_names.proofs.BitLaws.{none_below}
 
 module _ {A B : Type 0} (asked : A → Bool) (f : A → B) (p : B → Bool) where
   -- some of those that were asked for pass
@@ -90,11 +92,6 @@ below_max n a b = both_tests (nat_lt n (max a b)) (nat_lt n a || nat_lt n b) (λ
           or_right (nat_lt n a) (nat_lt n b) (lt-ltb n b lt)
     ]
 
--- one of three tests
-or_assoc : (a b c : Bool) → ((a || b) || c) ≡ (a || (b || c))
-or_assoc true b c = refl
-or_assoc false b c = refl
-
 -- some number is above this one exactly if the greatest is
 above_from : {A : Type 0} (f : A → ℕ) (n start : ℕ) (xs : List A) →
     nat_lt n (fold (λ k x. max k (f x)) start xs) ≡ (nat_lt n start || list_any (λ x. nat_lt n (f x)) xs)
@@ -104,16 +101,8 @@ above_from f n start (x ∷ xs) =
     ∙ (ap (λ (b : Bool). b || list_any (λ y. nat_lt n (f y)) xs) (below_max n start (f x))
     ∙ or_assoc (nat_lt n start) (nat_lt n (f x)) (list_any (λ y. nat_lt n (f y)) xs))
 
--- none is below 0
-not_below : (n : ℕ) → nat_lt n 0 ≡ false
-not_below n = elim (either_way (nat_lt n 0)) [
-  | inl e ↦ let l : n < 0 = ltb-true n 0 e in
-      absurd (omega arith)
-  | inr e ↦ e
-]
-
 -- the same from 0 on
 pub above_greatest : {A : Type 0} (f : A → ℕ) (n : ℕ) (xs : List A) →
     list_any (λ x. nat_lt n (f x)) xs ≡ nat_lt n (fold (λ k x. max k (f x)) 0 xs)
 above_greatest f n xs = sym (above_from f n 0 xs
-    ∙ ap (λ (b : Bool). b || list_any (λ x. nat_lt n (f x)) xs) (not_below n))
+    ∙ ap (λ (b : Bool). b || list_any (λ x. nat_lt n (f x)) xs) (none_below n))

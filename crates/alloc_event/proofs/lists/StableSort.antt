@@ -42,11 +42,12 @@ neither_is a b = elim (either_way (a == b)) [
 ]
 
 -- a number that is less is not the same
-apart : (a b : ℕ) → a < b → (a == b) ≡ false
-apart a b l = ne_eqb a b (λ same. omega arith)
+pub other_number : (a b : ℕ) → a < b → (a == b) ≡ false
+other_number a b l = ne_eqb a b (λ same. omega arith)
 
-apart_back : (a b : ℕ) → b < a → (a == b) ≡ false
-apart_back a b l = ne_eqb a b (λ same. omega arith)
+-- nor is one that is greater
+pub other_greater : (a b : ℕ) → b < a → (a == b) ≡ false
+other_greater a b l = ne_eqb a b (λ same. omega arith)
 
 -- ---- lists by a number
 
@@ -104,7 +105,7 @@ module _ {A : Type 0} (number : A → ℕ) where
   filter_swap z x y xs less = elim (either_way (beside z x)) [
     | inl e ↦
         let same : number z ≡ number x = eqb-true (number z) (number x) e in
-        rw (e, apart_back (number z) (number y) (omega arith)) refl
+        rw (e, other_greater (number z) (number y) (omega arith)) refl
     | inr e ↦ rw e refl
   ]
 
@@ -132,7 +133,7 @@ module _ {A : Type 0} (number : A → ℕ) where
   none_below x y [] less first = refl
   none_below x y (z ∷ zs) less first =
       let on : number y ≤ number z = first.0 in
-      rw (apart (number x) (number z) (omega arith)) (none_below x y zs less first.1)
+      rw (other_number (number x) (number z) (omega arith)) (none_below x y zs less first.1)
 
   -- an element has its own number
   beside_itself : (x : A) → beside x x ≡ true
@@ -143,7 +144,7 @@ module _ {A : Type 0} (number : A → ℕ) where
       filter (beside x) (x ∷ xs) ≡ filter (beside x) (y ∷ ys) → number x < number y → ⊥
   not_below x xs y ys rises same less =
       let some : filter (beside x) (x ∷ xs) ≡ x ∷ filter (beside x) xs = rw (beside_itself x) refl in
-      let none : filter (beside x) (y ∷ ys) ≡ [] = rw (apart (number x) (number y) less) (none_below x y ys less rises.0) in
+      let none : filter (beside x) (y ∷ ys) ≡ [] = rw (other_number (number x) (number y) less) (none_below x y ys less rises.0) in
       let wrong : x ∷ filter (beside x) xs ≡ [] = sym some ∙ (same ∙ none) in
       cc
 

@@ -4,6 +4,7 @@ use Rattle.std.specs.List.{list_any, list_all, find, flat_map, cons_option, AllB
 use Rattle.std.specs.Option.{option_map_or}
 use Rattle.std.proofs.lemmas.Bool.{eq-eqb, ltb-true, false≢true}
 use Rattle.std.proofs.lemmas.List.Elements.{filter_map-append}
+use Rattle.std.proofs.lemmas.List.Folds.{list_any-append}
 use Rattle.sm_names.specs.declared.keys.NodeKey.{NodeKey}
 use Rattle.sm_names.specs.Sameness.{same_key}
 use Rattle.sm_names.specs.declared.keys.HeldBuffer.{HeldBuffer}
@@ -15,7 +16,7 @@ use Rattle.alloc_event.specs.Forest.{Collection, all_held}
 use Rattle.alloc_event.specs.Kept.{Shelf, AreRising, IsStored, IsWhole, Bears, put_shelf, collection_in, nodes_with, forest_of, all_keys, are_apart, are_filed, is_filed}
 use Rattle.alloc_event.specs.Settling.{put}
 use Rattle.alloc_event.proofs.lists.SameIntervals.{or_swap, part_swap}
-use Rattle.alloc_event.proofs.changes.Altering.{none_above, any-append}
+use Rattle.alloc_event.proofs.changes.Altering.{none_above}
 use Rattle.alloc_event.proofs.changes.Finishing.{whole-map, whole-unmap}
 use Rattle.alloc_event.proofs.lists.Lookups.{same_key-swap}
 use Rattle.alloc_event.proofs.shelves.Putting.{cases_place, rising-put, above-weaker, put-map}
@@ -251,7 +252,7 @@ module _ (t now : Table Node) (node : Node) (bears : Bears t now node) where
   -- no shelf has the key yet
   none_yet : (ss : List Shelf) → are_filed t ss ≡ true → list_any (same_key node.key) (all_keys ss) ≡ false
   none_yet [] filed = refl
-  none_yet (s ∷ ss) filed = any-append (same_key node.key) s.keys (all_keys ss)
+  none_yet (s ∷ ss) filed = list_any-append (same_key node.key) s.keys (all_keys ss)
       ∙ both_none (none_there s.id s.keys (and_left _ _ filed)) (none_yet ss (and_right _ _ filed))
 
   -- it stands apart

@@ -16,6 +16,7 @@ use Rattle.sm_names.specs.Words.{when}
 use Rattle.sm_names.proofs.ListLaws.{In, is_some-find}
 use Rattle.sm_names.proofs.RestLaws.{AtRest}
 use Rattle.sm_names.proofs.SamenessLaws.{and_left, both_ways, either_way, or_both, or_left, or_parts, or_right, same_key-refl, same_key-true}
+use Rattle.sm_names.proofs.PlaceLaws.{map-None}
 
 -- ---- lists
 
@@ -197,11 +198,6 @@ module _ (ms : List Member) (m : Member) (newborn : IsNewborn ms m) where
       ∙ or_both (list_any (is_next_head more) ms) (list_any (is_next_head more) (m ∷ []))
       (any-less (is_next_head more) (is_next_head ms) ms next_less none)
       (rw not_next refl)
-
--- what a map leaves there was there
-map-None : {A B : Type 0} (f : A → B) (o : Option A) → option_map f o ≡ None → o ≡ None
-map-None f None h = refl
-map-None f (Some x) h = cc
 
 -- the loss of a root that has its buffers, where neither a strong node nor a strong handle keeps them
 abbrev loss_of : Bool → Bool → Member → Option Mark

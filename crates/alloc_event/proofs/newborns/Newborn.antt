@@ -2,14 +2,15 @@
 use Rattle.std.proofs.Common.{◌≡◌, ℕ, ◌<◌, ◌==◌, Bool, true, false, ◌||◌, ◌&&◌, ◌⊎◌, not, List, [], ◌∷◌, ◌++◌, map, drop, reverse, Option, Some, None, option_map, is_some, IsSome, IfSome, refl, sym, ap, subst, ◌∙◌, inl, inr}
 use Rattle.std.specs.List.{list_any, list_all, find, filter, flat_map, AllByRecursion}
 use Rattle.std.specs.Option.{option_map_or, option_and_then, unwrap_or}
-use Rattle.std.proofs.lemmas.Bool.{eqb-true, eq-eqb, false≢true}
+use Rattle.std.proofs.lemmas.Bool.{eqb-true, eq-eqb, false≢true, not-true}
 use Rattle.std.proofs.lemmas.List.{map-append}
+use Rattle.std.proofs.lemmas.List.Folds.{list_any-append}
 use Rattle.sm_names.specs.declared.keys.NodeKey.{NodeKey}
 use Rattle.sm_names.specs.declared.outcomes.Buffers.{Buffers}
 use Rattle.sm_names.specs.Sameness.{same_key}
 use Rattle.sm_names.specs.declared.keys.HeldBuffer.{HeldBuffer}
 use Rattle.sm_names.proofs.ListLaws.{In, In-find}
-use Rattle.sm_names.proofs.SamenessLaws.{and_left, and_right, either_way, or_cases, or_none_left, or_right, same_key-refl}
+use Rattle.sm_names.proofs.SamenessLaws.{and_left, and_right, either_way, or_cases, or_none_left, or_right, same_key-refl, or_none_right}
 use Rattle.node_table.specs.Table.{Table, node_at, row_at}
 use Rattle.node_table.proofs.Keys.{same_key-true, true-same_key}
 use Rattle.alloc_event.specs.declared.change.Change.{Change}
@@ -22,10 +23,10 @@ use Rattle.alloc_event.specs.Scenes.{IsSound, are_distinct, heads_itself}
 use Rattle.alloc_event.specs.Settling.{Handles, Settles, put, given_back, MayChange, collection_or_new, with_birth, has_collection}
 use Rattle.alloc_event.specs.Ties.{are_rooted}
 use Rattle.alloc_event.specs.Units.{are_united, shares_unit}
-use Rattle.alloc_event.proofs.changes.Altering.{any-append, filed_at, kept_of, found_id, found_filed, found_whole, shelf_by, looked-of, none_above}
+use Rattle.alloc_event.proofs.changes.Altering.{filed_at, kept_of, found_id, found_filed, found_whole, shelf_by, looked-of, none_above}
 use Rattle.alloc_event.proofs.newborns.Bearing.{born_key}
 use Rattle.alloc_event.proofs.newborns.Forest.{keys_before, held_before, kept-born, helds-born, helds_in, born_looked, none_there, all-append}
-use Rattle.alloc_event.proofs.changes.Finishing.{keys_in, looked-keys, or_none_right, not-true}
+use Rattle.alloc_event.proofs.changes.Finishing.{keys_in, looked-keys}
 use Rattle.alloc_event.proofs.tables.Hanging.{looked_hung}
 use Rattle.alloc_event.proofs.tables.KeptRoots.{rooted_birth}
 use Rattle.alloc_event.proofs.lists.Lookups.{node_of-looked, same_key-swap}
@@ -92,7 +93,7 @@ in_own-by s ss key id rising false other found on = rw other on
 in_own : (t : Table Node) (ss : List Shelf) (key : NodeKey) (n : Node) → AreRising ss → are_filed t ss ≡ true → node_at t key ≡ Some n →
     list_any (same_key key) (all_keys ss) ≡ true → list_any (same_key key) (keys_before n.collection ss) ≡ true
 in_own t [] key n rising filed is there = absurd (false≢true there)
-in_own t (s ∷ ss) key n rising filed is there = elim (or_cases _ _ (sym (any-append (same_key key) s.keys (all_keys ss)) ∙ there)) [
+in_own t (s ∷ ss) key n rising filed is there = elim (or_cases _ _ (sym (list_any-append (same_key key) s.keys (all_keys ss)) ∙ there)) [
   | inl here ↦
       let own : (n.collection == s.id) ≡ true = filed_at t s.id s.keys key n (and_left _ _ filed) is here in
       rw (eq-eqb s.id n.collection (sym (eqb-true _ _ own))) here
@@ -111,7 +112,7 @@ distinct-more (n ∷ ns) node none ok =
     let apart : list_any (is_of n.key) ns ≡ false = not-true _ (and_left _ _ ok) in
     let rest : are_distinct (ns ++ node ∷ []) ≡ true =
     distinct-more ns node (or_none_right (same_key n.key node.key) _ none) (and_right _ _ ok) in
-    rw (any-append (is_of n.key) ns (node ∷ []), apart, other, rest) refl
+    rw (list_any-append (is_of n.key) ns (node ∷ []), apart, other, rest) refl
 
 -- only the first may be a root
 one_root-more : (ns : List Node) (node : Node) → (is_some node.parent ≡ true) ⊎ (ns ≡ []) →

@@ -3,6 +3,7 @@ use Rattle.std.proofs.Common.{◌≡◌, ℕ, ◌+◌, Bool, true, false, ◌||�
 use Rattle.std.specs.List.{filter, find, list_all, list_any}
 use Rattle.std.specs.Option.{option_map_or, unwrap_or}
 use Rattle.std.proofs.lemmas.List.{map-append}
+use Rattle.std.proofs.lemmas.List.Folds.{list_any-append}
 use Rattle.sm_names.specs.declared.keys.NodeKey.{NodeKey}
 use Rattle.sm_names.specs.declared.keys.Strength.{Strength}
 use Rattle.sm_names.specs.Forced.{forced}
@@ -25,7 +26,7 @@ use Rattle.alloc_event.specs.Reserved.{reserved_count}
 use Rattle.alloc_event.specs.Settling.{Handles, collection_or_new, given_back, is_home_in, put, standing, with_birth}
 use Rattle.alloc_event.specs.Still.{IsStill, no_shelf, shelf_before, shelf_with}
 use Rattle.alloc_event.specs.Ties.{are_rooted}
-use Rattle.alloc_event.proofs.changes.Altering.{any-append, shelf_by}
+use Rattle.alloc_event.proofs.changes.Altering.{shelf_by}
 use Rattle.alloc_event.proofs.newborns.NothingForced.{HaveOthers, births_force_nothing, birth_settles, members_more}
 use Rattle.alloc_event.proofs.newborns.Forest.{still_collections}
 use Rattle.alloc_event.proofs.calm.Calming.{calm_rested}
@@ -78,7 +79,7 @@ still_out handles c b fresh here out =
     let live : some_strong_live (members_of (c.nodes ++ b ∷ [])) ≡ (some_strong_live (members_of c.nodes) || some_strong_live
     (member_of (c.nodes ++ b ∷ []) b ∷ [])) =
     ap some_strong_live (members_more c.nodes b fresh here)
-    ∙ any-append strong (members_of c.nodes) (member_of (c.nodes ++ b ∷ []) b ∷ []) in
+    ∙ list_any-append strong (members_of c.nodes) (member_of (c.nodes ++ b ∷ []) b ∷ []) in
     let out' = all_weaker (λ (h : HeldBuffer). not (is_home_in handles c h.buffer)) (λ (h : HeldBuffer).
     not (is_home_in handles (record c { nodes = c.nodes ++ b ∷ [] }) h.buffer)) c.held
     (λ h e. ap (λ l. not (is_home (handles h.buffer Strength.Strong) (handles h.buffer Strength.Weak) l)) live
@@ -212,7 +213,7 @@ module _ (t now : Table Node) (ss : List Shelf) (ok : IsStored t ss) (id : ℕ) 
         strong = strong ∙ ap (λ (n : ℕ). strong_count c0.nodes + n) (sym (strong_more above))
             ∙ sym (times-append is_strong c0.nodes (node ∷ [])) ∙ ap (λ (c : Collection). strong_count c.nodes) (sym shown);
         reserved = reserved ∙ reserved_more ∙ ap (λ (c : Collection). reserved_count c.nodes) (sym shown);
-        tidy = λ h. ap (λ (c : Collection). list_any (over_but e.one) c.nodes) shown ∙ any-append (over_but e.one) c0.nodes (node ∷ [])
+        tidy = λ h. ap (λ (c : Collection). list_any (over_but e.one) c.nodes) shown ∙ list_any-append (over_but e.one) c0.nodes (node ∷ [])
             ∙ or_both (list_any (over_but e.one) c0.nodes) _ (tidy h)
             (ap (λ (b : Bool). b || false) (not_over_but e.one node (rw (born_here above attached id event client key) refl)));
       }

@@ -5,7 +5,7 @@ use Rattle.std.proofs.lemmas.Bool.{eq-eqb, eqb-true, eqb-false, ltb-true}
 use Rattle.sm_names.specs.declared.keys.NodeKey.{NodeKey}
 use Rattle.sm_names.specs.Sameness.{same_key}
 use Rattle.sm_names.proofs.ListLaws.{In, In-map, times-le-length}
-use Rattle.sm_names.proofs.SamenessLaws.{and_left, and_right, both_ways, either_way, same_key-refl, same_key-true}
+use Rattle.sm_names.proofs.SamenessLaws.{and_left, and_right, both_ways, either_way, same_key-refl, same_key-true, some-injective}
 use Rattle.sm_names.proofs.StandingLaws.{In-any}
 use Rattle.node_table.specs.Table.{Table, node_at}
 use Rattle.alloc_event.specs.declared.entry.Entry.{Entry}
@@ -20,7 +20,6 @@ use Rattle.alloc_event.specs.Nodes.{is_over, is_spent, with_end}
 use Rattle.alloc_event.specs.Reserved.{camped, reserved_count}
 use Rattle.alloc_event.proofs.changes.Altering.{looked-of}
 use Rattle.alloc_event.proofs.calm.Calming.{IsPlain, calm_filter, calm_map, strong_filter, times_map}
-use Rattle.alloc_event.proofs.shelves.Entries.{Some-inj}
 use Rattle.alloc_event.proofs.tables.Hanging.{in_all, looked_there}
 use Rattle.alloc_event.proofs.lists.Lookups.{looked-map}
 use Rattle.alloc_event.proofs.leaving.Noted.{fewer_over, not_over_but, noted_not}
@@ -428,7 +427,7 @@ noted_set P id (e ∷ es) at new rising told untidy =
         )
     from on false other None is told = absurd (cc)
     from on false other (Some n) is told =
-        let next : at ≡ suc n = omega (arith, Some-inj (n + 1) at told) in
+        let next : at ≡ suc n = omega (arith, some-injective (n + 1) at told) in
         rw next (λ same. absurd (eqb-false e.id id other same), on n is)
 
 -- where none has the id

@@ -1,6 +1,7 @@
 -- Entries of which one loses keys, or goes.
-use Rattle.std.proofs.Common.{◌≡◌, ℕ, zero, suc, ◌+◌, ◌==◌, Bool, true, false, ◌&&◌, List, [], ◌∷◌, length, get_or, set, remove, Option, Some, None, option_map, cond, refl, sym, ap, subst, ◌∙◌, arith}
+use Rattle.std.proofs.Common.{◌≡◌, ℕ, zero, suc, ◌+◌, ◌==◌, Bool, true, false, List, [], ◌∷◌, length, get_or, set, remove, Option, Some, None, option_map, cond, refl, sym, ap, subst, ◌∙◌, arith}
 use Rattle.std.specs.List.{find}
+use Rattle.sm_names.proofs.SamenessLaws.{some-injective}
 use Rattle.node_table.specs.Table.{Table}
 use Rattle.alloc_event.specs.declared.entry.Entry.{Entry}
 use Rattle.alloc_event.specs.declared.node.Node.{Node}
@@ -21,10 +22,6 @@ thin_none t id es none = sym (thin_others t id (shelves_of es) (none_others id (
 pub bare_none : (id : ℕ) (es : List Entry) → place_in id es ≡ None → shelves_of es ≡ without_bare id (shelves_of es)
 bare_none id es none = sym (bare_others id (shelves_of es) (none_others id (shelves_of es) (no_shelf id es none)))
 
--- a number that is told
-Some-inj : (a b : ℕ) → Some a ≡ Some b → a ≡ b
-Some-inj a b e = cc
-
 -- what is told of the first place, or of one behind it
 place_cases : (id : ℕ) (x : Entry) (es : List Entry) (at : ℕ) (P : ℕ → Type 0) → place_in id (x ∷ es) ≡ Some at →
     ((x.id == id) ≡ true → P zero) → ((n : ℕ) → (x.id == id) ≡ false → place_in id es ≡ Some n → P (suc n)) → P at
@@ -34,7 +31,7 @@ place_cases id x es at P told first behind = by (x.id == id) refl (place_in id e
     by true same o is told = let start : zero ≡ at = cc in subst P start (first same)
     by false other None is told = absurd (cc)
     by false other (Some n) is told =
-        let next : suc n ≡ at = omega (arith, Some-inj (n + 1) at told) in
+        let next : suc n ≡ at = omega (arith, some-injective (n + 1) at told) in
         subst P next (behind n other is)
 
 -- the entry at the place of the id keeps the keys that the table has
@@ -71,12 +68,3 @@ keep_bare id (x ∷ es) at d rising told bare =
     shelf_of x ∷ l) (sym (bare_others id (shelves_of es) (above_other id x.id (shelves_of es) rising.0 same)))))
     (λ n other told bare. rw other (ap (λ l. shelf_of x ∷ l) (keep_bare id es n d rising.1 told bare)))
     bare
-
--- one test of two fails
-pub no_left : (a b : Bool) → a ≡ false → (a && b) ≡ false
-no_left true b h = absurd (cc)
-no_left false b h = refl
-
-pub no_right : (a b : Bool) → b ≡ false → (a && b) ≡ false
-no_right true b h = h
-no_right false b h = refl

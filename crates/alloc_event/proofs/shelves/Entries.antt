@@ -6,6 +6,7 @@ use Rattle.std.proofs.lemmas.List.Elements.{All-from_recursion}
 use Rattle.std.proofs.lemmas.Bool.{eqb-true, lt-ltb, le-ltb, eq-eqb, ne_eqb, cases_lt}
 use Rattle.std.proofs.lemmas.Option.{slice_get-get_or}
 use Rattle.std.proofs.lemmas.List.Sums.{prefix_len_is, prefix_len-le-length}
+use Rattle.sm_names.proofs.SamenessLaws.{some-injective}
 use Rattle.alloc_event.specs.declared.entry.Entry.{Entry}
 use Rattle.alloc_event.specs.Calm.{put_in}
 use Rattle.alloc_event.specs.Kept.{Shelf, AreRising, place_in, shelf_of, shelves_of}
@@ -162,10 +163,6 @@ found_above id (e ∷ es) at x place all =
     All-from_recursion (λ (later : Entry). x.id < later.id) (e ∷ es) (above_shelves x.id (e ∷ es) all) at e place.within in
     omega (arith, place.id_is e)
 
--- a number that is told
-pub Some-inj : (a b : ℕ) → Some a ≡ Some b → a ≡ b
-Some-inj a b e = cc
-
 -- no place behind, where none is told
 unplaced : (o : Option ℕ) → option_map (λ n. n + 1) o ≡ None → o ≡ None
 unplaced None e = refl
@@ -180,7 +177,7 @@ set_put-by new x es at rising true here behind told on is =
     rw (← first, here) refl
 set_put-by new x es at rising false other None told on is = absurd (cc)
 set_put-by new x es at rising false other (Some n) told on is =
-    let next : at ≡ suc n = omega (arith, Some-inj (n + 1) at is) in
+    let next : at ≡ suc n = omega (arith, some-injective (n + 1) at is) in
     let below : x.id < new.id = found_above new.id es n (shelf_of x) (place_is new.id es n told) rising.0 in
     let more : nat_lt new.id x.id ≡ false = le-ltb _ _ (omega arith) in
     rw (next, other, more) (ap (λ xs. x ∷ xs) (on n refl))

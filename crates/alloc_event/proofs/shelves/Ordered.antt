@@ -8,15 +8,17 @@ use Rattle.alloc_event.specs.declared.entry.Entry.{Entry}
 use Rattle.sm_names.specs.declared.keys.HeldBuffer.{HeldBuffer}
 use Rattle.alloc_event.specs.declared.node.Node.{Node}
 use Rattle.alloc_event.specs.Forest.{held_by_page, live_keys}
-use Rattle.alloc_event.specs.Kept.{Shelf, all_keys, forest_of, is_live, nodes_with, shelves_of}
+use Rattle.alloc_event.specs.Kept.{Shelf, all_keys, forest_of, nodes_with, shelves_of}
 use Rattle.alloc_event.proofs.newborns.Forest.{helds_in}
 use Rattle.alloc_event.proofs.shelves.Showing.{nodes_of_all}
+use Rattle.alloc_event.specs.Questions.{is_live_node}
 
 -- the live nodes by birth are those of all keys
 pub live_in_order : (t : Table Node) (ss : List Shelf) →
-    live_keys (forest_of t ss) ≡ map (λ (n : Node). n.key) (sorted_by (λ (n : Node). n.event) (filter is_live (nodes_with t (all_keys ss))))
+    live_keys (forest_of t ss) ≡ map (λ (n : Node). n.key)
+    (sorted_by (λ (n : Node). n.event) (filter is_live_node (nodes_with t (all_keys ss))))
 live_in_order t ss =
-    ap (λ (ns : List Node). map (λ (n : Node). n.key) (sorted_by (λ (n : Node). n.event) (filter is_live ns))) (nodes_of_all t ss)
+    ap (λ (ns : List Node). map (λ (n : Node). n.key) (sorted_by (λ (n : Node). n.event) (filter is_live_node ns))) (nodes_of_all t ss)
 
 -- one that is made of another is put into the place of that
 pub insert_by-map : {A B : Type 0} (number : B → ℕ) (f : A → B) (x : A) (xs : List A) →

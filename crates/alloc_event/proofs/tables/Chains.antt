@@ -4,17 +4,8 @@ use Rattle.std.specs.List.{list_any}
 use Rattle.sm_names.specs.declared.keys.NodeKey.{NodeKey}
 use Rattle.sm_names.specs.Losses.{Reach, Origin, Up, Down, top}
 use Rattle.sm_names.specs.Sameness.{same_key}
-use Rattle.sm_names.proofs.ListLaws.{In}
 use Rattle.sm_names.proofs.ReachLaws.{IsChain, top_on}
 use Rattle.sm_names.proofs.SamenessLaws.{both_ways, either_way, or_right, same_key-true}
-
--- the top is the same where the tests agree along the line
-pub top-along : (f g : NodeKey → Bool) (node : NodeKey) (line : List NodeKey) →
-    ((k : NodeKey) → In k (node ∷ line) → f k ≡ g k) → top f node line ≡ top g node line
-top-along f g node [] same = refl
-top-along f g node (p ∷ line) same =
-    let on : top f p line ≡ top g p line = top-along f g p line (λ k there. same k (inr there)) in
-    rw (same node (inl refl), on) refl
 
 module _ (parent : NodeKey → Option NodeKey) where
   -- a node has one line up to its root

@@ -1,6 +1,6 @@
 -- Nodes that are left once a collection was changed were left before, on the parents that the table has.
 use Rattle.std.proofs.Common.{◌≡◌, ℕ, refl, ap, sym, ◌∙◌, subst, Bool, true, false, not, inl, inr, List, [], ◌∷◌, map, reverse, Option, Some, None}
-use Rattle.std.proofs.lemmas.Bool.{false≢true}
+use Rattle.std.proofs.lemmas.Bool.{false≢true, not-false}
 use Rattle.std.specs.List.{AllByRecursion, cons_option}
 use Rattle.sm_names.specs.declared.keys.Interval.{Interval}
 use Rattle.sm_names.specs.declared.keys.NodeKey.{NodeKey}
@@ -163,9 +163,5 @@ module _ (t : Table Node) where
     pub looked_gone : (key : NodeKey) → ((m : Node) → node_at t key ≡ Some m → m.gone ≡ true) → (keys : List NodeKey) (n : Node) →
         In n (nodes_with t keys) → not (is_of key n) ≡ false → n.gone ≡ true
     looked_gone key goes keys n on out =
-        let same : n.key ≡ key = same_key-true n.key key (not_false _ out) in
+        let same : n.key ≡ key = same_key-true n.key key (not-false _ out) in
         goes n (ap (node_at t) (sym same) ∙ in_all (λ (m : Node). node_at t m.key ≡ Some m) (nodes_with t keys) (looked_there keys) n on)
-      where
-        not_false : (b : Bool) → not b ≡ false → b ≡ true
-        not_false true h = refl
-        not_false false h = absurd (false≢true (sym h))

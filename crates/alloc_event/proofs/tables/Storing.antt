@@ -11,6 +11,7 @@ use Rattle.node_table.specs.Lending.{table_with_node}
 use Rattle.node_table.proofs.Keys.{true-same_key}
 use Rattle.alloc_event.specs.declared.node.Node.{Node}
 use Rattle.alloc_event.specs.Kept.{written, stored, Stores, have_places}
+use Rattle.alloc_event.proofs.lists.Lookups.{Look, nothing}
 use Rattle.alloc_event.proofs.tables.Writing.{look-written, parents-written}
 
 -- by whether they have one key
@@ -57,11 +58,6 @@ unmapped : (o : Option Node) → o ≡ option_map (stored []) o
 unmapped None = refl
 unmapped (Some n) = refl
 
--- nothing is there on either side
-nothing_there : (b : Bool) → cond {A = Option Node} b None None ≡ None
-nothing_there true = refl
-nothing_there false = refl
-
 -- one of the two is there
 some_there : (b : Bool) (n m : Node) → cond {A = Option Node} b (Some n) (Some m) ≡ Some (cond b n m)
 some_there true n m = refl
@@ -84,7 +80,7 @@ Stores-none t = record {
 more-by : (ns : List Node) (n : Node) (key : NodeKey) (o : Option Node) → ((m : Node) → o ≡ Some m → m.key ≡ key) →
     (if same_key n.key key then option_map (λ _. n) (option_map (stored ns) o) else option_map (stored ns) o) ≡ option_map
     (stored (ns ++ n ∷ [])) o
-more-by ns n key None named = nothing_there (same_key n.key key)
+more-by ns n key None named = nothing (same_key n.key key)
 more-by ns n key (Some m) named =
     let own : (stored ns m).key ≡ key = stored-key ns m ∙ named m refl in
     rw (stored-push ns n m, own) (some_there (same_key n.key key) n (stored ns m))

@@ -1,14 +1,16 @@
 -- A node that is taken out of the table, with its children cut.
-use Rattle.std.proofs.Common.{◌≡◌, ◌≢◌, suc, ◌+◌, ◌<◌, ◌≤◌, nat_lt, slice_index_or, Bool, true, false, not, List, [], ◌∷◌, length, Option, Some, None, option_map, IsSome, Contains, cond, if◌then◌else◌, refl, sym, ap, subst, ◌∙◌, inl, inr, arith}
+use Rattle.std.proofs.Common.{◌≡◌, ◌≢◌, suc, ◌+◌, ◌<◌, ◌≤◌, nat_lt, slice_index_or, Bool, true, false, not, List, [], ◌∷◌, length, Option, Some, None, option_map, IsSome, Contains, cond, if◌then◌else◌, refl, sym, ap, subst, ◌∙◌, inl, inr, arith, is_some}
 use Rattle.std.specs.Option.{MatchOption}
 use Rattle.std.proofs.lemmas.List.{get_or_past}
 use Rattle.sm_names.specs.declared.keys.NodeKey.{NodeKey}
 use Rattle.sm_names.specs.Sameness.{same_key}
+use Rattle.sm_names.proofs.SamenessLaws.{some-injective}
 use Rattle.node_table.specs.Table.{Row, Table, row_at, node_at, parent_at, parent_in, children_at, children_in, table_len}
 use Rattle.node_table.specs.Changes.{Cuts, Removes, SameKeys, at_parent, without_child, without_parent}
 use Rattle.node_table.specs.Forest.{IsForest, first_key}
 use Rattle.node_table.proofs.Keys.{key_cases, same_key-true, same_key-false}
 use Rattle.node_table.proofs.Lists.{without, without_lacks, Contains-head}
+use Rattle.node_table.proofs.Runs.{without-short}
 use Rattle.alloc_event.specs.declared.node.Node.{Node}
 use Rattle.alloc_event.specs.Forest.{SameKeys as SameForest}
 use Rattle.alloc_event.specs.Forgetting.{IsChild, Unlinks, TakesOut}
@@ -66,10 +68,6 @@ cut_look t now key cuts k = elim (key_cases k key) [
   | inr other ↦ ap node_in (cuts.others k other) ∙ still_node (parent_at t key) key k (row_at t k)
 ]
 
--- a key that is told
-Some-inj : (a b : NodeKey) → Some a ≡ Some b → a ≡ b
-Some-inj a b e = cc
-
 -- a child that is listed is a child
 pub is_child : (t : Table Node) (parent child : NodeKey) → IsForest t → Contains (children_at t parent) child → IsChild t parent child
 is_child t parent child forest listed =
@@ -92,7 +90,7 @@ first_child_is t key forest o told = by_list (children_at t key) refl o told
     by_list [] list (Some k) told = absurd (cc)
     by_list (x ∷ xs) list None told = absurd (cc)
     by_list (x ∷ xs) list (Some k) told =
-        let same : x ≡ k = Some-inj x k (sym told) in
+        let same : x ≡ k = some-injective x k (sym told) in
         let there : Contains (x ∷ xs) k = subst (λ (j : NodeKey). Contains (x ∷ xs) j) same (Contains-head x xs) in
         is_child t key k forest (subst (λ (l : List NodeKey). Contains l k) (sym list) there)
 
@@ -102,21 +100,12 @@ fewer : (key child : NodeKey) (o : Option (Row Node)) →
 fewer key child None = refl
 fewer key child (Some row) = rw (same_key-true key key refl) refl
 
--- a list is no longer without a key
-without-shorter : (key : NodeKey) (keys : List NodeKey) → length (without key keys) ≤ length keys
-without-shorter key [] = omega arith
-without-shorter key (k ∷ ks) =
-    elim (same_key key k) as (λ b. length (cond (not b) (k ∷ without key ks) (without key ks)) ≤ suc (length ks)) [
-      | true ↦ omega (arith, without-shorter key ks)
-      | false ↦ omega (arith, without-shorter key ks)
-    ]
-
 -- by whether the first is the key
 without-fewer-by : (key k : NodeKey) (ks : List NodeKey) (same : Bool) → same_key key k ≡ same →
     (cond (not same) (k ∷ without key ks) (without key ks) ≡ k ∷ ks → ⊥) →
     ((without key ks ≡ ks → ⊥) → length (without key ks) < length ks) →
     length (cond (not same) (k ∷ without key ks) (without key ks)) < suc (length ks)
-without-fewer-by key k ks true is other on = omega (arith, without-shorter key ks)
+without-fewer-by key k ks true is other on = omega (arith, without-short key ks)
 without-fewer-by key k ks false is other on =
     let less = on (λ same. other (ap (λ (l : List NodeKey). k ∷ l) same)) in omega (arith, less)
 
@@ -157,11 +146,6 @@ CutsOff-more t u now key child off is cuts = record {
   keys = SameKeys-trans t u now off.keys cuts.keys;
   len = cuts.len ∙ off.len;
 }
-
--- by the row
-row_there-by : (o : Option (Row Node)) → IsSome (node_in o) → IsSome o
-row_there-by None h = absurd (cc)
-row_there-by (Some row) h = refl
 
 -- the look-up of a table from which a node was removed
 removed_look : (t now : Table Node) (key : NodeKey) (n : Node) → Removes t now key n → (k : NodeKey) →

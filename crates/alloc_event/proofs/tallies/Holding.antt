@@ -10,6 +10,7 @@ use Rattle.sm_names.proofs.ListLaws.{In, In-list_any, In-reverse, In-reverse-bac
 use Rattle.sm_names.proofs.ReachLaws.{IsChain}
 use Rattle.sm_names.proofs.SamenessLaws.{and_both, and_left, and_right, both_ways, either_way, false_if, or_cases, or_left, or_right, same_key-refl, same_key-true}
 use Rattle.sm_names.proofs.StandingLaws.{In-any}
+use Rattle.sm_names.proofs.SizeLaws.{all_on}
 use Rattle.alloc_event.specs.declared.node.Node.{Node}
 use Rattle.alloc_event.specs.Decisions.{is_left_of}
 use Rattle.alloc_event.specs.Nodes.{above_among, is_of, node_of}
@@ -20,7 +21,6 @@ use Rattle.alloc_event.specs.Units.{are_united, is_head, is_parent, shares_unit}
 use Rattle.alloc_event.proofs.tables.Chains.{one_line}
 use Rattle.alloc_event.proofs.tables.Rooted.{AreOne, distinct_one, left_in, left_node, left_parent, line_of}
 use Rattle.alloc_event.proofs.calm.Steps.{all-In, found_by_key}
-use Rattle.alloc_event.proofs.calm.United.{each_all}
 
 -- the node's parent is in the unit with this head
 abbrev pub hangs_in : List Node → NodeKey → Node → Bool
@@ -406,7 +406,7 @@ module _ (nodes : List Node) (distinct : are_distinct nodes ≡ true) (heads : l
   -- where no node is deserted, something holds each unit
   pub held_where : list_any (is_deserted_node nodes) nodes ≡ false → are_held nodes ≡ true
   held_where none =
-      each_all (is_held nodes) nodes (λ h on.
+      all_on (is_held nodes) nodes (λ h on.
       one_held h on (either_way h.gone) (either_way (is_head h)) (either_way (list_any (holds_unit nodes h.key) nodes)))
     where
       one_held : (h : Node) → In h nodes → (h.gone ≡ true) ⊎ (h.gone ≡ false) → (is_head h ≡ true) ⊎ (is_head h ≡ false) →

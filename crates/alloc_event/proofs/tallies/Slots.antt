@@ -151,7 +151,7 @@ but_put us c (d ∷ ds) all = from (d.id == c.id) (nat_lt c.id d.id) (but_put us
 
 -- ---- collections that were settled
 
-made_id : (pool : ℕ) (others : List Interval) (mark : Mark) (c : Collection) → (made pool others mark c).id ≡ c.id
+pub made_id : (pool : ℕ) (others : List Interval) (mark : Mark) (c : Collection) → (made pool others mark c).id ≡ c.id
 made_id pool others (Called client reply call) c = refl
 made_id pool others (Loss origin cause) c = refl
 made_id pool others (Allocated head) c = elim (either_way (is_root_of c head)) [

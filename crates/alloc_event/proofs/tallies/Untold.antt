@@ -4,6 +4,7 @@ use Rattle.std.proofs.lemmas.Bool.{eqb-false, eqb-true, lt-ltb, not-true}
 use Rattle.std.proofs.lemmas.List.{get_or-set_other, get_or-set_same, length-set}
 use Rattle.std.proofs.lemmas.Map.Views.{Contains-from_any}
 use Rattle.std.specs.List.{AllPairs, cons_option, list_any}
+use Rattle.std.proofs.Math.Bool.{and-false}
 use Rattle.sm_names.specs.declared.keys.NodeKey.{NodeKey}
 use Rattle.sm_names.specs.Sameness.{same_key}
 use Rattle.sm_names.specs.Words.{times}
@@ -229,16 +230,12 @@ module _ (t : Table Node) (nodes : List Node) (distinct : are_distinct nodes ≡
           let a = times_differ (but test (k ∷ ks)) (but test ks) nodes m distinct (fewer m (inl refl)) (λ n there differ. skip n
           (same_key-swap n.key k ∙ (ap (λ (j : NodeKey). same_key j n.key) (sym key) ∙ differ))) in
           let b : bit (but test (k ∷ ks) m) ≡ 0 =
-          ap bit (ap (λ (c : Bool). test m && not (c || list_any (same_key m.key) ks)) own ∙ never (test m)) in
+          ap bit (ap (λ (c : Bool). test m && not (c || list_any (same_key m.key) ks)) own ∙ and-false (test m)) in
           let c : bit (but test ks m) ≡ bit (test m) = ap bit (ap (λ (c : Bool). test m && not c) other ∙ always (test m)) in
           let d = times_more test m (nodes_with t ks) in
           let e = on (λ n there. fewer n (inr there)) in
           omega arith
         where
-          never : (b : Bool) → (b && false) ≡ false
-          never true = refl
-          never false = refl
-
           always : (b : Bool) → (b && true) ≡ b
           always true = refl
           always false = refl

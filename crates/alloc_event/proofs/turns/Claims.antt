@@ -2,12 +2,14 @@
 use Rattle.std.proofs.Common.{ℕ, zero, suc, ◌+◌, ◌≡◌, refl, ap, sym, ◌∙◌, subst, Bool, true, false, not, ◌&&◌, ◌||◌, inl, inr, max, if◌then◌else◌, List, [], ◌∷◌, map, set, get_or, is_some, Option, Some, None}
 use Rattle.std.specs.List.{list_any, list_all, fold, cons_option, sum_by}
 use Rattle.std.specs.Option.{option_map_or}
+use Rattle.std.proofs.lemmas.Bool.{not-true}
+use Rattle.std.proofs.Math.Bool.{and-true}
 use Rattle.sm_names.specs.declared.keys.NodeKey.{NodeKey}
 use Rattle.sm_names.specs.Demands.{Demand}
 use Rattle.sm_names.specs.Members.{greatest}
 use Rattle.sm_names.specs.Sameness.{same_key}
 use Rattle.sm_names.proofs.ListLaws.{In, map-In}
-use Rattle.sm_names.proofs.SamenessLaws.{and_left, and_right, both_ways, same_key-refl}
+use Rattle.sm_names.proofs.SamenessLaws.{and_left, and_right, both_ways, same_key-refl, some-injective}
 use Rattle.sm_names.proofs.StandingLaws.{In-any}
 use Rattle.alloc_event.specs.declared.in_turn.Claim.{Claim}
 use Rattle.alloc_event.specs.declared.node.Node.{Node}
@@ -15,7 +17,6 @@ use Rattle.alloc_event.specs.InTurn.{IsKeyAt, asked_in, claim_from, claim_of, is
 use Rattle.alloc_event.specs.Nodes.{is_of}
 use Rattle.alloc_event.specs.Questions.{demands_of, is_in_unit, is_ready_node}
 use Rattle.alloc_event.specs.Scenes.{are_distinct}
-use Rattle.alloc_event.proofs.calm.Steps.{not_true}
 
 -- ---- nodes at their places
 
@@ -23,18 +24,15 @@ use Rattle.alloc_event.proofs.calm.Steps.{not_true}
 pub others_apart : (n : Node) (ns : List Node) → are_distinct (n ∷ ns) ≡ true → (m : Node) → In m ns → m.key ≡ n.key → ⊥
 others_apart n ns h m on same =
     let none : list_any (is_of n.key) ns ≡ false =
-    not_true (list_any (is_of n.key) ns) (and_left (not (list_any (is_of n.key) ns)) (are_distinct ns) h) in
+    not-true (list_any (is_of n.key) ns) (and_left (not (list_any (is_of n.key) ns)) (are_distinct ns) h) in
     let there : list_any (is_of n.key) ns ≡ true =
     In-any (is_of n.key) ns m on (subst (λ (k : NodeKey). same_key m.key k ≡ true) same (same_key-refl m.key)) in
     both_ways (list_any (is_of n.key) ns) there none
 
-pub told : (a b : NodeKey) → Some a ≡ Some b → a ≡ b
-told a b on = ap (λ (o : Option NodeKey). option_map_or (λ (k : NodeKey). k) o b) on
-
 -- a node is where its key is
 pub at_In : (ns : List Node) (at : ℕ) (key : NodeKey) → IsKeyAt ns key at → (m : Node) × In m ns × (m.key ≡ key)
 at_In [] at key on = cc
-at_In (n ∷ ns) zero key on = (n, inl refl, told n.key key on)
+at_In (n ∷ ns) zero key on = (n, inl refl, some-injective n.key key on)
 at_In (n ∷ ns) (suc at) key on = let r = at_In ns at key on in (r.0, inr r.1, r.2)
 
 -- what is kept of each node by its key, where it changes for one
@@ -42,7 +40,7 @@ pub changed_at : {X : Type 0} (F G : NodeKey → X) (ns : List Node) (at : ℕ) 
     ((k : NodeKey) → (k ≡ key → ⊥) → F k ≡ G k) → set (map (λ (n : Node). F n.key) ns) at (G key) ≡ map (λ (n : Node). G n.key) ns
 changed_at F G [] at key h on other = cc
 changed_at F G (n ∷ ns) zero key h on other =
-    let same : n.key ≡ key = told n.key key on in
+    let same : n.key ≡ key = some-injective n.key key on in
     λ i. G (sym same i) ∷ map-In (λ (m : Node). F m.key) (λ (m : Node). G m.key) ns (λ m there. other m.key (λ is.
     others_apart n ns h m there (is ∙ sym same))) i
 changed_at F G (n ∷ ns) (suc at) key h on other =
@@ -51,10 +49,6 @@ changed_at F G (n ∷ ns) (suc at) key h on other =
     ∷ changed_at F G ns at key (and_right (not (list_any (is_of n.key) ns)) (are_distinct ns) h) on other i
 
 -- ---- one node more
-
-and_true : (b : Bool) → (b && true) ≡ b
-and_true true = refl
-and_true false = refl
 
 ready_else : (g r : Bool) → (g || (not false || r)) ≡ true
 ready_else true r = refl
@@ -82,7 +76,7 @@ else_same head n c e = from (same_key n.head head) e
     from true e = cc
     from false e = λ i. record {
       ready = (ap (λ (b : Bool). c.ready && b) (ready_else n.gone (n.released || is_some n.constraints))
-          ∙ and_true c.ready) i;
+          ∙ and-true c.ready) i;
       camping = summed c.camping (none_else n.gone n.constraints i);
       more = summed c.more (none_new n.gone n.allocated n.constraints i);
       at_least = option_map_or (λ (d : Demand). max c.at_least d.at_least) (none_else n.gone n.constraints i) c.at_least;
@@ -101,7 +95,7 @@ gone_same head n c e = from n.gone e
           c.at_least;
       size = option_map_or (λ (d : Demand). max c.size d.size) (if not g && same_key n.head head then n.constraints else None) c.size;
     } ≡ c
-    from true e = λ i. record c { ready = and_true c.ready i }
+    from true e = λ i. record c { ready = and-true c.ready i }
     from false e = cc
 
 -- ---- all nodes
@@ -142,7 +136,7 @@ and_on true b c = refl
 and_on false b c = refl
 
 ready_from : (k : NodeKey) (ns : List Node) (c : Claim) → (claim_from k ns c).ready ≡ (c.ready && list_all (is_ready_node k) ns)
-ready_from k [] c = sym (and_true c.ready)
+ready_from k [] c = sym (and-true c.ready)
 ready_from k (n ∷ ns) c = ready_from k ns (with_node k n c) ∙ and_on c.ready (is_ready_node k n) (list_all (is_ready_node k) ns)
 
 module _ (ns : List Node) (k : NodeKey) where
@@ -168,7 +162,7 @@ claim_at of ns cs at key d is on = ap (λ (xs : List _). get_or xs at d) is ∙ 
   where
     from : (ns : List Node) (at : ℕ) → IsKeyAt ns key at → get_or (map (λ (n : Node). of n.key) ns) at d ≡ of key
     from [] at on = cc
-    from (n ∷ ns) zero on = ap of (told n.key key on)
+    from (n ∷ ns) zero on = ap of (some-injective n.key key on)
     from (n ∷ ns) (suc at) on = from ns at on
 
 -- the marks of nodes by their keys, where one is made for a key

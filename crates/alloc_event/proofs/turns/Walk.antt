@@ -3,6 +3,8 @@ use Rattle.std.proofs.Common.{ℕ, zero, suc, ◌+◌, ◌<◌, ◌≡◌, refl,
 use Rattle.std.proofs.lemmas.List.{append_assoc, length-append}
 use Rattle.std.specs.List.{list_any, list_all, fold, find, cons_option, slice_get, sum_by}
 use Rattle.std.specs.Option.{option_map_or}
+use Rattle.std.proofs.lemmas.Bool.{not-true}
+use Rattle.std.proofs.Math.Bool.{or_assoc}
 use Rattle.sm_names.specs.declared.keys.NodeKey.{NodeKey}
 use Rattle.sm_names.specs.declared.outcomes.Buffers.{Buffers}
 use Rattle.sm_names.specs.declared.outcomes.Failure.{Failure}
@@ -11,7 +13,7 @@ use Rattle.sm_names.specs.Members.{greatest}
 use Rattle.sm_names.specs.Sameness.{same_key}
 use Rattle.sm_names.specs.Words.{first_some, when}
 use Rattle.sm_names.proofs.ListLaws.{In, In-list_any}
-use Rattle.sm_names.proofs.SamenessLaws.{and_both, and_left, and_right, both_ways, either_way, false_if, or_cases, or_none_left, or_none_right, or_both, or_right, same_key-refl, same_key-true}
+use Rattle.sm_names.proofs.SamenessLaws.{and_both, and_left, and_right, both_ways, either_way, false_if, or_cases, or_none_left, or_none_right, or_both, or_right, same_key-refl, same_key-true, some-injective}
 use Rattle.sm_names.proofs.StandingLaws.{In-any, both_tests}
 use Rattle.alloc_event.specs.declared.in_turn.Claim.{Claim}
 use Rattle.alloc_event.specs.declared.in_turn.Turn.{Turn}
@@ -22,15 +24,11 @@ use Rattle.alloc_event.specs.Nodes.{after_allocation, given_buffers, is_of, node
 use Rattle.alloc_event.specs.Questions.{demands_of, is_allocated_node, is_in_unit, is_next_node, is_ready_node, is_served}
 use Rattle.alloc_event.specs.Scenes.{are_distinct, heads_itself}
 use Rattle.alloc_event.proofs.calm.Calming.{any_map}
-use Rattle.alloc_event.proofs.calm.Steps.{found_by_key, not_true}
+use Rattle.alloc_event.proofs.calm.Steps.{found_by_key}
 use Rattle.alloc_event.proofs.lists.Lookups.{same_key-swap}
-use Rattle.alloc_event.proofs.turns.Claims.{camping_is, changed_flag, claim_at, least_is, more_is, others_apart, ready_is, size_is, told}
+use Rattle.alloc_event.proofs.turns.Claims.{camping_is, changed_flag, claim_at, least_is, more_is, others_apart, ready_is, size_is}
 
 -- ---- lists
-
-or_on : (a b c : Bool) → ((a || b) || c) ≡ (a || (b || c))
-or_on true b c = refl
-or_on false b c = refl
 
 -- one more at the end
 pub any_snoc : {A : Type 0} (p : A → Bool) (xs : List A) (x : A) → list_any p (xs ++ x ∷ []) ≡ (list_any p xs || p x)
@@ -39,7 +37,7 @@ any_snoc p [] x = last (p x)
     last : (b : Bool) → (b || false) ≡ (false || b)
     last true = refl
     last false = refl
-any_snoc p (y ∷ ys) x = ap (λ (b : Bool). p y || b) (any_snoc p ys x) ∙ sym (or_on (p y) (list_any p ys) (p x))
+any_snoc p (y ∷ ys) x = ap (λ (b : Bool). p y || b) (any_snoc p ys x) ∙ sym (or_assoc (p y) (list_any p ys) (p x))
 
 -- none is
 none_of : {A : Type 0} (p : A → Bool) (xs : List A) → ((x : A) → In x xs → p x ≡ true → ⊥) → list_any p xs ≡ false
@@ -77,7 +75,7 @@ parts_apart (x ∷ xs) ys a b h (inr on) there same =
 -- a key that stands before a place
 at_front : (xs ys : List Node) (i : ℕ) (key : NodeKey) → i < length xs → IsKeyAt (xs ++ ys) key i → (m : Node) × In m xs × (m.key ≡ key)
 at_front [] ys i key within on = absurd (omega arith)
-at_front (x ∷ xs) ys zero key within on = (x, inl refl, told x.key key on)
+at_front (x ∷ xs) ys zero key within on = (x, inl refl, some-injective x.key key on)
 at_front (x ∷ xs) ys (suc i) key within on = let r = at_front xs ys i key (omega arith) on in (r.0, inr r.1, r.2)
 
 -- what is read there is among them
@@ -348,7 +346,7 @@ module _ (b : Buffers) (nodes more : List Node) (n : Node) (at : ℕ) (given : L
         let rest = and_right (not n.gone) _ (and_right n.attached _ due) in
         ap (λ (k : NodeKey). list_any (same_key k) heads) (sym own)
         ∙ or_none_left (list_any (same_key n.head) heads) n.allocated
-        (not_true (list_any (same_key n.head) heads || n.allocated) (and_left (not (list_any (same_key n.head) heads || n.allocated)) _
+        (not-true (list_any (same_key n.head) heads || n.allocated) (and_left (not (list_any (same_key n.head) heads || n.allocated)) _
         rest))
 
     marked : list_any (same_key n.key) after ≡ true
@@ -375,7 +373,7 @@ module _ (b : Buffers) (nodes more : List Node) (n : Node) (at : ℕ) (given : L
     served = false_if (is_due_in nodes after n) (λ e.
         let rest = and_right (not n.gone) _ (and_right n.attached _ e) in
         let nobody : (list_any (same_key n.head) after || n.allocated) ≡ false =
-        not_true (list_any (same_key n.head) after || n.allocated) (and_left (not (list_any (same_key n.head) after || n.allocated)) _
+        not-true (list_any (same_key n.head) after || n.allocated) (and_left (not (list_any (same_key n.head) after || n.allocated)) _
         rest) in
         both_ways (list_any (same_key n.head) after) (ap (λ (k : NodeKey). list_any (same_key k) after) own ∙ marked)
         (or_none_left (list_any (same_key n.head) after) n.allocated nobody))

@@ -1,6 +1,6 @@
 -- A mark at a node of one collection leaves the others as they stood.
 use Rattle.std.proofs.Common.{ℕ, ◌≡◌, refl, ap, sym, ◌∙◌, Bool, true, false, not, ◌&&◌, ◌==◌, inl, inr, List, ◌∷◌, ◌++◌, map, Some, is_some}
-use Rattle.std.proofs.lemmas.Bool.{eqb-true, eq-eqb}
+use Rattle.std.proofs.lemmas.Bool.{eqb-true, not-true}
 use Rattle.std.proofs.lemmas.List.Elements.{filter-append}
 use Rattle.std.specs.List.{filter}
 use Rattle.sm_names.specs.declared.keys.BufferName.{BufferName}
@@ -16,10 +16,11 @@ use Rattle.sm_names.specs.Timelines.{held, placed, layout_at}
 use Rattle.sm_names.proofs.IsolationLaws.{fault_loss, of_ours, not_initial, members_loss, members_end, members_allocation, buffers_allocation, birth_of_collection}
 use Rattle.sm_names.proofs.LayoutLaws.{layout_given}
 use Rattle.sm_names.proofs.ListLaws.{In, In-filter, map-In, map-at, filter-swap, filter-In, filter-none}
-use Rattle.sm_names.proofs.SamenessLaws.{either_way, false_if, both_ways}
+use Rattle.sm_names.proofs.SamenessLaws.{either_way, both_ways}
 use Rattle.sm_names.proofs.WholeLaws.{IsWhole}
+use Rattle.sm_names.proofs.StandingLaws.{filter-less}
+use Rattle.sm_names.proofs.SumLaws.{swap_eq}
 use Rattle.lifetime_core.specs.Shown.{node_after, nodes_after, held_after}
-use Rattle.lifetime_core.proofs.lists.Maps.{filter-wider}
 
 -- the mark is no event, and is at a node of the collection
 abbrev pub IsIn : Timeline → ℕ → Mark → Type 0
@@ -35,10 +36,6 @@ is_beside collection h = not (h.buffer.collection == collection)
 -- the pages of buffers of the other collections
 abbrev pub pages_beside : ℕ → Timeline → ℕ → List Interval
 pages_beside pool marks collection = map (λ (h : HeldBuffer). h.pages) (filter (is_beside collection) (held pool marks))
-
--- two numbers that differ do so in either order
-other_way : (a b : ℕ) → (a == b) ≡ false → (b == a) ≡ false
-other_way a b h = false_if (b == a) (λ e. both_ways (a == b) (eq-eqb a b (sym (eqb-true b a e))) h)
 
 module _ (marks : Timeline) (ours : ℕ) (w : IsWhole marks) where
   -- how the nodes of another stand
@@ -112,7 +109,7 @@ module _ (marks : Timeline) (ours : ℕ) (w : IsWhole marks) where
         | inl e ↦ ap not e
         | inr e ↦
             both_ways (is_initial marks h.buffer.collection (Allocated head)) (layout_given pool marks out (Allocated head) h on)
-            (not_initial marks ours h.buffer.collection w (other_way h.buffer.collection ours e) head at)
+            (not_initial marks ours h.buffer.collection w (swap_eq h.buffer.collection ours e) head at)
       ]
 
   -- the pages of the others
@@ -128,23 +125,19 @@ module _ (marks : Timeline) (ours : ℕ) (w : IsWhole marks) where
       ∙ (ap (filter after) (filter-append (is_beside ours) laid (placed pool marks)
       ∙ ap (λ (l : List HeldBuffer). l ++ theirs) (filter-none (is_beside ours) laid (laid_in pool out mark at)))
       ∙ (filter-In after before theirs (λ h on.
-      ap not (home_apart mark at h.buffer (other_way h.buffer.collection ours (differs (h.buffer.collection == ours)
+      ap not (home_apart mark at h.buffer (swap_eq h.buffer.collection ours (not-true (h.buffer.collection == ours)
       (In-filter (is_beside ours) (placed pool marks) h on).1))))
       ∙ filter-swap before (is_beside ours) (placed pool marks)))
-    where
-      differs : (b : Bool) → not b ≡ true → b ≡ false
-      differs true h = cc
-      differs false h = refl
 
   -- the pages of another
   pub held_apart : (pool : ℕ) (mark : Mark) → IsIn marks ours mark → (theirs : ℕ) → (ours == theirs) ≡ false →
       held_after pool (mark ∷ marks) theirs ≡ held_after pool marks theirs
   held_apart pool mark at theirs other =
-      filter-wider of_theirs (is_beside ours) (held pool (mark ∷ marks)) besides
-      ∙ (ap (filter of_theirs) (beside_apart pool mark at) ∙ sym (filter-wider of_theirs (is_beside ours) (held pool marks) besides))
+      filter-less of_theirs (is_beside ours) (held pool (mark ∷ marks)) besides
+      ∙ (ap (filter of_theirs) (beside_apart pool mark at) ∙ sym (filter-less of_theirs (is_beside ours) (held pool marks) besides))
     where
       of_theirs : HeldBuffer → Bool
       of_theirs h = h.buffer.collection == theirs
 
       besides : (h : HeldBuffer) → (h.buffer.collection == theirs) ≡ true → is_beside ours h ≡ true
-      besides h e = ap not (ap (λ (k : ℕ). k == ours) (eqb-true h.buffer.collection theirs e) ∙ other_way ours theirs other)
+      besides h e = ap not (ap (λ (k : ℕ). k == ours) (eqb-true h.buffer.collection theirs e) ∙ swap_eq ours theirs other)

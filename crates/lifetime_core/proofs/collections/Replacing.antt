@@ -1,11 +1,12 @@
 -- Collections by their ids: one is put in its place, and some are forgotten.
 use Rattle.std.proofs.Common.{ℕ, ◌≡◌, ◌<◌, refl, ap, sym, ◌∙◌, Bool, true, false, cond, ◌&&◌, ◌||◌, ◌==◌, nat_lt, inl, inr, List, [], ◌∷◌, ◌++◌, map, arith}
-use Rattle.std.proofs.lemmas.Bool.{eqb-true, eq-eqb, lt-ltb, ltb-true}
+use Rattle.std.proofs.lemmas.Bool.{eq-eqb, lt-ltb, ltb-true}
 use Rattle.std.specs.List.{filter}
 use Rattle.sm_names.proofs.ListLaws.{In, In-append}
 use Rattle.sm_names.proofs.SamenessLaws.{either_way, false_if}
 use Rattle.alloc_event.specs.Forest.{Collection}
 use Rattle.alloc_event.specs.Settling.{put}
+use Rattle.alloc_event.proofs.lists.StableSort.{other_number, other_greater}
 
 -- ---- numbers in order
 
@@ -25,14 +26,6 @@ rising-push (n ∷ ns) m r below = (
   ],
   rising-push ns m r.1 (λ k on. below k (inr on)),
 )
-
--- a number that is smaller is another
-pub other_number : (a b : ℕ) → a < b → (a == b) ≡ false
-other_number a b h = false_if (a == b) (λ e. let is : a ≡ b = eqb-true a b e in omega (arith, is, h))
-
--- so is one that is greater
-pub other_greater : (a b : ℕ) → b < a → (a == b) ≡ false
-other_greater a b h = false_if (a == b) (λ e. let is : a ≡ b = eqb-true a b e in omega (arith, is, h))
 
 -- a number that is not smaller is not found so
 not_below : (a b : ℕ) → b < a → nat_lt a b ≡ false

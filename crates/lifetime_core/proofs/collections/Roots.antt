@@ -1,6 +1,6 @@
 -- The collections that are kept, each of which has one root.
 use Rattle.std.proofs.Common.{ℕ, ◌≡◌, ◌+◌, refl, ap, sym, ◌∙◌, subst, Bool, true, false, not, ◌&&◌, ◌==◌, ◌⊎◌, inl, inr, List, [], ◌∷◌, reverse, Option, Some, None, is_some, is_none}
-use Rattle.std.proofs.lemmas.Bool.{eqb-true, eq-eqb}
+use Rattle.std.proofs.lemmas.Bool.{eqb-true, eq-eqb, not-true}
 use Rattle.std.specs.List.{find, list_any}
 use Rattle.std.specs.Option.{option_map_or}
 use Rattle.sm_names.specs.declared.keys.NodeKey.{NodeKey}
@@ -17,16 +17,17 @@ use Rattle.sm_names.proofs.GrowthLaws.{Grows}
 use Rattle.sm_names.proofs.LifeLaws.{IsOrdered, ordered, whole, In_old}
 use Rattle.sm_names.proofs.ListLaws.{In, In-find, times-reverse, times-map_filter, In-list_any}
 use Rattle.sm_names.proofs.SamenessLaws.{either_way, both_ways, and_left, and_right, and_both, or_left}
-use Rattle.sm_names.proofs.SettledLaws.{In-was_born, none_if, map-Some, not_back}
+use Rattle.sm_names.proofs.SettledLaws.{In-was_born, none_if, map-Some}
 use Rattle.sm_names.proofs.SumLaws.{one}
+use Rattle.sm_names.proofs.StandingLaws.{In-any}
 use Rattle.lifetime_core.specs.Shown.{kept_ids}
-use Rattle.lifetime_core.proofs.lists.Maps.{times_none, any_of}
+use Rattle.lifetime_core.proofs.lists.Maps.{times_none}
 
 -- the collection of a kept node is kept
 pub collection_of_kept : (marks : Timeline) (b : Birth) → In b (births marks) → is_kept marks b.node ≡ true →
     is_kept_collection marks b.collection ≡ true
 collection_of_kept marks b on kept =
-    or_left _ _ (any_of (λ (c : Birth). c.collection == b.collection && is_kept marks c.node) (births marks) b on
+    or_left _ _ (In-any (λ (c : Birth). c.collection == b.collection && is_kept marks c.node) (births marks) b on
     (and_both (b.collection == b.collection) (is_kept marks b.node) (eq-eqb b.collection b.collection refl) kept))
 
 -- ---- roots
@@ -114,7 +115,7 @@ kept_root marks collection together kept =
           subst (HasRoot (births marks)) ours (has_root (births marks) together s.0 s.1)
       | inr e ↦
           let some : not (left marks collection == 0) ≡ true = rw e at kept in
-          buffers_root marks collection (left_given marks collection (not_back (left marks collection == 0) some))
+          buffers_root marks collection (left_given marks collection (not-true (left marks collection == 0) some))
     ]
 
 -- ---- once each

@@ -1,13 +1,12 @@
 -- An end is spent, and what is over is forgotten.
 use Rattle.std.proofs.Common.{ℕ, ◌≡◌, ◌<◌, refl, ap, sym, ◌∙◌, subst, Bool, true, false, ◌==◌, ◌||◌, ◌&&◌, not, if◌then◌else◌, List, [], ◌∷◌, ◌++◌, length, map, Option, Some, None, arith}
-use Rattle.std.proofs.lemmas.Bool.{eqb-true, eqb-false}
+use Rattle.std.proofs.lemmas.Bool.{eqb-true, eqb-false, not-true}
 use Rattle.std.specs.List.{filter, flat_map, AllByRecursion}
 use Rattle.sm_names.specs.declared.keys.NodeKey.{NodeKey}
 use Rattle.sm_names.specs.Sameness.{same_key}
 use Rattle.sm_names.specs.declared.keys.HeldBuffer.{HeldBuffer}
 use Rattle.sm_names.proofs.ListLaws.{In, In-filter, In-map}
 use Rattle.sm_names.proofs.SamenessLaws.{and_right, false_if, same_key-true}
-use Rattle.sm_names.proofs.SettledLaws.{not_back}
 use Rattle.alloc_event.specs.declared.node.End.{End}
 use Rattle.alloc_event.specs.declared.node.Node.{Node}
 use Rattle.alloc_event.specs.Forest.{Collection, Forest, SameKeys, all_held, given, is_left, tidied, with_nodes, without_over_in}
@@ -196,7 +195,7 @@ module _ (f g : Forest) (id : ℕ) (leaving : Option NodeKey) (amid : IsAmid f i
       (subst (In c) are_left_of there) in
       let from = In-map tidied (map (spent_in_one leaving) f.collections) c kept.0 in
       let old = In-map (spent_in_one leaving) f.collections from.0 from.1 in
-      (old.0, old.1, from.2 ∙ ap tidied old.2, not_back (is_left c) kept.1)
+      (old.0, old.1, from.2 ∙ ap tidied old.2, not-true (is_left c) kept.1)
 
   -- and so was its id
   left_id : (c d : Collection) → c ≡ tidied (spent_in_one leaving d) → c.id ≡ d.id

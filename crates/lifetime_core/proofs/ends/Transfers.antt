@@ -2,11 +2,11 @@
 use Rattle.std.proofs.Common.{ℕ, ◌≡◌, refl, ap, sym, ◌∙◌, subst, Bool, true, false, ◌||◌, ◌&&◌, not, if◌then◌else◌, List, [], ◌∷◌, ◌++◌, map, Option, Some, None}
 use Rattle.std.proofs.lemmas.List.{length-map}
 use Rattle.std.specs.List.{filter, flat_map}
+use Rattle.std.proofs.lemmas.Bool.{not-true}
 use Rattle.sm_names.specs.declared.keys.NodeKey.{NodeKey}
 use Rattle.sm_names.specs.Sameness.{same_key}
 use Rattle.sm_names.specs.declared.keys.HeldBuffer.{HeldBuffer}
-use Rattle.sm_names.proofs.ListLaws.{In, In-filter, In-map}
-use Rattle.sm_names.proofs.SettledLaws.{not_back}
+use Rattle.sm_names.proofs.ListLaws.{In, In-filter, In-map, filter-all}
 use Rattle.sm_names.proofs.SamenessLaws.{both_ways, same_key-true}
 use Rattle.alloc_event.specs.declared.node.End.{End}
 use Rattle.alloc_event.specs.declared.node.Node.{Node}
@@ -16,7 +16,6 @@ use Rattle.lifetime_core.specs.declared.task.Place.{Place}
 use Rattle.lifetime_core.specs.Steps.{with_place, without_over}
 use Rattle.lifetime_core.specs.Whole.{AreOnce, AreUpTo, CanCarry, IsNodeFit, IsSound, IsTidy}
 use Rattle.lifetime_core.proofs.forced.Fitting.{mapped_once}
-use Rattle.lifetime_core.proofs.lists.Maps.{filter-all}
 use Rattle.lifetime_core.proofs.collections.ById.{all_tidy, found_by_id, ids}
 use Rattle.lifetime_core.proofs.forced.Forest.{node_with_key}
 
@@ -50,7 +49,7 @@ module _ (key : NodeKey) (end : End) (unspent : is_spent end ≡ false) where
   none_over nodes tidy = filter-all (λ (n : Node). not (is_over n)) (map (with_end key end) nodes) (λ n there.
       let from = In-map (with_end key end) nodes n there in
       let before = In-filter (λ (m : Node). not (is_over m)) nodes from.0 (subst (In from.0) (sym tidy) from.1) in
-      let after : is_over (with_end key end from.0) ≡ false = still_there from.0 (not_back (is_over from.0) before.1) in
+      let after : is_over (with_end key end from.0) ≡ false = still_there from.0 (not-true (is_over from.0) before.1) in
       rw (from.2, after) refl)
 
   -- a tidy collection stays tidy

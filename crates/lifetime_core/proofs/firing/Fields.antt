@@ -1,6 +1,6 @@
 -- What an event keeps of the trackers.
 use Rattle.std.proofs.Common.{ℕ, ◌≡◌, ◌<◌, ◌≤◌, ◌+◌, ◌==◌, refl, ap, sym, ◌∙◌, subst, Bool, true, false, nat_le, if◌then◌else◌, length, not, ◌⊎◌, inl, inr, [], ◌∷◌, Option, Some, None, is_some, IfSome, arith}
-use Rattle.std.proofs.lemmas.Bool.{eqb-true, eq-eqb, leb-false, leb-true}
+use Rattle.std.proofs.lemmas.Bool.{eqb-true, eq-eqb, leb-false, leb-true, not-true}
 use Rattle.std.specs.List.{All}
 use Rattle.std.specs.Option.{option_map}
 use Rattle.sm_names.specs.declared.keys.BufferName.{BufferName}
@@ -20,7 +20,7 @@ use Rattle.sm_names.proofs.AnswerLaws.{took_effect_all}
 use Rattle.sm_names.proofs.HandleLaws.{same_buffer-true, same_strength-true}
 use Rattle.sm_names.proofs.ListLaws.{In, In-append, In-filter}
 use Rattle.sm_names.proofs.SamenessLaws.{and_left, and_right, either_way}
-use Rattle.sm_names.proofs.SettledLaws.{map-Some, not_back}
+use Rattle.sm_names.proofs.SettledLaws.{map-Some}
 use Rattle.event_laws.specs.ByEvent.{anyone, one_if}
 use Rattle.event_laws.proofs.NumberLaws.{all-In, In-all}
 use Rattle.event_laws.proofs.FreeEndLaws.{passed}
@@ -338,4 +338,4 @@ module _ (s : State) (client : ℕ) (call : Call) (asked : Reply) (task : Option
         concerns_worked s.forest worked (changed_by task) starts.sound (amid_named worked task amid) rest t.collection t.condition
         (filed t kept.0) in
         waits_on worked g place (amid_named worked task amid) (sound_named g sound) left keys (total holds) t there
-        (not_back (is_due (world_in worked (total holds)) t) kept.1))
+        (not-true (is_due (world_in worked (total holds)) t) kept.1))

@@ -2,11 +2,10 @@
 use Rattle.std.proofs.Common.{ℕ, ◌≡◌, refl, ap, ◌∙◌, false, not, List, ◌++◌, map}
 use Rattle.std.proofs.lemmas.List.{append-nil}
 use Rattle.sm_names.specs.Trackers.{World}
-use Rattle.sm_names.proofs.ListLaws.{In, filter-none}
+use Rattle.sm_names.proofs.ListLaws.{In, filter-none, filter-all}
 use Rattle.trackers.specs.declared.waiting.Waiting.{Waiting}
 use Rattle.trackers.specs.Table.{Table, firing, firings, is_due, still_waiting}
 use Rattle.lifetime_core.specs.Steps.{swept}
-use Rattle.lifetime_core.proofs.lists.Maps.{filter-all}
 
 -- where none is due, a sweep leaves the trackers
 pub none_swept : (w : World) (event : ℕ) (t : Table) → ((x : Waiting) → In x t.unfired → is_due w x ≡ false) → swept w event t ≡ t

@@ -1,6 +1,6 @@
 -- What trackers look at stays, for those that are not due, where an end is put elsewhere and what is over is forgotten.
 use Rattle.std.proofs.Common.{ℕ, ◌≡◌, refl, ap, sym, ◌∙◌, subst, Bool, true, false, ◌==◌, ◌&&◌, nat_le, not, if◌then◌else◌, inl, inr, List, [], map, length, Option, Some, None, is_some, IfSome}
-use Rattle.std.proofs.lemmas.Bool.{eqb-true}
+use Rattle.std.proofs.lemmas.Bool.{eqb-true, not-true}
 use Rattle.std.specs.List.{filter, list_any}
 use Rattle.std.specs.Option.{option_and_then, option_map_or}
 use Rattle.sm_names.specs.declared.keys.BufferName.{BufferName}
@@ -13,7 +13,7 @@ use Rattle.sm_names.specs.Sameness.{same_key}
 use Rattle.sm_names.specs.Trackers.{holds}
 use Rattle.sm_names.proofs.ListLaws.{In, In-filter, In-filter-back, In-find, In-map, In-map-back}
 use Rattle.sm_names.proofs.SamenessLaws.{and_left, and_right, both_ways, either_way, none_or_some, same_key-refl, same_key-true}
-use Rattle.sm_names.proofs.SettledLaws.{not_back}
+use Rattle.sm_names.proofs.StandingLaws.{filter-less}
 use Rattle.trackers.specs.declared.waiting.Waiting.{Waiting}
 use Rattle.trackers.specs.Table.{is_due}
 use Rattle.alloc_event.specs.declared.node.Node.{Node}
@@ -27,7 +27,7 @@ use Rattle.lifetime_core.specs.Steps.{place_of, with_place, without_over}
 use Rattle.lifetime_core.specs.Whole.{AreOnce, CanFinish, Concerns, IsNodeOf, IsSound, Rise, StillWaits}
 use Rattle.lifetime_core.proofs.ends.NotRead.{placed_in, placed_node}
 use Rattle.lifetime_core.proofs.ends.Finishing.{finished, no_length, placed_collections}
-use Rattle.lifetime_core.proofs.lists.Maps.{filter-map, filter-wider, find_only, list_any-map}
+use Rattle.lifetime_core.proofs.lists.Maps.{filter-map, find_only, list_any-map}
 use Rattle.lifetime_core.proofs.collections.ById.{found_by_id}
 use Rattle.lifetime_core.proofs.forced.Forest.{in_all_nodes, node_in, node_with_key}
 
@@ -94,7 +94,7 @@ module _ (f g : Forest) (o : Option Place) (named : AreNamed f) (after : AreName
       let kept = In-filter (λ (x : Collection). not (is_left x)) (map over (with_place o f).collections) d (subst (In d) left on) in
       let from = In-map over (with_place o f).collections d kept.0 in
       let old = In-map (placed_in (place_of o)) f.collections from.0 (subst (In from.0) (placed_collections o f) from.1) in
-      (old.0, old.1, from.2 ∙ ap over old.2, not_back (is_left d) kept.1)
+      (old.0, old.1, from.2 ∙ ap over old.2, not-true (is_left d) kept.1)
 
   -- and the other way round
   left_there : (c : Collection) → In c f.collections → is_left (finished o c) ≡ false → In (finished o c) g.collections
@@ -152,7 +152,7 @@ module _ (f g : Forest) (o : Option Place) (named : AreNamed f) (after : AreName
         In some.0 x.nodes) c.2 d.2) in
         let n = In-map (placed_node (place_of o)) c.0.nodes some.0 kept.0 in
         let at : node_at f key ≡ Some n.0 = found_node f named c.0 n.0 key c.1 n.1 (sym (ap (λ (x : Node). x.key) n.2) ∙ d.3) in
-        let here : is_over (placed_node (place_of o) n.0) ≡ false = ap is_over (sym n.2) ∙ not_back (is_over some.0) kept.1 in
+        let here : is_over (placed_node (place_of o) n.0) ≡ false = ap is_over (sym n.2) ∙ not-true (is_over some.0) kept.1 in
         some.1 ∙ (ap Some n.2 ∙ rw (at, here) refl)
   ]
     where
@@ -190,7 +190,7 @@ module _ (f g : Forest) (o : Option Place) (named : AreNamed f) (after : AreName
   pub same_strong : (c : Collection) → some_strong_live (members_of (finished o c).nodes) ≡ some_strong_live (members_of c.nodes)
   same_strong c =
       of_nodes (finished o c).nodes
-      ∙ (ap (list_any is_strong) (sym (filter-wider here (λ n. not (is_over n)) (map placed c.nodes) (λ n on. rw (not_back n.gone on) refl))
+      ∙ (ap (list_any is_strong) (sym (filter-less here (λ n. not (is_over n)) (map placed c.nodes) (λ n on. rw (not-true n.gone on) refl))
       ∙ filter-map here placed c.nodes)
       ∙ (list_any-map is_strong placed (filter here c.nodes) ∙ sym (of_nodes c.nodes)))
     where

@@ -2,6 +2,7 @@
 use Rattle.std.proofs.Common.{ℕ, ◌≡◌, refl, ap, sym, ◌∙◌, subst, Bool, true, false, ◌||◌, ◌&&◌, not, if◌then◌else◌, List, [], ◌∷◌, ◌++◌, map, Option, Some, None, is_some, ◌⊎◌, inl, inr}
 use Rattle.std.specs.List.{find, filter}
 use Rattle.std.specs.Option.{option_map_or}
+use Rattle.std.proofs.lemmas.Bool.{not-true}
 use Rattle.sm_names.specs.declared.keys.Interval.{Interval}
 use Rattle.sm_names.specs.declared.keys.NodeKey.{NodeKey}
 use Rattle.sm_names.specs.declared.outcomes.Cause.{Cause}
@@ -14,7 +15,7 @@ use Rattle.sm_names.specs.Sameness.{same_key}
 use Rattle.sm_names.specs.Timelines.{layout}
 use Rattle.sm_names.proofs.ListLaws.{In, In-map, In-map-back, In-filter-back, In-find, In-append, In-first_some, none-In, when-Some}
 use Rattle.sm_names.proofs.SamenessLaws.{and_right, or_right}
-use Rattle.sm_names.proofs.SettledLaws.{and_then-Some, map-Some, not_back}
+use Rattle.sm_names.proofs.SettledLaws.{and_then-Some, map-Some}
 use Rattle.alloc_event.specs.declared.change.Change.{Change}
 use Rattle.alloc_event.specs.declared.change.Effect.{Effect}
 use Rattle.alloc_event.specs.declared.node.Node.{Node}
@@ -150,7 +151,7 @@ ending_deserted s top is =
     let found = map-Some _ (find (is_deserted s.members) s.members) (Ended top) is in
     let key : found.0.key ≡ top = key_is found.0.key found.2 in
     let deserted = (In-find (is_deserted s.members) s.members found.0 found.1).1 in
-    subst (λ (k : NodeKey). some_live (subtree k s.members) ≡ false) key (not_back (some_live (subtree found.0.key s.members))
+    subst (λ (k : NodeKey). some_live (subtree k s.members) ≡ false) key (not-true (some_live (subtree found.0.key s.members))
     (and_right _ _ (and_right _ _ deserted)))
   where
     key_is : (k : NodeKey) → Ended k ≡ Ended top → k ≡ top

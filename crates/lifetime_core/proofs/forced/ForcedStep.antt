@@ -19,34 +19,28 @@ use Rattle.sm_names.specs.declared.keys.HeldBuffer.{HeldBuffer}
 use Rattle.sm_names.specs.Timelines.{held, placed, layout, layout_at, laid_out, still_out, next_forced}
 use Rattle.sm_names.proofs.DoomLaws.{home_on}
 use Rattle.sm_names.proofs.GrowthLaws.{Grows, Stays, Loses, grows_forced}
-use Rattle.sm_names.proofs.HeldLaws.{given_root}
+use Rattle.sm_names.proofs.HeldLaws.{given_root, not_turned}
 use Rattle.sm_names.proofs.IsolationLaws.{of_ours}
 use Rattle.sm_names.proofs.LayoutLaws.{placed_given}
 use Rattle.sm_names.proofs.LifeLaws.{whole}
-use Rattle.sm_names.proofs.ListLaws.{In, In-append, filter-swap, filter-none}
+use Rattle.sm_names.proofs.ListLaws.{In, In-append, filter-swap, filter-none, filter-all}
 use Rattle.sm_names.proofs.PlaceLaws.{places_same}
 use Rattle.sm_names.proofs.SamenessLaws.{false_if, both_ways}
 use Rattle.sm_names.proofs.SettledLaws.{In-was_born, find_birth, Why, No_live, Fails, Initial, Logical, forced_why}
 use Rattle.sm_names.proofs.WholeLaws.{IsWhole}
+use Rattle.sm_names.proofs.ForgetLaws.{asked-left}
+use Rattle.sm_names.proofs.StandingLaws.{filter-less}
 use Rattle.alloc_event.specs.declared.node.Node.{Node}
 use Rattle.alloc_event.specs.Forest.{Collection, pages_in, with_nodes}
 use Rattle.alloc_event.specs.Nodes.{node_of, members_of, after_loss, after_allocation, after_end}
 use Rattle.alloc_event.specs.Settling.{is_root_of, made}
 use Rattle.lifetime_core.specs.Shown.{held_after}
 use Rattle.lifetime_core.proofs.collections.MarksApart.{IsIn, is_beside, beside_apart, laid_in}
-use Rattle.lifetime_core.proofs.nodes.Wants.{asked_left}
-use Rattle.lifetime_core.proofs.lists.Maps.{filter-wider, filter-all}
 use Rattle.lifetime_core.proofs.theorem.Follows.{Matches, members_match, pages_match}
 use Rattle.lifetime_core.proofs.nodes.Members.{node_found}
 use Rattle.lifetime_core.proofs.nodes.Marks.{keeps_on, nodes_lost, nodes_allocated, nodes_ended}
 
 -- ---- pages that are held still
-
--- what was not so before is not so now, if it stays so once it is
-not_turned : (a b : Bool) → (a ≡ true → b ≡ true) → not b ≡ true → not a ≡ true
-not_turned true true h k = cc
-not_turned true false h k = let no : false ≡ true = h refl in cc
-not_turned false b h k = refl
 
 module _ (pool : ℕ) (limits : Bound) (marks : Timeline) (mark : Mark) (grown : Grows pool limits [] marks) (step : Grows pool limits marks
     (mark ∷ marks)) where
@@ -57,7 +51,7 @@ module _ (pool : ℕ) (limits : Bound) (marks : Timeline) (mark : Mark) (grown :
 
   -- so of some pages those are held still that were held and are not home now
   pub still_still : (hs : List HeldBuffer) → still_out (mark ∷ marks) hs ≡ still_out (mark ∷ marks) (still_out marks hs)
-  still_still hs = filter-wider (λ (h : HeldBuffer). not (home (mark ∷ marks) h.buffer)) (λ (h : HeldBuffer). not (home marks h.buffer)) hs
+  still_still hs = filter-less (λ (h : HeldBuffer). not (home (mark ∷ marks) h.buffer)) (λ (h : HeldBuffer). not (home marks h.buffer)) hs
       was_out
 
   -- and where no buffers are laid out, these are all that are held
@@ -186,7 +180,7 @@ module _ (pool : ℕ) (limits : Bound) (keep : NodeKey → Bool) (marks : Timeli
     laid_same : layout pool c.id (asked (members_of c.nodes)) (pages_in c ++ others) ≡ laid
     laid_same =
         let is : asked (members_of c.nodes) ≡ want =
-        ap asked (members_match pool limits keep marks others c grown m) ∙ asked_left (members marks c.id) in
+        ap asked (members_match pool limits keep marks others c grown m) ∙ asked-left (members marks c.id) in
         let room : places pool (pages_of want.size) want.count (pages_in c ++ others) ≡ places pool (pages_of want.size) want.count out =
         sym (places_same pool (pages_of want.size) want.count out (pages_in c ++ others) (pages_match pool limits keep marks others c grown
         m not_given)) in
@@ -238,7 +232,7 @@ module _ (pool : ℕ) (limits : Bound) (keep : NodeKey → Bool) (marks : Timeli
           held = layout pool c.id (asked (members_of c.nodes)) (pages_in c ++ others) ++ c.held;
         } in
         let is : asked (members_of c.nodes) ≡ want =
-        ap asked (members_match pool limits keep marks others c grown m) ∙ asked_left (members marks c.id) in
+        ap asked (members_match pool limits keep marks others c grown m) ∙ asked-left (members marks c.id) in
         let matches : Matches pool keep (Allocated b.node ∷ marks) others first = record {
           keeps = keeps_on keep marks (Allocated b.node) m.keeps;
           nodes = ap (after_allocation b.node) m.nodes ∙ sym (nodes_allocated keep marks c.id b.node);

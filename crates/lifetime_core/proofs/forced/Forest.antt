@@ -13,6 +13,7 @@ use Rattle.alloc_event.specs.declared.node.Node.{Node}
 use Rattle.alloc_event.specs.Forest.{Collection, Forest, all_nodes, collection_at, beside, given, node_at}
 use Rattle.alloc_event.specs.Nodes.{is_of, is_spent}
 use Rattle.alloc_event.specs.Settling.{Handles, Settled, collection_or_new, given_back, is_birth, no_key}
+use Rattle.alloc_event.proofs.tallies.Slots.{or_new_id}
 use Rattle.lifetime_core.specs.Tasks.{released_by}
 use Rattle.lifetime_core.specs.Whole.{AreFit, AreOnce, IsAmid, IsNodeFit, IsSound, IsTidy, Rise, is_leaving}
 use Rattle.lifetime_core.proofs.forced.Fitting.{Keeps, event_keeps, in_front}
@@ -85,15 +86,6 @@ amid_same f id leaving sound there = record {
   tidy = λ c on apart. sound.tidy c on;
   there = there;
 }
-
--- what is found among collections has the id that was asked for
-or_new_id : (f : Forest) (id : ℕ) → (collection_or_new f id).id ≡ id
-or_new_id f id = by (collection_at f id) refl
-  where
-    by : (o : Option Collection) → collection_at f id ≡ o →
-        (unwrap_or o (record { id = id; nodes = []; buffers = None; held = [] })).id ≡ id
-    by None is = refl
-    by (Some c) is = eqb-true c.id id (In-find (λ (x : Collection). x.id == id) f.collections c is).1
 
 -- the key is that of a node of the collection
 abbrev pub IsOld : Forest → ℕ → NodeKey → Type 0

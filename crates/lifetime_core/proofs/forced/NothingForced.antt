@@ -1,6 +1,6 @@
 -- An event that changes no node, but for an end: nothing is forced.
-use Rattle.std.proofs.Common.{ℕ, zero, suc, ◌≡◌, refl, ap, sym, ◌∙◌, Bool, true, false, not, ◌==◌, nat_lt, inl, inr, List, [], ◌∷◌, map, Option, Some, None, arith}
-use Rattle.std.proofs.lemmas.Bool.{lt-ltb}
+use Rattle.std.proofs.Common.{ℕ, zero, suc, ◌≡◌, refl, ap, sym, ◌∙◌, true, not, ◌==◌, nat_lt, inl, inr, List, [], ◌∷◌, map, Option, Some, None, arith}
+use Rattle.std.proofs.lemmas.Bool.{lt-ltb, not-false}
 use Rattle.std.specs.List.{list_any, filter, cons_option}
 use Rattle.std.specs.Option.{option_map_or}
 use Rattle.sm_names.specs.declared.keys.BufferName.{BufferName}
@@ -111,14 +111,10 @@ module _ (s : State) (marks : Timeline) (shown : IsAfter s marks) (limits : Boun
       elim (either_way (is_kept_collection marks id)) [
         | inl e ↦ inl (e, is)
         | inr e ↦
-            let left : is_left c ≡ true = back (is_left c) (left_after s.pool limits marks grown id ∙ e) in
+            let left : is_left c ≡ true = not-false (is_left c) (left_after s.pool limits marks grown id ∙ e) in
             let over : is_left (collection_after s.pool called id) ≡ true = ap is_left (sym is) ∙ left_finished moved c left in
             inr (e, sym (left_after s.pool limits called grown_called id) ∙ ap not over)
       ]
-    where
-      back : (b : Bool) → not b ≡ false → b ≡ true
-      back true h = refl
-      back false h = cc
 
   -- so what is left is what the marks keep
   pub idle_collections : without_over (with_place (end_by client call reply) s.forest).collections ≡ map

@@ -1,5 +1,5 @@
 -- What a state settles to is what its history settles to.
-use Rattle.std.proofs.Common.{ℕ, ◌≡◌, refl, ap, sym, ◌∙◌, subst, Bool, true, false, cond, not, ◌&&◌, ◌==◌, List, [], ◌∷◌, Option, Some, None, is_some}
+use Rattle.std.proofs.Common.{ℕ, ◌≡◌, refl, ap, sym, ◌∙◌, subst, Bool, true, false, not, ◌&&◌, ◌==◌, List, [], ◌∷◌, Option, Some, None, is_some}
 use Rattle.std.specs.List.{filter}
 use Rattle.sm_names.specs.declared.keys.Interval.{Interval}
 use Rattle.sm_names.specs.declared.keys.NodeKey.{NodeKey}
@@ -17,26 +17,16 @@ use Rattle.sm_names.proofs.LifeLaws.{whole}
 use Rattle.sm_names.proofs.ListLaws.{In, In-filter, filter-In}
 use Rattle.sm_names.proofs.SettledLaws.{Settles-one, settled_rests, forced_no_event}
 use Rattle.sm_names.proofs.WholeLaws.{IsWhole}
+use Rattle.sm_names.proofs.StandingLaws.{filter-less}
 use Rattle.alloc_event.specs.Forest.{Collection}
 use Rattle.alloc_event.specs.Nodes.{members_of}
-use Rattle.alloc_event.specs.Settling.{Handles, made, is_root_of, is_home_in, given_back, Settles as SettlesIn, Rests as RestsIn, Forces as ForcesIn}
+use Rattle.alloc_event.specs.Settling.{Handles, made, is_home_in, given_back, Settles as SettlesIn, Rests as RestsIn, Forces as ForcesIn}
+use Rattle.alloc_event.proofs.tallies.Slots.{made_id}
 use Rattle.lifetime_core.specs.Shown.{held_after}
-use Rattle.lifetime_core.proofs.lists.Maps.{filter-wider}
 use Rattle.lifetime_core.proofs.theorem.Follows.{Counts, Matches, members_match, forced_matches}
 use Rattle.lifetime_core.proofs.forced.ForcedStep.{step_matches}
 
 -- ---- the forced steps
-
--- a mark leaves the collection's id
-pub made_id : (pool : ℕ) (others : List Interval) (mark : Mark) (c : Collection) → (made pool others mark c).id ≡ c.id
-made_id pool others (Called client reply call) c = refl
-made_id pool others (Loss origin cause) c = refl
-made_id pool others (Ended top) c = refl
-made_id pool others (Allocated head) c = from (is_root_of c head) _ _ refl refl
-  where
-    from : (b : Bool) (first later : Collection) → first.id ≡ c.id → later.id ≡ c.id → (cond b first later).id ≡ c.id
-    from true first later h k = h
-    from false first later h k = k
 
 -- a mark that is no event opens and drops no handle
 pub counts_on : (handles : Handles) (marks : Timeline) (mark : Mark) → is_event mark ≡ false → Counts handles marks →
@@ -153,7 +143,7 @@ module _ (pool : ℕ) (limits : Bound) (handles : Handles) (keep : NodeKey → B
     none = λ e. ap (filter (λ (h : HeldBuffer). not (is_home_in handles c h.buffer))) (m.none e);
     held = ap (still_out marks) (filter-In (λ (h : HeldBuffer). not (is_home_in handles c h.buffer)) (λ (h : HeldBuffer).
         not (home marks h.buffer)) c.held (λ h on. ap not (home_same h on)))
-        ∙ (sym (filter-wider (λ (h : HeldBuffer). not (home marks h.buffer)) (λ (h : HeldBuffer). not (home marks h.buffer)) c.held (λ h e.
+        ∙ (sym (filter-less (λ (h : HeldBuffer). not (home marks h.buffer)) (λ (h : HeldBuffer). not (home marks h.buffer)) c.held (λ h e.
         e)) ∙ m.held);
     beside = m.beside;
   }

@@ -21,7 +21,7 @@ use Rattle.sm_names.proofs.GrowthLaws.{Grows}
 use Rattle.sm_names.proofs.IsolationLaws.{birth_of_collection}
 use Rattle.sm_names.proofs.LayoutLaws.{placed_given}
 use Rattle.sm_names.proofs.LifeLaws.{ordered}
-use Rattle.sm_names.proofs.ListLaws.{In, In-filter, In-list_any, In-map, filter-In, filter-none}
+use Rattle.sm_names.proofs.ListLaws.{In, In-filter, In-list_any, In-map, filter-In, filter-none, filter-all}
 use Rattle.sm_names.proofs.SamenessLaws.{either_way, false_if, both_ways, or_left}
 use Rattle.sm_names.proofs.StandingLaws.{both_tests, In-any}
 use Rattle.alloc_event.specs.declared.node.Node.{Node}
@@ -32,7 +32,6 @@ use Rattle.lifetime_core.specs.Shown.{IsAfter, node_after, nodes_after, held_aft
 use Rattle.lifetime_core.specs.State.{State}
 use Rattle.lifetime_core.proofs.collections.MarksApart.{is_beside, pages_beside}
 use Rattle.lifetime_core.proofs.nodes.Ancestors.{Keeps, nodes_kept}
-use Rattle.lifetime_core.proofs.lists.Maps.{filter-all}
 use Rattle.lifetime_core.proofs.theorem.Follows.{Matches}
 use Rattle.lifetime_core.proofs.lists.Reorderings.{Mixed, In-mixed, In-mixed_back, mixed_filter, mixed_map}
 use Rattle.lifetime_core.proofs.views.Nodes.{collection_kept, collection_is, not_over}

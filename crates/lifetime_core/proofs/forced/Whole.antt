@@ -1,7 +1,8 @@
 -- What an answered call may do to the forest.
-use Rattle.std.proofs.Common.{ℕ, ◌≡◌, ◌<◌, ◌≤◌, ◌+◌, refl, ap, sym, ◌∙◌, subst, Bool, true, false, ◌==◌, ◌||◌, ◌&&◌, nat_le, Option, Some, None, is_some, if◌then◌else◌, ◌⊎◌, inl, inr, arith}
+use Rattle.std.proofs.Common.{ℕ, ◌≡◌, ◌<◌, ◌≤◌, ◌+◌, refl, ap, sym, ◌∙◌, subst, Bool, true, false, ◌==◌, ◌||◌, nat_le, Option, Some, None, is_some, if◌then◌else◌, ◌⊎◌, inl, inr, arith}
 use Rattle.std.proofs.lemmas.Bool.{eqb-true, eq-eqb, leb-false}
 use Rattle.std.specs.Option.{option_map_or}
+use Rattle.std.proofs.Math.Bool.{and-false}
 use Rattle.sm_names.specs.declared.keys.BufferName.{BufferName}
 use Rattle.sm_names.specs.declared.keys.NodeKey.{NodeKey}
 use Rattle.sm_names.specs.declared.keys.Strength.{Strength}
@@ -255,7 +256,7 @@ child_well limits s client call attached above key c is going makes tells known 
     let new : c ≡ on.0.collection = token_is told ∙ ap (λ (n : Node). n.collection) same in
     let room : node_count s.forest < s.forest.limit = node_fits limits s client call (Reply.Token key c) known refl going makes in
     subst (Well s call (Reply.Token key c)) (some_is work) (record {
-      may = record { named = rw new on.2; room = λ h. room; heads = no_root attached; trackers = λ k n h. cc };
+      may = record { named = rw new on.2; room = λ h. room; heads = and-false attached; trackers = λ k n h. cc };
       within = rw new on.3;
       releases = λ k h. cc;
       births = refl;
@@ -263,10 +264,6 @@ child_well limits s client call attached above key c is going makes tells known 
   where
     token_is : {a b : NodeKey} {x y : ℕ} → Reply.Token a x ≡ Reply.Token b y → x ≡ y
     token_is h = cc
-
-    no_root : (attached : Bool) → (attached && false) ≡ false
-    no_root true = refl
-    no_root false = refl
 
 -- a call that is answered as a misuse is no Close
 not_closing : (limits : Bound) (s : State) (client : ℕ) (call : Call) (key : NodeKey) (m : Misuse) →

@@ -20,7 +20,7 @@ use Rattle.sm_names.proofs.GrowthLaws.{Grows, Stays, Answers, grows_after, grows
 use Rattle.sm_names.proofs.IsolationLaws.{birth_of_collection}
 use Rattle.sm_names.proofs.LegalLaws.{births-after, own_loss_no_event}
 use Rattle.sm_names.proofs.LifeLaws.{whole}
-use Rattle.sm_names.proofs.ListLaws.{In, In-filter, In-map}
+use Rattle.sm_names.proofs.ListLaws.{In, In-filter, In-map, filter-all}
 use Rattle.sm_names.proofs.SamenessLaws.{either_way, both_ways, false_if, same_key-true}
 use Rattle.alloc_event.specs.declared.node.Node.{Node}
 use Rattle.alloc_event.specs.Forest.{Collection, Forest, beside, is_left}
@@ -35,7 +35,6 @@ use Rattle.lifetime_core.proofs.ends.NotRead.{placed_node, placed_in, settles_pl
 use Rattle.lifetime_core.proofs.ends.Finishing.{finished, ComesTo, finished_is, finished_kept}
 use Rattle.lifetime_core.proofs.collections.Ids.{ids, kept_are, ids-root, ids-child, ids_rise, node_id}
 use Rattle.lifetime_core.proofs.ends.Forgotten.{left_after}
-use Rattle.lifetime_core.proofs.lists.Maps.{filter-all}
 use Rattle.lifetime_core.proofs.theorem.Follows.{Counts, Matches}
 use Rattle.lifetime_core.proofs.collections.Replacing.{with_new, put-map, map-stays}
 use Rattle.lifetime_core.proofs.forced.Settled.{IsSettled, counts_on, settled_matches, given_matches, given_held}

@@ -17,12 +17,12 @@ use Rattle.sm_names.specs.declared.keys.HeldBuffer.{HeldBuffer}
 use Rattle.sm_names.specs.Timelines.{laid_out, placed}
 use Rattle.sm_names.proofs.GrowthLaws.{Grows, Stays, Answers, Loses, Allocates, Ends}
 use Rattle.sm_names.proofs.HeldLaws.{Lays, Nothing_new, New, allocation_lays}
-use Rattle.sm_names.proofs.ListLaws.{In, In-map, In-map-back, filter-none, filter-swap}
+use Rattle.sm_names.proofs.ListLaws.{In, In-map, In-map-back, filter-none, filter-swap, filter-all}
 use Rattle.sm_names.proofs.PageLaws.{placed_apart}
 use Rattle.sm_names.proofs.SamenessLaws.{either_way}
 use Rattle.sm_names.proofs.SettledLaws.{forced_why}
 use Rattle.lifetime_core.specs.Shown.{held_after}
-use Rattle.lifetime_core.proofs.lists.Maps.{filter-all, filter-map}
+use Rattle.lifetime_core.proofs.lists.Maps.{filter-map}
 
 -- the buffer of the pages
 abbrev buffer_at : HeldBuffer → BufferName

@@ -1,6 +1,6 @@
 -- The handles that wait for clients.
 use Rattle.std.proofs.Common.{ℕ, ◌≡◌, ◌<◌, ◌+◌, refl, ap, sym, ◌∙◌, subst, Bool, true, false, cond, ◌==◌, ◌&&◌, not, if◌then◌else◌, inl, inr, List, [], ◌∷◌, map, drop, Option, Some, None, arith}
-use Rattle.std.proofs.lemmas.Bool.{eqb-true, eq-eqb}
+use Rattle.std.proofs.lemmas.Bool.{eqb-true, eq-eqb, not-false}
 use Rattle.std.proofs.lemmas.List.Sums.{sum_by-append, sum_by-cons}
 use Rattle.std.specs.List.{AllByRecursion, cons_option, count_by, find, sum_by}
 use Rattle.std.specs.Option.{option_map_or}
@@ -159,7 +159,7 @@ module _ (limits : Bound) (s : State) (client : ℕ) (sent : AreSent s.clients (
       or_none_right (not ((readings_of s).has_joined client)) _ (passed _ _ (took_effect_all limits (readings_of s) client no_key
       (Call.GiveHandle name given to) Reply.Done refl refl told).known) in
       let joined : one_of (ids s.clients) to ≡ true =
-      list_any-map (λ n. n == to) (λ (c : Client). c.id) s.clients ∙ not_forth ((readings_of s).has_joined to) known in
+      list_any-map (λ n. n == to) (λ (c : Client). c.id) s.clients ∙ not-false ((readings_of s).has_joined to) known in
       let all : sum_by (waiting_in buffer strength) (map (client_by mark) s.clients) + sum_by (λ (n : ℕ). 0) (ids s.clients)
       ≡ sum_by (waiting_in buffer strength) s.clients + sum_by (λ n. one ((to == n) && t)) (ids s.clients) =
       tallied (waiting_in buffer strength) (client_by mark) (λ n. 0) (λ n. one ((to == n) && t)) s.clients (λ c on.
@@ -168,10 +168,6 @@ module _ (limits : Bound) (s : State) (client : ℕ) (sent : AreSent s.clients (
       sum_once to t (ids s.clients) (rise_once (ids s.clients) rising) (λ e. joined) in
       omega (arith, sent buffer strength, all, once, sum_by-zero (ids s.clients), with_new buffer strength mark s.clients)
     where
-      not_forth : (b : Bool) → not b ≡ false → b ≡ true
-      not_forth true h = refl
-      not_forth false h = cc
-
       gets : (b : Bool) → count_by (is_handle_of buffer strength) (cons_option (if b then Some (Parcel.Handle name given) else None)
           []) ≡ one (b && (same_buffer name buffer && same_strength given strength))
       gets true = omega arith

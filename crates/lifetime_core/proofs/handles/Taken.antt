@@ -5,6 +5,7 @@ use Rattle.std.proofs.lemmas.Nat.Bits.{bit_at-zero}
 use Rattle.std.specs.Int.{bit_at}
 use Rattle.std.specs.List.{filter, find, list_any, range_with_len}
 use Rattle.std.specs.Option.{option_map_or}
+use Rattle.std.proofs.Math.Bool.{and-false}
 use Rattle.sm_names.specs.declared.keys.BufferName.{BufferName}
 use Rattle.sm_names.specs.declared.keys.NodeKey.{NodeKey}
 use Rattle.sm_names.specs.declared.keys.Strength.{Strength}
@@ -152,11 +153,7 @@ by_handle : (g a : Bool) (n : ℕ) → nat_lt 0 n ≡ true → (g && (n == 0 && 
 by_handle g a n is =
     let more : 0 < n = ltb-true 0 n is in
     let some : (n == 0) ≡ false = false_if (n == 0) (λ h. let none : n ≡ 0 = eqb-true n 0 h in omega (arith, more)) in
-    rw some (neither g)
-  where
-    neither : (g : Bool) → (g && false) ≡ false
-    neither true = refl
-    neither false = refl
+    rw some (and-false g)
 
 module _ (pool : ℕ) (limits : Bound) (marks : Timeline) (grown : Grows pool limits [] marks) (rest : (c : ℕ) →
     next_forced pool c marks ≡ None) where

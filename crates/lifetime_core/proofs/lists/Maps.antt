@@ -6,9 +6,8 @@ use Rattle.std.specs.List.{filter, find, list_any, flat_map}
 use Rattle.std.specs.Option.{option_map}
 use Rattle.sm_names.specs.Words.{times}
 use Rattle.sm_names.proofs.ListLaws.{In}
-use Rattle.sm_names.proofs.SamenessLaws.{either_way, both_ways, or_right}
-use mathlib.Core.List.{reverse_aux}
-use Rattle.alloc_event.proofs.tables.Links.{map-reverse_aux}
+use Rattle.sm_names.proofs.SamenessLaws.{either_way, both_ways}
+use Rattle.alloc_event.proofs.tables.KeptRoots.{filter-reverse_aux, map-reverse_aux}
 
 -- ---- filters
 
@@ -34,26 +33,6 @@ filter-filter {A = A} p q (x ∷ xs) =
       | inr e ↦ rw e (filter-filter p q xs)
     ]
 
--- what passes the narrower test may first be kept by the wider one
-pub filter-wider : {A : Type 0} (p q : A → Bool) (xs : List A) → ((x : A) → p x ≡ true → q x ≡ true) → filter p xs ≡ filter p (filter q xs)
-filter-wider p q [] less = refl
-filter-wider {A = A} p q (x ∷ xs) less =
-    let on : filter p xs ≡ filter p (filter q xs) = filter-wider p q xs less in
-    elim (either_way (p x)) [
-      | inl e ↦ let f : q x ≡ true = less x e in rw (f, e) (ap (λ (ys : List A). x ∷ ys) on)
-      | inr e ↦ elim (either_way (q x)) [
-        | inl f ↦ rw (e, f, e) on
-        | inr f ↦ rw (e, f) on
-      ]
-    ]
-
--- a list whose elements all pass is kept whole
-pub filter-all : {A : Type 0} (test : A → Bool) (xs : List A) → ((x : A) → In x xs → test x ≡ true) → filter test xs ≡ xs
-filter-all test [] all = refl
-filter-all {A = A} test (x ∷ xs) all =
-    let e : test x ≡ true = all x (inl refl) in
-    rw e (ap (λ (ys : List A). x ∷ ys) (filter-all test xs (λ y on. all y (inr on))))
-
 -- ---- maps and finds
 
 -- two maps in turn, where each element of the list comes out alike
@@ -67,15 +46,6 @@ map-map_In f g h (x ∷ xs) same = λ i. same x (inl refl) i ∷ map-map_In f g 
 -- a map may be turned round before or after
 pub map-reverse : {A B : Type 0} (f : A → B) (xs : List A) → map f (reverse xs) ≡ reverse (map f xs)
 map-reverse f xs = map-reverse_aux f xs []
-
--- what is kept of a list that is turned round onto another
-filter-reverse_aux : {A : Type 0} (test : A → Bool) (xs ys : List A) →
-    filter test (reverse_aux xs ys) ≡ reverse_aux (filter test xs) (filter test ys)
-filter-reverse_aux test [] ys = refl
-filter-reverse_aux {A = A} test (x ∷ xs) ys =
-    filter-reverse_aux test xs (x ∷ ys)
-    ∙ elim (test x) as (λ (b : Bool). reverse_aux (filter test xs) (cond b (x ∷ filter test ys) (filter test ys)) ≡ reverse_aux
-    (cond b (x ∷ filter test xs) (filter test xs)) (filter test ys)) [ true ↦ refl | false ↦ refl ]
 
 -- what is kept may be turned round before or after
 pub filter-reverse : {A : Type 0} (test : A → Bool) (xs : List A) → filter test (reverse xs) ≡ reverse (filter test xs)
@@ -138,9 +108,3 @@ find_number n (m ∷ ms) = elim (either_way (m == n)) [
 pub times_none : {A : Type 0} (p : A → Bool) (xs : List A) → ((y : A) → In y xs → p y ≡ false) → times p xs ≡ 0
 times_none p [] none = refl
 times_none p (y ∷ ys) none = rw (none y (inl refl)) (times_none p ys (λ z on. none z (inr on)))
-
--- an element that passes shows that some do
-pub any_of : {A : Type 0} (p : A → Bool) (xs : List A) (x : A) → In x xs → p x ≡ true → list_any p xs ≡ true
-any_of p [] x on is = absurd on
-any_of p (y ∷ ys) x (inl here) is = let e : p y ≡ true = ap p (sym here) ∙ is in rw e refl
-any_of p (y ∷ ys) x (inr there) is = or_right (p y) (list_any p ys) (any_of p ys x there is)

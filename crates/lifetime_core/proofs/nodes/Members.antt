@@ -1,6 +1,6 @@
 -- What the forced steps read of the nodes that are kept.
 use Rattle.std.proofs.Common.{ℕ, ◌≡◌, refl, ap, sym, ◌∙◌, Bool, true, false, not, ◌&&◌, ◌==◌, inl, inr, List, ◌∷◌, map, Some}
-use Rattle.std.proofs.lemmas.Bool.{eqb-true, eq-eqb}
+use Rattle.std.proofs.lemmas.Bool.{eqb-true, eq-eqb, not-true}
 use Rattle.std.specs.List.{find, filter}
 use Rattle.sm_names.specs.declared.keys.NodeKey.{NodeKey}
 use Rattle.sm_names.specs.Births.{Birth, births, ancestors, AreSound}
@@ -13,14 +13,14 @@ use Rattle.sm_names.proofs.ForgetLaws.{is_left, left_of, any-left}
 use Rattle.sm_names.proofs.IsolationLaws.{birth_of_collection}
 use Rattle.sm_names.proofs.ListLaws.{In, In-filter, In-filter-back, In-map, In-map-back, In-reverse-back}
 use Rattle.sm_names.proofs.SamenessLaws.{either_way, same_key-true, same_key-refl, both_ways}
-use Rattle.sm_names.proofs.SettledLaws.{find_birth, member_birth, not_back}
-use Rattle.sm_names.proofs.StandingLaws.{highest-members, top-same}
+use Rattle.sm_names.proofs.SettledLaws.{find_birth, member_birth}
+use Rattle.sm_names.proofs.StandingLaws.{highest-members, top-same, filter-less}
 use Rattle.sm_names.proofs.WholeLaws.{IsWhole}
 use Rattle.alloc_event.specs.declared.node.Node.{Node}
 use Rattle.alloc_event.specs.Nodes.{is_of, node_of, member_of, members_of, is_taken}
 use Rattle.lifetime_core.specs.Shown.{node_after}
 use Rattle.lifetime_core.proofs.nodes.Ancestors.{Keeps, kept_in, nodes_kept, kept_births, above_kept, line_left}
-use Rattle.lifetime_core.proofs.lists.Maps.{filter-map, filter-wider, map-map_In, find_only}
+use Rattle.lifetime_core.proofs.lists.Maps.{filter-map, map-map_In, find_only}
 
 -- ---- births of one node
 
@@ -62,13 +62,13 @@ module _ (keep : NodeKey → Bool) (marks : Timeline) (collection : ℕ) (w : Is
       let left : filter (λ (n : Node). not n.gone) kept ≡ map (node_after marks) (filter free (births_in marks collection)) =
       ap (filter (λ (n : Node). not n.gone)) (kept_births keep marks collection)
       ∙ (filter-map (λ (n : Node). not n.gone) (node_after marks) (kept_in keep marks collection)
-      ∙ ap (map (node_after marks)) (sym (filter-wider free (λ (b : Birth). keep b.node) (births_in marks collection) (λ b e.
-      keeps b.node (not_back (gone marks b.node) e))))) in
+      ∙ ap (map (node_after marks)) (sym (filter-less free (λ (b : Birth). keep b.node) (births_in marks collection) (λ b e.
+      keeps b.node (not-true (gone marks b.node) e))))) in
       ap (map (member_of kept)) left
       ∙ (sym (map-map_In (node_after marks) (member marks) (member_of kept) (filter free (births_in marks collection)) (λ b on.
       let f = In-filter free (births_in marks collection) b on in
       let t = of_collection marks collection b f.0 in
-      sym (member_kept b t.0 t.1 (not_back (gone marks b.node) f.1))))
+      sym (member_kept b t.0 t.1 (not-true (gone marks b.node) f.1))))
       ∙ sym (filter-map is_left (member marks) (births_in marks collection)))
 
   -- a kept node is found under its key

@@ -1,5 +1,5 @@
 -- A node that is misused is not gone.
-use Rattle.std.proofs.Common.{ℕ, ◌≡◌, refl, ap, sym, ◌∙◌, false, List, [], ◌∷◌, Option, Some, None}
+use Rattle.std.proofs.Common.{ℕ, ◌≡◌, refl, false, List, [], ◌∷◌, Option, Some, None}
 use Rattle.std.specs.Option.{option_map, option_and_then, unwrap_or}
 use Rattle.sm_names.specs.declared.keys.NodeKey.{NodeKey}
 use Rattle.sm_names.specs.declared.messages.Call.{Call}
@@ -14,7 +14,7 @@ use Rattle.sm_names.specs.Marks.{Timeline}
 use Rattle.sm_names.specs.Reading.{readings}
 use Rattle.sm_names.specs.Timelines.{key_of}
 use Rattle.sm_names.specs.Words.{first_some}
-use Rattle.sm_names.proofs.BirthLaws.{HasEnd, birth_is}
+use Rattle.sm_names.proofs.BirthLaws.{HasEnd, has_no_fault}
 use Rattle.sm_names.proofs.GrowthLaws.{Grows}
 use Rattle.sm_names.proofs.LifeLaws.{ordered}
 use Rattle.sm_names.proofs.RejectLaws.{not_refused_end}
@@ -47,18 +47,6 @@ not_closed r call rest e m h = from (end_named r call) h
     from None h = refl
     from (Some x) h = none_closed x.fault rest e m h
 
--- a node of which PeerClosed is not answered has no fault
-unfailed : (marks : Timeline) (call : Call) (key : NodeKey) → HasEnd marks key → key_of call ≡ Some key →
-    peer_closed (readings marks) call ≡ None → fault marks key ≡ None
-unfailed marks call key e is h =
-    let told : option_map (λ (f : Fault). Reply.PeerClosed f.cause f.origin) (fault marks e.birth.node) ≡ None =
-    rw (is, e.unspent, e.is) at h in
-    ap (fault marks) (sym (birth_is marks key e.birth e.is).1) ∙ none_of (fault marks e.birth.node) told
-  where
-    none_of : (o : Option Fault) → option_map (λ (f : Fault). Reply.PeerClosed f.cause f.origin) o ≡ None → o ≡ None
-    none_of None h = refl
-    none_of (Some f) h = cc
-
 -- a node that is misused is not gone
 pub misused_here : (pool : ℕ) (limits : Bound) (marks : Timeline) → Grows pool limits [] marks →
     (client : ℕ) (call : Call) (m : Misuse) (key : NodeKey) →
@@ -71,5 +59,5 @@ misused_here pool limits marks g client call m key answer is =
     let told = from_closing limits marks client new call (Reply.Misused m) refl answer.told in
     let none : peer_closed r call ≡ None = not_closed r call last e m (closes_none call (peer_closed r call ∷ last) e m told) in
     let there : HasEnd marks key = not_refused_end limits marks client call (Reply.Misused m) key answer refl is in
-    let fine : fault marks key ≡ None = unfailed marks call key there is none in
+    let fine : fault marks key ≡ None = has_no_fault marks call key there is none in
     false_if (gone marks key) (λ h. both_ways (spent marks key) ((ordered pool limits marks g).ended_spent key h fine) there.unspent)

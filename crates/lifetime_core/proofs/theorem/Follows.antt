@@ -25,7 +25,7 @@ use Rattle.sm_names.proofs.GrowthLaws.{Grows}
 use Rattle.sm_names.proofs.HeldLaws.{given_root}
 use Rattle.sm_names.proofs.LayoutLaws.{placed_given}
 use Rattle.sm_names.proofs.LifeLaws.{whole}
-use Rattle.sm_names.proofs.ListLaws.{In, In-filter, In-find}
+use Rattle.sm_names.proofs.ListLaws.{In, In-filter, In-find, filter-all}
 use Rattle.sm_names.proofs.PlaceLaws.{places_same}
 use Rattle.sm_names.proofs.SamenessLaws.{either_way, and_left, both_ways}
 use Rattle.sm_names.proofs.SettledLaws.{member_birth, none_if}
@@ -36,7 +36,6 @@ use Rattle.alloc_event.specs.Settling.{Handles, standing as standing_in}
 use Rattle.lifetime_core.specs.Shown.{held_after}
 use Rattle.lifetime_core.proofs.collections.MarksApart.{is_beside, pages_beside}
 use Rattle.lifetime_core.proofs.nodes.Ancestors.{Keeps, nodes_kept}
-use Rattle.lifetime_core.proofs.lists.Maps.{filter-all}
 use Rattle.lifetime_core.proofs.nodes.Members.{members_kept}
 
 -- the handles are those that are open after the marks

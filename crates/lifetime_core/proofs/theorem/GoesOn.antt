@@ -19,6 +19,7 @@ use Rattle.sm_names.proofs.HistoryLaws.{legal_on, timeline-push}
 use Rattle.sm_names.proofs.ListLaws.{In-filter, In-list_any}
 use Rattle.sm_names.proofs.RestLaws.{every_rests}
 use Rattle.sm_names.proofs.SamenessLaws.{or_cases, or_left, or_right}
+use Rattle.sm_names.proofs.StandingLaws.{In-any}
 use Rattle.buffer_holds.specs.Counts.{total}
 use Rattle.trackers.specs.Table.{empty, without}
 use Rattle.alloc_event.specs.Forest.{Forest, given, empty_forest}
@@ -37,7 +38,6 @@ use Rattle.lifetime_core.proofs.nodes.Answered.{no_birth}
 use Rattle.lifetime_core.proofs.collections.Elsewhere.{came}
 use Rattle.lifetime_core.proofs.handles.Counts.{handles_called, handles_event}
 use Rattle.lifetime_core.proofs.forced.NothingForced.{idle_after, idle_collections}
-use Rattle.lifetime_core.proofs.lists.Maps.{any_of}
 use Rattle.lifetime_core.proofs.theorem.Follows.{Counts}
 use Rattle.lifetime_core.proofs.views.Answers.{answer_is}
 use Rattle.lifetime_core.proofs.views.AfterEvents.{idle_seen, work_seen}
@@ -220,7 +220,7 @@ take_shows s id history shows = record {
       untaken = λ other on.
           let left = In-list_any (λ i. i == other) (without s.trackers.untaken id) on in
           let was = In-filter (λ i. not (i == id)) s.trackers.untaken left.0 left.1 in
-          shows.shown.trackers.untaken other (any_of (λ i. i == other) s.trackers.untaken left.0 was.0 left.2);
+          shows.shown.trackers.untaken other (In-any (λ i. i == other) s.trackers.untaken left.0 was.0 left.2);
     };
   };
 }

@@ -1,7 +1,8 @@
 -- The ends that a core keeps read as those of the marks.
-use Rattle.std.proofs.Common.{ℕ, ◌≡◌, refl, ap, sym, ◌∙◌, Bool, true, false, cond, not, ◌&&◌, ◌||◌, List, [], Option, Some, None, is_some}
+use Rattle.std.proofs.Common.{ℕ, ◌≡◌, refl, ap, sym, ◌∙◌, Bool, true, false, cond, not, ◌&&◌, List, [], Option, Some, None, is_some}
 use Rattle.std.specs.List.{filter, list_any, range_with_len}
 use Rattle.std.specs.Option.{option_map, option_map_or, option_and_then}
+use Rattle.std.proofs.Math.Bool.{or-true}
 use Rattle.sm_names.specs.declared.keys.BufferName.{BufferName}
 use Rattle.sm_names.specs.declared.keys.NodeKey.{NodeKey}
 use Rattle.sm_names.specs.declared.keys.Strength.{Strength}
@@ -122,11 +123,7 @@ module _ (s : State) (marks : Timeline) (shown : IsAfter s marks) (limits : Boun
 
   -- a node whose end is not spent is kept
   unspent_kept : (node : NodeKey) → spent marks node ≡ false → is_kept marks node ≡ true
-  unspent_kept node e = rw e (always (not (gone marks node)))
-    where
-      always : (b : Bool) → (b || true) ≡ true
-      always true = refl
-      always false = refl
+  unspent_kept node e = rw e (or-true (not (gone marks node)))
 
   -- the end of a node that is not spent reads the same
   pub open_end_is : (b : Birth) → In b (births marks) → spent marks b.node ≡ false → open_end_of s (node_after marks b) ≡ open_end marks b

@@ -1,8 +1,9 @@
 -- Which buffers are seen as held.
 use Rattle.std.proofs.Common.{ℕ, ◌≡◌, ◌≤◌, ◌<◌, ◌+◌, refl, ap, sym, ◌∙◌, subst, true, false, not, ◌&&◌, ◌==◌, nat_lt, nat_le, inl, inr, List, [], ◌∷◌, map, arith}
-use Rattle.std.proofs.lemmas.Bool.{eqb-true, eq-eqb, lt-ltb, ltb-true}
+use Rattle.std.proofs.lemmas.Bool.{eqb-true, lt-ltb, ltb-true}
 use Rattle.std.proofs.lemmas.List.Folds.{flat_map-map}
 use Rattle.std.specs.List.{flat_map, list_any, sum_by}
+use Rattle.event_laws.proofs.HandleCaseLaws.{same_buffer-refl}
 use Rattle.sm_names.specs.declared.keys.BufferName.{BufferName}
 use Rattle.sm_names.specs.declared.keys.Interval.{Interval}
 use Rattle.sm_names.specs.Apart.{AreApart}
@@ -22,13 +23,13 @@ use Rattle.sm_names.proofs.HeldLaws.{are_held, stands_held}
 use Rattle.sm_names.proofs.ListLaws.{In, In-list_any, In-map-back}
 use Rattle.sm_names.proofs.SamenessLaws.{false_if, both_ways, and_left, and_right, and_both, or_right}
 use Rattle.sm_names.proofs.SumLaws.{one, In-le-sum_by}
+use Rattle.sm_names.proofs.StandingLaws.{In-any}
 use Rattle.buffer_pool.specs.Holdings.{Holdings, IsSound, in_order}
 use Rattle.buffer_pool.specs.Holes.{end_of}
 use Rattle.alloc_event.specs.Forest.{Collection, Forest, IsPoolOf, all_held, held_by_page as held_in}
 use Rattle.lifetime_core.specs.Shown.{IsAfter, collection_after, held_after, kept_ids}
 use Rattle.lifetime_core.specs.State.{State}
 use Rattle.lifetime_core.proofs.lists.Parts.{mixed_parts}
-use Rattle.lifetime_core.proofs.lists.Maps.{any_of}
 use Rattle.lifetime_core.proofs.lists.Reorderings.{Mixed, In-mixed_back, sum_by-mixed}
 use Rattle.lifetime_core.proofs.collections.Roots.{listed_once}
 use Rattle.lifetime_core.proofs.lists.ByNumber.{AreNumbered, sorted-mixed, mixed_sorted}
@@ -41,7 +42,7 @@ module _ (pool : ℕ) (limits : Bound) (marks : Timeline) (grown : Grows pool li
       (not (home marks h.buffer) ≡ true)
   held_named h on =
       let there : list_any (λ (k : HeldBuffer). same_buffer k.buffer h.buffer) (held pool marks) ≡ true =
-      any_of (λ (k : HeldBuffer). same_buffer k.buffer h.buffer) (held pool marks) h on (itself h.buffer) in
+      In-any (λ (k : HeldBuffer). same_buffer k.buffer h.buffer) (held pool marks) h on (same_buffer-refl h.buffer) in
       let both : (list_any (λ b. same_buffer b h.buffer) (buffer_names marks h.buffer.collection) && not (home marks h.buffer)) ≡ true =
       sym (stands_held pool limits marks grown h.buffer) ∙ there in
       let named = In-list_any (λ b. same_buffer b h.buffer) (buffer_names marks h.buffer.collection)
@@ -51,10 +52,6 @@ module _ (pool : ℕ) (limits : Bound) (marks : Timeline) (grown : Grows pool li
         subst (λ (b : BufferName). In b (buffer_names marks h.buffer.collection)) is here,
         and_right (list_any (λ b. same_buffer b h.buffer) (buffer_names marks h.buffer.collection)) (not (home marks h.buffer)) both,
       )
-    where
-      itself : (b : BufferName) → same_buffer b b ≡ true
-      itself b = and_both (b.collection == b.collection) (b.index == b.index) (eq-eqb b.collection b.collection refl)
-          (eq-eqb b.index b.index refl)
 
   -- so its collection is kept
   pub held_kept : (h : HeldBuffer) → In h (held pool marks) → is_kept_collection marks h.buffer.collection ≡ true
@@ -109,7 +106,7 @@ apart_numbered (h ∷ hs) apart paged = ((λ k on same. meet k on same), apart_n
         and_both (nat_lt h.pages.start (k.pages.start + k.pages.pages)) (nat_lt k.pages.start (h.pages.start + h.pages.pages))
         (lt-ltb _ _ (omega arith)) (lt-ltb _ _ (omega arith)) in
         let some : list_any (meets h.pages) (map (λ (x : HeldBuffer). x.pages) hs) ≡ true =
-        any_of (meets h.pages) (map (λ (x : HeldBuffer). x.pages) hs) k.pages (In-map-back (λ (x : HeldBuffer). x.pages) hs k on) both in
+        In-any (meets h.pages) (map (λ (x : HeldBuffer). x.pages) hs) k.pages (In-map-back (λ (x : HeldBuffer). x.pages) hs k on) both in
         both_ways (list_any (meets h.pages) (map (λ (x : HeldBuffer). x.pages) hs)) some apart.0
 
 module _ (s : State) (marks : Timeline) (shown : IsAfter s marks) (limits : Bound) (grown : Grows s.pool limits [] marks) where

@@ -2,11 +2,12 @@
 use Rattle.std.proofs.Common.{◌≡◌, ◌==◌, true, false, length, get_or, Some, None, sym, ◌∙◌, ap, arith}
 use Rattle.alloc_event.specs.declared.entry.Entry.{Entry}
 use Rattle.std.proofs.lemmas.List.{get_or_default}
+use Rattle.std.proofs.lemmas.Bool.{and_right, and_left}
 use Rattle.sm_names.proofs.SamenessLaws.{and_both}
 use Rattle.alloc_event.specs.Forgetting.{is_bare}
 use Rattle.alloc_event.specs.Kept.{place_in, shelf_of, shelves_of}
 use Rattle.alloc_event.proofs.shelves.Counted.{counted_removed}
-use Rattle.alloc_event.proofs.shelves.Dropping.{bare_none, keep_bare, no_left, no_right, remove_bare}
+use Rattle.alloc_event.proofs.shelves.Dropping.{bare_none, keep_bare, remove_bare}
 use Rattle.alloc_event.proofs.shelves.Entries.{place_is}
 use Rattle.alloc_event.proofs.forgetting.drop_bare.Goals.{else-is_empty-via-then-is_empty+else-is_empty-2, else-is_empty-via-else-is_empty}
 use Rattle.alloc_event.proofs.forgetting.drop_bare.Goals as goal
@@ -60,12 +61,12 @@ returns-else-is_empty-clause-shelves c =
           let held : (length at.held.items == 0) ≡ false =
           ap (λ (x : Entry). length x.held.items == 0) (sym again) ∙ ap (λ n. n == 0) (sym w.index-then-is_empty.result.now.held.ok.0)
           ∙ sym w.is_empty-then-is_empty.ensures ∙ w.if-is_empty-2.false in
-          stays (no_right _ _ held)
+          stays (and_right _ _ held)
       | else-is_empty-via-else-is_empty w ↦
           let keys : (length at.keys.items == 0) ≡ false =
           ap (λ (x : Entry). length x.keys.items == 0) (sym c.index.ensures) ∙ ap (λ n. n == 0) (sym c.index.result.now.keys.ok.0)
           ∙ sym c.is_empty.ensures ∙ w.if-is_empty.false in
-          stays (no_left _ _ keys)
+          stays (and_left _ _ keys)
     ]
 
 pub returns-in_default-clause-shelves : goal.returns-in_default-clause-shelves

@@ -12,11 +12,12 @@ use Rattle.alloc_event.specs.Nodes.{is_over}
 use Rattle.alloc_event.proofs.shelves.Counted.{dropped_all, drops_over, each_own, none_left, own_key, tidy_one}
 use Rattle.alloc_event.proofs.leaving.Alone.{alone_missing}
 use Rattle.alloc_event.proofs.changes.Altering.{found_filed}
-use Rattle.alloc_event.proofs.leaving.Forgotten.{thin_filed, thinned_filed, tidy_left}
+use Rattle.alloc_event.proofs.leaving.Forgotten.{thin_filed, tidy_left}
 use Rattle.alloc_event.proofs.leaving.Places.{found_apart, listed_at, without_at}
 use Rattle.alloc_event.proofs.shelves.Showing.{shelf_found}
 use Rattle.alloc_event.proofs.calm.Watched.{found_counted}
 use Rattle.alloc_event.proofs.forgetting.forget_nodes.Goals as goal
+use Rattle.alloc_event.proofs.leaving.Thinning.{all_thinned-same}
 
 pub returns-in_default-clause-shelves : goal.returns-in_default-clause-shelves
 returns-in_default-clause-shelves c =
@@ -31,7 +32,7 @@ returns-in_default-clause-look c s found k =
 
 pub returns-in_default-clause-kept : goal.returns-in_default-clause-kept
 returns-in_default-clause-kept c =
-    subst (IsStored c.args.table.now) (sym (thinned_filed c.args.table.now (shelves_of c.args.entries.now.items) c.requires.kept.filed))
+    subst (IsStored c.args.table.now) (sym (all_thinned-same c.args.table.now (shelves_of c.args.entries.now.items) c.requires.kept.filed))
     c.requires.kept
 
 pub returns-then-is_tidy-clause-shelves : goal.returns-then-is_tidy-clause-shelves
@@ -54,7 +55,7 @@ returns-then-is_tidy-clause-look c s found k =
 
 pub returns-then-is_tidy-clause-kept : goal.returns-then-is_tidy-clause-kept
 returns-then-is_tidy-clause-kept c =
-    subst (IsStored c.args.table.now) (sym (thinned_filed c.args.table.now (shelves_of c.args.entries.now.items) c.requires.kept.filed))
+    subst (IsStored c.args.table.now) (sym (all_thinned-same c.args.table.now (shelves_of c.args.entries.now.items) c.requires.kept.filed))
     c.requires.kept
 
 -- the one node of the entry that is over

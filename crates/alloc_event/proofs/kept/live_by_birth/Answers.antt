@@ -7,10 +7,11 @@ use Rattle.std.proofs.lemmas.List.Elements.{filter_map-append, filter-append}
 use Rattle.std.proofs.lemmas.List.Sorted.{answers_always}
 use Rattle.sm_names.specs.Words.{sorted_by}
 use Rattle.alloc_event.specs.declared.entry.Entry.{Entry}
-use Rattle.alloc_event.specs.Kept.{all_keys, nodes_with, shelves_of, is_live}
+use Rattle.alloc_event.specs.Kept.{all_keys, nodes_with, shelves_of}
 use Rattle.alloc_event.specs.declared.node.Node.{Node}
 use Rattle.alloc_event.proofs.lists.StableSort.{stable_sorted}
 use Rattle.alloc_event.proofs.kept.live_by_birth.Goals as goal
+use Rattle.alloc_event.specs.Questions.{is_live_node}
 
 pub loop-entry-preserved : goal.loop-entry-preserved
 loop-entry-preserved c = grind (arith, common_steps, map-append, flat_map-append, filter_map-append, filter-append)
@@ -19,7 +20,8 @@ loop-entry-preserved c = grind (arith, common_steps, map-append, flat_map-append
 pub returns : goal.returns
 returns c =
     let all = c.loop-entry.invariant
-    ∙ ap (λ (es : List Entry). filter is_live (nodes_with c.args.table.now (all_keys (shelves_of es)))) (take_all c.loop-entry.entry-index
+    ∙ ap (λ (es : List Entry). filter is_live_node (nodes_with c.args.table.now (all_keys (shelves_of es))))
+    (take_all c.loop-entry.entry-index
     c.args.entries.now c.loop-entry-test.false) in
     let sorted = stable_sorted (λ (n : Node). n.event) _ _ (c.in_ok-sort_by_key.ensures.sorted (λ n.
     n.event) (answers_always _ _ _ (λ f a r g h. search rules)))

@@ -1,12 +1,13 @@
 use Rattle.std.proofs.Common.{◌≡◌, map, take}
 use Rattle.std.specs.List.{filter}
 use Rattle.alloc_event.specs.declared.node.Node.{Node}
-use Rattle.alloc_event.specs.Kept.{all_keys, nodes_with, shelves_of, is_live}
+use Rattle.alloc_event.specs.Kept.{all_keys, nodes_with, shelves_of}
 use Rattle.alloc_event.proofs.kept.live_by_birth.Given as goal
+use Rattle.alloc_event.specs.Questions.{is_live_node}
 
 -- so far the live nodes of these entries
 abbrev pub invariant-loop-entry : goal.invariant-loop-entry
-invariant-loop-entry l = l.nodes.items ≡ filter is_live (nodes_with l.table (all_keys (shelves_of (take l.entry-index l.entries))))
+invariant-loop-entry l = l.nodes.items ≡ filter is_live_node (nodes_with l.table (all_keys (shelves_of (take l.entry-index l.entries))))
 
 -- so far the keys of these nodes
 abbrev pub invariant-loop-node : goal.invariant-loop-node
