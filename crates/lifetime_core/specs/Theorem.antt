@@ -1,11 +1,12 @@
 -- What a core promises of several calls, and of whole histories.
-use Rattle.std.specs.Prelude.{◌≡◌, ℕ, ◌<◌, List, [], ◌∷◌, ◌++◌, Option, Some, None}
-use Rattle.std.specs.List.{filter_map}
+use Rattle.std.specs.Prelude.{◌≡◌, ℕ, ◌<◌, ◌≤◌, ◌↔◌, true, List, [], ◌∷◌, ◌++◌, Option, Some, None, Result, Err, IfOk, OnErr}
+use Rattle.std.specs.List.{cons_option, filter_map}
 use Rattle.sm_names.specs.declared.messages.Call.{Call}
 use Rattle.sm_names.specs.declared.messages.Reply.{Reply}
 use Rattle.sm_names.specs.declared.outcomes.StepFault.{StepFault}
 use Rattle.sm_names.specs.Answers.{IsAnswer}
 use Rattle.sm_names.specs.Marks.{Entry}
+use Rattle.lifetime_core.specs.Kinds.{fits_call}
 use Rattle.lifetime_core.specs.Reads.{readings_of}
 use Rattle.lifetime_core.specs.Shown.{Shows}
 use Rattle.lifetime_core.specs.State.{IsSame, State}
@@ -46,3 +47,15 @@ tracker_told _ = None
 -- the trackers that the replies of these entries tell of, in order
 abbrev pub trackers_told : List Entry → List ℕ
 trackers_told made = filter_map (λ (e : Entry). tracker_told e.2) made
+
+-- one call was taken, or not: what a core promises of a step
+pub record Stepped (old new : State) (client : ℕ) (call : Call) (result : Result Reply StepFault) : Type 0 where
+  pub answer : IfOk result (λ reply. IsAnswer old.limits (readings_of old) client call reply)
+  pub kind : IfOk result (λ reply. fits_call call reply ≡ true)
+  pub after : IfOk result (λ reply. Follows old new client call reply)
+  pub goes_on : IfOk result (λ reply. GoesOn old new ((client, call, reply) ∷ []))
+  pub untaken : IfOk result (λ reply. new.trackers.untaken ≡ old.trackers.untaken ++ cons_option (tracker_told reply) [])
+  pub kept : OnErr result (IsSame old new)
+  pub equal : result ≡ Err StepFault.HistoryFull → new ≡ old
+  pub stays : OnErr result ((history : List Entry) → Shows old history → Shows new history)
+  pub full : (result ≡ Err StepFault.HistoryFull) ↔ (old.limits.events ≤ old.events)

@@ -84,6 +84,7 @@ pub(crate) fn first_waiting(clients: &[Client], client: ClientId) -> Option<Parc
 ///
 /// `NoMemory` where there is no room for a client or a parcel more; then they are as they were. A
 /// binary search.
+#[inline(always)]
 pub(crate) fn note_client(
     clients: &mut Vec<Client>,
     client: ClientId,

@@ -32,6 +32,7 @@ pub(crate) struct Contents {
 }
 
 /// Whether the call, answered so, changes nothing: it was refused, or only asks.
+#[inline(always)]
 pub(crate) fn changes_nothing(call: &Call, reply: &Reply) -> bool
     ensures { result ≡ is_idle call.now reply.now }
 {
@@ -55,6 +56,7 @@ pub(crate) fn changes_nothing(call: &Call, reply: &Reply) -> bool
 ///
 /// `NoMemory` where memory is refused; then the contents are as they were, but for the order of the
 /// rows of handles. It costs the work on one collection, and a few look-ups.
+#[inline(always)]
 pub(crate) fn take_effect(
     contents: &mut Contents,
     client: ClientId,
@@ -98,7 +100,7 @@ pub(crate) fn take_effect(
 {
     hand_over(&mut contents.holds, client, call, asked)?;
     let Ok(()) = attach(&mut contents.trackers, tracking) else {
-        hand_back(&mut contents.holds, client, call, asked);
+        hand_back(&mut contents.holds, client, *call, *asked);
         return Err(NoMemory);
     };
     let Ok(key) = make_change(
@@ -109,11 +111,11 @@ pub(crate) fn take_effect(
         call,
     ) else {
         detach(&mut contents.trackers, tracking);
-        hand_back(&mut contents.holds, client, call, asked);
+        hand_back(&mut contents.holds, client, *call, *asked);
         return Err(NoMemory);
     };
     let Ok(()) = note_client(&mut contents.clients, client, call, asked) else {
-        hand_back(&mut contents.holds, client, call, asked);
+        hand_back(&mut contents.holds, client, *call, *asked);
         return Err(NoMemory);
     };
     tidy_up(&mut contents.holds, client, call);

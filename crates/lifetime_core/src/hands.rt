@@ -13,6 +13,7 @@ use sm_names::{BufferName, Call, ClientId, CollectionId, NoMemory, Reply, Streng
 ///
 /// `NoMemory` where there is no room for a handle more; then no count changed. It costs two look-ups
 /// for each handle at most.
+#[inline(always)]
 pub(crate) fn hand_over(
     holds: &mut Holds,
     client: ClientId,
@@ -63,41 +64,41 @@ pub(crate) fn hand_over(
 }
 
 /// Undoes what `hand_over` did. It takes no memory, and costs as much.
-pub(crate) fn hand_back(holds: &mut Holds, client: ClientId, call: &Call, reply: &Reply)
-    requires { CanUndo holds.old client call.now reply.now }
+pub(crate) fn hand_back(holds: &mut Holds, client: ClientId, call: Call, reply: Reply)
+    requires { CanUndo holds.old client call reply }
     ensures counts { (before : Counts) →
-        MovesHandles before holds.old (Called client reply.now call.now) →
+        MovesHandles before holds.old (Called client reply call) →
         counts_of holds.new ≡ counts_of before }
     ensures limit { holds.new.limit ≡ holds.old.limit }
 {
-    match *call {
+    match call {
         Call::Take(_) => {
             if let Reply::Taken {
                 collection,
                 strength,
                 set,
-            } = *reply
+            } = reply
             {
                 close_below(holds, client, collection, strength, set, 64);
             }
         }
         Call::DupHandle(buffer, strength) => {
-            if let Reply::Done = *reply {
+            if let Reply::Done = reply {
                 close(holds, client, buffer, strength);
             }
         }
         Call::DropHandle(buffer, strength) => {
-            if let Reply::Done = *reply {
+            if let Reply::Done = reply {
                 let _ = holds.add(client, buffer, strength);
             }
         }
         Call::GiveHandle(buffer, strength, _) => {
-            if let Reply::Done = *reply {
+            if let Reply::Done = reply {
                 let _ = holds.land(client, buffer, strength);
             }
         }
         Call::Collect => {
-            if let Reply::CollectedHandle { buffer, strength } = *reply {
+            if let Reply::CollectedHandle { buffer, strength } = reply {
                 let _ = holds.lift(client, buffer, strength);
                 holds.tidy(client, buffer, strength);
             }
@@ -108,6 +109,7 @@ pub(crate) fn hand_back(holds: &mut Holds, client: ClientId, call: &Call, reply:
 
 /// Takes back the room of a handle that the client dropped or gave: it is not to come back. No count
 /// changes. It takes no memory, and costs two look-ups.
+#[inline(always)]
 pub(crate) fn tidy_up(holds: &mut Holds, client: ClientId, call: &Call)
     ensures counts { counts_of holds.new ≡ counts_of holds.old }
     ensures limit { holds.new.limit ≡ holds.old.limit }

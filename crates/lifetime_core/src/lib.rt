@@ -1,6 +1,7 @@
 //! Every call on one state: the abstract machine as a core for one thread.
 #![tactic(auto)]
 
+mod by_kind;
 mod clients;
 mod event;
 mod hands;

@@ -4,7 +4,7 @@ ghost use Rattle.std.specs.Prelude.{[], List, map, length, slice_get, option_map
 ghost use Rattle.std.specs.Prelude.{AllPairs, OnErr, false, true, None, is_some, option_copied};
 ghost use Rattle.sm_names.specs.declared.outcomes.Fault.{Fault};
 ghost use Rattle.sm_names.specs.declared.keys.Strength.{Strength};
-ghost use Rattle.sm_names.specs.Answers.{IsAnswer, is_at_limit};
+ghost use Rattle.sm_names.specs.Answers.{IsAnswer, answer as answer_of, is_at_limit};
 ghost use Rattle.sm_names.specs.Handles.{is_doomed};
 ghost use Rattle.sm_names.specs.Kept.{is_kept};
 ghost use Rattle.sm_names.specs.Losses.{live as is_live_after, fault as fault_after};
@@ -22,6 +22,7 @@ ghost use Rattle.alloc_event.specs.declared.node.Node.{Node as Kept};
 ghost use Rattle.alloc_event.specs.Forest.{empty_forest, node_count, live_keys, node_at, held_by_page};
 ghost use Rattle.alloc_event.specs.Forest.{Collection as Shelved, collection_at};
 ghost use Rattle.alloc_event.specs.Nodes.{is_spent, members_of};
+ghost use Rattle.alloc_event.specs.Settling.{no_key};
 ghost use Rattle.buffer_holds.specs.Counts.{total};
 ghost use Rattle.lifetime_core.specs.Kinds.{fits_call};
 ghost use Rattle.lifetime_core.specs.Reads.{buffers_in, end_in, open_end_in, open_end_of};
@@ -30,16 +31,16 @@ ghost use Rattle.lifetime_core.specs.Reads.{is_live_in, fault_in, views_of};
 ghost use Rattle.lifetime_core.specs.Shown.{Shows};
 ghost use Rattle.lifetime_core.specs.Steps.{Follows};
 ghost use Rattle.lifetime_core.specs.State.{IsSame, State};
-ghost use Rattle.lifetime_core.specs.Theorem.{GoesOn, Leads, Stops, entries};
+ghost use Rattle.lifetime_core.specs.Theorem.{GoesOn, Leads, Stepped, Stops, entries};
 ghost use Rattle.lifetime_core.specs.Theorem.{tracker_told, trackers_told};
-ghost use Rattle.lifetime_core.specs.Traits.{key_in};
 
+use crate::by_kind::take_by_kind;
 use crate::clients::{count_waiting, first_waiting, has_joined, is_shut};
 use crate::event::{Contents, changes_nothing, take_effect};
 use crate::sweeping::{place_to_sweep, sweep, tracking_of};
 use crate::table::{answer, with_key};
 use crate::task::{carried_end, changed_by, put_end, task_of};
-use crate::traits::{Named, traits_of};
+use crate::traits::{key_of, traits_of};
 use alloc_event::{End, Forest, Node};
 use buffer_holds::{Holds, Spot};
 use buffer_pool::Pool;
@@ -97,6 +98,7 @@ fn is_live(node: Option<&Node>) -> bool
 }
 
 // The node, unless its end is spent.
+#[inline(always)]
 fn with_end(node: Option<&Node>) -> Option<&Node>
     ensures value { (s : State) → option_map (open_end_of s) (option_copied result)
         ≡ option_and_then (open_end_in s) (option_copied node.entry) }
@@ -266,13 +268,14 @@ impl Core {
         with_end(self.contents.forest.node(key))
     }
 
-    // The node that is named, if it is there.
-    fn named(&self, on: Named) -> Option<&Node>
-        ensures { option_copied result ≡ option_and_then (node_at self.now.forest) (key_in on) }
+    // The node with this key, if one is named and it is there.
+    #[inline(always)]
+    fn named(&self, key: Option<NodeKey>) -> Option<&Node>
+        ensures { option_copied result ≡ option_and_then (node_at self.now.forest) key }
     {
-        match on {
-            Named::End(key) => self.contents.forest.node(key),
-            Named::Nothing | Named::Handle(_, _) => None,
+        match key {
+            Some(key) => self.contents.forest.node(key),
+            None => None,
         }
     }
 
@@ -318,6 +321,60 @@ impl Core {
         }
     }
 
+    // What is answered to the call, but for the key of a new node.
+    #[inline(always)]
+    pub(crate) fn asked_of(&self, client: ClientId, call: &Call) -> Reply
+        ensures { result ≡ answer_of self.now.limits (readings_of self.now) client no_key call.now }
+    {
+        let traits = traits_of(call);
+        let node = with_end(self.named(key_of(call)));
+        answer(self, client, NO_KEY, call, &traits, node)
+    }
+
+    // Takes the call that is answered so, as `step` says.
+    #[inline(always)]
+    pub(crate) fn take_answered(
+        &mut self,
+        client: ClientId,
+        call: &Call,
+        asked: Reply,
+    ) -> Result<Reply, StepFault>
+        requires { asked ≡ answer_of self.old.limits (readings_of self.old) client no_key call.now }
+        ensures { Stepped self.old self.new client call.now result }
+    {
+        if self.events >= self.limits.events() as u64 {
+            return Err(StepFault::HistoryFull);
+        }
+        if changes_nothing(call, &asked) {
+            self.events = self.next_event();
+            return Ok(asked);
+        }
+        let named = key_of(call);
+        let node = self.named(named);
+        let task = task_of(self, client, call, &asked, named, node);
+        let tracking = tracking_of(self, call, &asked, node);
+        let Ok(key) = take_effect(&mut self.contents, client, call, &asked, &task, tracking) else {
+            return Err(StepFault::NoMemory);
+        };
+        self.events += 1;
+        let place = place_to_sweep(
+            changed_by(&task),
+            tracking,
+            &self.contents.forest,
+            &self.contents.holds,
+        );
+        sweep(
+            &mut self.contents.trackers,
+            self.events,
+            place,
+            &self.contents.forest,
+            &self.contents.holds,
+        );
+        let carried = carried_end(client, call, &asked);
+        put_end(&mut self.contents.forest, &task, carried);
+        Ok(with_key(asked, key))
+    }
+
     /// Takes one call: answers it, makes what it changes with all that this forces, spends the end
     /// that it spends, and forgets what nobody can ask for any longer. That is one event, also
     /// where the call is refused.
@@ -355,38 +412,7 @@ impl Core {
         ensures full { (result ≡ Err StepFault.HistoryFull)
             ↔ (self.old.limits.events ≤ self.old.events) }
     {
-        if self.events >= self.limits.events() as u64 {
-            return Err(StepFault::HistoryFull);
-        }
-        let traits = traits_of(&call);
-        let node = self.named(traits.on);
-        let asked = answer(self, client, NO_KEY, &call, &traits, with_end(node));
-        if changes_nothing(&call, &asked) {
-            self.events = self.next_event();
-            return Ok(asked);
-        }
-        let task = task_of(self, client, &call, &asked, traits.on, node);
-        let tracking = tracking_of(self, &call, &asked, node);
-        let Ok(key) = take_effect(&mut self.contents, client, &call, &asked, &task, tracking) else {
-            return Err(StepFault::NoMemory);
-        };
-        self.events += 1;
-        let place = place_to_sweep(
-            changed_by(&task),
-            tracking,
-            &self.contents.forest,
-            &self.contents.holds,
-        );
-        sweep(
-            &mut self.contents.trackers,
-            self.events,
-            place,
-            &self.contents.forest,
-            &self.contents.holds,
-        );
-        let carried = carried_end(client, &call, &asked);
-        put_end(&mut self.contents.forest, &task, carried);
-        Ok(with_key(asked, key))
+        take_by_kind(self, client, call)
     }
 
     /// Takes calls in order, each as `step` does, and answers their replies in this order.

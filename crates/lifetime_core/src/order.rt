@@ -26,6 +26,7 @@ use buffer_holds::Spot;
 use sm_names::{Call, ClientId, Kind, Misuse, Refusal, Reply};
 
 /// The kind of the node's end.
+#[inline(always)]
 pub(crate) fn kind_of(node: &Node) -> Kind
     ensures { result ≡ (if node.now.bound then Kind.Collection else Kind.Token) }
 {
@@ -39,6 +40,7 @@ pub(crate) fn kind_of(node: &Node) -> Kind
 // ---- the clients
 
 // Join is made as nobody, and any other call by a client that joined; so is the receiver.
+#[inline(always)]
 fn is_unknown(core: &Core, client: ClientId, call: &Call, traits: &Traits) -> bool
     requires { Describes call.now traits.now }
     ensures { unknown_client (readings_of core.now) client call.now
@@ -57,6 +59,7 @@ fn is_unknown(core: &Core, client: ClientId, call: &Call, traits: &Traits) -> bo
 }
 
 // Nothing is given to a shut client, and it acquires nothing.
+#[inline(always)]
 fn is_shut_out(core: &Core, client: ClientId, traits: &Traits) -> bool
     ensures { result ≡ ((is_acquired_in traits.now.makes && (readings_of core.now).is_shut client)
         || option_map_or (readings_of core.now).is_shut traits.now.to false) }
@@ -69,6 +72,7 @@ fn is_shut_out(core: &Core, client: ClientId, traits: &Traits) -> bool
 }
 
 // Why the call is refused for the sake of the clients, if it is.
+#[inline(always)]
 fn refusal_of_clients(
     core: &Core,
     client: ClientId,
@@ -92,6 +96,7 @@ fn refusal_of_clients(
 // ---- the end
 
 // Why a call on the end is refused, if it is: another client holds it, or it is in a parcel.
+#[inline(always)]
 fn refusal_of_end(client: ClientId, end: End) -> Option<Refusal>
     requires { is_spent end ≡ false }
     ensures { option_map (λ (r : Refused). Reply.Refused r) result
@@ -105,6 +110,7 @@ fn refusal_of_end(client: ClientId, end: End) -> Option<Refusal>
 }
 
 // Whether the call is for an end of the other kind.
+#[inline(always)]
 fn is_wrong_kind(node: &Node, kind: Option<Kind>) -> bool
     ensures { result ≡ option_map_or
         (λ k. not (same_kind (if node.now.bound then Kind.Collection else Kind.Token) k))
@@ -117,6 +123,7 @@ fn is_wrong_kind(node: &Node, kind: Option<Kind>) -> bool
 }
 
 // The misuse of the end that the call is.
+#[inline(always)]
 fn misuse(node: &Node, call: &Call) -> Option<Reply>
     ensures { (s : State) → result ≡ misuse_of (open_end_of s node.now) call.now }
 {
@@ -135,6 +142,7 @@ fn misuse(node: &Node, call: &Call) -> Option<Reply>
 
 // What is answered for the sake of an end that is there, if anything is: whose it is, then Done to
 // each Close, then why and where the node failed, then the other kind, then the misuse.
+#[inline(always)]
 fn answer_of_end(client: ClientId, node: &Node, call: &Call, traits: &Traits) -> Option<Reply>
     requires law { Describes call.now traits.now }
     requires unspent { is_spent node.now.end ≡ false }
@@ -168,6 +176,7 @@ fn answer_of_end(client: ClientId, node: &Node, call: &Call, traits: &Traits) ->
 // ---- what is named
 
 // What is answered for the sake of the end or the handle that the call names, if anything is.
+#[inline(always)]
 fn answer_of_named(
     core: &Core,
     client: ClientId,
@@ -208,6 +217,7 @@ fn answer_of_named(
 // ---- the limits
 
 // Whether the handles that would be opened on what is named are too many.
+#[inline(always)]
 fn opens_too_many(core: &Core, on: Named, node: Option<&Node>) -> bool
     requires { option_and_then (end_in core.now) (key_in on)
         ≡ option_map (open_end_of core.now) (option_copied node) }
@@ -228,6 +238,7 @@ fn opens_too_many(core: &Core, on: Named, node: Option<&Node>) -> bool
 }
 
 // As many nodes or collections are kept, trackers wait or handles are open as may be.
+#[inline(always)]
 fn limit_met(core: &Core, traits: &Traits, node: Option<&Node>) -> Option<Reply>
     requires { option_and_then (end_in core.now) (key_in traits.now.on)
         ≡ option_map (open_end_of core.now) (option_copied node) }
@@ -248,6 +259,7 @@ fn limit_met(core: &Core, traits: &Traits, node: Option<&Node>) -> Option<Reply>
 
 /// The first answer that stands before the effect, if there is one. Only a call that meets none of
 /// the other lines is looked at for its limits, since a Take costs a walk over its buffers there.
+#[inline(always)]
 pub(crate) fn first_answer(
     core: &Core,
     client: ClientId,

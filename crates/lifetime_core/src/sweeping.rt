@@ -17,6 +17,7 @@ use trackers::{Trackers, Waiting, holds_in};
 
 /// The tracker that the call, answered so, attaches, if it attaches one. The node is the one that the
 /// call names.
+#[inline(always)]
 pub(crate) fn tracking_of(
     core: &Core,
     call: &Call,
@@ -50,6 +51,7 @@ pub(crate) fn tracking_of(
 /// Attaches the tracker, if there is one, where one more may wait.
 ///
 /// `NoMemory` where memory is refused; then the trackers are as they were.
+#[inline(always)]
 pub(crate) fn attach(trackers: &mut Trackers, tracking: Option<Waiting>) -> Result<(), NoMemory>
     requires rising { IfSome tracking (λ t. All (λ (c : Cell). c.id < t.id) trackers.old.cells) }
     requires room { IfSome tracking (λ t. length trackers.old.unfired < trackers.old.limit) }
@@ -78,6 +80,7 @@ pub(crate) fn detach(trackers: &mut Trackers, tracking: Option<Waiting>)
 
 /// Where trackers may be due: in the collection that was changed, and where none was, in that of the
 /// new tracker, if it is due at once: one test.
+#[inline(always)]
 pub(crate) fn place_to_sweep(
     changed: Option<CollectionId>,
     tracking: Option<Waiting>,
@@ -100,7 +103,8 @@ pub(crate) fn place_to_sweep(
 
 /// Fires the trackers that are due at this event, all of which are filed under this collection: where
 /// there is none, none is due. It takes no memory, and costs what the trackers' own sweep of one
-/// collection costs.
+/// collection costs, and a constant where no tracker waits at all.
+#[inline(always)]
 pub(crate) fn sweep(
     trackers: &mut Trackers,
     event: u64,
@@ -113,6 +117,9 @@ pub(crate) fn sweep(
     ensures { trackers.new
         ≡ swept (world_in forest.now (total holds.now)) event trackers.old }
 {
+    if trackers.waiting() == 0 {
+        return;
+    }
     if let Some(id) = collection {
         trackers.sweep(event, id, &Sight { forest, holds });
     }

@@ -16,6 +16,7 @@ use alloc_event::Node;
 use sm_names::{Call, ClientId, NodeKey, Parcel, Refusal, Reply};
 
 // The new token below a node, if its end is there.
+#[inline(always)]
 fn token_below(core: &Core, key: NodeKey, node: Option<&Node>, new: NodeKey) -> Reply
     requires { end_in core.now key ≡ option_map (open_end_of core.now) (option_copied node) }
     ensures { result ≡ of_end (readings_of core.now) key (λ e. Reply.Token new e.collection) }
@@ -86,6 +87,7 @@ fn collect(core: &Core, client: ClientId) -> Reply
 }
 
 // The answer of a call that takes effect; a new node gets this key.
+#[inline(always)]
 fn effect(core: &Core, client: ClientId, new: NodeKey, call: &Call, node: Option<&Node>) -> Reply
     requires { end_named (readings_of core.now) call.now
         ≡ option_map (open_end_of core.now) (option_copied node) }
@@ -111,6 +113,7 @@ fn effect(core: &Core, client: ClientId, new: NodeKey, call: &Call, node: Option
 
 /// What is answered to a call with these traits, whose end is that of this node, if a new node gets
 /// this key.
+#[inline(always)]
 pub(crate) fn answer(
     core: &Core,
     client: ClientId,
@@ -133,6 +136,7 @@ pub(crate) fn answer(
 }
 
 /// The reply, where a new node got this key.
+#[inline(always)]
 pub(crate) fn with_key(reply: Reply, new: Option<NodeKey>) -> Reply
     ensures { result ≡ keyed_by reply new }
 {

@@ -1,5 +1,5 @@
 //! What an event does to a collection.
-ghost use Rattle.std.specs.Prelude.{◌≡◌, ℕ, IfOk, IfSome, OnErr, is_some, true, None, option_copied};
+ghost use Rattle.std.specs.Prelude.{◌≡◌, ℕ, IfOk, IfSome, OnErr, Some, if◌then◌else◌, is_some, true, None, option_copied};
 ghost use Rattle.std.specs.Option.{option_map};
 ghost use Rattle.sm_names.specs.declared.keys.NodeKey.{NodeKey as Key};
 ghost use Rattle.sm_names.specs.Answers.{answer as answer_of};
@@ -13,11 +13,9 @@ ghost use Rattle.lifetime_core.specs.Steps.{work_of, with_place, without_over};
 ghost use Rattle.lifetime_core.specs.Tasks.{AsksOnly, OthersStay};
 ghost use Rattle.lifetime_core.specs.Tasks.{DoesSome, MayDo, Reworked, SpendsThere, carried_by};
 ghost use Rattle.lifetime_core.specs.Tasks.{end_placed, spent_by, spent_in, spent_place, work_in};
-ghost use Rattle.lifetime_core.specs.Traits.{key_in as key_on};
 ghost use Rattle.lifetime_core.specs.Whole.{AreUpTo, CanCarry, CanFinish, IsSound};
 
 use crate::machine::Core;
-use crate::traits::Named;
 use alloc_event::effects::effect_of;
 use alloc_event::{Change, End, Forest, Node};
 use buffer_holds::Holds;
@@ -35,6 +33,7 @@ pub(crate) struct Task {
 }
 
 // The birth of a node.
+#[inline(always)]
 fn birth(core: &Core, client: ClientId, call: &Call, collection: CollectionId) -> Option<Task>
     ensures work { work_in result ≡ birth_by core.now client call.now collection }
     ensures spends { (key : Key) → spent_in result
@@ -64,6 +63,7 @@ fn birth(core: &Core, client: ClientId, call: &Call, collection: CollectionId) -
 
 // What is asked of the collection where a handle of one of its buffers is dropped. The buffer may be
 // home after the last one. Where another one stays open, nothing changes.
+#[inline(always)]
 fn dropped(core: &Core, buffer: BufferName, strength: Strength) -> Option<Task>
     ensures work { work_in result ≡ drop_at core.now buffer strength }
     ensures spends { spent_in result ≡ None }
@@ -83,7 +83,29 @@ fn dropped(core: &Core, buffer: BufferName, strength: Strength) -> Option<Task>
     })
 }
 
+// The loss of the node with this key, unless it is gone, and its end that is spent.
+#[inline(always)]
+fn closing(key: NodeKey, node: &Node) -> Task
+    ensures { result ≡ record {
+      collection = node.now.collection;
+      change = if node.now.gone then None else Some (Change.Loss key Cause.Lost);
+      spends = Some key;
+    } }
+{
+    let change = if node.gone {
+        None
+    } else {
+        Some(Change::Loss(key, Cause::Lost))
+    };
+    Task {
+        collection: node.collection,
+        change,
+        spends: Some(key),
+    }
+}
+
 // A call on a node that was answered Done.
+#[inline(always)]
 fn done_task(core: &Core, call: &Call, node: Option<&Node>) -> Option<Task>
     requires node { option_copied node ≡ node_named core.now call.now }
     requires there { IfSome (key_in call.now) (λ key.
@@ -97,20 +119,21 @@ fn done_task(core: &Core, call: &Call, node: Option<&Node>) -> Option<Task>
         return dropped(core, buffer, strength);
     }
     let node = node?;
-    let (change, spends) = match *call {
-        Call::Close(key) if node.gone => (None, Some(key)),
-        Call::Close(key) => (Some(Change::Loss(key, Cause::Lost)), Some(key)),
-        Call::Release(key) => (Some(effect_of(call, &Reply::Done)?), Some(key)),
-        _ => (Some(effect_of(call, &Reply::Done)?), None),
-    };
+    if let Call::Close(key) = *call {
+        return Some(closing(key, node));
+    }
     Some(Task {
         collection: node.collection,
-        change,
-        spends,
+        change: Some(effect_of(call, &Reply::Done)?),
+        spends: match *call {
+            Call::Release(key) => Some(key),
+            _ => None,
+        },
     })
 }
 
 // The change to the node's collection, if the node is there.
+#[inline(always)]
 fn at_node(core: &Core, key: NodeKey, node: Option<&Node>, change: Change) -> Option<Task>
     requires { option_copied node ≡ node_at core.now.forest key }
     ensures work { work_in result ≡ change_at core.now.forest key (λ n. change) }
@@ -126,17 +149,18 @@ fn at_node(core: &Core, key: NodeKey, node: Option<&Node>, change: Change) -> Op
     })
 }
 
-/// What the call, answered so, does to a collection, if it does anything there. The call is on this,
-/// and the node is the one that it names.
+/// What the call, answered so, does to a collection, if it does anything there. The key is that of
+/// the node that it names, and the node is that one, if it is there.
+#[inline(always)]
 pub(crate) fn task_of(
     core: &Core,
     client: ClientId,
     call: &Call,
     reply: &Reply,
-    on: Named,
+    named: Option<NodeKey>,
     node: Option<&Node>,
 ) -> Option<Task>
-    requires key { key_in call.now ≡ key_on on }
+    requires key { key_in call.now ≡ named }
     requires node { option_copied node ≡ node_named core.now call.now }
     requires answered { reply.now
         ≡ answer_of core.now.limits (readings_of core.now) client no_key call.now }
@@ -148,12 +172,10 @@ pub(crate) fn task_of(
     match (*call, *reply) {
         (_, Reply::Token { collection, .. }) => birth(core, client, call, collection),
         (_, Reply::Done) => done_task(core, call, node),
-        (_, Reply::Misused(misuse)) => match on {
-            Named::End(key) => {
-                at_node(core, key, node, Change::Loss(key, Cause::Misused(misuse)))
-            }
-            Named::Nothing | Named::Handle(_, _) => None,
-        },
+        (_, Reply::Misused(misuse)) => {
+            let key = named?;
+            at_node(core, key, node, Change::Loss(key, Cause::Misused(misuse)))
+        }
         (Call::Take(key), Reply::Taken { .. }) | (Call::TrackNode(key), Reply::Tracker(_)) => {
             at_node(core, key, node, effect_of(call, reply)?)
         }
@@ -173,6 +195,7 @@ pub(crate) fn task_of(
 /// only its own buffer can be home by that.
 ///
 /// `NoMemory` where memory is refused; then the forest and the pool are as they were.
+#[inline(always)]
 pub(crate) fn make_change(
     forest: &mut Forest,
     pool: &mut Pool,
@@ -212,6 +235,7 @@ pub(crate) struct Place {
 }
 
 /// The end that a Give or a Collect, answered so, carries.
+#[inline(always)]
 pub(crate) fn carried_end(client: ClientId, call: &Call, reply: &Reply) -> Option<Place>
     ensures { result ≡ carried_by client call.now reply.now }
 {
@@ -229,6 +253,7 @@ pub(crate) fn carried_end(client: ClientId, call: &Call, reply: &Reply) -> Optio
 }
 
 /// The collection to which the task makes a change, if it makes one.
+#[inline(always)]
 pub(crate) fn changed_by(task: &Option<Task>) -> Option<CollectionId>
     ensures { result ≡ option_map (λ (w : Work). w.collection) (work_in task.now) }
 {
@@ -245,6 +270,7 @@ pub(crate) fn changed_by(task: &Option<Task>) -> Option<CollectionId>
 }
 
 // Puts the end there, if one is carried.
+#[inline(always)]
 fn carry(forest: &mut Forest, carried: Option<Place>)
     requires { CanCarry forest.old carried }
     ensures { forest.new ≡ with_place carried forest.old }
@@ -255,6 +281,7 @@ fn carry(forest: &mut Forest, carried: Option<Place>)
 }
 
 // Spends the end, if one is to be spent.
+#[inline(always)]
 fn spend(forest: &mut Forest, end: Option<NodeKey>)
     requires { IfSome end (λ key. is_some (node_at forest.old key) ≡ true) }
     ensures { forest.new ≡ with_place (spent_place end) forest.old }
@@ -266,6 +293,7 @@ fn spend(forest: &mut Forest, end: Option<NodeKey>)
 
 /// Puts an end where the event puts it, and forgets what is over then. It takes no memory, and costs
 /// what `forget_over` does.
+#[inline(always)]
 pub(crate) fn put_end(forest: &mut Forest, task: &Option<Task>, carried: Option<Place>)
     requires task { CanFinish forest.old task.now }
     requires carried { CanCarry forest.old carried }

@@ -1,5 +1,6 @@
 //! What each call names and makes, said once.
 ghost use Rattle.std.specs.Prelude.{◌≡◌};
+ghost use Rattle.sm_names.specs.Timelines.{key_of as key_named};
 ghost use Rattle.lifetime_core.specs.Traits.{Describes, is_acquired as is_acquired_in};
 ghost use Rattle.lifetime_core.specs.Traits.{of_end as at_end, of_handle as at_handle};
 ghost use Rattle.lifetime_core.specs.Traits.{of_nothing as at_nothing, traits_of as traits_in};
@@ -37,6 +38,7 @@ pub(crate) struct Traits {
 }
 
 /// Whether an end or a tracker is made for the caller.
+#[inline(always)]
 pub(crate) fn is_acquired(makes: Made) -> bool
     ensures { result ≡ is_acquired_in makes }
 {
@@ -47,6 +49,7 @@ pub(crate) fn is_acquired(makes: Made) -> bool
 }
 
 // A call on no node and no buffer.
+#[inline(always)]
 fn of_nothing(makes: Made) -> Traits
     ensures { result ≡ at_nothing makes }
 {
@@ -59,6 +62,7 @@ fn of_nothing(makes: Made) -> Traits
 }
 
 // A call on a node, and maybe on one kind of end alone.
+#[inline(always)]
 fn of_end(key: NodeKey, kind: Option<Kind>, makes: Made) -> Traits
     ensures { result ≡ at_end key kind makes }
 {
@@ -71,6 +75,7 @@ fn of_end(key: NodeKey, kind: Option<Kind>, makes: Made) -> Traits
 }
 
 // A call on a handle.
+#[inline(always)]
 fn of_handle(buffer: BufferName, strength: Strength, makes: Made) -> Traits
     ensures { result ≡ at_handle buffer strength makes }
 {
@@ -83,6 +88,7 @@ fn of_handle(buffer: BufferName, strength: Strength, makes: Made) -> Traits
 }
 
 /// What the call names and makes. Each call is told of here, and none is left to a rest.
+#[inline(always)]
 pub(crate) fn traits_of(call: &Call) -> Traits
     ensures value { result ≡ traits_in call.now }
     ensures law { Describes call.now result }
@@ -114,5 +120,37 @@ pub(crate) fn traits_of(call: &Call) -> Traits
             ..of_handle(buffer, strength, Made::Nothing)
         },
         Call::TrackWeak(buffer) => of_handle(buffer, Strength::Weak, Made::Tracker),
+    }
+}
+
+/// The key of the node that the call names, if it names one.
+#[inline(always)]
+pub(crate) fn key_of(call: &Call) -> Option<NodeKey>
+    ensures { result ≡ key_named call.now }
+{
+    match *call {
+        Call::Duplicate(key)
+        | Call::AttachToken(key)
+        | Call::Sync(key)
+        | Call::Give(key, _)
+        | Call::Bind(key)
+        | Call::SetDispensable(key)
+        | Call::SetWeak(key)
+        | Call::SetWeakOk(key, _)
+        | Call::SetConstraints(key, _)
+        | Call::Check(key)
+        | Call::Take(key)
+        | Call::Release(key)
+        | Call::Close(key)
+        | Call::TrackNode(key)
+        | Call::TrackLifetime(key, _) => Some(key),
+        Call::Join
+        | Call::Shut
+        | Call::OpenRoot
+        | Call::Collect
+        | Call::DupHandle(_, _)
+        | Call::DropHandle(_, _)
+        | Call::GiveHandle(_, _, _)
+        | Call::TrackWeak(_) => None,
     }
 }

@@ -1,5 +1,5 @@
 -- A sweep where no tracker is due.
-use Rattle.std.proofs.Common.{ℕ, ◌≡◌, refl, ap, ◌∙◌, false, not, List, ◌++◌, map}
+use Rattle.std.proofs.Common.{ℕ, ◌≡◌, ap, ◌∙◌, false, not, List, ◌++◌, map}
 use Rattle.std.proofs.lemmas.List.{append-nil}
 use Rattle.sm_names.specs.Trackers.{World}
 use Rattle.sm_names.proofs.ListLaws.{In, filter-none, filter-all}

@@ -17,8 +17,8 @@ returns-in-Taken-clause-counts c = λ before moves.
 
 pub returns-in_default-reply : goal.returns-in_default-reply
 returns-in_default-reply c = record {
-  counts = λ before moves. moved_none (Called c.args.client c.args.reply.now c.args.call.now)
-      (rw c.in-Take.is (not_taken c.args.client c.args.reply.now c.in-Take.field-0 c.in_default-reply.not-Taken)) before c.args.holds.now
+  counts = λ before moves. moved_none (Called c.args.client c.args.reply c.args.call)
+      (rw c.in-Take.is (not_taken c.args.client c.args.reply c.in-Take.field-0 c.in_default-reply.not-Taken)) before c.args.holds.now
       moves;
   limit = refl;
 }
@@ -32,8 +32,8 @@ returns-in-Done-clause-counts c = λ before moves.
 
 pub returns-in_default-reply-2 : goal.returns-in_default-reply-2
 returns-in_default-reply-2 c = record {
-  counts = λ before moves. moved_none (Called c.args.client c.args.reply.now c.args.call.now)
-      (rw c.in-DupHandle.is (not_doubled c.args.client c.args.reply.now c.in-DupHandle.buffer c.in-DupHandle.strength
+  counts = λ before moves. moved_none (Called c.args.client c.args.reply c.args.call)
+      (rw c.in-DupHandle.is (not_doubled c.args.client c.args.reply c.in-DupHandle.buffer c.in-DupHandle.strength
       c.in_default-reply-2.not-Done)) before c.args.holds.now moves;
   limit = refl;
 }
@@ -48,8 +48,8 @@ returns-in-Done-reply-clause-counts c = λ before moves.
 
 pub returns-in_default-reply-3 : goal.returns-in_default-reply-3
 returns-in_default-reply-3 c = record {
-  counts = λ before moves. moved_none (Called c.args.client c.args.reply.now c.args.call.now)
-      (rw c.in-DropHandle.is (not_dropped c.args.client c.args.reply.now c.in-DropHandle.buffer c.in-DropHandle.strength
+  counts = λ before moves. moved_none (Called c.args.client c.args.reply c.args.call)
+      (rw c.in-DropHandle.is (not_dropped c.args.client c.args.reply c.in-DropHandle.buffer c.in-DropHandle.strength
       c.in_default-reply-3.not-Done)) before c.args.holds.now moves;
   limit = refl;
 }
@@ -64,8 +64,8 @@ returns-in-Done-reply-2-clause-counts c = λ before moves.
 
 pub returns-in_default-reply-4 : goal.returns-in_default-reply-4
 returns-in_default-reply-4 c = record {
-  counts = λ before moves. moved_none (Called c.args.client c.args.reply.now c.args.call.now)
-      (rw c.in-GiveHandle.is (not_handed c.args.client c.args.reply.now c.in-GiveHandle.buffer c.in-GiveHandle.strength
+  counts = λ before moves. moved_none (Called c.args.client c.args.reply c.args.call)
+      (rw c.in-GiveHandle.is (not_handed c.args.client c.args.reply c.in-GiveHandle.buffer c.in-GiveHandle.strength
       c.in-GiveHandle.field-2 c.in_default-reply-4.not-Done)) before c.args.holds.now moves;
   limit = refl;
 }
@@ -80,8 +80,8 @@ returns-in-CollectedHandle-clause-counts c = λ before moves.
 
 pub returns-in_default : goal.returns-in_default
 returns-in_default c = record {
-  counts = λ before moves. moved_none (Called c.args.client c.args.reply.now c.args.call.now)
-      (not_handles c.args.client c.args.reply.now c.args.call.now c.in_default.not-Take c.in_default.not-DupHandle
+  counts = λ before moves. moved_none (Called c.args.client c.args.reply c.args.call)
+      (not_handles c.args.client c.args.reply c.args.call c.in_default.not-Take c.in_default.not-DupHandle
       c.in_default.not-DropHandle c.in_default.not-GiveHandle c.in_default.not-Collect) before c.args.holds.now moves;
   limit = refl;
 }
