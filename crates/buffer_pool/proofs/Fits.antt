@@ -3,7 +3,7 @@ use Rattle.std.proofs.Common.{ℕ, suc, ◌≡◌, ◌+◌, ◌-◌, ◌/◌, �
 use Rattle.std.specs.List.{remove, prefix_len}
 use Rattle.std.proofs.Math.Nat.{div-eq_of_lt}
 use Rattle.std.proofs.lemmas.Bool.{cases_Bool, ltb-true, ltb-false, eq-eqb, ne_eqb, cases_lt}
-use Rattle.std.proofs.lemmas.List.{set_split, get_or_default, get_or-take, get_or-drop}
+use Rattle.std.proofs.lemmas.List.{set_split, get_or_default}
 use Rattle.std.proofs.lemmas.List.Sums.{prefix_len_passes, prefix_len_stops, prefix_len-le-length, sum_by-cons}
 use Rattle.sm_names.specs.declared.keys.Interval.{Interval}
 use Rattle.buffer_pool.specs.Fitting.{too_small, AreSmall, rooms, first_fit, shortened, taken}
@@ -79,31 +79,49 @@ pub search_ends_all : (pages at : ℕ) (hs : List Interval) → at ≤ prefix_le
     at ≡ prefix_len (too_small pages) hs
 search_ends_all pages at hs le more = omega (arith, prefix_len-le-length (too_small pages) hs)
 
--- a search in a part of the holes goes as far as one in all
-part_at : (at k : ℕ) (hs run : List Interval) (d : Interval) → run ≡ take (length run) (drop at hs) → k < length run →
-    get_or run k d ≡ get_or hs (at + k) d
-part_at at k hs run d is lt =
-    ap (λ r. get_or r k d) is ∙ get_or-take (length run) (drop at hs) k d lt ∙ get_or-drop at hs k d
+-- a search in two parts, one after the other, ends in the first
+pub search_front : (pages : ℕ) (hs ks : List Interval) → prefix_len (too_small pages) hs < length hs →
+    prefix_len (too_small pages) (hs ++ ks) ≡ prefix_len (too_small pages) hs
+search_front pages [] ks lt = absurd (omega arith)
+search_front pages (h ∷ hs) ks lt =
+    elim (cases_Bool (too_small pages h)) [
+      | inl y ↦
+          let within : 1 + prefix_len (too_small pages) hs < length (h ∷ hs) = rw y at lt in
+          let r : prefix_len (too_small pages) (hs ++ ks) ≡ prefix_len (too_small pages) hs = search_front pages hs ks (omega arith) in
+          rw y (omega arith)
+      | inr n ↦ rw n refl
+    ]
 
-pub part_passes : (pages at : ℕ) (hs run : List Interval) → at ≤ prefix_len (too_small pages) hs → at + length run ≤ length hs →
-    run ≡ take (length run) (drop at hs) → at + prefix_len (too_small pages) run ≤ prefix_len (too_small pages) hs
-part_passes pages at hs run le within is =
-    let few = prefix_len-le-length (too_small pages) run in
-    search_passes_many pages at (at + prefix_len (too_small pages) run) hs (record { start = 0; pages = 0 }) le (omega arith) (omega arith)
-    (λ k d from to.
-    let small : (get_or run (k - at) d).pages < pages = ltb-true _ _ (prefix_len_passes (too_small pages) run (k - at) d (omega arith)) in
-    let place : at + (k - at) ≡ k = omega arith in
-    rw place at (rw (part_at at (k - at) hs run d is (omega arith)) at small))
+-- or in the second
+pub search_back : (pages : ℕ) (hs ks : List Interval) → length hs ≤ prefix_len (too_small pages) hs →
+    prefix_len (too_small pages) (hs ++ ks) ≡ length hs + prefix_len (too_small pages) ks
+search_back pages [] ks le = omega arith
+search_back pages (h ∷ hs) ks le =
+    elim (cases_Bool (too_small pages h)) [
+      | inl y ↦
+          let within : length (h ∷ hs) ≤ 1 + prefix_len (too_small pages) hs = rw y at le in
+          let r : prefix_len (too_small pages) (hs ++ ks) ≡ length hs + prefix_len (too_small pages) ks =
+          search_back pages hs ks (omega arith) in
+          rw y (omega arith)
+      | inr n ↦ let none : length (h ∷ hs) ≤ 0 = rw n at le in absurd (omega arith)
+    ]
 
-pub part_stops : (pages at : ℕ) (hs run : List Interval) → at ≤ prefix_len (too_small pages) hs → at + length run ≤ length hs →
-    run ≡ take (length run) (drop at hs) → prefix_len (too_small pages) run < length run →
-    at + prefix_len (too_small pages) run ≡ prefix_len (too_small pages) hs
-part_stops pages at hs run le within is lt =
-    let none : Interval = record { start = 0; pages = 0 } in
-    let stops : pages ≤ (get_or run (prefix_len (too_small pages) run) none).pages =
-    ltb-false _ _ (prefix_len_stops (too_small pages) run none lt) in
-    search_stops pages (at + prefix_len (too_small pages) run) hs none (part_passes pages at hs run le within is)
-    (rw (part_at at (prefix_len (too_small pages) run) hs run none is lt) at stops)
+-- where it goes on in either part
+pub search_from_front : (pages from : ℕ) (hs ks : List Interval) → from ≤ prefix_len (too_small pages) (hs ++ ks) → from < length hs →
+    from ≤ prefix_len (too_small pages) hs
+search_from_front pages from hs ks le lt =
+    elim (cases_lt (prefix_len (too_small pages) hs) (length hs)) [
+      | inl less ↦ omega (arith, search_front pages hs ks less)
+      | inr more ↦ omega arith
+    ]
+
+pub search_from_back : (pages from : ℕ) (hs ks : List Interval) → from ≤ prefix_len (too_small pages) (hs ++ ks) → length hs ≤ from →
+    (from - length hs ≤ prefix_len (too_small pages) ks) × (length hs ≤ prefix_len (too_small pages) hs)
+search_from_back pages from hs ks le past =
+    elim (cases_lt (prefix_len (too_small pages) hs) (length hs)) [
+      | inl less ↦ let same = search_front pages hs ks less in absurd (omega arith)
+      | inr more ↦ (omega (arith, search_back pages hs ks more), more)
+    ]
 
 -- holes that are too small have no room
 pub rooms-small : (pages : ℕ) (hs : List Interval) → 1 ≤ pages → rooms pages (take (prefix_len (too_small pages) hs) hs) ≡ 0

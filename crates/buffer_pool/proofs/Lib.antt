@@ -5,13 +5,10 @@ mod Gaps
 mod Greatest
 mod Keeping
 pub mod Least
-mod Listings
 mod Marking
+mod GapMoves
 mod Orders
-mod Places
 mod Placing
-mod RowLaws
 mod Searches
 mod Sounds
 mod Spaces
-mod Turns

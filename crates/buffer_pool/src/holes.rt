@@ -43,23 +43,25 @@ pub(crate) fn next_fit(holes: &HoleRow, from: usize, pages_each: u32) -> usize
     requires { from ≤ prefix_len (too_small pages_each) holes.now.items }
     ensures { result ≡ prefix_len (too_small pages_each) holes.now.items }
 {
-    let mut at = from;
-    while at < holes.len() {
-        let run = holes.run(at);
-        let passed = fit_in(run, pages_each);
-        at += passed;
-        if passed < run.len() {
+    let (front, back) = holes.parts();
+    let mut behind = 0;
+    if from < front.len() {
+        let at = fit_in(front, from, pages_each);
+        if at < front.len() {
             return at;
         }
+    } else {
+        behind = from - front.len();
     }
-    at
+    front.len() + fit_in(back, behind, pages_each)
 }
 
-// The first of these holes that is not too small. It looks at eight holes at a time.
-fn fit_in(holes: &[Interval], pages_each: u32) -> usize
+// The same in a slice. It looks at eight holes at a time.
+fn fit_in(holes: &[Interval], from: usize, pages_each: u32) -> usize
+    requires { from ≤ prefix_len (too_small pages_each) holes.now }
     ensures { result ≡ prefix_len (too_small pages_each) holes.now }
 {
-    let mut at = 0;
+    let mut at = from;
     while holes.len() - at >= 8 && !one_fits(holes, at, pages_each) {
         at += 8;
     }

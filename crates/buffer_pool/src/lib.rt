@@ -8,7 +8,6 @@ mod marked;
 pub mod pages;
 pub mod placement;
 mod row;
-mod turning;
 
 pub use pages::{MAX_PAGES, Pool};
 pub use placement::{Placed, PoolFault};

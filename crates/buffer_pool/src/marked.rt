@@ -1,5 +1,5 @@
 //! The holes, with marks that spare a search what it would only pass.
-ghost use Rattle.std.specs.Prelude.{List, [], ◌∷◌, ◌≡◌, ◌<◌, ◌≤◌, ◌^◌, ◌+◌, length, take, drop, set, slice_index_or, IfOk, OnOk};
+ghost use Rattle.std.specs.Prelude.{List, [], ◌∷◌, ◌≡◌, ◌<◌, ◌≤◌, ◌^◌, ◌++◌, length, set, slice_index_or, IfOk, OnOk};
 ghost use Rattle.std.specs.List.{prefix_len, insert, remove};
 ghost use Rattle.std.specs.List.Sorted.{IsNonDecreasingBy};
 ghost use Rattle.sm_names.specs.declared.keys.Interval.{Interval};
@@ -71,15 +71,12 @@ impl HoleRow {
         self.row.get(at)
     }
 
-    /// Holes from a place on, as far as they lie side by side.
-    pub(crate) fn run(&self, at: usize) -> &[Interval]
-        requires { at < length self.now.items }
-        ensures some { 0 < length result.now }
-        ensures within { at + length result.now ≤ length self.now.items }
-        ensures items { result.now ≡ take (length result.now) (drop at self.now.items) }
+    /// The holes in two parts, one after the other.
+    pub(crate) fn parts(&self) -> (&[Interval], &[Interval])
+        ensures items { result.0.now ++ result.1.now ≡ self.now.items }
         ensures few { length self.now.items < 2 ^ 63 }
     {
-        self.row.run(at)
+        self.row.parts()
     }
 
     /// Puts another hole in the place of one.

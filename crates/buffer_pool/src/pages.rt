@@ -72,10 +72,9 @@ impl Pool {
     /// for as many pages or fewer passed, two walks from there up to the last start, or to the end
     /// where the pool is full, and for each buffer two looks at the held intervals where it lies
     /// next to the one before, and else a binary search. What searches passed is kept for sixteen
-    /// numbers of pages, which are apart by their remainder. A change of either list costs a move of
-    /// what lies between it and the change before it, but of no more than two parts of 512 places and
-    /// at most 128 places for each 512 between them. The buffers of one call so move all that they
-    /// pass once, and with each 64 of them a list moves once more what lies behind the last.
+    /// numbers of pages, which are apart by their remainder. In either list a change moves what lies
+    /// between it and the change before it, so that the buffers of one call move all that they pass
+    /// once.
     pub fn place(&mut self, count: u32, pages_each: u32) -> Result<Placed, PoolFault>
         requires { (1 ≤ count) × (1 ≤ pages_each) }
 
@@ -113,8 +112,7 @@ impl Pool {
     /// one hole with the holes that they touch.
     ///
     /// It takes no memory, and costs a binary search in each of two lists, the held intervals and
-    /// the holes, and a change of each as in `place`; once in 64 such changes at least a list moves
-    /// once more what lies behind.
+    /// the holes, and a move of what lies between this change and the one before it.
     pub fn give_back(&mut self, start: u32, pages: u32)
         requires { Contains self.old.held (record { start = start; pages = pages }) }
         ensures held { self.new ≡ record self.old { held = without start self.old.held } }

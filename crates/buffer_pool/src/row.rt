@@ -1,42 +1,37 @@
 //! A row of intervals with a gap at the place of the last change.
-ghost use Rattle.std.specs.Prelude.{ℕ, ◌≡◌, ◌+◌, ◌-◌, ◌*◌, [], ◌∷◌, ◌<◌, ◌^◌, ◌≤◌, length, take, drop, set, slice_index_or, IfOk, OnOk};
+ghost use Rattle.std.specs.Prelude.{◌≡◌, ◌+◌, ◌-◌, ◌++◌, ◌∷◌, [], ◌<◌, ◌^◌, ◌≤◌, length, take, drop, set, slice_index_or, IfOk, OnOk, vec_len};
 ghost use Rattle.std.specs.List.{insert, remove};
-ghost use Rattle.buffer_pool.specs.Rows.{AreHeads, shown_at, past_gap};
+ghost use lib.Seq.{paste};
 
-use crate::turning::{BLOCK, STEP, place, run_before, run_from, side_by_side, slide, turn};
 use sm_names::Interval;
 use std::alloc::{AllocError, Global};
 use std::marker::Model;
 
-// How wide a gap is made, and how wide it grows: each step of it moves no more.
-const OPENED: usize = 64;
+// How many intervals the gap passes in one step: 2 KiB of them, which a processor moves by its widest
+// words.
+const STEP: usize = 256;
 
-const WIDEST: usize = 128;
-
-/// Intervals one after another. A change moves the gap to its place: by a part of a block, and by
-/// as many intervals as the gap is wide for each block between this change and the last one.
+/// Intervals one after another. A change costs a move of those between it and the last one.
 #[derive(Drop)]
 pub(crate) struct Row {
-    // The intervals lie before `front`, and from `back` up to `used`. The other places are left over.
+    // The intervals lie before `front` and from `back` on. Those between are left over.
     cells: Vec<Interval>,
-    heads: Vec<usize>,
     front: usize,
     back: usize,
-    used: usize,
 }
 
 impl Model for Row {
-    ghost use Rattle.std.specs.Prelude.{◌-◌, length};
-    ghost use Rattle.buffer_pool.specs.Rows.{Listed, IsRow, shown};
+    ghost use Rattle.std.specs.Prelude.{◌≤◌, ◌++◌, length, take, drop};
+    ghost use Rattle.buffer_pool.specs.Rows.{Listed};
 
     ghost Value = { Listed };
 
     ghost view = { λ r. record {
-      items = shown r.heads.items r.cells.items r.front (r.back - r.front) (r.used - (r.back - r.front));
+      items = take r.front r.cells.items ++ drop r.back r.cells.items;
       capacity = length r.cells.items;
     } };
 
-    ghost invariant = { λ r. IsRow r.heads.items r.front r.back r.used (length r.cells.items) };
+    ghost invariant = { λ r. (r.front ≤ r.back) × (r.back ≤ length r.cells.items) };
 }
 
 impl Row {
@@ -47,10 +42,8 @@ impl Row {
     {
         Row {
             cells: Vec::new(alloc),
-            heads: Vec::new(alloc),
             front: 0,
             back: 0,
-            used: 0,
         }
     }
 
@@ -63,10 +56,8 @@ impl Row {
         cells.push(one)?;
         Ok(Row {
             cells,
-            heads: Vec::new(alloc),
             front: 1,
             back: 1,
-            used: 1,
         })
     }
 
@@ -80,7 +71,7 @@ impl Row {
         ensures count { result ≡ length self.now.items }
         ensures few { result < 2 ^ 63 }
     {
-        self.used - (self.back - self.front)
+        self.cells.len() - (self.back - self.front)
     }
 
     /// A place close to the last change.
@@ -95,21 +86,19 @@ impl Row {
         requires { at < length self.now.items }
         ensures { result ≡ slice_index_or self.now.items at result }
     {
-        let at = beside(self.front, self.back, at);
-        self.cells[place(&self.heads, at)]
+        if at < self.front {
+            self.cells[at]
+        } else {
+            self.cells[at + (self.back - self.front)]
+        }
     }
 
-    /// Intervals from a place on, as far as they lie side by side.
-    pub(crate) fn run(&self, at: usize) -> &[Interval]
-        requires { at < length self.now.items }
-        ensures some { 0 < length result.now }
-        ensures within { at + length result.now ≤ length self.now.items }
-        ensures items { result.now ≡ take (length result.now) (drop at self.now.items) }
+    /// The intervals in two parts, one after the other.
+    pub(crate) fn parts(&self) -> (&[Interval], &[Interval])
+        ensures items { result.0.now ++ result.1.now ≡ self.now.items }
         ensures few { length self.now.items < 2 ^ 63 }
     {
-        let first = beside(self.front, self.back, at);
-        let most = stretch(self.front, self.back, self.used, at);
-        side_by_side(&self.cells, &self.heads, first, most)
+        (&self.cells[..self.front], &self.cells[self.back..])
     }
 
     /// Puts another interval in the place of one.
@@ -118,9 +107,11 @@ impl Row {
         ensures items { self.new.items ≡ set self.old.items at new }
         ensures capacity { self.new.capacity ≡ self.old.capacity }
     {
-        let at = beside(self.front, self.back, at);
-        let cell = place(&self.heads, at);
-        self.cells[cell] = new;
+        if at < self.front {
+            self.cells[at] = new;
+        } else {
+            self.cells[at + (self.back - self.front)] = new;
+        }
     }
 
     /// Puts an interval in before the one at this place.
@@ -130,13 +121,10 @@ impl Row {
         ensures items { self.new.items ≡ insert self.old.items at new }
         ensures capacity { self.new.capacity ≡ self.old.capacity }
     {
-        let (front, back, used) = opened(self.front, self.back, self.used, self.cells.len());
-        let back = move_gap(&mut self.cells, &mut self.heads, front, back, at);
-        let cell = place(&self.heads, at);
-        self.cells[cell] = new;
+        let back = move_gap(&mut self.cells, self.front, self.back, at);
+        self.cells[at] = new;
         self.front = at + 1;
         self.back = back;
-        self.used = used;
     }
 
     /// Takes the interval at this place out.
@@ -146,33 +134,11 @@ impl Row {
         ensures items { self.new.items ≡ remove self.old.items at }
         ensures capacity { self.new.capacity ≡ self.old.capacity }
     {
-        self.narrow();
-        let back = move_gap(&mut self.cells, &mut self.heads, self.front, self.back, at);
-        let old = self.cells[place(&self.heads, back)];
+        let back = move_gap(&mut self.cells, self.front, self.back, at);
+        let old = self.cells[back];
         self.front = at;
         self.back = back + 1;
         old
-    }
-
-    // Leaves a gap that has grown wide over behind the intervals.
-    fn narrow(&mut self)
-        ensures items { self.new.items ≡ self.old.items }
-        ensures capacity { self.new.capacity ≡ self.old.capacity }
-    {
-        if self.back - self.front < WIDEST {
-            return;
-        }
-        let count = self.used - (self.back - self.front);
-        move_gap(
-            &mut self.cells,
-            &mut self.heads,
-            self.front,
-            self.back,
-            count,
-        );
-        self.front = count;
-        self.back = count;
-        self.used = count;
     }
 
     /// Makes room for so many in all.
@@ -184,10 +150,12 @@ impl Row {
         if most <= self.cells.len() {
             return Ok(());
         }
+        let count = self.len();
+        self.back = move_gap(&mut self.cells, self.front, self.back, count);
+        self.front = count;
         let none = Interval { start: 0, pages: 0 };
-        let more = most.max(2 * self.len());
-        self.cells.resize(more, none)?;
-        self.heads.resize(more / BLOCK, 0)?;
+        self.cells.resize(most.max(2 * count), none)?;
+        self.back = self.cells.len();
         Ok(())
     }
 
@@ -196,156 +164,91 @@ impl Row {
         ensures { IfOk result (λ copy. copy.items ≡ self.now.items) }
     {
         let mut copy = Vec::with_capacity(*self.cells.allocator(), self.len())?;
-        let mut at = 0;
-        while at < self.len() {
-            let run = self.run(at);
-            copy.extend_from_slice(run)?;
-            at += run.len();
-        }
+        copy.extend_from_slice(&self.cells[..self.front])?;
+        copy.extend_from_slice(&self.cells[self.back..])?;
         Ok(copy)
     }
 }
 
-// The place beside the gap.
-fn beside(front: usize, back: usize, at: usize) -> usize
-    requires gap { front ≤ back }
-    requires few { at + (back - front) < 2 ^ 63 }
-    ensures { result ≡ past_gap front (back - front) at }
+// Copies so many cells to a later place: in one move of memory, where they do not reach it.
+fn copy_up(cells: &mut [Interval], from: usize, to: usize, count: usize)
+    requires later { from ≤ to }
+    requires within { to + count ≤ length cells.old }
+    ensures cells { cells.new ≡ paste cells.old to (drop from cells.old) count }
+    ensures len { length cells.new ≡ length cells.old }
 {
-    if at < front { at } else { at + (back - front) }
-}
-
-// How many intervals there are from a place on, up to the gap if that lies behind it.
-fn stretch(front: usize, back: usize, used: usize, at: usize) -> usize
-    requires gap { front ≤ back }
-    requires used { back ≤ used }
-    requires within { at < used - (back - front) }
-    ensures some { 1 ≤ result }
-    ensures within { at + result ≤ used - (back - front) }
-    ensures side { at < front → at + result ≤ front }
-    ensures cells { past_gap front (back - front) at + result ≤ used }
-{
-    if at < front {
-        front - at
+    if from + count <= to {
+        let (low, high) = cells.split_at_mut(to);
+        high[..count].copy_from_slice(&low[from..from + count]);
     } else {
-        used - (back - front) - at
+        cells.copy_within(from..from + count, to);
     }
 }
 
-// A gap that has room, and where the part in use ends: the same, or a new one of what is left over
-// behind it.
-fn opened(front: usize, back: usize, used: usize, cells: usize) -> (usize, usize, usize)
-    requires gap { front ≤ back }
-    requires used { back ≤ used }
-    requires within { used ≤ cells }
-    requires room { used - (back - front) < cells }
-    ensures gap { result.0 < result.1 }
-    ensures used { result.1 ≤ result.2 }
-    ensures within { result.2 ≤ cells }
-    ensures count { result.2 - (result.1 - result.0) ≡ used - (back - front) }
-    ensures same { (i : ℕ) → i < used - (back - front) → past_gap result.0 (result.1 - result.0) i ≡ past_gap front (back - front) i }
+// Copies so many cells to an earlier place: in one move of memory, where that ends before them.
+fn copy_down(cells: &mut [Interval], from: usize, to: usize, count: usize)
+    requires earlier { to ≤ from }
+    requires within { from + count ≤ length cells.old }
+    ensures cells { cells.new ≡ paste cells.old to (drop from cells.old) count }
+    ensures len { length cells.new ≡ length cells.old }
 {
-    if front < back {
-        return (front, back, used);
+    if to + count <= from {
+        let (low, high) = cells.split_at_mut(from);
+        low[to..to + count].copy_from_slice(&high[..count]);
+    } else {
+        cells.copy_within(from..from + count, to);
     }
-    let end = used + (cells - used).min(OPENED);
-    (used, end, end)
 }
 
-// Moves the gap to another place, and gives its end.
-fn move_gap(
-    cells: &mut Vec<Interval>,
-    heads: &mut Vec<usize>,
-    front: usize,
-    back: usize,
-    at: usize,
-) -> usize
-    requires heads { AreHeads heads.old.items }
-    requires blocks { 512 * length heads.old.items ≤ length cells.old.items }
+// Moves the gap to a near place, and gives its end.
+fn step_gap(cells: &mut Vec<Interval>, front: usize, back: usize, at: usize) -> usize
     requires gap { front ≤ back }
     requires back_within { back ≤ length cells.old.items }
     requires at_within { at + (back - front) ≤ length cells.old.items }
     ensures back { result ≡ at + (back - front) }
-    ensures items { (i : ℕ) → shown_at heads.new.items cells.new.items at (back - front) i
-        ≡ shown_at heads.old.items cells.old.items front (back - front) i }
-    ensures heads { AreHeads heads.new.items }
-    ensures heads_len { length heads.new.items ≡ length heads.old.items }
+    ensures items { take at cells.new.items ++ drop result cells.new.items
+        ≡ take front cells.old.items ++ drop back cells.old.items }
     ensures len { length cells.new.items ≡ length cells.old.items }
 {
-    let gap = back - front;
-    if gap == 0 {
-        return at;
+    let to = at + (back - front);
+    if at < front {
+        copy_up(cells.as_mut_slice(), at, to, front - at);
+    } else if at > front {
+        copy_down(cells.as_mut_slice(), back, front, to - back);
     }
+    to
+}
+
+// Where the gap goes next on its way.
+fn next_stop(from: usize, at: usize) -> usize
+    ensures down { at < from → (at ≤ result) × (result < from) }
+    ensures up { from < at → (from < result) × (result ≤ at) }
+{
+    if at < from {
+        if from - at > STEP { from - STEP } else { at }
+    } else if at - from > STEP {
+        from + STEP
+    } else {
+        at
+    }
+}
+
+// Moves the gap to another place, and gives its end.
+fn move_gap(cells: &mut Vec<Interval>, front: usize, back: usize, at: usize) -> usize
+    requires gap { front ≤ back }
+    requires back_within { back ≤ length cells.old.items }
+    requires at_within { at + (back - front) ≤ length cells.old.items }
+    ensures back { result ≡ at + (back - front) }
+    ensures items { take at cells.new.items ++ drop result cells.new.items
+        ≡ take front cells.old.items ++ drop back cells.old.items }
+    ensures len { length cells.new.items ≡ length cells.old.items }
+{
     let mut from = front;
+    let mut end = back;
     while from != at {
-        from = if from < at {
-            step_up(cells, heads, from, gap, at)
-        } else {
-            step_down(cells, heads, from, gap, at)
-        };
+        let next = next_stop(from, at);
+        end = step_gap(cells, from, end, next);
+        from = next;
     }
-    from + gap
-}
-
-// Moves the gap up: over a whole block that it begins, or over what lies side by side.
-fn step_up(
-    cells: &mut Vec<Interval>,
-    heads: &mut Vec<usize>,
-    front: usize,
-    gap: usize,
-    at: usize,
-) -> usize
-    requires heads { AreHeads heads.old.items }
-    requires blocks { 512 * length heads.old.items ≤ length cells.old.items }
-    requires up { front < at }
-    requires gap { 0 < gap }
-    requires at_within { at + gap ≤ length cells.old.items }
-    ensures up { (front < result) × (result ≤ at) }
-    ensures items { (i : ℕ) → shown_at heads.new.items cells.new.items result gap i
-        ≡ shown_at heads.old.items cells.old.items front gap i }
-    ensures heads { AreHeads heads.new.items }
-    ensures heads_len { length heads.new.items ≡ length heads.old.items }
-    ensures len { length cells.new.items ≡ length cells.old.items }
-{
-    let block = front / BLOCK;
-    if front % BLOCK == 0 && block < heads.len() && gap < BLOCK && front + BLOCK <= at + gap {
-        turn(heads, block, gap);
-        return front + (BLOCK - gap);
-    }
-    let most = (at - front).min(STEP);
-    let count = run_from(heads, front + gap, run_from(heads, front, most));
-    slide(cells, heads, front + gap, front, count);
-    front + count
-}
-
-// Moves the gap down: over a whole block that it ends, or over what lies side by side.
-fn step_down(
-    cells: &mut Vec<Interval>,
-    heads: &mut Vec<usize>,
-    front: usize,
-    gap: usize,
-    at: usize,
-) -> usize
-    requires heads { AreHeads heads.old.items }
-    requires blocks { 512 * length heads.old.items ≤ length cells.old.items }
-    requires down { at < front }
-    requires gap { 0 < gap }
-    requires at_within { front + gap ≤ length cells.old.items }
-    ensures down { (at ≤ result) × (result < front) }
-    ensures items { (i : ℕ) → shown_at heads.new.items cells.new.items result gap i
-        ≡ shown_at heads.old.items cells.old.items front gap i }
-    ensures heads { AreHeads heads.new.items }
-    ensures heads_len { length heads.new.items ≡ length heads.old.items }
-    ensures len { length cells.new.items ≡ length cells.old.items }
-{
-    let end = front + gap;
-    let block = end / BLOCK;
-    if end % BLOCK == 0 && block <= heads.len() && gap < BLOCK && at + BLOCK <= end {
-        turn(heads, block - 1, BLOCK - gap);
-        return end - BLOCK;
-    }
-    let most = (front - at).min(STEP);
-    let count = run_before(heads, end, run_before(heads, front, most));
-    slide(cells, heads, front - count, end - count, count);
-    front - count
+    end
 }

@@ -1,26 +1,50 @@
--- The search ends in a run, or passes it.
-use Rattle.std.proofs.Common.{rules, ◌∙◌, ◌≤◌, ◌+◌, ap, arith}
+-- The search ends in the first part, or goes on in the second.
+use Rattle.std.proofs.Common.{rules, ◌∙◌, ◌≤◌, ◌+◌, arith, sym, ap, length, length-append}
+use Rattle.std.specs.List.{prefix_len}
 use Rattle.std.proofs.lemmas.List.Sums.{prefix_len-le-length}
 use Rattle.buffer_pool.specs.Fitting.{too_small}
-use Rattle.buffer_pool.proofs.Fits.{part_passes, part_stops, search_ends_all}
+use Rattle.buffer_pool.proofs.Fits.{search_front, search_back, search_from_front, search_from_back}
 use Rattle.buffer_pool.proofs.holes.next_fit.Goals as goal
+use Rattle.buffer_pool.proofs.holes.next_fit.Goals.{else-from-front, then-from-front+else-at-front}
 
-pub overflow_add-at : goal.overflow_add-at
-overflow_add-at c =
-    let small : c.loop-at.at + c.fit_in-passed.result ≤ 9223372036854775808 =
-    omega (arith, c.run-run.ensures.within, c.run-run.ensures.few, c.fit_in-passed.ensures, prefix_len-le-length (too_small c.args.pages_each) c.run-run.result.now) in
+pub fit_in-at-requires : goal.fit_in-at-requires
+fit_in-at-requires c =
+    search_from_front c.args.pages_each c.args.from c.parts.result.0.now c.parts.result.1.now (rw c.parts.ensures.items c.requires)
+    c.if-from-front.true
+
+pub returns-then-at-front : goal.returns-then-at-front
+returns-then-at-front c =
+    c.fit_in-at.ensures
+    ∙ sym (search_front c.args.pages_each c.parts.result.0.now c.parts.result.1.now
+    (omega (arith, c.fit_in-at.ensures, c.if-at-front.true)))
+    ∙ ap (prefix_len (too_small c.args.pages_each)) c.parts.ensures.items
+
+pub fit_in-requires : goal.fit_in-requires
+fit_in-requires c =
+    elim c.if-from-front.branch [
+      | then-from-front+else-at-front w ↦ rw w.behind-is (omega arith)
+      | else-from-front w ↦
+          rw w.behind-is
+          (search_from_back c.args.pages_each c.args.from c.parts.result.0.now c.parts.result.1.now (rw c.parts.ensures.items c.requires)
+          w.if-from-front.false).0
+    ]
+
+pub overflow_add-result : goal.overflow_add-result
+overflow_add-result c =
+    let whole = ap length c.parts.ensures.items in
+    let small : length c.parts.result.0.now + c.fit_in.result ≤ 9223372036854775808 =
+    omega (arith, whole, length-append c.parts.result.0.now c.parts.result.1.now, c.parts.ensures.few, c.fit_in.ensures, prefix_len-le-length (too_small c.args.pages_each) c.parts.result.1.now) in
     search rules
-
-pub returns-then-passed-run : goal.returns-then-passed-run
-returns-then-passed-run c =
-    ap (λ n. c.loop-at.at + n) c.fit_in-passed.ensures
-    ∙ part_stops c.args.pages_each c.loop-at.at c.args.holes.now.items c.run-run.result.now c.loop-at.invariant c.run-run.ensures.within
-    c.run-run.ensures.items (omega (arith, c.fit_in-passed.ensures, c.if-passed-run.true))
-
-pub loop-at-preserved : goal.loop-at-preserved
-loop-at-preserved c =
-    omega (arith, c.fit_in-passed.ensures, part_passes c.args.pages_each c.loop-at.at c.args.holes.now.items c.run-run.result.now c.loop-at.invariant c.run-run.ensures.within c.run-run.ensures.items)
 
 pub returns : goal.returns
 returns c =
-    search_ends_all c.args.pages_each c.loop-at.at c.args.holes.now.items c.loop-at.invariant (omega (arith, c.loop-at-test.false, c.len.ensures.count))
+    let past : length c.parts.result.0.now ≤ prefix_len (too_small c.args.pages_each) c.parts.result.0.now =
+    elim c.if-from-front.branch [
+      | then-from-front+else-at-front w ↦ omega (arith, w.if-at-front.false, w.fit_in-at.ensures)
+      | else-from-front w ↦
+          (search_from_back c.args.pages_each c.args.from c.parts.result.0.now c.parts.result.1.now (rw c.parts.ensures.items c.requires)
+          w.if-from-front.false).1
+    ] in
+    ap (λ n. length c.parts.result.0.now + n) c.fit_in.ensures
+    ∙ sym (search_back c.args.pages_each c.parts.result.0.now c.parts.result.1.now past)
+    ∙ ap (prefix_len (too_small c.args.pages_each)) c.parts.ensures.items

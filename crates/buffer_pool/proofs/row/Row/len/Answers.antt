@@ -1,9 +1,6 @@
--- All lie beside the gap.
-use Rattle.std.proofs.Common.{sym}
-use Rattle.buffer_pool.proofs.RowLaws.{row_count}
+-- No allocation is larger.
+use Rattle.std.proofs.Common.{arith}
 use Rattle.buffer_pool.proofs.row.Row.len.Goals as goal
 
-pub returns-clause-count : goal.returns-clause-count
-returns-clause-count c =
-    let r = c.self.inside in
-    sym (row_count r.heads.items r.cells.items r.front r.back r.used c.args.self.now c.self.view_is)
+pub returns-clause-few : goal.returns-clause-few
+returns-clause-few c = let h = c.self.inside.cells.small in omega (arith, h)

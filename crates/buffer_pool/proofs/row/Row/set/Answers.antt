@@ -1,33 +1,17 @@
--- The cell of the interval lies within all.
-use Rattle.std.proofs.Common.{◌≡◌, ◌-◌, ◌∙◌, arith}
-use Rattle.buffer_pool.specs.Rows.{past_gap, place_of}
-use Rattle.buffer_pool.proofs.RowLaws.{row_count, row_set, row_cell, past_within}
+-- A write lies on either side of the gap.
+use Rattle.std.proofs.Common.{◌∙◌, ap, set}
+use Rattle.buffer_pool.specs.Rows.{Listed}
+use Rattle.buffer_pool.proofs.GapMoves.{set_before, set_behind}
 use Rattle.buffer_pool.proofs.row.Row.set.Goals as goal
 
-pub beside-at-requires-clause-few : goal.beside-at-requires-clause-few
-beside-at-requires-clause-few c =
-    let r = c.self.inside in
-    let count = row_count r.heads.items r.cells.items r.front r.back r.used c.args.self.now c.self.view_is in
-    omega (arith, c.requires, c.self.invariant.front_back, c.self.invariant.back_end, c.self.invariant.end_cells, r.cells.small, r.cells.ok)
+pub returns-then-at-self-clause-items : goal.returns-then-at-self-clause-items
+returns-then-at-self-clause-items c =
+    set_before c.self.inside.cells.items c.self.inside.front c.self.inside.back c.args.at c.args.new c.if-at-self.true c.self.invariant.0
+    c.self.invariant.1
+    ∙ ap (λ (l : Listed). set l.items c.args.at c.args.new) c.self.view_is
 
-pub place-cell-requires-clause-few : goal.place-cell-requires-clause-few
-place-cell-requires-clause-few c =
-    let r = c.self.inside in
-    let count = row_count r.heads.items r.cells.items r.front r.back r.used c.args.self.now c.self.view_is in
-    let within = past_within r.front r.back r.used c.args.at c.self.invariant.front_back c.self.invariant.back_end (omega (arith, c.requires)) in
-    omega (arith, c.beside-at.ensures, c.self.invariant.end_cells, r.cells.small, r.cells.ok)
-
-pub index_mut-requires : goal.index_mut-requires
-index_mut-requires c =
-    let r = c.self.inside in
-    let within = row_cell r.heads.items r.cells.items r.front r.back r.used c.args.self.now c.args.at c.self.view_is c.self.invariant c.requires in
-    let cell : c.place-cell.result ≡ place_of r.heads.items (past_gap r.front (r.back - r.front) c.args.at) =
-    c.place-cell.ensures ∙ (λ i. place_of (c.deref.ensures.value i) (c.beside-at.ensures i)) in
-    omega (arith, r.cells.ok)
-
-pub returns-clause-items : goal.returns-clause-items
-returns-clause-items c =
-    let r = c.self.inside in
-    let cell : c.place-cell.result ≡ place_of r.heads.items (past_gap r.front (r.back - r.front) c.args.at) =
-    c.place-cell.ensures ∙ (λ i. place_of (c.deref.ensures.value i) (c.beside-at.ensures i)) in
-    rw cell (row_set r.heads.items r.cells.items r.front r.back r.used c.args.self.now c.args.at c.args.new c.self.view_is c.self.invariant c.requires)
+pub returns-else-at-self-clause-items : goal.returns-else-at-self-clause-items
+returns-else-at-self-clause-items c =
+    set_behind c.self.inside.cells.items c.self.inside.front c.self.inside.back c.args.at c.args.new c.if-at-self.false c.self.invariant.0
+    c.self.invariant.1
+    ∙ ap (λ (l : Listed). set l.items c.args.at c.args.new) c.self.view_is
