@@ -72,7 +72,8 @@ no_root c sound h on p up =
     ∙ ap is_none up
 
 -- what is there
-some_there : (test : NodeKey → Bool) (o : Option NodeKey) → option_map_or test o false ≡ true → (p : NodeKey) × (o ≡ Some p) × (test p ≡ true)
+some_there : (test : NodeKey → Bool) (o : Option NodeKey) → option_map_or test o false ≡ true →
+    (p : NodeKey) × (o ≡ Some p) × (test p ≡ true)
 some_there test None h = cc
 some_there test (Some p) h = (p, refl, h)
 
@@ -167,7 +168,8 @@ module _ (t : Table Node) (ss : List Shelf) (kept : IsStored t ss) (s : Shelf) (
   none_below us counts none m on attached here ready = false_if (hangs_in nodes k m) (λ h.
       let p = some_there (λ p. list_any (λ (q : Node). is_of p q && same_key q.head k) nodes) m.parent h in
       let q = In-list_any (λ (q : Node). is_of p.0 q && same_key q.head k) nodes p.2 in
-      let at : node_at t p.0 ≡ Some q.0 = ap (node_at t) (sym (same_key-true q.0.key p.0 (and_left (is_of p.0 q.0) _ q.2))) ∙ at_key q.0 q.1 in
+      let at : node_at t p.0 ≡ Some q.0 =
+      ap (node_at t) (sym (same_key-true q.0.key p.0 (and_left (is_of p.0 q.0) _ q.2))) ∙ at_key q.0 q.1 in
       let unit : is_of_unit t k p.0 ≡ true =
       ap (λ (o : Option Node). option_map_or (λ (x : Node). same_key x.head k) o false) at ∙ and_right (is_of p.0 q.0) _ q.2 in
       let hangs : hangs_below t us k m ≡ true =

@@ -24,7 +24,8 @@ same_given head keys n = from (list_any (same_key n.key) keys)
     from false = record { key = refl; parent = refl; attached = refl; collection = refl; head = refl }
 
 -- what the buffers don't change of a node stays
-pub kept_given : {A : Type 0} (p : Node → A) (head : NodeKey) → ((m : Node) → p (given_buffers head m) ≡ p m) → (keys : List NodeKey) (n : Node) →
+pub kept_given : {A : Type 0} (p : Node → A) (head : NodeKey) → ((m : Node) → p (given_buffers head m) ≡ p m) →
+    (keys : List NodeKey) (n : Node) →
     p (given_at head keys n) ≡ p n
 kept_given p head same keys n = from (list_any (same_key n.key) keys)
   where

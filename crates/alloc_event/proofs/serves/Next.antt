@@ -187,7 +187,8 @@ module _ (c : Collection) (sound : IsSound c) (k : NodeKey) (child : is_root_of 
         (sym (find_map (is_deserted_node after) (is_deserted_node nodes) f nodes (deserted_same c sound k child true)) ∙ then.no_end)
 
     wait_before : (o : Option Node) → find is_root_left nodes ≡ o →
-        option_and_then (λ (root : Node). when (not root.allocated && list_all (is_ready_node root.key) after) root) (option_map f o) ≡ None →
+        option_and_then (λ (root : Node). when (not root.allocated && list_all (is_ready_node root.key) after) root) (option_map f o)
+        ≡ None →
         option_and_then (λ (root : Node). when (not root.allocated && list_all (is_ready_node root.key) nodes) root) o ≡ None
     wait_before None e h = refl
     wait_before (Some r) e h =

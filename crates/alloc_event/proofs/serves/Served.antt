@@ -284,7 +284,8 @@ module _ (t : Table Node) (us : List Unit) (key : NodeKey) (effect : Effect) (n 
         by (Some x) at =
             let both : Some m ≡ Some (g x) = sym there ∙ (given.look j ∙ ap (option_map g) at) in
             let is : m ≡ g x = cc in
-            let many : m.trackers ≡ x.trackers = ap (λ (y : Node). y.trackers) is ∙ kept_given (λ (y : Node). y.trackers) k (λ y. refl) s.keys x in
+            let many : m.trackers ≡ x.trackers =
+            ap (λ (y : Node). y.trackers) is ∙ kept_given (λ (y : Node). y.trackers) k (λ y. refl) s.keys x in
             subst (λ (c : ℕ). c < 64) (sym many) (opens.may.trackers j x e (node_is t ss opens.kept j ∙ at))
 
     open_between : IsOpen between us ss s (Change.Effect key effect) strong
@@ -393,7 +394,8 @@ module _ (t : Table Node) (us : List Unit) (key : NodeKey) (effect : Effect) (n 
       told strong_open = serves c1 sound1 k child1 (subst IsCalm allocated made_between.done.calm) b has strong_open strong_then h1 h1_on
           h1_key (next1 ready) fits
 
-      settles : (pool : ℕ) (handles : Handles) (others : List Interval) → forced pool (standing handles others (collection_in now s)) ≡ None →
+      settles : (pool : ℕ) (handles : Handles) (others : List Interval) →
+          forced pool (standing handles others (collection_in now s)) ≡ None →
           Settles pool handles others c1 (collection_in now s)
       settles pool handles others rest =
           step_settles pool handles others c1 (collection_in now s) (collection_in now s) (Allocated k)

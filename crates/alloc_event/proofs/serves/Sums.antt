@@ -71,7 +71,8 @@ pub enough_is : (nodes : List Node) (head : NodeKey) (buffers : Buffers) (reserv
     reserved ≡ sum_by (λ (d : Demand). d.camping) (demands_of is_served nodes) → asked ≡ demands_of (is_in_unit head) nodes →
     are_enough buffers reserved asked ≡ true → late_failure head nodes buffers ≡ None
 enough_is nodes head buffers reserved asked held wants h =
-    let told : are_enough buffers (sum_by (λ (d : Demand). d.camping) (demands_of is_served nodes)) (demands_of (is_in_unit head) nodes) ≡ true =
+    let told : are_enough buffers (sum_by (λ (d : Demand). d.camping) (demands_of is_served nodes))
+    (demands_of (is_in_unit head) nodes) ≡ true =
     (λ i. are_enough buffers (sym held i) (sym wants i)) ∙ h in
     none_fails
     (nat_lt buffers.count (sum_by (λ (d : Demand). d.camping) (demands_of is_served nodes)

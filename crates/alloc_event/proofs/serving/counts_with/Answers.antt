@@ -11,7 +11,8 @@ returns c =
       inside = omega (arith, c.if-slot-units.false);
       left_is = less_by _ _ _ _ _ _ _ c.less-left.ensures refl c.is_strong.ensures c.is_strong-2.ensures;
       live_is = less_by _ _ _ _ _ _ _ c.less-live.ensures (ap (λ (u : Unit). u.live) unit) c.is_live.ensures c.is_live-2.ensures;
-      unready_is = less_by _ _ _ _ _ _ _ c.less-unready.ensures (ap (λ (u : Unit). u.unready) unit) c.is_unready.ensures c.is_unready-2.ensures;
+      unready_is = less_by _ _ _ _ _ _ _ c.less-unready.ensures (ap (λ (u : Unit). u.unready) unit) c.is_unready.ensures
+          c.is_unready-2.ensures;
       some = omega (arith, c.if-left-eq0.false);
       lives = omega (arith, c.if-live-eq0.false);
       ready = omega (arith, c.if-unready-gt0.false);

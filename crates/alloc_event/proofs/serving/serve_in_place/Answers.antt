@@ -65,7 +65,8 @@ module _ (c : goal.After-entries-1) where
   again : c.index_mut-entry.result.now ≡ old
   again = c.index_mut-entry.ensures.value ∙ get_or_default es c.in-Some.at c.index_mut-entry.result.now old place.within ∙ sym is
 
-  opens : IsOpen c.args.table.now c.args.units.now.items (shelves_of es) (shelf_of old) (Change.Effect c.args.key c.args.effect.now) old.strong
+  opens : IsOpen c.args.table.now c.args.units.now.items (shelves_of es) (shelf_of old)
+      (Change.Effect c.args.key c.args.effect.now) old.strong
   opens = opens_at c.args.table.now es c.args.id c.in-Some.at old place is c.requires.kept c.requires.counted c.args.units.now.items
       c.requires.units (Change.Effect c.args.key c.args.effect.now) c.requires.change
 
@@ -92,7 +93,8 @@ module _ (c : goal.After-entries-1) where
 pub returns-clause-ok : goal.returns-clause-ok
 returns-clause-ok c h pool handles =
     subst (λ (ss : List Shelf). Finishes pool handles c.args.table.now (shelves_of c.args.entries.now.items) c.serve_effect.new.table ss
-    (changed (Change.Effect c.args.key c.args.effect.now) no_key (collection_or_new (forest_of c.args.table.now (shelves_of c.args.entries.now.items)) c.args.id)))
+    (changed (Change.Effect c.args.key c.args.effect.now) no_key
+    (collection_or_new (forest_of c.args.table.now (shelves_of c.args.entries.now.items)) c.args.id)))
     (sym (same_shelves c))
     (finishes_at c.args.table.now c.args.entries.now.items c.args.id c.in-Some.at (old c) (place c) (is c) c.requires.kept
     c.requires.counted c.args.units.now.items c.requires.units (Change.Effect c.args.key c.args.effect.now) c.requires.change
