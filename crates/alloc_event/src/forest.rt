@@ -123,8 +123,9 @@ impl Forest {
     }
 
     /// Makes the steps that are forced because a handle of the buffer was dropped, and gives back the
-    /// pages of the buffer, if it is home. No other buffer of its collection may be home: none is
-    /// after `settle` or `settle_drop`, and none is brought home by a handle that is opened.
+    /// pages of the buffer, if it is home. The caller sees to it that no other buffer of its
+    /// collection is home: none is after `settle` or `settle_drop`, and no handle that is opened brings
+    /// one home.
     ///
     /// `NoMemory` where a growth is refused. The forest and the pool are then as they were.
     ///

@@ -127,7 +127,8 @@ kept_root strong strong_open (Some root) none = from root.allocated strong stron
 
 -- so nothing is forced in a calm collection, where the root is not abandoned
 still_decided : (nodes : List Node) (buffers : Option Buffers) (strong_open : Bool) → AreNone nodes buffers →
-    (has_strong nodes ≡ true) ⊎ ((option_map_or (λ (root : Node). root.allocated) (find is_root_left nodes) false && not strong_open) ≡ false) →
+    (has_strong nodes ≡ true)
+    ⊎ ((option_map_or (λ (root : Node). root.allocated) (find is_root_left nodes) false && not strong_open) ≡ false) →
     decided nodes buffers strong_open ≡ None
 still_decided nodes buffers strong_open none (inl strong) =
     none_decided nodes buffers strong_open (rw strong refl) none
@@ -280,7 +281,8 @@ module _ (handles : Handles) (t : Table Node) (es : List Entry) (id at : ℕ) (o
     collections_are = put-map t (shelf_of new) ss ∙ ap (λ (x : Collection). put x (map (collection_in t) ss)) shown
 
     pub finishes_so : decided (nodes_with t old.keys.items) old.buffers (is_held_strongly handles old.id old.buffers) ≡ None →
-        (pool : ℕ) → Finishes pool handles t (shelves_of es) t (shelves_of (set es at new)) (collection_or_new (forest_of t (shelves_of es)) id)
+        (pool : ℕ) → Finishes pool handles t (shelves_of es) t (shelves_of (set es at new))
+        (collection_or_new (forest_of t (shelves_of es)) id)
     finishes_so none pool =
         subst (λ (x : Collection). Finishes pool handles t ss t (shelves_of (set es at new)) x) (sym before_is)
         (record {
@@ -296,7 +298,12 @@ module _ (handles : Handles) (t : Table Node) (es : List Entry) (id at : ℕ) (o
     pub stored_so : IsStored t (shelves_of (set es at new))
     stored_so =
         let back : IsWhole (given_back handles c) = record {
-          sound = record { distinct = whole.sound.distinct; heads = whole.sound.heads; one_root = whole.sound.one_root; few = whole.sound.few };
+          sound = record {
+            distinct = whole.sound.distinct;
+            heads = whole.sound.heads;
+            one_root = whole.sound.one_root;
+            few = whole.sound.few;
+          };
           rooted = whole.rooted;
           united = whole.united;
         } in
@@ -306,7 +313,8 @@ module _ (handles : Handles) (t : Table Node) (es : List Entry) (id at : ℕ) (o
         rw set_is (kept-put t t old.id [] (nothing_stored t) kept.named refl refl (shelf_of new) (shelf_of old) ss (sym r.id)
         (ap (λ ks. ks.items) (sym r.keys)) kept.rising (rw put_same kept) tt
         (whole-unmap t (put_shelf (shelf_of new) ss)
-        (subst (AllByRecursion IsWhole) (sym collections_are) (whole-put (given_back handles c) c (map (collection_in t) ss) refl back before))))
+        (subst (AllByRecursion IsWhole) (sym collections_are) (whole-put (given_back handles c) c
+        (map (collection_in t) ss) refl back before))))
 
     pub units_so : (us : List Unit) → HaveUnits us t es → HaveUnits us t (set es at new)
     units_so us units =

@@ -50,7 +50,8 @@ module _ {X : Type 0} (p : X → Bool) where
   all_removed [] (suc at) all = refl
   all_removed (x ∷ xs) zero all = and_right (p x) (list_all p xs) all
   all_removed (x ∷ xs) (suc at) all =
-      and_both (p x) (list_all p (remove xs at)) (and_left (p x) (list_all p xs) all) (all_removed xs at (and_right (p x) (list_all p xs) all))
+      and_both (p x) (list_all p (remove xs at)) (and_left (p x) (list_all p xs) all)
+      (all_removed xs at (and_right (p x) (list_all p xs) all))
 
   -- where all pass, all stay
   pub all_stay : (xs : List X) → list_all p xs ≡ true → filter p xs ≡ xs

@@ -172,8 +172,8 @@ module _ (s : State) (client : ℕ) (call : Call) (asked : Reply) (task : Option
         let one : Some new ≡ Some c =
         sym (found_collection worked (amid_named worked task amid) new c.id there (own ∙ same))
         ∙ found_collection worked (amid_named worked task amid) c c.id on refl in
-        subst (IsOut (total holds)) (some_is one) (given_out (total holds) settled.after (settles_ours s.pool (total holds) _ _ settled.after
-        settled.settles (changed_ours change _ (collection_or_new s.forest t.collection) (or_new_ours t.collection))))
+        subst (IsOut (total holds)) (some_is one) (given_out (total holds) settled.after (settles_ours s.pool (total holds) _ _
+        settled.after settled.settles (changed_ours change _ (collection_or_new s.forest t.collection) (or_new_ours t.collection))))
       where
         some_is : {x y : Collection} → Some x ≡ Some y → x ≡ y
         some_is e = cc
@@ -183,7 +183,8 @@ module _ (s : State) (client : ℕ) (call : Call) (asked : Reply) (task : Option
     out_worked c on = elim (either_way (is_changed (changed_by task))) [
       | inl e ↦ here task starts.may work (changes (changed_by task) e)
       | inr e ↦
-          let other : changed_by task ≡ Some c.id → ⊥ = λ h. let yes : true ≡ false = sym (ap is_changed h ∙ eq-eqb c.id c.id refl) ∙ e in cc in
+          let other : changed_by task ≡ Some c.id → ⊥ =
+          λ h. let yes : true ≡ false = sym (ap is_changed h ∙ eq-eqb c.id c.id refl) ∙ e in cc in
           let found : collection_at s.forest c.id ≡ Some c =
           sym ((leaves_rest s.pool (total holds) s.forest worked task key starts.sound starts.may work).others c.id other)
           ∙ found_collection worked (amid_named worked task amid) c c.id on refl in
