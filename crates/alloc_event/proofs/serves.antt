@@ -1,4 +1,5 @@
 -- Attached units that become ready and are allocated in their places.
+pub mod Allocated
 pub mod Next
 pub mod Giving
 pub mod Sums

@@ -5,6 +5,7 @@ pub mod Dropped
 pub mod Due
 pub mod Effects
 pub mod Falling
+pub mod Falls
 pub mod Forest
 pub mod Forgetting
 pub mod InPlace

@@ -87,8 +87,11 @@ impl Forest {
     /// below the head of such a unit, with a logarithm for each node that goes.
     ///
     /// These and any other change cost a copy of the collection, a pass over its units, and the
-    /// question for the next step after each that is made. A loss costs besides what `fall` costs,
-    /// and a logarithm for each node; the end of a collection without a live node one walk. Where no
+    /// question for the next step after each that is made. Attached units that are allocated or fail
+    /// one after another count as one step, from the second on, which costs the nodes times a
+    /// logarithm, and times another one where such a failure leaves the collection or a unit above
+    /// without a node that keeps it. A loss costs besides what `fall` costs, and a logarithm for
+    /// each node; the end of a collection without a live node one walk. Where no
     /// strong node is live, a birth that forces nothing and sends no buffer home costs the copy, the
     /// pass and one question, and another a copy of the whole table besides.
     pub fn settle(

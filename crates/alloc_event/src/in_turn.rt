@@ -1,20 +1,31 @@
-//! Attached units that wait for one event, allocated one after another in one walk.
-ghost use Rattle.std.specs.Prelude.{◌≡◌, ℕ, ◌+◌, ◌<◌, Bool, ◌||◌, ◌&&◌, not, nat_lt, List, ◌∷◌, ◌++◌, [], map, set, length, true, false, None, Some, IfSome, option_map};
-ghost use Rattle.std.specs.List.{list_any, list_all, slice_get};
+//! Attached units that wait for one event: allocated, or failing, one after another in one walk.
+ghost use Rattle.std.specs.Prelude.{◌≡◌, ℕ, ◌+◌, ◌<◌, Bool, ◌||◌, ◌&&◌, not, nat_lt, List, ◌∷◌, ◌++◌, [], map, drop, length, true, false, None, Some, Option, IfSome, is_none, is_some};
+ghost use Rattle.std.specs.List.{find, list_all, slice_get};
 ghost use Rattle.std.specs.List.Sorted.{IsSorted};
 ghost use Rattle.sm_names.specs.declared.keys.NodeKey.{NodeKey as Key};
+ghost use Rattle.sm_names.specs.declared.outcomes.Failure.{Failure as Why};
+ghost use Rattle.sm_names.specs.declared.outcomes.Fault.{Fault as Error};
 ghost use Rattle.sm_names.specs.Sameness.{same_key};
-ghost use Rattle.alloc_event.specs.declared.node.Node.{Node as Kept};
+ghost use Rattle.sm_names.specs.Words.{first_some, when};
+ghost use Rattle.buffer_holds.specs.Counts.{total};
+ghost use Rattle.alloc_event.specs.Decisions.{has_strong, is_unplaced};
 ghost use Rattle.alloc_event.specs.Falling.{key_order};
-ghost use Rattle.alloc_event.specs.InTurn.{GoesOn, GoesPast, GoesWith, IsAbove, IsKeyAt, Serves, claim_of, given_all, no_claim, with_node};
+ghost use Rattle.alloc_event.specs.Falls.{AreGrown, IsPlaced, fall_mark, fallen_by};
+ghost use Rattle.alloc_event.specs.InTurn.{GoesPast, GoesWith, GoesWithout, HasServed, Inherits, IsAbove, IsKeyAt, IsMarking, IsServed, IsStood, RunsTo, claim_of, no_claim, with_node};
+ghost use Rattle.alloc_event.specs.Questions.{is_deserted_node};
 ghost use Rattle.alloc_event.specs.declared.in_turn.Claim.{Claim as Claimed};
 ghost use Rattle.alloc_event.specs.declared.in_turn.Turn.{Turn as Turned};
-ghost use Rattle.alloc_event.specs.Scenes.{are_distinct, heads_itself};
+ghost use Rattle.alloc_event.specs.Scenes.{are_distinct, given_few, heads_itself, is_held_strongly};
 
 use crate::asks::reserved;
+use crate::deciding::is_strong_open;
+use crate::ending::ending;
 use crate::losses::{is_among, order};
+use crate::marks::Marks;
 use crate::node::Node;
-use sm_names::{Buffers, NodeKey};
+use crate::questions::some_strong_live;
+use buffer_holds::Holds;
+use sm_names::{Buffers, Cause, CollectionId, Failure, Fault, NodeKey};
 use std::alloc::Global;
 
 /// What the nodes of a unit that are not gone ask for together, kept in the place of its head.
@@ -42,12 +53,22 @@ struct KeyPlace {
 /// What comes of a node in its turn.
 #[derive(Clone, Copy)]
 enum Turn {
-    /// It heads no unit that is next.
-    Passes,
+    /// It heads no unit that is next. It falls with its parent by this fault, if that fell.
+    Passes(Option<Fault>),
     /// It heads the next unit, which is allocated. So much is reserved then.
     Gets(u128),
-    /// The next step can't be told, or is no allocation.
+    /// It heads the next unit, which fails.
+    Falls(Fault),
+    /// The next step can't be told.
     Stops,
+}
+
+/// What units came to: the heads of those that were allocated, and for each node that the walk
+/// passed the fault by which it falls, if it does.
+#[derive(Drop)]
+struct Walked {
+    heads: Vec<NodeKey>,
+    fell: Vec<Option<Fault>>,
 }
 
 /// The places of the nodes in the order of their keys.
@@ -180,20 +201,96 @@ fn is_due(node: &Node, is_given: bool, above: &Node, is_above_given: bool, is_re
     !(is_given || node.allocated) && !above.gone && (is_above_given || above.allocated) && is_ready
 }
 
-/// How much is reserved once the unit is allocated, if there is room for what it asks.
-fn room(claim: Claim, taken: u128, buffers: Buffers) -> Option<u128>
-    ensures sum { IfSome result (λ sum. sum ≡ taken + claim.more) }
-    ensures count { IfSome result (λ sum. nat_lt buffers.count (taken + claim.camping) ≡ false) }
-    ensures at_least { IfSome result (λ sum. nat_lt buffers.count claim.at_least ≡ false) }
-    ensures size { IfSome result (λ sum. nat_lt buffers.size claim.size ≡ false) }
+/// How much the unit and those that are allocated camp on, and how much is reserved once it is
+/// allocated, if the sums have room.
+fn sums(claim: Claim, taken: u128) -> Option<(u128, u128)>
+    ensures asked { IfSome result (λ sums. sums.0 ≡ taken + claim.camping) }
+    ensures sum { IfSome result (λ sums. sums.1 ≡ taken + claim.more) }
+{
+    Some((
+        taken.checked_add(claim.camping)?,
+        taken.checked_add(claim.more)?,
+    ))
+}
+
+/// Why the unit fails, if it does, where so much is camped on with it.
+fn lack(claim: Claim, asked: u128, buffers: Buffers) -> Option<Failure>
+    ensures { first_some (when (nat_lt buffers.count asked || nat_lt buffers.count claim.at_least) Why.TooFew
+        ∷ when (nat_lt buffers.size claim.size) Why.TooSmall ∷ []) ≡ result }
 {
     let count = buffers.count as u128;
-    let asked = taken.checked_add(claim.camping)?;
-    let sum = taken.checked_add(claim.more)?;
-    if count < asked || count < claim.at_least as u128 || buffers.size < claim.size {
-        return None;
+    if count < asked || count < claim.at_least as u128 {
+        Some(Failure::TooFew)
+    } else if buffers.size < claim.size {
+        Some(Failure::TooSmall)
+    } else {
+        None
     }
-    Some(sum)
+}
+
+/// Whether the node is gone or a root, or stands behind its parent, which is not gone, and is of its
+/// unit unless it is attached.
+fn is_placed(nodes: &[Node], places: &[KeyPlace], node: &Node, at: usize) -> bool
+    ensures { result ≡ true → node.now.gone ≡ false → IsPlaced nodes.now node.now at }
+{
+    let Some(parent) = node.parent else {
+        return true;
+    };
+    if node.gone {
+        return true;
+    }
+    let Some(up) = find_at(nodes, places, parent) else {
+        return false;
+    };
+    up < at && is_over(&nodes[up], node)
+}
+
+/// Whether the one node is not gone, and the other is of its unit unless it is attached.
+fn is_over(above: &Node, node: &Node) -> bool
+    ensures here { result ≡ true → above.now.gone ≡ false }
+    ensures unit { result ≡ true → (node.now.attached || same_key node.now.head above.now.head) ≡ true }
+{
+    !above.gone && (node.attached || node.head == above.head)
+}
+
+/// Whether each node stands so.
+fn are_placed(nodes: &[Node], places: &[KeyPlace]) -> bool
+    ensures { result ≡ true → AreGrown nodes.now }
+{
+    for at in 0..nodes.len() {
+        if !is_placed(nodes, places, &nodes[at], at) {
+            return false;
+        }
+    }
+    true
+}
+
+/// The fault by which the node falls with its parent, if that fell, where it can be told.
+fn inherited(
+    nodes: &[Node],
+    places: &[KeyPlace],
+    fell: &[Option<Fault>],
+    node: &Node,
+    at: usize,
+) -> Option<Option<Fault>>
+    requires distinct { are_distinct nodes.now ≡ true }
+    requires heads { list_all heads_itself nodes.now ≡ true }
+    requires grown { AreGrown nodes.now }
+    requires here { slice_get nodes.now at ≡ Some node.now }
+    ensures { IfSome result (λ mark. Inherits nodes.now node.now at fell.now mark) }
+{
+    let Some(parent) = node.parent else {
+        return Some(None);
+    };
+    if node.gone {
+        return Some(None);
+    }
+    let up = find_at(nodes, places, parent)?;
+    if up < fell.len() {
+        Some(fell[up])
+    } else {
+        None
+    }
 }
 
 /// What comes of the node here in its turn.
@@ -202,33 +299,48 @@ fn next_turn(
     places: &[KeyPlace],
     claims: &[Claim],
     given: &[bool],
+    fell: &[Option<Fault>],
     node: &Node,
     at: usize,
     taken: u128,
     buffers: Buffers,
 ) -> Turn
     requires distinct { are_distinct nodes.now ≡ true }
-    requires heads { heads_itself node.now ≡ true }
+    requires heads { list_all heads_itself nodes.now ≡ true }
+    requires grown { AreGrown nodes.now }
     requires here { slice_get nodes.now at ≡ Some node.now }
     requires claims { claims.now ≡ map (λ n. claim_of nodes.now n.key) nodes.now }
     requires within { at < length nodes.now }
     requires many { length claims.now ≡ length nodes.now }
     requires given { length given.now ≡ length nodes.now }
-    ensures passes { result ≡ Turned.Passes → GoesPast buffers nodes.now node.now at given.now taken }
-    ensures gets { (sum : ℕ) → result ≡ Turned.Gets sum → GoesWith buffers nodes.now node.now at given.now taken sum }
+    ensures passes { (mark : Option Error) → result ≡ Turned.Passes mark →
+        GoesPast buffers nodes.now node.now at given.now fell.now taken mark }
+    ensures gets { (sum : ℕ) → result ≡ Turned.Gets sum →
+        GoesWith buffers nodes.now node.now at given.now fell.now taken sum }
+    ensures falls { (fault : Error) → result ≡ Turned.Falls fault →
+        GoesWithout buffers nodes.now node.now at given.now fell.now taken fault }
 {
+    let Some(mark) = inherited(nodes, places, fell, node, at) else {
+        return Turn::Stops;
+    };
     if !is_left(node) {
-        return Turn::Passes;
+        return Turn::Passes(mark);
     }
     let Some((up, head)) = above_of(nodes, places, node, at) else {
         return Turn::Stops;
     };
-    if !is_due(node, given[at], &nodes[up], given[head], claims[at].ready) {
-        return Turn::Passes;
+    if mark.is_some() || !is_due(node, given[at], &nodes[up], given[head], claims[at].ready) {
+        return Turn::Passes(mark);
     }
-    match room(claims[at], taken, buffers) {
-        Some(sum) => Turn::Gets(sum),
-        None => Turn::Stops,
+    let Some((asked, sum)) = sums(claims[at], taken) else {
+        return Turn::Stops;
+    };
+    match lack(claims[at], asked, buffers) {
+        None => Turn::Gets(sum),
+        Some(why) => Turn::Falls(Fault {
+            cause: Cause::Failed(why),
+            origin: node.key,
+        }),
     }
 }
 
@@ -250,76 +362,225 @@ fn add_head(heads: &mut Vec<NodeKey>, key: NodeKey) -> bool
     heads.push(key).is_ok()
 }
 
-/// The heads of the units that are allocated one after another, until none is next, or one fails.
-fn served_heads(
+/// Adds the mark to the list, if memory is there. Answers whether it did.
+fn add_mark(fell: &mut Vec<Option<Fault>>, mark: Option<Fault>) -> bool
+    ensures { result ≡ true → fell.new.items ≡ fell.old.items ++ mark ∷ [] }
+{
+    fell.push(mark).is_ok()
+}
+
+/// No marks yet, with room for one for each node.
+fn no_faults(alloc: Global, nodes: &[Node]) -> Option<Vec<Option<Fault>>>
+    ensures { IfSome result (λ marks. marks.items ≡ []) }
+{
+    Vec::with_capacity(alloc, nodes.len()).ok()
+}
+
+/// The units that are allocated, or fail, one after another, until none is next, what comes of one
+/// can't be told, or more than so many fail.
+fn served(
     alloc: Global,
     nodes: &[Node],
     places: &[KeyPlace],
     claims: &[Claim],
     buffers: Buffers,
-) -> Option<Vec<NodeKey>>
+    limit: usize,
+) -> Option<Walked>
     requires distinct { are_distinct nodes.now ≡ true }
     requires heads { list_all heads_itself nodes.now ≡ true }
+    requires grown { AreGrown nodes.now }
     requires claims { claims.now ≡ map (λ n. claim_of nodes.now n.key) nodes.now }
     requires many { length claims.now ≡ length nodes.now }
-    ensures { IfSome result (λ heads. Serves buffers nodes.now (map (given_all heads.items) nodes.now)) }
+    ensures { IfSome result (λ served. IsServed buffers nodes.now served.heads.items served.fell.items) }
 {
     let mut given = none_given(alloc, nodes)?;
     let mut heads = Vec::new(alloc);
+    let mut fell = no_faults(alloc, nodes)?;
     let mut taken = reserved(nodes);
+    let mut left = limit;
     for at in 0..nodes.len() {
         let node = &nodes[at];
-        match next_turn(nodes, places, claims, &given, node, at, taken, buffers) {
-            Turn::Passes => {}
+        match next_turn(
+            nodes, places, claims, &given, &fell, node, at, taken, buffers,
+        ) {
+            Turn::Passes(mark) => {
+                if !add_mark(&mut fell, mark) {
+                    return None;
+                }
+            }
             Turn::Gets(sum) => {
-                if !add_head(&mut heads, node.key) {
+                if !add_mark(&mut fell, None) || !add_head(&mut heads, node.key) {
                     return None;
                 }
                 given[at] = true;
                 taken = sum;
             }
-            Turn::Stops => return Some(heads),
+            Turn::Falls(fault) => {
+                if left == 0 {
+                    return Some(Walked { heads, fell });
+                }
+                left -= 1;
+                if !add_mark(&mut fell, Some(fault)) {
+                    return None;
+                }
+            }
+            Turn::Stops => return Some(Walked { heads, fell }),
         }
     }
-    Some(heads)
+    Some(Walked { heads, fell })
 }
 
-/// The units with these heads, which stand in order, are allocated.
-fn give_all(nodes: &mut [Node], heads: &[NodeKey])
-    requires { IsSorted key_order heads.now }
-    ensures { nodes.new ≡ map (given_all heads.now) nodes.old }
+/// The marks of the nodes behind those that the walk passed. Answers whether they can be told.
+fn mark_rest(nodes: &[Node], places: &[KeyPlace], fell: &mut Vec<Option<Fault>>) -> bool
+    requires distinct { are_distinct nodes.now ≡ true }
+    requires heads { list_all heads_itself nodes.now ≡ true }
+    requires grown { AreGrown nodes.now }
+    ensures { result ≡ true → (falls : List Error) →
+        IsMarking nodes.now (drop (length fell.old.items) nodes.now) (length fell.old.items) fell.old.items falls →
+        fell.new.items ≡ map (fall_mark nodes.now falls) nodes.now }
 {
-    for node in nodes.iter_mut() {
-        let is_given = is_among(heads, node.head);
-        give(node, is_given);
+    for at in fell.len()..nodes.len() {
+        let Some(mark) = inherited(nodes, places, fell, &nodes[at], at) else {
+            return false;
+        };
+        if !add_mark(fell, mark) {
+            return false;
+        }
     }
+    true
 }
 
-/// The node is allocated, if it is in one of the units.
-fn give(node: &mut Node, is_given: bool)
-    ensures { node.new ≡ record node.old { allocated = is_given || node.old.allocated } }
+/// The node as it is then, unless it would fall though it is allocated.
+fn stood(node: &Node, is_given: bool, mark: Option<Fault>) -> Option<Node>
+    ensures now { IfSome result (λ now. now ≡ fallen_by mark (record node.now { allocated = is_given || node.now.allocated })) }
+    ensures fits { IfSome result (λ now. (is_some mark && (is_given || node.now.allocated)) ≡ false) }
 {
-    node.allocated = is_given || node.allocated;
+    let allocated = is_given || node.allocated;
+    if mark.is_some() && allocated {
+        return None;
+    }
+    let falls = mark.is_some() && !node.gone;
+    Some(Node {
+        allocated,
+        gone: mark.is_some() || node.gone,
+        fault: if falls { mark } else { node.fault },
+        ..*node
+    })
 }
 
-/// Allocates the attached units that are next, one after another, until one fails or none is left.
-/// Where memory is refused none is allocated.
+/// The nodes as they are once the units with these heads, which stand in order, are allocated, and
+/// those fell that are marked, unless one would fall though it is allocated.
+fn stood_all(
+    alloc: Global,
+    nodes: &[Node],
+    heads: &[NodeKey],
+    fell: &[Option<Fault>],
+) -> Option<Vec<Node>>
+    requires sorted { IsSorted key_order heads.now }
+    requires many { length fell.now ≡ length nodes.now }
+    ensures { IfSome result (λ after. (falls : List Error) → fell.now ≡ map (fall_mark nodes.now falls) nodes.now →
+        IsStood nodes.now heads.now falls after.items) }
+{
+    let mut after = Vec::with_capacity(alloc, nodes.len()).ok()?;
+    for at in 0..nodes.len() {
+        let node = &nodes[at];
+        let is_given = is_among(heads, node.head);
+        let now = stood(node, is_given, fell[at])?;
+        after.push(now).ok()?;
+    }
+    Some(after)
+}
+
+/// The nodes once the attached units that are next were allocated, or failed, one after another,
+/// so many of which fail at most.
+fn serve(
+    alloc: Global,
+    nodes: &[Node],
+    places: &[KeyPlace],
+    claims: &[Claim],
+    buffers: Buffers,
+    limit: usize,
+) -> Option<Vec<Node>>
+    requires distinct { are_distinct nodes.now ≡ true }
+    requires heads { list_all heads_itself nodes.now ≡ true }
+    requires grown { AreGrown nodes.now }
+    requires claims { claims.now ≡ map (λ n. claim_of nodes.now n.key) nodes.now }
+    requires many { length claims.now ≡ length nodes.now }
+    ensures { IfSome result (λ after. HasServed buffers nodes.now after.items) }
+{
+    let mut served = served(alloc, nodes, places, claims, buffers, limit)?;
+    if !mark_rest(nodes, places, &mut served.fell) || served.fell.len() != nodes.len() {
+        return None;
+    }
+    order(&mut served.heads);
+    stood_all(alloc, nodes, &served.heads, &served.fell)
+}
+
+/// Whether no collection and no attached subtree ends, and a strong node is live or a strong handle
+/// open.
+fn is_kept(
+    nodes: &[Node],
+    marks: &mut Marks,
+    id: CollectionId,
+    buffers: Option<Buffers>,
+    holds: &Holds,
+) -> bool
+    requires distinct { are_distinct nodes.now ≡ true }
+    requires few { given_few buffers ≡ true }
+    ensures ends { result ≡ true → find (is_deserted_node nodes.now) nodes.now ≡ None }
+    ensures kept { result ≡ true → (has_strong nodes.now || is_held_strongly (total holds.now) id buffers) ≡ true }
+{
+    ending(nodes, marks).is_none()
+        && (some_strong_live(nodes) || is_strong_open(id, buffers, holds))
+}
+
+/// Whether a root waits for its buffers.
+fn is_root_waiting(nodes: &[Node]) -> bool
+    ensures { result ≡ is_unplaced nodes.now }
+{
+    nodes.iter().any(|node| is_waiting_root(node))
+}
+
+/// Whether the node is a root that is neither gone nor allocated.
+fn is_waiting_root(node: &Node) -> bool
+    ensures { result ≡ (is_none node.now.parent && (not node.now.gone && not node.now.allocated)) }
+{
+    node.parent.is_none() && !node.gone && !node.allocated
+}
+
+/// The nodes once the attached units that are next were allocated, or failed, one after another,
+/// until what comes of one can't be told or none is left.
 ///
-/// It costs the nodes times a logarithm.
-pub(crate) fn allocate_in_turn(alloc: Global, nodes: &mut [Node], buffers: Buffers)
-    requires distinct { are_distinct nodes.old ≡ true }
-    requires heads { list_all heads_itself nodes.old ≡ true }
-    ensures { Serves buffers nodes.old nodes.new }
+/// Between them no other step may come: where one would, half as many may fail in the next try. So
+/// it costs the nodes times a logarithm, and where other steps come between, another logarithm.
+pub(crate) fn serve_in_turn(
+    alloc: Global,
+    nodes: &[Node],
+    given: Buffers,
+    marks: &mut Marks,
+    id: CollectionId,
+    holds: &Holds,
+) -> Option<Vec<Node>>
+    requires distinct { are_distinct nodes.now ≡ true }
+    requires heads { list_all heads_itself nodes.now ≡ true }
+    requires few { given_few (Some given) ≡ true }
+    ensures { IfSome result (λ after. RunsTo given (is_held_strongly (total holds.now) id (Some given)) nodes.now after.items) }
 {
-    let Some(places) = places_of(alloc, nodes) else {
-        return;
-    };
-    let Some(claims) = claims_of(alloc, nodes, &places) else {
-        return;
-    };
-    let Some(mut heads) = served_heads(alloc, nodes, &places, &claims, buffers) else {
-        return;
-    };
-    order(&mut heads);
-    give_all(nodes, &heads);
+    if is_root_waiting(nodes) || !is_kept(nodes, marks, id, Some(given), holds) {
+        return None;
+    }
+    let places = places_of(alloc, nodes)?;
+    if !are_placed(nodes, &places) {
+        return None;
+    }
+    let claims = claims_of(alloc, nodes, &places)?;
+    let mut limit = nodes.len();
+    for _ in 0..=usize::BITS {
+        let after = serve(alloc, nodes, &places, &claims, given, limit)?;
+        if is_kept(&after, marks, id, Some(given), holds) {
+            return Some(after);
+        }
+        limit /= 2;
+    }
+    None
 }

@@ -2,16 +2,16 @@
 ghost use Rattle.std.specs.Prelude.{◌≡◌, OnErr, OnOk, map, true};
 ghost use Rattle.buffer_holds.specs.Counts.{total};
 ghost use Rattle.alloc_event.specs.Decisions.{is_unplaced, IsMadeBy, IsSized, IsStep, RestsIn, SettlesIn};
-ghost use Rattle.alloc_event.specs.InTurn.{GoesOn, IsGiven};
+ghost use Rattle.alloc_event.specs.InTurn.{GoesOn};
 ghost use Rattle.alloc_event.specs.Kept.{IsWhole};
 ghost use Rattle.alloc_event.specs.Progress.{Progress};
-ghost use Rattle.alloc_event.specs.Scenes.{collection_of, frame_of, given_few, IsSound, PoolFollows};
+ghost use Rattle.alloc_event.specs.Scenes.{collection_of, frame_of, given_few, is_held_strongly, IsSound, PoolFollows};
 
 use crate::allocating::allocate;
 use crate::deciding::decide;
 use crate::decision::Decision;
 use crate::ending::{end, end_bare};
-use crate::in_turn::allocate_in_turn;
+use crate::in_turn::serve_in_turn;
 use crate::logical::next_head;
 use crate::losses::lose;
 use crate::marks::Marks;
@@ -19,18 +19,20 @@ use crate::placing::place_first;
 use crate::scene::Scene;
 use buffer_holds::Holds;
 use buffer_pool::Pool;
-use sm_names::{Fault, NoMemory};
+use sm_names::{Cause, Fault, NoMemory};
 
 /// Makes the forced steps of the collection, one after another, until none applies.
 ///
 /// `NoMemory` where a growth is refused: the pool is then as it was, and the scene may be thrown
-/// away. Only the allocation of a root unit is refused so. Attached units are allocated one by one
-/// where there is no memory to do more.
+/// away. Only the allocation of a root unit is refused so. Attached units are allocated, or fail, one
+/// by one where there is no memory to do more.
 ///
 /// There are at most two steps a node, each of some walks over the nodes, and of two more for each
 /// attached unit that waits; where a unit or the collection ends, of one for each live node besides.
-/// Attached units that are next one after another are allocated together, from the second on, which
-/// costs the nodes times a logarithm.
+/// Attached units that are next one after another are allocated, or fail, together, from the second
+/// on, which costs the nodes times a logarithm. Where one of them leaves a unit above it without a
+/// live node, or the collection without a strong one, it fails by a step of its own, and those
+/// before it go together by halves, which costs another logarithm.
 ///
 /// The marks tell where parents stand. Without that a loss or an end costs a walk for each node, and
 /// each step one for each head of a unit that is released, and each live node.
@@ -55,7 +57,7 @@ pub fn settle_scene(
 {
     'steps: while let Some(step) = decide(scene, marks, holds) {
         make_step(scene, marks, pool, step)?;
-        go_on(scene, step);
+        go_on(scene, marks, holds, step);
     }
     Ok(())
 }
@@ -85,23 +87,33 @@ pub(crate) fn settle_whole(
     settle_scene(scene, marks, pool, holds)
 }
 
-/// Where the step allocated an attached unit and another one is next, allocates those that are
-/// next, one after another, until one fails or none is left. It costs the nodes times a logarithm.
-/// Where memory is refused nothing changes.
-fn go_on(scene: &mut Scene, step: Decision)
+/// Where an attached unit was allocated or failed and another one is next, makes the steps of those
+/// that are next, one after another, as far as they can be told. It costs the nodes times a
+/// logarithm, and where other steps come between, another logarithm. Where memory is refused
+/// nothing changes.
+fn go_on(scene: &mut Scene, marks: &mut Marks, holds: &Holds, step: Decision)
     requires { IsSound (collection_of scene.old) }
-    ensures { GoesOn step (collection_of scene.old) (collection_of scene.new) }
+    ensures { GoesOn (is_held_strongly (total holds.now) scene.old.id scene.old.buffers)
+        (collection_of scene.old) (collection_of scene.new) }
 {
-    let Decision::Allocates(_) = step else {
+    if !is_turn(step) || next_head(&scene.nodes).is_none() {
         return;
-    };
+    }
     let Some(given) = scene.buffers else {
         return;
     };
-    if next_head(&scene.nodes).is_some() {
-        let alloc = *scene.nodes.allocator();
-        allocate_in_turn(alloc, &mut scene.nodes, given);
+    let alloc = *scene.nodes.allocator();
+    if let Some(after) = serve_in_turn(alloc, &scene.nodes, given, marks, scene.id, holds) {
+        scene.nodes = after;
     }
+}
+
+/// Whether the step may be one of an attached unit.
+fn is_turn(step: Decision) -> bool {
+    matches!(
+        step,
+        Decision::Allocates(_) | Decision::Loses(_, Cause::Failed(_))
+    )
 }
 
 /// Makes the step. `NoMemory` where a growth is refused, and the pool is then as it was.
@@ -120,8 +132,6 @@ fn make_step(
         (collection_of scene.old) (collection_of scene.new)) }
     ensures size { pool.new.size ≡ pool.old.size }
     ensures err { OnErr result (pool.new ≡ pool.old) }
-
-    ensures given { OnOk result (IsGiven step (collection_of scene.old) (collection_of scene.new)) }
 
     // Memory is asked for, and the pool changes, only where a root waits for its buffers.
     ensures waits { OnErr result (is_unplaced scene.old.nodes.items ≡ true) }

@@ -1,5 +1,6 @@
 -- Nodes of a unit that are given its buffers, one after another.
 use Rattle.std.proofs.Common.{◌≡◌, refl, ap, sym, ◌∙◌, subst, Bool, true, false, ◌||◌, if◌then◌else◌, List, [], ◌∷◌, ◌++◌, Option, Some, None, option_map}
+use Rattle.std.proofs.lemmas.List.Folds.{list_any-append}
 use Rattle.std.specs.List.{list_any}
 use Rattle.std.specs.Option.{option_map_or}
 use Rattle.sm_names.specs.declared.keys.NodeKey.{NodeKey}
@@ -11,7 +12,6 @@ use Rattle.node_table.specs.Table.{Table, node_at}
 use Rattle.alloc_event.specs.declared.node.Node.{Node}
 use Rattle.alloc_event.specs.Nodes.{given_buffers}
 use Rattle.alloc_event.specs.Serving.{IsGivenAt, given_at, is_of_unit}
-use Rattle.alloc_event.proofs.changes.Altering.{any-append}
 use Rattle.alloc_event.proofs.lists.Lookups.{same_key-swap}
 use Rattle.alloc_event.proofs.tables.Writing.{IsSameNode, look-changed, parents-written}
 
@@ -86,7 +86,7 @@ given_more t u now head k keys before one = record {
         ≡ option_map (given_at head (keys ++ k ∷ [])) o
     by None = refl
     by (Some n) = ap Some (given_twice head k n (list_any (same_key n.key) keys)
-        ∙ ap (λ (b : Bool). if b then given_buffers head n else n) (sym (any-append (same_key n.key) keys (k ∷ []))))
+        ∙ ap (λ (b : Bool). if b then given_buffers head n else n) (sym (list_any-append (same_key n.key) keys (k ∷ []))))
 
 module _ (t : Table Node) (named : (key : NodeKey) (n : Node) → node_at t key ≡ Some n → n.key ≡ key) (head key : NodeKey) where
   -- by whether it has the key

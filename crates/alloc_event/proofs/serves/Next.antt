@@ -12,6 +12,7 @@ use Rattle.sm_names.proofs.ListLaws.{In, In-find, In-list_any, In-map, In-map-ba
 use Rattle.sm_names.proofs.SamenessLaws.{and_both, and_left, and_right, both_ways, either_way, false_if, or_none_left, or_none_right, or_right, same_key-comm, same_key-true}
 use Rattle.sm_names.proofs.StandingLaws.{In-any}
 use Rattle.alloc_event.specs.declared.decision.Decision.TheVariants.{Allocates, Loses}
+use Rattle.sm_names.proofs.PlaceLaws.{map-None}
 use Rattle.alloc_event.specs.declared.node.Node.{Node}
 use Rattle.alloc_event.specs.Calm.{IsCalm}
 use Rattle.alloc_event.specs.Decisions.{decided, has_strong, late_failure, later_step}
@@ -20,12 +21,12 @@ use Rattle.alloc_event.specs.Nodes.{after_allocation, given_buffers, is_of}
 use Rattle.alloc_event.specs.Questions.{is_allocated_node, is_deserted_node, is_next_node, is_ready_node, is_root_left}
 use Rattle.alloc_event.specs.Scenes.{IsSound, heads_itself}
 use Rattle.alloc_event.specs.Settling.{is_root_of}
-use Rattle.alloc_event.proofs.calm.Calming.{AreNone, calm_none, find_map, later, map_none, none_calm}
+use Rattle.alloc_event.proofs.calm.Calming.{AreNone, calm_none, find_map, later, none_calm}
 use Rattle.alloc_event.proofs.calm.Steps.{all-In}
 use Rattle.alloc_event.proofs.newborns.Members.{find-none, none-find}
 use Rattle.alloc_event.proofs.tables.Rooted.{distinct_one}
 use Rattle.alloc_event.proofs.tallies.Holding.{hangs_in}
-use Rattle.alloc_event.proofs.turns.Serving.{deserted_same, losing, next_decided, ready_on, root_on, root_same, wait_on}
+use Rattle.alloc_event.proofs.serves.Allocated.{deserted_same, losing, next_decided, ready_on, root_on, root_same, wait_on}
 
 none_made : (nodes : List Node) (b : Buffers) (o : Option Node) → option_map (λ (n : Node). later_step nodes b n.key) o ≡ None → o ≡ None
 none_made nodes b None h = refl
@@ -183,7 +184,7 @@ module _ (c : Collection) (sound : IsSound c) (k : NodeKey) (child : is_root_of 
             ap Some (distinct_one nodes sound.distinct n h x.0 on (only n x.0 x.1 ∙ sym is))
 
     end_before : find (is_deserted_node nodes) nodes ≡ None
-    end_before = map_none f (find (is_deserted_node nodes) nodes)
+    end_before = map-None f (find (is_deserted_node nodes) nodes)
         (sym (find_map (is_deserted_node after) (is_deserted_node nodes) f nodes (deserted_same c sound k child true)) ∙ then.no_end)
 
     wait_before : (o : Option Node) → find is_root_left nodes ≡ o →

@@ -15,6 +15,7 @@ use Rattle.sm_names.specs.Words.{times}
 use Rattle.sm_names.proofs.ListLaws.{In, In-find, In-map-back, map-In}
 use Rattle.sm_names.proofs.SamenessLaws.{and_both, and_left, and_right, both_ways, either_way, false_if, same_key-refl, same_key-true}
 use Rattle.sm_names.proofs.StandingLaws.{In-any}
+use Rattle.sm_names.proofs.SizeLaws.{all_on}
 use Rattle.node_table.specs.Changes.{Writes}
 use Rattle.node_table.specs.Lending.{table_with_node}
 use Rattle.node_table.specs.Table.{Table, node_at}
@@ -39,7 +40,6 @@ use Rattle.alloc_event.proofs.calm.Calming.{any_map, count_none, rests_strong, t
 use Rattle.alloc_event.proofs.calm.Forcing.{forced_made}
 use Rattle.alloc_event.proofs.calm.Settlings.{step_settles}
 use Rattle.alloc_event.proofs.calm.Steps.{all-In}
-use Rattle.alloc_event.proofs.calm.United.{each_all}
 use Rattle.alloc_event.proofs.calm.Watched.{nothing_back, strong_lives}
 use Rattle.alloc_event.proofs.changes.Altering.{Some-shelf, filed_at, found_filed, looked-of, same_affected}
 use Rattle.alloc_event.proofs.changes.Effecting.{alone_affected, counted_made, live_before, live_is, now_is, remains_affected, strong_before, strong_is, unready_before, unready_is}
@@ -55,7 +55,7 @@ use Rattle.alloc_event.proofs.tables.LeftParents.{loss_left}
 use Rattle.alloc_event.proofs.tables.Rooted.{IsLeft, distinct_one, left_node}
 use Rattle.alloc_event.proofs.tables.Writing.{IsSameNode, IsSound-map, collections-map, filed-map, kept-map}
 use Rattle.alloc_event.proofs.tallies.Slots.{all_at, units_with}
-use Rattle.alloc_event.proofs.turns.Serving.{strong_on}
+use Rattle.alloc_event.proofs.serves.Allocated.{strong_on}
 
 -- ---- lists
 
@@ -222,7 +222,7 @@ module _ (t : Table Node) (us : List Unit) (key : NodeKey) (effect : Effect) (n 
       (and_both (f due.above).allocated _ ((remains_affected key effect due.above).allocated ∙ due.served)
       (ap (λ (j : NodeKey). same_key j due.above.key) (same due.above).key ∙ same_key-refl due.above.key))) in
       let all : list_all (is_ready_node k) c1.nodes ≡ true =
-      each_all (is_ready_node k) (map f nodes) (λ m there. elim (either_way (is_ready_node k m)) [
+      all_on (is_ready_node k) (map f nodes) (λ m there. elim (either_way (is_ready_node k m)) [
         | inl e ↦ e
         | inr e ↦ both_ways (list_any (waits_in k) (map f nodes)) (In-any (waits_in k) (map f nodes) m there (ap not e))
             (count_none (waits_in k) (map f nodes) ready)

@@ -1,164 +1,82 @@
--- Attached units that are allocated one after another are forced steps, each the next one.
-use Rattle.std.proofs.Common.{ℕ, ◌≤◌, ◌≡◌, refl, ap, sym, ◌∙◌, subst, Bool, true, false, not, ◌&&◌, ◌||◌, ◌++◌, is_none, List, [], ◌∷◌, map, Option, Some, None, arith}
-use Rattle.std.specs.List.{list_all, find}
-use Rattle.std.specs.Option.{option_map, option_map_or, option_and_then, IfSome, MatchOption}
+-- Attached units that are allocated or fail one after another are forced steps, each the next one.
+use Rattle.std.proofs.Common.{ℕ, ◌≤◌, ◌≡◌, refl, ap, sym, ◌∙◌, subst, Bool, true, false, not, ◌&&◌, ◌||◌, ◌⊎◌, inl, inr, ◌++◌, is_none, List, [], ◌∷◌, map, Option, Some, None, arith}
+use Rattle.std.proofs.lemmas.Bool.{not-true}
+use Rattle.std.specs.List.{list_all, list_any, find}
+use Rattle.std.specs.Option.{option_map, option_map_or, option_and_then, IfSome}
 use Rattle.sm_names.specs.declared.keys.Interval.{Interval}
 use Rattle.sm_names.specs.declared.keys.NodeKey.{NodeKey}
 use Rattle.sm_names.specs.declared.outcomes.Buffers.{Buffers}
 use Rattle.sm_names.specs.declared.outcomes.Cause.{Cause}
 use Rattle.sm_names.specs.declared.outcomes.Failure.{Failure}
-use Rattle.sm_names.specs.Marks.{Allocated}
-use Rattle.sm_names.specs.Sameness.{same_key}
+use Rattle.sm_names.specs.declared.outcomes.Fault.{Fault}
 use Rattle.sm_names.specs.Words.{first_some, when}
-use Rattle.sm_names.proofs.ListLaws.{In-find}
-use Rattle.sm_names.proofs.SamenessLaws.{and_left, both_ways, false_if, same_key-true}
+use Rattle.sm_names.proofs.ListLaws.{In, In-append, In-find}
+use Rattle.sm_names.proofs.SamenessLaws.{and_both, and_left, and_right, both_ways, either_way, or_cases, or_left, or_none_right, or_right}
+use Rattle.sm_names.proofs.StandingLaws.{In-any}
 use Rattle.alloc_event.specs.declared.decision.Decision.{Decision}
-use Rattle.alloc_event.specs.declared.decision.Decision.TheVariants.{Ends, Loses, Places, Allocates}
+use Rattle.alloc_event.specs.declared.decision.Decision.TheVariants.{Ends, Loses, Allocates}
 use Rattle.alloc_event.specs.declared.node.Node.{Node}
-use Rattle.alloc_event.specs.Decisions.{decided, early_failure, first_step, has_strong, is_unplaced, late_failure, later_step, mark_of, waiting, wanted_by, IsAllocating, IsStep}
+use Rattle.alloc_event.specs.Decisions.{decided, first_step, has_strong, is_unplaced, late_failure, later_step, mark_of, waiting, IsAllocating, IsStep}
+use Rattle.alloc_event.specs.Falls.{AreGrown, stand, stands}
 use Rattle.alloc_event.specs.Forest.{Collection, pages_in}
-use Rattle.alloc_event.specs.InTurn.{GoesOn, IsGiven, Next, Same, Serves}
-use Rattle.alloc_event.specs.Progress.{Given, work}
-use Rattle.alloc_event.specs.Nodes.{after_allocation, given_buffers}
-use Rattle.alloc_event.specs.Questions.{is_deserted_node, is_live_node, is_next_node, is_ready_node, is_root_left, lives_below}
-use Rattle.alloc_event.specs.Scenes.{IsSound, frame_of, heads_itself, is_held_strongly}
-use Rattle.alloc_event.specs.Settling.{Handles, Settles, is_root_of}
-use Rattle.alloc_event.proofs.calm.Calming.{any_map, find_map, later}
+use Rattle.alloc_event.specs.InTurn.{Fails, GoesOn, IsOrigin, Next, Runs, Same, Serves, fault_of}
+use Rattle.alloc_event.specs.Nodes.{after_allocation, after_loss}
+use Rattle.alloc_event.specs.Progress.{Given, Lost, Progress, work}
+use Rattle.alloc_event.specs.Questions.{is_below, is_deserted_node, is_next_node, is_ready_node, is_root_left}
+use Rattle.alloc_event.specs.Scenes.{IsSound, frame_of, is_held_strongly}
+use Rattle.alloc_event.specs.Settling.{Handles, Settles, is_root_of, made}
 use Rattle.alloc_event.proofs.calm.Forcing.{forced_made}
 use Rattle.alloc_event.proofs.calm.Movings.{less_left, same_frames, sound_by_spines, spines_by_frames, unplaced_before}
 use Rattle.alloc_event.proofs.calm.Settlings.{step_settles}
-use Rattle.alloc_event.proofs.calm.Steps.{all-In, decided_steps, found_by_key}
-use Rattle.alloc_event.proofs.tables.Links.{below_by_links, link_of, map-kept}
+use Rattle.alloc_event.proofs.calm.Steps.{decided_steps}
+use Rattle.alloc_event.proofs.turns.Holding.{AreHeld, all_placed, gone_in, held_between, held_by, none_ends, stays_before, strong_before}
+use Rattle.alloc_event.proofs.turns.Standing.{gift_is, loss_is}
+use Rattle.alloc_event.proofs.turns.Gifts.{not_this}
 
 -- ---- the other steps
 
 -- the root is lost, for want of a strong node
-abbrev pub losing : List Node → Bool → Option Node → Option Decision
+abbrev losing : List Node → Bool → Option Node → Option Decision
 losing nodes strong_open o =
     option_and_then (λ (root : Node). when (root.allocated && (not (has_strong nodes) && not strong_open)) (Loses root.key
     Cause.NoStrong)) o
 
--- none of those steps applies that come before the allocation of an attached unit
-pub record AreCalm (nodes : List Node) (strong_open : Bool) : Type 0 where
-  pub no_end : find (is_deserted_node nodes) nodes ≡ None
-  pub no_loss : losing nodes strong_open (find is_root_left nodes) ≡ None
-  pub no_root : waiting nodes ≡ None
-
-not_ends : (head : NodeKey) (o : Option Node) (rest : List (Option Decision)) →
-    first_some (option_map (λ (n : Node). Ends n.key) o ∷ rest) ≡ Some (Allocates head) →
-    (o ≡ None) × (first_some rest ≡ Some (Allocates head))
-not_ends head None rest e = (refl, e)
-not_ends head (Some n) rest e = cc
-
-not_loses : (head : NodeKey) (nodes : List Node) (strong_open : Bool) (o : Option Node) (rest : List (Option Decision)) →
-    first_some (losing nodes strong_open o ∷ rest) ≡ Some (Allocates head) →
-    (losing nodes strong_open o ≡ None) × (first_some rest ≡ Some (Allocates head))
-not_loses head nodes strong_open None rest e = (refl, e)
-not_loses head nodes strong_open (Some root) rest e = from (root.allocated && (not (has_strong nodes) && not strong_open)) e
-  where
-    from : (b : Bool) → first_some (when b (Loses root.key Cause.NoStrong) ∷ rest) ≡ Some (Allocates head) →
-        (when b (Loses root.key Cause.NoStrong) ≡ None) × (first_some rest ≡ Some (Allocates head))
-    from true e = cc
-    from false e = (refl, e)
-
-not_places : (head : NodeKey) (nodes : List Node) (o : Option Node) (rest : List (Option Decision)) →
-    first_some (option_map (λ (n : Node). first_step nodes n.key) o ∷ rest) ≡ Some (Allocates head) →
-    (o ≡ None) × (first_some rest ≡ Some (Allocates head))
-not_places head nodes None rest e = (refl, e)
-not_places head nodes (Some n) rest e = absurd (from (early_failure n.key nodes) e)
-  where
-    from : (o : Option Failure) →
-        Some (option_map_or (λ why. Loses n.key (Cause.Failed why)) o (Places n.key (wanted_by n.key nodes))) ≡ Some (Allocates head) → ⊥
-    from None e = cc
-    from (Some why) e = cc
-
-pub calm_by : (nodes : List Node) (buffers : Option Buffers) (strong_open : Bool) (head : NodeKey) →
-    decided nodes buffers strong_open ≡ Some (Allocates head) → AreCalm nodes strong_open
-calm_by nodes buffers strong_open head e =
-    let a = not_ends head (find (is_deserted_node nodes) nodes)
-    (losing nodes strong_open (find is_root_left nodes) ∷ option_map (λ (n : Node). first_step nodes n.key) (waiting nodes)
-    ∷ later nodes buffers ∷ [])
-    e in
-    let b = not_loses head nodes strong_open (find is_root_left nodes)
-    (option_map (λ (n : Node). first_step nodes n.key) (waiting nodes) ∷ later nodes buffers ∷ []) a.1 in
-    let d = not_places head nodes (waiting nodes) (later nodes buffers ∷ []) b.1 in
-    record { no_end = a.0; no_loss = b.0; no_root = d.0 }
-
-all_same : (p q : Node → Bool) (f : Node → Node) (ns : List Node) → ((n : Node) → p (f n) ≡ q n) → list_all p (map f ns) ≡ list_all q ns
-all_same p q f [] same = refl
-all_same p q f (n ∷ ns) same = λ i. same n i && all_same p q f ns same i
-
--- ---- the allocation of an attached unit leaves them so
-
-module _ (c : Collection) (sound : IsSound c) (k : NodeKey) (child : is_root_of c k ≡ false) (strong_open : Bool) where
-  abbrev f : Node → Node
-  f = given_buffers k
-
-  abbrev after : List Node
-  after = after_allocation k c.nodes
-
-  pub deserted_same : (n : Node) → is_deserted_node after (f n) ≡ is_deserted_node c.nodes n
-  deserted_same n = ap (λ (b : Bool). (is_none n.parent || n.attached) && (not n.gone && not b))
-      (any_map (lives_below after n.key) (lives_below c.nodes n.key) f c.nodes (λ m. ap (λ (b : Bool). is_live_node m && b)
-      (below_by_links after c.nodes n.key m.key (map-kept f link_of c.nodes (λ x. refl)))))
-
-  pub ready_on : (head : NodeKey) → list_all (is_ready_node head) after ≡ list_all (is_ready_node head) c.nodes
-  ready_on head = all_same (is_ready_node head) (is_ready_node head) f c.nodes (λ n. refl)
-
-  pub strong_on : has_strong after ≡ has_strong c.nodes
-  strong_on = any_map (λ n. is_live_node n && not n.weak) (λ n. is_live_node n && not n.weak) f c.nodes (λ n. refl)
-
-  pub root_on : find is_root_left after ≡ option_map f (find is_root_left c.nodes)
-  root_on = find_map is_root_left is_root_left f c.nodes (λ n. refl)
-
-  -- the root is of another unit
-  pub root_same : (r : Node) → find is_root_left c.nodes ≡ Some r → (same_key k r.head || r.allocated) ≡ r.allocated
-  root_same r e =
-      let on = In-find is_root_left c.nodes r e in
-      let root : is_none r.parent ≡ true = and_left (is_none r.parent) (not r.gone) on.1 in
-      let own : heads_itself r ≡ true = all-In heads_itself c.nodes r on.0 sound.heads in
-      let head : same_key r.head r.key ≡ true = rw root at own in
-      ap (λ (b : Bool). b || r.allocated) (false_if (same_key k r.head) (λ s.
-      let key : r.key ≡ k = sym (same_key-true k r.head s ∙ same_key-true r.head r.key head) in
-      let found : is_root_of c r.key ≡ is_none r.parent =
-      ap (λ (o : Option Node). option_map_or (λ (m : Node). is_none m.parent) o false) (found_by_key c.nodes r sound.distinct on.0) in
-      both_ways (is_root_of c k) (sym (ap (is_root_of c) key) ∙ found ∙ root) child))
-
-  loss_on : (o : Option Node) → find is_root_left c.nodes ≡ o → losing c.nodes strong_open o ≡ None →
-      losing after strong_open (option_map f o) ≡ None
-  loss_on None e h = refl
-  loss_on (Some r) e h = (λ i. when (root_same r e i && (not (strong_on i) && not strong_open)) (Loses r.key Cause.NoStrong)) ∙ h
-
-  pub wait_on : (o : Option Node) → find is_root_left c.nodes ≡ o →
-      option_and_then (λ (root : Node). when (not root.allocated && list_all (is_ready_node root.key) c.nodes) root) o ≡ None →
-      option_and_then (λ (root : Node). when (not root.allocated && list_all (is_ready_node root.key) after) root) (option_map f o) ≡ None
-  wait_on None e h = refl
-  wait_on (Some r) e h =
-      (λ i. when (not (root_same r e i) && ready_on r.key i) (f r)) ∙ still (not r.allocated && list_all (is_ready_node r.key) c.nodes) h
+module _ (nodes : List Node) (strong_open : Bool) where
+  no_loss : (o : Option Node) → (has_strong nodes || strong_open) ≡ true → losing nodes strong_open o ≡ None
+  no_loss None kept = refl
+  no_loss (Some root) kept = from root.allocated (has_strong nodes) strong_open kept
     where
-      still : (b : Bool) → when b r ≡ None → when b (f r) ≡ None
-      still true h = cc
-      still false h = refl
+      from : (a s t : Bool) → (s || t) ≡ true → when (a && (not s && not t)) (Loses root.key Cause.NoStrong) ≡ None
+      from true true t e = refl
+      from true false true e = refl
+      from true false false e = cc
+      from false s t e = refl
 
-  calm_on : AreCalm c.nodes strong_open → AreCalm after strong_open
-  calm_on calm = record {
-    no_end = find_map (is_deserted_node after) (is_deserted_node c.nodes) f c.nodes deserted_same ∙ ap (option_map f) calm.no_end;
-    no_loss = ap (losing after strong_open) root_on ∙ loss_on (find is_root_left c.nodes) refl calm.no_loss;
-    no_root = ap (option_and_then (λ (root : Node). when (not root.allocated && list_all (is_ready_node root.key) after) root)) root_on
-        ∙ wait_on (find is_root_left c.nodes) refl calm.no_root;
-  }
+  none_waits : is_unplaced nodes ≡ false → waiting nodes ≡ None
+  none_waits placed = from (find is_root_left nodes) refl
+    where
+      from : (o : Option Node) → find is_root_left nodes ≡ o →
+          option_and_then (λ (root : Node). when (not root.allocated && list_all (is_ready_node root.key) nodes) root) o ≡ None
+      from None e = refl
+      from (Some root) e = elim (either_way root.allocated) [
+        | inl a ↦ rw a refl
+        | inr a ↦
+            let on = In-find is_root_left nodes root e in
+            absurd (not_this (λ (n : Node). is_none n.parent && (not n.gone && not n.allocated)) nodes root placed on.0
+            (and_both (is_none root.parent) _ (and_left (is_none root.parent) (not root.gone) on.1)
+            (and_both (not root.gone) (not root.allocated) (and_right (is_none root.parent) (not root.gone) on.1) (ap not a))))
+      ]
+
+  -- where none of them applies the next unit is what is decided
+  next_decided : (b : Buffers) (n : Node) → find (is_deserted_node nodes) nodes ≡ None → (has_strong nodes || strong_open) ≡ true →
+      is_unplaced nodes ≡ false → find (is_next_node nodes) nodes ≡ Some n →
+      decided nodes (Some b) strong_open ≡ Some (later_step nodes b n.key)
+  next_decided b n no_end kept placed found =
+      (λ i. first_some (option_map (λ (n : Node). Ends n.key) (no_end i) ∷ no_loss (find is_root_left nodes) kept i
+      ∷ option_map (λ (n : Node). first_step nodes n.key) (none_waits placed i)
+      ∷ option_map (λ (n : Node). later_step nodes b n.key) (found i) ∷ []))
 
 -- ---- the steps
-
--- so the next unit is what is decided
-pub next_decided : (nodes : List Node) (b : Buffers) (strong_open : Bool) (n : Node) → AreCalm nodes strong_open →
-    find (is_next_node nodes) nodes ≡ Some n → late_failure n.key nodes b ≡ None →
-    decided nodes (Some b) strong_open ≡ Some (Allocates n.key)
-next_decided nodes b strong_open n calm found late =
-    (λ i. first_some (option_map (λ (n : Node). Ends n.key) (calm.no_end i) ∷ calm.no_loss i
-    ∷ option_map (λ (n : Node). first_step nodes n.key) (calm.no_root i)
-    ∷ option_map (λ (n : Node). later_step nodes b n.key) (found i) ∷ []))
-    ∙ ap (λ (o : Option Failure). Some (option_map_or (λ why. Loses n.key (Cause.Failed why)) o (Allocates n.key))) late
 
 -- steps that lead from the one collection to the other
 pub record Goes (handles : Handles) (old new : Collection) : Type 0 where
@@ -182,58 +100,142 @@ stays handles old new same = subst (λ (c : Collection). Goes handles old c) (sy
   pages = refl;
 })
 
+-- where no unit was allocated and none fell, all stand as they were
+stands_still : (nodes ns : List Node) → map (stands nodes [] []) ns ≡ ns
+stands_still nodes [] = refl
+stands_still nodes (n ∷ ns) = ap (λ ms. n ∷ ms) (stands_still nodes ns)
+
+-- what is next is attached, and stands
+next_is : (nodes : List Node) (n : Node) → find (is_next_node nodes) nodes ≡ Some n → (n.attached ≡ true) × (n.gone ≡ false)
+next_is nodes n found =
+    let test = (In-find (is_next_node nodes) nodes n found).1 in
+    (and_left n.attached _ test, not-true n.gone (and_left (not n.gone) _ (and_right n.attached _ test)))
+
+-- where units fell
+origins_of : (b : Buffers) (nodes : List Node) (heads : List NodeKey) (falls : List Fault) → Serves b nodes heads falls →
+    (f : Fault) → In f falls → IsOrigin nodes f.origin
+origins_of b nodes _ _ Same f on = absurd on
+origins_of b nodes _ _ (Next heads falls n s found late) f on = origins_of b nodes heads falls s f on
+origins_of b nodes _ _ (Fails heads falls n why s there found late apart) f on =
+    elim (In-append falls (fault_of why n.key ∷ []) f on) [
+      | inl old ↦ origins_of b nodes heads falls s f old
+      | inr new ↦ elim new [
+        | inl is ↦
+            let next = next_is (stand nodes heads falls) (stands nodes heads falls n) found in
+            record {
+              node = n;
+              on = there;
+              is = ap (λ (g : Fault). g.origin) (sym is);
+              attached = next.0;
+              here = or_none_right _ n.gone next.1;
+            }
+        | inr none ↦ absurd none
+      ]
+    ]
+
 module _ (handles : Handles) (c : Collection) (b : Buffers) (has : c.buffers ≡ Some b) (sound : IsSound c)
-    (calm : AreCalm c.nodes (is_held_strongly handles c.id c.buffers)) where
+    (grown : AreGrown c.nodes) (first : AreHeld c.nodes []) (placed : is_unplaced c.nodes ≡ false) where
   abbrev with : List Node → Collection
   with ns = record c { nodes = ns }
 
-  pub served : (ns : List Node) → Serves b c.nodes ns →
-      (Goes handles c (with ns)) × (AreCalm ns (is_held_strongly handles c.id c.buffers)) × (IsSound (with ns))
-  served _ Same = (stays handles c c refl, calm, sound)
-  served _ (Next now n s found late) =
-      let r = served now s in
-      let new : Collection = with (after_allocation n.key now) in
-      let told : decided now c.buffers (is_held_strongly handles c.id c.buffers) ≡ Some (Allocates n.key) =
-      ap (λ (o : Option Buffers). decided now o (is_held_strongly handles c.id c.buffers)) has
-      ∙ next_decided now b (is_held_strongly handles c.id c.buffers) n r.1 found late in
-      let step : IsAllocating (with now) n.key =
-      subst (λ o. IfSome o (IsStep (with now))) told (decided_steps (with now) r.2 (is_held_strongly handles c.id c.buffers)) in
-      let frames = same_frames now (after_allocation n.key now) (Given n.key step.waits) in
-      let less = less_left now (after_allocation n.key now) (Given n.key step.waits) in
+  abbrev strong : Bool
+  strong = is_held_strongly handles c.id c.buffers
+
+  -- one forced step more
+  step_more : (now new : List Node) (d : Decision) → (Goes handles c (with now)) × (IsSound (with now)) →
+      decided now c.buffers strong ≡ Some d → (IsStep (with now) d → Progress now new) →
+      ((pool : ℕ) (others : List Interval) → with new ≡ made pool others (mark_of pool (pages_in (with now) ++ others) d) (with now)) →
+      (Goes handles c (with new)) × (IsSound (with new))
+  step_more now new d r told progress is =
+      let step : IsStep (with now) d = subst (λ o. IfSome o (IsStep (with now))) told (decided_steps (with now) r.1 strong) in
+      let moves = progress step in
+      let frames = same_frames now new moves in
+      let less = less_left now new moves in
       let before = r.0.work in
-      let still : IsSound new = sound_by_spines (with now) new r.2 (spines_by_frames now (after_allocation n.key now) frames) sound.few in (
+      let still : IsSound (with new) = sound_by_spines (with now) (with new) r.1 (spines_by_frames now new frames) sound.few in (
         record {
-          settles = λ pool others after on. r.0.settles pool others after (step_settles pool handles others (with now) new after
-              (Allocated n.key)
+          settles = λ pool others after on. r.0.settles pool others after (step_settles pool handles others (with now) (with new) after
+              (mark_of pool (pages_in (with now) ++ others) d)
               (forced_made handles pool others (with now) ∙ ap (option_map (mark_of pool (pages_in (with now) ++ others))) told)
-              (rw step.attached refl) on);
+              (is pool others) on);
           work = omega arith;
           frames = frames ∙ r.0.frames;
-          unplaced = λ h. r.0.unplaced (unplaced_before now (after_allocation n.key now) (Given n.key step.waits) h);
+          unplaced = λ h. r.0.unplaced (unplaced_before now new moves h);
           sound = λ h. still;
           id = refl;
           pages = refl;
         },
-        calm_on (with now) r.2 n.key step.attached (is_held_strongly handles c.id c.buffers) r.1,
         still,
       )
 
--- what follows a step
-pub goes_on : (handles : Handles) (step : Decision) (old mid new : Collection) →
-    decided old.nodes old.buffers (is_held_strongly handles old.id old.buffers) ≡ Some step → IsSound old → IsSound mid →
-    IsStep old step → IsGiven step old mid → GoesOn step mid new → Goes handles mid new
-goes_on handles (Ends top) old mid new told sound now is given goes = stays handles mid new goes
-goes_on handles (Loses origin cause) old mid new told sound now is given goes = stays handles mid new goes
-goes_on handles (Places head wants) old mid new told sound now is given goes = stays handles mid new goes
-goes_on handles (Allocates head) old mid new told sound now is given goes = from mid.buffers refl goes
-  where
-    calm : AreCalm mid.nodes (is_held_strongly handles mid.id mid.buffers)
-    calm = subst (λ (m : Collection). AreCalm m.nodes (is_held_strongly handles m.id m.buffers)) (sym given)
-        (calm_on old sound head is.attached (is_held_strongly handles old.id old.buffers)
-        (calm_by old.nodes old.buffers (is_held_strongly handles old.id old.buffers) head told))
+  -- the next one is allocated, or fails
+  told_next : (heads : List NodeKey) (falls : List Fault) (n : Node) (o : Option Failure) → AreHeld c.nodes falls →
+      (has_strong (stand c.nodes heads falls) || strong) ≡ true →
+      find (is_next_node (stand c.nodes heads falls)) (stand c.nodes heads falls) ≡ Some (stands c.nodes heads falls n) →
+      late_failure n.key (stand c.nodes heads falls) b ≡ o →
+      decided (stand c.nodes heads falls) c.buffers strong
+      ≡ Some (option_map_or (λ why. Loses n.key (Cause.Failed why)) o (Allocates n.key))
+  told_next heads falls n o held kept found late =
+      let now : List Node = stand c.nodes heads falls in
+      ap (λ (g : Option Buffers). decided now g strong) has
+      ∙ next_decided now strong b (stands c.nodes heads falls n) (none_ends c.nodes heads falls held) kept
+      (all_placed c.nodes heads falls placed) found
+      ∙ ap (λ (g : Option Failure). Some (option_map_or (λ why. Loses n.key (Cause.Failed why)) g (Allocates n.key))) late
 
-    from : (o : Option Buffers) → mid.buffers ≡ o →
-        MatchOption o (new ≡ mid) (λ b. (nodes : List Node) × (Serves b mid.nodes nodes) × (new ≡ record mid { nodes = nodes })) →
-        Goes handles mid new
-    from None e g = stays handles mid new g
-    from (Some b) e g = subst (λ (c : Collection). Goes handles mid c) (sym g.2) (served handles mid b e now calm g.0 g.1).0
+  -- a strong live node, or an open strong handle, was there before
+  kept_before : (old new : List NodeKey) (before after : List Fault) →
+      ((n : Node) → gone_in c.nodes after n ≡ false → gone_in c.nodes before n ≡ false) →
+      (has_strong (stand c.nodes new after) || strong) ≡ true → (has_strong (stand c.nodes old before) || strong) ≡ true
+  kept_before old new before after less kept = elim (or_cases (has_strong (stand c.nodes new after)) strong kept) [
+    | inl e ↦ or_left (has_strong (stand c.nodes old before)) strong (strong_before c.nodes old new before after less e)
+    | inr e ↦ or_right (has_strong (stand c.nodes old before)) strong e
+  ]
+
+  served : (heads : List NodeKey) (falls : List Fault) → Serves b c.nodes heads falls → AreHeld c.nodes falls →
+      (has_strong (stand c.nodes heads falls) || strong) ≡ true →
+      (Goes handles c (with (stand c.nodes heads falls))) × (IsSound (with (stand c.nodes heads falls)))
+  served _ _ Same held kept =
+      subst (λ (ns : List Node). (Goes handles c (with ns)) × (IsSound (with ns))) (sym (stands_still c.nodes c.nodes))
+      (stays handles c c refl, sound)
+  served _ _ (Next heads falls n s found late) held kept =
+      let now : List Node = stand c.nodes heads falls in
+      let kept_now : (has_strong now || strong) ≡ true = kept_before heads (heads ++ n.key ∷ []) falls falls (λ m h. h) kept in
+      let r = served heads falls s held kept_now in
+      subst (λ (ns : List Node). (Goes handles c (with ns)) × (IsSound (with ns))) (sym (gift_is c.nodes heads falls n.key))
+      (step_more now (after_allocation n.key now) (Allocates n.key) r (told_next heads falls n None held kept_now found late)
+      (λ (step : IsAllocating (with now) n.key). Given n.key step.waits)
+      (λ pool others. rw (attached now r.1 (told_next heads falls n None held kept_now found late)) refl))
+    where
+      attached : (now : List Node) → IsSound (with now) → decided now c.buffers strong ≡ Some (Allocates n.key) →
+          is_root_of (with now) n.key ≡ false
+      attached now ok told =
+          let step : IsAllocating (with now) n.key =
+          subst (λ o. IfSome o (IsStep (with now))) told (decided_steps (with now) ok strong) in
+          step.attached
+  served _ _ (Fails heads falls n why s there found late apart) held kept =
+      let now : List Node = stand c.nodes heads falls in
+      let fault : Fault = fault_of why n.key in
+      let held_now : AreHeld c.nodes falls = held_between c.nodes falls fault sound.distinct grown sound.heads
+      (origins_of b c.nodes heads falls s) apart first held in
+      let kept_now : (has_strong now || strong) ≡ true = kept_before heads heads falls (falls ++ fault ∷ [])
+      (stays_before c.nodes falls fault) kept in
+      let r = served heads falls s held_now kept_now in
+      let next = next_is now (stands c.nodes heads falls n) found in
+      subst (λ (ns : List Node). (Goes handles c (with ns)) × (IsSound (with ns)))
+      (sym (loss_is c.nodes sound.distinct grown sound.heads heads falls n there next.0 next.1 fault refl))
+      (step_more now (after_loss fault now) (Loses n.key (Cause.Failed why)) r
+      (told_next heads falls n (Some why) held_now kept_now found late) (λ left. Lost fault left) (λ pool others. refl))
+
+-- what follows a step
+pub goes_on : (handles : Handles) (old new : Collection) → IsSound old → GoesOn (is_held_strongly handles old.id old.buffers) old new →
+    Goes handles old new
+goes_on handles old new sound (inl same) = stays handles old new same
+goes_on handles old new sound (inr r) =
+    let run = r.runs.run in
+    let now : List Node = stand old.nodes run.heads run.falls in
+    subst (λ (c : Collection). Goes handles old c) (sym (r.is ∙ ap (λ (ns : List Node). record old { nodes = ns }) run.is))
+    (served handles old r.buffers r.given sound r.runs.grown
+    (held_by old.nodes [] [] (subst (λ (ns : List Node). find (is_deserted_node ns) ns ≡ None) (sym (stands_still old.nodes old.nodes))
+    r.runs.no_end)) r.runs.no_root run.heads run.falls run.serves
+    (held_by old.nodes run.heads run.falls (subst (λ (ns : List Node). find (is_deserted_node ns) ns ≡ None) run.is r.runs.no_end_after))
+    (subst (λ (ns : List Node). (has_strong ns || is_held_strongly handles old.id old.buffers) ≡ true) run.is r.runs.kept)).0

@@ -1,195 +1,36 @@
--- One node more in the walk: it is passed, or its unit is allocated.
-use Rattle.std.proofs.Common.{ℕ, zero, suc, ◌+◌, ◌<◌, ◌≡◌, refl, ap, sym, ◌∙◌, subst, Bool, true, false, not, ◌&&◌, ◌||◌, inl, inr, nat_lt, if◌then◌else◌, List, [], ◌∷◌, ◌++◌, map, set, get_or, is_none, length, Option, Some, None, arith}
-use Rattle.std.proofs.lemmas.List.{append_assoc, length-append}
-use Rattle.std.specs.List.{list_any, list_all, fold, find, cons_option, slice_get, sum_by}
-use Rattle.std.specs.Option.{option_map_or}
+-- One node more in the walk: it is passed, or its unit is allocated or fails.
+use Rattle.std.proofs.Common.{ℕ, zero, suc, ◌+◌, ◌<◌, ◌≡◌, refl, ap, sym, ◌∙◌, subst, Bool, true, false, not, ◌&&◌, ◌||◌, inl, inr, nat_lt, List, [], ◌∷◌, ◌++◌, map, drop, set, get_or, is_none, is_some, length, Option, Some, None, arith}
 use Rattle.std.proofs.lemmas.Bool.{not-true}
-use Rattle.std.proofs.Math.Bool.{or_assoc}
+use Rattle.std.proofs.lemmas.List.{append_assoc, length-append, length-map, map-append}
+use Rattle.std.specs.List.{list_any, list_all, find, slice_get, sum_by}
+use Rattle.std.specs.Option.{option_map_or}
 use Rattle.sm_names.specs.declared.keys.NodeKey.{NodeKey}
 use Rattle.sm_names.specs.declared.outcomes.Buffers.{Buffers}
 use Rattle.sm_names.specs.declared.outcomes.Failure.{Failure}
+use Rattle.sm_names.specs.declared.outcomes.Fault.{Fault}
 use Rattle.sm_names.specs.Demands.{Demand}
 use Rattle.sm_names.specs.Members.{greatest}
 use Rattle.sm_names.specs.Sameness.{same_key}
 use Rattle.sm_names.specs.Words.{first_some, when}
-use Rattle.sm_names.proofs.ListLaws.{In, In-list_any}
-use Rattle.sm_names.proofs.SamenessLaws.{and_both, and_left, and_right, both_ways, either_way, false_if, or_cases, or_none_left, or_none_right, or_both, or_right, same_key-refl, same_key-true, some-injective}
-use Rattle.sm_names.proofs.StandingLaws.{In-any, both_tests}
+use Rattle.sm_names.proofs.ListLaws.{In, In-append, In-list_any, map-In}
+use Rattle.sm_names.proofs.SamenessLaws.{and_both, and_left, and_right, both_ways, either_way, false_if, or_both, or_cases, or_left, or_none_left, or_none_right, or_right, same_key-refl, same_key-true}
+use Rattle.sm_names.proofs.StandingLaws.{In-any}
 use Rattle.alloc_event.specs.declared.in_turn.Claim.{Claim}
 use Rattle.alloc_event.specs.declared.in_turn.Turn.{Turn}
 use Rattle.alloc_event.specs.declared.node.Node.{Node}
 use Rattle.alloc_event.specs.Decisions.{late_failure}
-use Rattle.alloc_event.specs.InTurn.{IsAbove, IsKeyAt, IsPassing, Next, Same, Serves, claim_of, given_all, hangs_in, is_due_in, is_new_in, summed}
-use Rattle.alloc_event.specs.Nodes.{after_allocation, given_buffers, is_of, node_of}
-use Rattle.alloc_event.specs.Questions.{demands_of, is_allocated_node, is_in_unit, is_next_node, is_ready_node, is_served}
+use Rattle.alloc_event.specs.Falls.{AreGrown, Fits, fall_mark, fall_of, given_all, stand, stands}
+use Rattle.alloc_event.specs.InTurn.{Fails, IsAbove, IsKeyAt, IsMarking, IsOrigin, IsPassing, Next, Same, Serves, claim_of, fault_of, hangs_in, has_turn_in, is_due_in}
+use Rattle.alloc_event.specs.Nodes.{is_of}
+use Rattle.alloc_event.specs.Questions.{demands_of, is_allocated_node, is_below, is_next_node, is_ready_node, is_served}
 use Rattle.alloc_event.specs.Scenes.{are_distinct, heads_itself}
 use Rattle.alloc_event.proofs.calm.Calming.{any_map}
-use Rattle.alloc_event.proofs.calm.Steps.{found_by_key}
-use Rattle.alloc_event.proofs.lists.Lookups.{same_key-swap}
-use Rattle.alloc_event.proofs.turns.Claims.{camping_is, changed_flag, claim_at, least_is, more_is, others_apart, ready_is, size_is}
-
--- ---- lists
-
--- one more at the end
-pub any_snoc : {A : Type 0} (p : A → Bool) (xs : List A) (x : A) → list_any p (xs ++ x ∷ []) ≡ (list_any p xs || p x)
-any_snoc p [] x = last (p x)
-  where
-    last : (b : Bool) → (b || false) ≡ (false || b)
-    last true = refl
-    last false = refl
-any_snoc p (y ∷ ys) x = ap (λ (b : Bool). p y || b) (any_snoc p ys x) ∙ sym (or_assoc (p y) (list_any p ys) (p x))
-
--- none is
-none_of : {A : Type 0} (p : A → Bool) (xs : List A) → ((x : A) → In x xs → p x ≡ true → ⊥) → list_any p xs ≡ false
-none_of p xs nobody = false_if (list_any p xs) (λ e. let x = In-list_any p xs e in nobody x.0 x.1 x.2)
-
--- not this one, where none is
-not_this : {A : Type 0} (p : A → Bool) (xs : List A) (x : A) → list_any p xs ≡ false → In x xs → p x ≡ true → ⊥
-not_this p xs x none on is = both_ways (list_any p xs) (In-any p xs x on is) none
-
-In_front : {A : Type 0} (xs ys : List A) (x : A) → In x xs → In x (xs ++ ys)
-In_front [] ys x on = absurd on
-In_front (z ∷ zs) ys x (inl is) = inl is
-In_front (z ∷ zs) ys x (inr on) = inr (In_front zs ys x on)
-
-In_behind : {A : Type 0} (xs ys : List A) (x : A) → In x ys → In x (xs ++ ys)
-In_behind [] ys x on = on
-In_behind (z ∷ zs) ys x on = inr (In_behind zs ys x on)
-
--- the first that passes, where none before it does
-first_at : (p : Node → Bool) (f : Node → Node) (before more : List Node) (n : Node) → list_any (λ m. p (f m)) before ≡ false →
-    p (f n) ≡ true → find p (map f (before ++ n ∷ more)) ≡ Some (f n)
-first_at p f [] more n none is = rw is refl
-first_at p f (m ∷ ms) more n none is =
-    let here : p (f m) ≡ false = or_none_left (p (f m)) (list_any (λ k. p (f k)) ms) none in
-    rw here (first_at p f ms more n (or_none_right (p (f m)) (list_any (λ k. p (f k)) ms) none) is)
-
--- keys before a place and behind it
-parts_apart : (xs ys : List Node) (a b : Node) → are_distinct (xs ++ ys) ≡ true → In a xs → In b ys → b.key ≡ a.key → ⊥
-parts_apart [] ys a b h on there same = absurd on
-parts_apart (x ∷ xs) ys a b h (inl is) there same =
-    others_apart x (xs ++ ys) h b (In_behind xs ys b there) (same ∙ ap (λ (n : Node). n.key) is)
-parts_apart (x ∷ xs) ys a b h (inr on) there same =
-    parts_apart xs ys a b (and_right (not (list_any (is_of x.key) (xs ++ ys))) (are_distinct (xs ++ ys)) h) on there same
-
--- a key that stands before a place
-at_front : (xs ys : List Node) (i : ℕ) (key : NodeKey) → i < length xs → IsKeyAt (xs ++ ys) key i → (m : Node) × In m xs × (m.key ≡ key)
-at_front [] ys i key within on = absurd (omega arith)
-at_front (x ∷ xs) ys zero key within on = (x, inl refl, some-injective x.key key on)
-at_front (x ∷ xs) ys (suc i) key within on = let r = at_front xs ys i key (omega arith) on in (r.0, inr r.1, r.2)
-
--- what is read there is among them
-got_In : (ns : List Node) (i : ℕ) (n : Node) → slice_get ns i ≡ Some n → In n ns
-got_In [] i n on = cc
-got_In (m ∷ ns) zero n on = inl (ap (λ (o : Option Node). option_map_or (λ (x : Node). x) o n) (sym on))
-got_In (m ∷ ns) (suc i) n on = inr (got_In ns i n on)
-
--- one node has a key
-one_node : (ns : List Node) (a b : Node) → are_distinct ns ≡ true → In a ns → In b ns → a.key ≡ b.key → a ≡ b
-one_node ns a b h on there same =
-    let fa = found_by_key ns a h on in
-    let fb = found_by_key ns b h there in
-    ap (λ (o : Option Node). option_map_or (λ (x : Node). x) o a) (sym fa ∙ ap (node_of ns) same ∙ fb)
-
--- a test that only the node with a key passes
-only_this : (test : Node → Bool) (ns : List Node) (a : Node) → are_distinct ns ≡ true → In a ns →
-    ((m : Node) → test m ≡ true → m.key ≡ a.key) → list_any test ns ≡ test a
-only_this test ns a h on only = both_tests (list_any test ns) (test a)
-    (λ e. let m = In-list_any test ns e in
-    subst (λ (x : Node). test x ≡ true) (one_node ns m.0 a h m.1 on (only m.0 m.2)) m.2)
-    (λ e. In-any test ns a on e)
-
--- ---- units that were allocated
-
--- one more
-pub given_snoc : (heads : List NodeKey) (k : NodeKey) (n : Node) → given_all (heads ++ k ∷ []) n ≡ given_buffers k (given_all heads n)
-given_snoc heads k n = λ i. record n { allocated = is i }
-  where
-    swap : (a s t b : Bool) → s ≡ t → ((a || s) || b) ≡ (t || (a || b))
-    swap true true t b e = rw (sym e) refl
-    swap true false t b e = rw (sym e) refl
-    swap false true t b e = rw (sym e) refl
-    swap false false t b e = rw (sym e) refl
-
-    is : (list_any (same_key n.head) (heads ++ k ∷ []) || n.allocated)
-        ≡ (same_key k n.head || (list_any (same_key n.head) heads || n.allocated))
-    is = ap (λ (b : Bool). b || n.allocated) (any_snoc (same_key n.head) heads k)
-        ∙ swap (list_any (same_key n.head) heads) (same_key n.head k) (same_key k n.head) n.allocated (same_key-swap n.head k)
-
-pub all_snoc : (heads : List NodeKey) (k : NodeKey) (ns : List Node) →
-    map (given_all (heads ++ k ∷ [])) ns ≡ after_allocation k (map (given_all heads) ns)
-all_snoc heads k [] = refl
-all_snoc heads k (n ∷ ns) = λ i. given_snoc heads k n i ∷ all_snoc heads k ns i
-
--- what the nodes of a unit ask for stays
-asks_same : (k : NodeKey) (heads : List NodeKey) (ns : List Node) →
-    demands_of (is_in_unit k) (map (given_all heads) ns) ≡ demands_of (is_in_unit k) ns
-asks_same k heads [] = refl
-asks_same k heads (n ∷ ns) = ap (cons_option (if is_in_unit k n then n.constraints else None)) (asks_same k heads ns)
-
-ready_same : (k : NodeKey) (heads : List NodeKey) (ns : List Node) →
-    list_all (is_ready_node k) (map (given_all heads) ns) ≡ list_all (is_ready_node k) ns
-ready_same k heads [] = refl
-ready_same k heads (n ∷ ns) = ap (λ (b : Bool). is_ready_node k n && b) (ready_same k heads ns)
-
--- ---- what is reserved
-
-folded_on : (a : ℕ) (o : Option Demand) (rest : List Demand) →
-    fold (λ (a : ℕ) (d : Demand). a + d.camping) a (cons_option o rest) ≡ fold (λ (a : ℕ) (d : Demand). a + d.camping) (summed a o) rest
-folded_on a None rest = refl
-folded_on a (Some d) rest = refl
-
--- a node is counted once
-once : (g a u s : Bool) (o : Option Demand) (x y : ℕ) → (s ≡ true → u ≡ false) →
-    summed (x + y) (if not g && ((u || s) || a) then o else None)
-    ≡ summed x (if not g && (u || a) then o else None) + summed y (if (not g && s) && not a then o else None)
-once true a u s o x y h = refl
-once false a u s None x y h = from ((u || s) || a) (u || a) (s && not a)
-  where
-    from : (p q r : Bool) → summed (x + y) (if p then None else None)
-        ≡ summed x (if q then None else None) + summed y (if r then None else None)
-    from true true true = refl
-    from true true false = refl
-    from true false true = refl
-    from true false false = refl
-    from false true true = refl
-    from false true false = refl
-    from false false true = refl
-    from false false false = refl
-once false true true true (Some d) x y h = omega arith
-once false true true false (Some d) x y h = omega arith
-once false true false true (Some d) x y h = omega arith
-once false true false false (Some d) x y h = omega arith
-once false false true true (Some d) x y h = let nobody : true ≡ false = h refl in cc
-once false false true false (Some d) x y h = omega arith
-once false false false true (Some d) x y h = omega arith
-once false false false false (Some d) x y h = refl
-
-module _ (heads : List NodeKey) (k : NodeKey) (fresh : list_any (same_key k) heads ≡ false) where
-  here_once : (n : Node) (x y : ℕ) →
-      summed (x + y) (if is_served (given_all (heads ++ k ∷ []) n) then n.constraints else None)
-      ≡ summed x (if is_served (given_all heads n) then n.constraints else None)
-      + summed y (if is_new_in k n then n.constraints else None)
-  here_once n x y =
-      ap (λ (b : Bool). summed (x + y) (if not n.gone && (b || n.allocated) then n.constraints else None)) (any_snoc (same_key n.head)
-      heads k)
-      ∙ once n.gone n.allocated (list_any (same_key n.head) heads) (same_key n.head k) n.constraints x y
-      (λ e. ap (λ (h : NodeKey). list_any (same_key h) heads) (same_key-true n.head k e) ∙ fresh)
-
-  sums_on : (ns : List Node) (x y : ℕ) →
-      fold (λ (a : ℕ) (d : Demand). a + d.camping) (x + y) (demands_of is_served (map (given_all (heads ++ k ∷ [])) ns))
-      ≡ fold (λ (a : ℕ) (d : Demand). a + d.camping) x (demands_of is_served (map (given_all heads) ns))
-      + fold (λ (a : ℕ) (d : Demand). a + d.camping) y (demands_of (is_new_in k) ns)
-  sums_on [] x y = refl
-  sums_on (n ∷ ns) x y =
-      let s = if is_served (given_all heads n) then n.constraints else None in
-      let t = if is_new_in k n then n.constraints else None in
-      let add : ℕ → Demand → ℕ = λ a d. a + d.camping in
-      folded_on (x + y) (if is_served (given_all (heads ++ k ∷ []) n) then n.constraints else None)
-      (demands_of is_served (map (given_all (heads ++ k ∷ [])) ns))
-      ∙ ap (λ (z : ℕ). fold add z (demands_of is_served (map (given_all (heads ++ k ∷ [])) ns))) (here_once n x y)
-      ∙ sums_on ns (summed x s) (summed y t)
-      ∙ (λ i. sym (folded_on x s (demands_of is_served (map (given_all heads) ns))) i + sym (folded_on y t (demands_of (is_new_in k) ns)) i)
+use Rattle.alloc_event.proofs.calm.Steps.{all-In}
+use Rattle.alloc_event.proofs.turns.Claims.{camping_is, changed_flag, claim_at, least_is, more_is, ready_is, size_is}
+use Rattle.alloc_event.proofs.turns.Gifts.{In_behind, In_front, any_snoc, asks_same, at_front, first_at, got_In, none_of, not_this, one_node, only_this, parts_apart, ready_same, sums_on}
+use Rattle.alloc_event.proofs.turns.Holding.{still_none}
+use Rattle.alloc_event.proofs.turns.Standing.{find_snoc, late_same, next_stands}
+use Rattle.alloc_event.proofs.turns.Trees.{heads_own, not_below, unit_below}
 
 -- ---- whose unit is next
 
@@ -289,19 +130,50 @@ key_here : (before more : List Node) (n : Node) → IsKeyAt (before ++ n ∷ mor
 key_here [] more n = refl
 key_here (m ∷ ms) more n = key_here ms more n
 
-late_none : (p q r : Bool) → p ≡ false → q ≡ false → r ≡ false →
-    first_some (when (p || q) Failure.TooFew ∷ when r Failure.TooSmall ∷ []) ≡ None
-late_none p q r hp hq hr = rw (hp, hq, hr) refl
+none_or : (b : Bool) → (b || false) ≡ b
+none_or true = refl
+none_or false = refl
 
-module _ (b : Buffers) (nodes more : List Node) (n : Node) (at : ℕ) (given : List Bool) (heads : List NodeKey) (taken : ℕ)
-    (distinct : are_distinct nodes ≡ true) (w : IsPassing b nodes (n ∷ more) at given heads taken) where
-  parted : are_distinct (w.before ++ n ∷ more) ≡ true
+-- a node of these is one of more
+pub wider : (xs ys : List Node) (key : NodeKey) → IsOrigin xs key → IsOrigin (xs ++ ys) key
+wider xs ys key o = record { node = o.node; on = In_front xs ys o.node o.on; is = o.is; attached = o.attached; here = o.here }
+
+some_or : {A : Type 0} (o : Option A) → option_map_or Some o None ≡ o
+some_or None = refl
+some_or (Some x) = refl
+
+pub none_some : {A : Type 0} (o : Option A) → is_some o ≡ false → o ≡ None
+none_some None h = refl
+none_some (Some x) h = cc
+
+module _ (nodes more : List Node) (n : Node) (at : ℕ) (fell : List (Option Fault)) (falls : List Fault)
+    (distinct : are_distinct nodes ≡ true) (w : IsMarking nodes (n ∷ more) at fell falls) where
+  pub parted : are_distinct (w.before ++ n ∷ more) ≡ true
   parted = subst (λ (ns : List Node). are_distinct ns ≡ true) w.whole distinct
 
   pub here : IsKeyAt nodes n.key at
   here = subst (λ (i : ℕ). IsKeyAt nodes n.key i) (sym w.place) (subst (λ (ns : List Node). IsKeyAt ns n.key (length w.before)) (sym
       w.whole)
       (key_here w.before more n))
+
+  pub here_In : In n nodes
+  here_In = subst (λ (ns : List Node). In n ns) (sym w.whole) (In_behind w.before (n ∷ more) n (inl refl))
+
+  before_In : (m : Node) → In m w.before → In m nodes
+  before_In m on = subst (λ (ns : List Node). In m ns) (sym w.whole) (In_front w.before (n ∷ more) m on)
+
+  pub longer : at + 1 ≡ length (w.before ++ n ∷ [])
+  longer = ap (λ (i : ℕ). i + 1) w.place ∙ sym (length-append w.before (n ∷ []))
+
+  -- the node has its mark
+  abbrev pub marked_by : (mark : Option Fault) → fall_mark nodes falls n ≡ mark → IsMarking nodes more (at + 1) (fell ++ mark ∷ []) falls
+  marked_by mark is = record {
+    before = w.before ++ n ∷ [];
+    whole = w.whole ∙ sym (append_assoc w.before (n ∷ []) more);
+    place = longer;
+    fell_is = (λ i. w.fell_is i ++ sym is i ∷ []) ∙ sym (map-append (fall_mark nodes falls) w.before (n ∷ []));
+    origins = λ f on. wider w.before (n ∷ []) f.origin (w.origins f on);
+  }
 
   -- nobody who hangs on a unit that is to come
   pub none_hangs : (up head : ℕ) → IsAbove nodes n at up head → (m : Node) → In m more → hangs_in nodes m.key n ≡ true → ⊥
@@ -311,33 +183,72 @@ module _ (b : Buffers) (nodes more : List Node) (n : Node) (at : ℕ) (given : L
       (subst (λ (ns : List Node). IsKeyAt ns a.above.head head) w.whole a.heads) in
       parts_apart w.before (n ∷ more) r.0 m parted r.1 (inr on) (sym top ∙ sym r.2)
 
-  behind : ((m : Node) → In m more → hangs_in nodes m.key n ≡ true → ⊥) →
+  behind : list_any (λ (m : Node). list_any (hangs_in nodes m.key) w.before) (n ∷ more) ≡ false →
+      ((m : Node) → In m more → hangs_in nodes m.key n ≡ true → ⊥) →
       list_any (λ (m : Node). list_any (hangs_in nodes m.key) (w.before ++ n ∷ [])) more ≡ false
-  behind nobody = none_of (λ (m : Node). list_any (hangs_in nodes m.key) (w.before ++ n ∷ [])) more (λ m on e.
+  behind apart nobody = none_of (λ (m : Node). list_any (hangs_in nodes m.key) (w.before ++ n ∷ [])) more (λ m on e.
       elim (or_cases (list_any (hangs_in nodes m.key) w.before) (hangs_in nodes m.key n)
       (sym (any_snoc (hangs_in nodes m.key) w.before n) ∙ e)) [
-        | inl old ↦ not_this (λ (x : Node). list_any (hangs_in nodes x.key) w.before) (n ∷ more) m w.apart (inr on) old
+        | inl old ↦ not_this (λ (x : Node). list_any (hangs_in nodes x.key) w.before) (n ∷ more) m apart (inr on) old
         | inr now ↦ nobody m on now
       ])
 
-  longer : at + 1 ≡ length (w.before ++ n ∷ [])
-  longer = ap (λ (i : ℕ). i + 1) w.place ∙ sym (length-append w.before (n ∷ []))
-
-  pub passed_by : is_due_in nodes heads n ≡ false → ((m : Node) → In m more → hangs_in nodes m.key n ≡ true → ⊥) →
-      IsPassing b nodes more (at + 1) given heads taken
-  passed_by due nobody = record {
-    before = w.before ++ n ∷ [];
-    whole = w.whole ∙ sym (append_assoc w.before (n ∷ []) more);
-    place = longer;
+module _ (b : Buffers) (nodes more : List Node) (n : Node) (at : ℕ) (given : List Bool) (fell : List (Option Fault))
+    (heads : List NodeKey) (falls : List Fault) (taken : ℕ) (distinct : are_distinct nodes ≡ true)
+    (w : IsPassing b nodes (n ∷ more) at given fell heads falls taken) where
+  pub passed_by : (mark : Option Fault) → fall_mark nodes falls n ≡ mark → has_turn_in nodes heads falls n ≡ false →
+      ((m : Node) → In m more → hangs_in nodes m.key n ≡ true → ⊥) →
+      IsPassing b nodes more (at + 1) given (fell ++ mark ∷ []) heads falls taken
+  passed_by mark is turn nobody = record {
+    marks = marked_by nodes more n at fell falls distinct w.marks mark is;
     given_is = w.given_is;
     taken_is = w.taken_is;
-    passed = any_snoc (is_due_in nodes heads) w.before n ∙ or_both (list_any (is_due_in nodes heads) w.before) (is_due_in nodes heads n)
-        w.passed due;
-    apart = behind nobody;
+    passed = any_snoc (has_turn_in nodes heads falls) w.marks.before n
+        ∙ or_both (list_any (has_turn_in nodes heads falls) w.marks.before) (has_turn_in nodes heads falls n) w.passed turn;
+    apart = behind nodes more n at fell falls distinct w.marks w.apart nobody;
     serves = w.serves;
   }
 
-  module _ (own : n.head ≡ n.key) (due : is_due_in nodes heads n ≡ true) where
+  module _ (grown : AreGrown nodes) (owned : list_all heads_itself nodes ≡ true) (own : n.head ≡ n.key)
+      (due : is_due_in nodes heads n ≡ true) (stays : fall_of nodes falls n.head ≡ None) where
+    attached : n.attached ≡ true
+    attached = and_left n.attached _ due
+
+    there : n.gone ≡ false
+    there = not-true n.gone (and_left (not n.gone) _ (and_right n.attached _ due))
+
+    -- it is the next one
+    found : Fits nodes heads falls →
+        find (is_next_node (stand nodes heads falls)) (stand nodes heads falls) ≡ Some (stands nodes heads falls n)
+    found fits = (λ i. find (is_next_node (stand nodes heads falls)) (map (stands nodes heads falls) (w.marks.whole i)))
+        ∙ first_at (is_next_node (stand nodes heads falls)) (stands nodes heads falls) w.marks.before more n
+        (none_of (λ m. is_next_node (stand nodes heads falls) (stands nodes heads falls m)) w.marks.before (λ m on e.
+        not_this (has_turn_in nodes heads falls) w.marks.before m w.passed on
+        (sym (next_stands nodes heads falls fits m (heads_own m
+        (all-In heads_itself nodes m (before_In nodes more n at fell falls distinct w.marks m on) owned)
+        (or_right (is_none m.parent) m.attached (and_left m.attached _ e)))) ∙ e)))
+        (next_stands nodes heads falls fits n own ∙ (λ i. is_none (stays i) && due i))
+
+    -- why it fails, if it does
+    module _ (claim : Claim) (is : claim ≡ claim_of nodes n.key) (asked : ℕ) (asked_is : asked ≡ taken + claim.camping)
+        (why : Option Failure) (lack : first_some (when (nat_lt b.count asked || nat_lt b.count claim.at_least) Failure.TooFew
+        ∷ when (nat_lt b.size claim.size) Failure.TooSmall ∷ []) ≡ why) where
+      late_all : late_failure n.key (map (given_all heads) nodes) b ≡ why
+      late_all =
+          (λ i. first_some (when (nat_lt b.count (((λ j. sym w.taken_is j + (ap (λ ds. sum_by (λ (d : Demand). d.camping) ds)
+          (asks_same n.key heads nodes) ∙ sym (camping_is nodes n.key) ∙ ap (λ (c : Claim). c.camping) (sym is)) j)
+          ∙ sym asked_is) i)
+          || nat_lt b.count ((ap (greatest (λ (d : Demand). d.at_least)) (asks_same n.key heads nodes)
+          ∙ sym (least_is nodes n.key) ∙ ap (λ (c : Claim). c.at_least) (sym is)) i)) Failure.TooFew
+          ∷ when (nat_lt b.size ((ap (greatest (λ (d : Demand). d.size)) (asks_same n.key heads nodes)
+          ∙ sym (size_is nodes n.key) ∙ ap (λ (c : Claim). c.size) (sym is)) i)) Failure.TooSmall ∷ []))
+          ∙ lack
+
+      late : Fits nodes heads falls → late_failure n.key (stand nodes heads falls) b ≡ why
+      late fits = late_same nodes heads falls fits b n.key (ap (fall_of nodes falls) (sym own) ∙ stays) ∙ late_all
+
+    -- ---- it is allocated
+
     abbrev after : List NodeKey
     after = heads ++ n.key ∷ []
 
@@ -352,25 +263,26 @@ module _ (b : Buffers) (nodes more : List Node) (n : Node) (at : ℕ) (given : L
     marked : list_any (same_key n.key) after ≡ true
     marked = any_snoc (same_key n.key) heads n.key ∙ or_right (list_any (same_key n.key) heads) (same_key n.key n.key) (same_key-refl n.key)
 
-    marks : set given at true ≡ map (λ (m : Node). list_any (same_key m.key) after) nodes
-    marks = (λ i. set (w.given_is i) at (sym marked i))
-        ∙ changed_flag (λ k. list_any (same_key k) heads) (λ k. list_any (same_key k) after) nodes at n.key distinct here (λ k other.
+    flags : set given at true ≡ map (λ (m : Node). list_any (same_key m.key) after) nodes
+    flags = (λ i. set (w.given_is i) at (sym marked i))
+        ∙ changed_flag (λ k. list_any (same_key k) heads) (λ k. list_any (same_key k) after) nodes at n.key distinct
+        (here nodes more n at fell falls distinct w.marks) (λ k other.
         sym (any_snoc (same_key k) heads n.key ∙ ap (λ (b : Bool). list_any (same_key k) heads || b)
-        (false_if (same_key k n.key) (λ e. other (same_key-true k n.key e))) ∙ none (list_any (same_key k) heads)))
-      where
-        none : (b : Bool) → (b || false) ≡ b
-        none true = refl
-        none false = refl
+        (false_if (same_key k n.key) (λ e. other (same_key-true k n.key e))) ∙ none_or (list_any (same_key k) heads)))
 
-    still : list_any (is_due_in nodes after) w.before ≡ false
-    still = none_of (is_due_in nodes after) w.before (λ m on e.
-        not_this (hangs_in nodes n.key) w.before m
-        (false_if (list_any (hangs_in nodes n.key) w.before) (not_this (λ (x : Node). list_any (hangs_in nodes x.key) w.before) (n ∷ more) n
-        w.apart (inl refl))) on
-        (due_grows nodes heads n.key m e (false_if (is_due_in nodes heads m) (not_this (is_due_in nodes heads) w.before m w.passed on))))
+    still : list_any (has_turn_in nodes after falls) w.marks.before ≡ false
+    still = none_of (has_turn_in nodes after falls) w.marks.before (λ m on e.
+        let turn : is_none (fall_of nodes falls m.head) ≡ true = and_left (is_none (fall_of nodes falls m.head)) _ e in
+        not_this (hangs_in nodes n.key) w.marks.before m
+        (false_if (list_any (hangs_in nodes n.key) w.marks.before)
+        (not_this (λ (x : Node). list_any (hangs_in nodes x.key) w.marks.before) (n ∷ more) n w.apart (inl refl))) on
+        (due_grows nodes heads n.key m (and_right (is_none (fall_of nodes falls m.head)) _ e)
+        (false_if (is_due_in nodes heads m) (λ d. not_this (has_turn_in nodes heads falls) w.marks.before m w.passed on
+        (and_both (is_none (fall_of nodes falls m.head)) _ turn d)))))
 
-    served : is_due_in nodes after n ≡ false
-    served = false_if (is_due_in nodes after n) (λ e.
+    served : has_turn_in nodes after falls n ≡ false
+    served = false_if (has_turn_in nodes after falls n) (λ t.
+        let e = and_right (is_none (fall_of nodes falls n.head)) _ t in
         let rest = and_right (not n.gone) _ (and_right n.attached _ e) in
         let nobody : (list_any (same_key n.head) after || n.allocated) ≡ false =
         not-true (list_any (same_key n.head) after || n.allocated) (and_left (not (list_any (same_key n.head) after || n.allocated)) _
@@ -378,53 +290,152 @@ module _ (b : Buffers) (nodes more : List Node) (n : Node) (at : ℕ) (given : L
         both_ways (list_any (same_key n.head) after) (ap (λ (k : NodeKey). list_any (same_key k) after) own ∙ marked)
         (or_none_left (list_any (same_key n.head) after) n.allocated nobody))
 
-    module _ (claim : Claim) (is : claim ≡ claim_of nodes n.key) (sum : ℕ) (sum_is : sum ≡ taken + claim.more)
-        (count : nat_lt b.count (taken + claim.camping) ≡ false) (least : nat_lt b.count claim.at_least ≡ false)
-        (size : nat_lt b.size claim.size ≡ false) where
-      late : late_failure n.key (map (given_all heads) nodes) b ≡ None
-      late = late_none _ _ _
-          (ap (λ (x : ℕ). nat_lt b.count x) ((λ i. sym w.taken_is i + (ap (λ ds. sum_by (λ (d : Demand). d.camping) ds)
-          (asks_same n.key heads nodes) ∙ sym (camping_is nodes n.key) ∙ ap (λ (c : Claim). c.camping) (sym is)) i)) ∙ count)
-          (ap (λ (x : ℕ). nat_lt b.count x) (ap (greatest (λ (d : Demand). d.at_least)) (asks_same n.key heads nodes)
-          ∙ sym (least_is nodes n.key) ∙ ap (λ (c : Claim). c.at_least) (sym is)) ∙ least)
-          (ap (λ (x : ℕ). nat_lt b.size x) (ap (greatest (λ (d : Demand). d.size)) (asks_same n.key heads nodes)
-          ∙ sym (size_is nodes n.key) ∙ ap (λ (c : Claim). c.size) (sym is)) ∙ size)
+    fitted : Fits nodes after falls → Fits nodes heads falls
+    fitted fits m on stays_m some = less (list_any (same_key m.head) heads) (same_key m.head n.key) m.allocated
+        (ap (λ (b : Bool). b || m.allocated) (sym (any_snoc (same_key m.head) heads n.key)) ∙ fits m on stays_m some)
+      where
+        less : (u s a : Bool) → ((u || s) || a) ≡ false → (u || a) ≡ false
+        less true s a e = cc
+        less false true a e = cc
+        less false false a e = e
 
+    module _ (claim : Claim) (is : claim ≡ claim_of nodes n.key) (asked sum : ℕ) (asked_is : asked ≡ taken + claim.camping)
+        (sum_is : sum ≡ taken + claim.more)
+        (lack : first_some (when (nat_lt b.count asked || nat_lt b.count claim.at_least) Failure.TooFew
+        ∷ when (nat_lt b.size claim.size) Failure.TooSmall ∷ []) ≡ None) where
       reserved_is : sum ≡ sum_by (λ (d : Demand). d.camping) (demands_of is_served (map (given_all after) nodes))
       reserved_is = sum_is ∙ (λ i. w.taken_is i + (ap (λ (c : Claim). c.more) is ∙ more_is nodes n.key) i)
           ∙ sym (sums_on heads n.key fresh nodes 0 0)
 
-      found : find (is_next_node (map (given_all heads) nodes)) (map (given_all heads) nodes) ≡ Some (given_all heads n)
-      found = (λ i. find (is_next_node (map (given_all heads) nodes)) (map (given_all heads) (w.whole i)))
-          ∙ first_at (is_next_node (map (given_all heads) nodes)) (given_all heads) w.before more n w.passed due
-
       pub given_by : ((m : Node) → In m more → hangs_in nodes m.key n ≡ true → ⊥) →
-          IsPassing b nodes more (at + 1) (set given at true) after sum
+          IsPassing b nodes more (at + 1) (set given at true) (fell ++ None ∷ []) after falls sum
       given_by nobody = record {
-        before = w.before ++ n ∷ [];
-        whole = w.whole ∙ sym (append_assoc w.before (n ∷ []) more);
-        place = longer;
-        given_is = marks;
+        marks = marked_by nodes more n at fell falls distinct w.marks None (rw there stays);
+        given_is = flags;
         taken_is = reserved_is;
-        passed = any_snoc (is_due_in nodes after) w.before n
-            ∙ or_both (list_any (is_due_in nodes after) w.before) (is_due_in nodes after n) still served;
-        apart = behind nobody;
-        serves = subst (λ (ns : List Node). Serves b nodes ns) (sym (all_snoc heads n.key nodes))
-            (Next (map (given_all heads) nodes) (given_all heads n) w.serves found late);
+        passed = any_snoc (has_turn_in nodes after falls) w.marks.before n
+            ∙ or_both (list_any (has_turn_in nodes after falls) w.marks.before) (has_turn_in nodes after falls n) still served;
+        apart = behind nodes more n at fell falls distinct w.marks w.apart nobody;
+        serves = λ fits. Next heads falls n (w.serves (fitted fits)) (found (fitted fits))
+            (late claim is asked asked_is None lack (fitted fits));
       }
+
+    -- ---- it fails
+
+    module _ (why : Failure) where
+      abbrev fault : Fault
+      fault = fault_of why n.key
+
+      abbrev fallen : List Fault
+      fallen = falls ++ fault ∷ []
+
+      -- none that the walk passed falls with it
+      aside : (m : Node) → In m w.marks.before → m.gone ≡ false → is_below nodes n.key m.key ≡ false
+      aside m on stays_m = not_below nodes distinct grown w.marks.before more n w.marks.whole m on stays_m
+
+      passed_mark : (m : Node) → In m w.marks.before → fall_mark nodes falls m ≡ fall_mark nodes fallen m
+      passed_mark m on = elim (either_way m.gone) [
+        | inl e ↦ rw e refl
+        | inr e ↦
+            let apart : is_below nodes n.key m.head ≡ false =
+            sym (unit_below nodes distinct grown owned n (here_In nodes more n at fell falls distinct w.marks) attached m
+            (before_In nodes more n at fell falls distinct w.marks m on) e) ∙ aside m on e in
+            let same : fall_of nodes fallen m.head ≡ fall_of nodes falls m.head =
+            find_snoc (λ (f : Fault). is_below nodes f.origin m.head) falls fault
+            ∙ ap (λ (b : Bool). option_map_or Some (fall_of nodes falls m.head) (when b fault)) apart
+            ∙ some_or (fall_of nodes falls m.head) in
+            rw e (sym same)
+      ]
+
+      falls_itself : fall_of nodes fallen n.head ≡ Some fault
+      falls_itself =
+          find_snoc (λ (f : Fault). is_below nodes f.origin n.head) falls fault
+          ∙ (λ i. option_map_or Some (stays i) (when (is_below nodes n.key (own i)) fault))
+          ∙ ap (λ (b : Bool). when b fault) (or_left (same_key n.key n.key) _ (same_key-refl n.key))
+
+      fits_before : Fits nodes heads fallen → Fits nodes heads falls
+      fits_before fits m on stays_m some = fits m on stays_m (elim (either_way (is_some (fall_of nodes fallen m.head))) [
+        | inl e ↦ e
+        | inr e ↦ both_ways (is_some (fall_of nodes falls m.head)) some
+            (ap is_some (still_none nodes falls fault m.head (none_some (fall_of nodes fallen m.head) e)))
+      ])
+
+      none_above : list_any (λ (f : Fault). is_below nodes n.key f.origin) falls ≡ false
+      none_above = none_of (λ (f : Fault). is_below nodes n.key f.origin) falls (λ f on e.
+          let o = w.marks.origins f on in
+          both_ways (is_below nodes n.key f.origin) e (ap (is_below nodes n.key) (sym o.is) ∙ aside o.node o.on o.here))
+
+      nobody_next : list_any (has_turn_in nodes heads fallen) (w.marks.before ++ n ∷ []) ≡ false
+      nobody_next = none_of (has_turn_in nodes heads fallen) (w.marks.before ++ n ∷ []) (λ m on e.
+          elim (In-append w.marks.before (n ∷ []) m on) [
+            | inl old ↦ not_this (has_turn_in nodes heads falls) w.marks.before m w.passed old
+                (and_both (is_none (fall_of nodes falls m.head)) _
+                (ap is_none (still_none nodes falls fault m.head (none_told (fall_of nodes fallen m.head)
+                (and_left (is_none (fall_of nodes fallen m.head)) _ e))))
+                (and_right (is_none (fall_of nodes fallen m.head)) _ e))
+            | inr new ↦ elim new [
+              | inl is ↦ both_ways (is_none (fall_of nodes fallen n.head))
+                  (ap (λ (x : Node). is_none (fall_of nodes fallen x.head)) (sym is) ∙ and_left (is_none (fall_of nodes fallen m.head)) _ e)
+                  (ap is_none falls_itself)
+              | inr none ↦ none
+            ]
+          ])
+        where
+          none_told : (o : Option Fault) → is_none o ≡ true → o ≡ None
+          none_told None h = refl
+          none_told (Some f) h = cc
+
+      module _ (claim : Claim) (is : claim ≡ claim_of nodes n.key) (asked : ℕ) (asked_is : asked ≡ taken + claim.camping)
+          (lack : first_some (when (nat_lt b.count asked || nat_lt b.count claim.at_least) Failure.TooFew
+          ∷ when (nat_lt b.size claim.size) Failure.TooSmall ∷ []) ≡ Some why) where
+        pub failed_by : ((m : Node) → In m more → hangs_in nodes m.key n ≡ true → ⊥) →
+            IsPassing b nodes more (at + 1) given (fell ++ Some fault ∷ []) heads fallen taken
+        failed_by nobody = record {
+          marks = record {
+            before = w.marks.before ++ n ∷ [];
+            whole = w.marks.whole ∙ sym (append_assoc w.marks.before (n ∷ []) more);
+            place = longer nodes more n at fell falls distinct w.marks;
+            fell_is = (λ i. (w.marks.fell_is ∙ map-In (fall_mark nodes falls) (fall_mark nodes fallen) w.marks.before passed_mark) i
+                ++ sym mark i ∷ [])
+                ∙ sym (map-append (fall_mark nodes fallen) w.marks.before (n ∷ []));
+            origins = λ f on. elim (In-append falls (fault ∷ []) f on) [
+              | inl old ↦ wider w.marks.before (n ∷ []) f.origin (w.marks.origins f old)
+              | inr new ↦ elim new [
+                | inl same ↦ record {
+                  node = n;
+                  on = In_behind w.marks.before (n ∷ []) n (inl refl);
+                  is = ap (λ (g : Fault). g.origin) (sym same);
+                  attached = attached;
+                  here = there;
+                }
+                | inr none ↦ absurd none
+              ]
+            ];
+          };
+          given_is = w.given_is;
+          taken_is = w.taken_is;
+          passed = nobody_next;
+          apart = behind nodes more n at fell falls distinct w.marks w.apart nobody;
+          serves = λ fits. Fails heads falls n why (w.serves (fits_before fits)) (here_In nodes more n at fell falls distinct w.marks)
+              (found (fits_before fits)) (late claim is asked asked_is (Some why) lack (fits_before fits)) none_above;
+        }
+          where
+            mark : fall_mark nodes fallen n ≡ Some fault
+            mark = rw there falls_itself
 
 -- ---- what the walk asks
 
 -- the answer, by the marks and the claims
-pub due_is : (b : Buffers) (nodes more : List Node) (n : Node) (at up head : ℕ) (given : List Bool) (heads : List NodeKey) (taken : ℕ)
+pub due_is : (b : Buffers) (nodes more : List Node) (n : Node) (at up head : ℕ) (given : List Bool) (fell : List (Option Fault))
+    (heads : List NodeKey) (falls : List Fault) (taken : ℕ)
     (claims : List Claim) (x y : Bool) (z : Claim) (m : Node) → are_distinct nodes ≡ true →
-    IsPassing b nodes (n ∷ more) at given heads taken →
+    IsPassing b nodes (n ∷ more) at given fell heads falls taken →
     (a : IsAbove nodes n at up head) → m ≡ a.above → claims ≡ map (λ (m : Node). claim_of nodes m.key) nodes → n.head ≡ n.key →
     (n.attached && not n.gone) ≡ true →
     is_due_in nodes heads n ≡ (not (get_or given at x || n.allocated) && ((not m.gone && (get_or given head y || m.allocated))
     && (get_or claims at z).ready))
-due_is b nodes more n at up head given heads taken claims x y z m distinct w a same claims_are own left =
-    let key = here b nodes more n at given heads taken distinct w in
+due_is b nodes more n at up head given fell heads falls taken claims x y z m distinct w a same claims_are own left =
+    let key = here nodes more n at fell falls distinct w.marks in
     let mine : get_or given at x ≡ list_any (same_key n.head) heads =
     claim_at (λ k. list_any (same_key k) heads) nodes given at n.key x w.given_is key
     ∙ ap (λ (k : NodeKey). list_any (same_key k) heads) (sym own) in
@@ -437,6 +448,28 @@ due_is b nodes more n at up head given heads taken claims x y z m distinct w a s
     heads || n.allocated)
     && (above_served nodes heads n at up head distinct a i && list_all (is_ready_node n.key) (map (given_all heads) nodes)))))
     ∙ (λ i. not (sym mine i || n.allocated) && ((not (sym same i).gone && (sym theirs i || (sym same i).allocated)) && sym ready i))
+
+-- what is not due has no turn, nor has what fell
+pub not_due : (nodes : List Node) (heads : List NodeKey) (falls : List Fault) (n : Node) → is_due_in nodes heads n ≡ false →
+    has_turn_in nodes heads falls n ≡ false
+not_due nodes heads falls n e = false_if (has_turn_in nodes heads falls n) (λ t.
+    both_ways (is_due_in nodes heads n) (and_right (is_none (fall_of nodes falls n.head)) _ t) e)
+
+pub mark_here : (nodes : List Node) (falls : List Fault) (n : Node) (mark : Option Fault) → fall_mark nodes falls n ≡ mark →
+    (n.attached && not n.gone) ≡ true → fall_of nodes falls n.head ≡ mark
+mark_here nodes falls n mark is left =
+    let here : n.gone ≡ false = not-true n.gone (and_right n.attached (not n.gone) left) in
+    rw here at is
+
+pub fell_before : (nodes : List Node) (heads : List NodeKey) (falls : List Fault) (n : Node) (mark : Option Fault) →
+    fall_mark nodes falls n ≡ mark → is_some mark ≡ true → (n.attached && not n.gone) ≡ true → has_turn_in nodes heads falls n ≡ false
+fell_before nodes heads falls n mark is some left =
+    let same : fall_of nodes falls n.head ≡ mark = mark_here nodes falls n mark is left in
+    ap (λ (o : Option Fault). is_none o && is_due_in nodes heads n) same ∙ from mark some
+  where
+    from : (o : Option Fault) → is_some o ≡ true → (is_none o && is_due_in nodes heads n) ≡ false
+    from None h = cc
+    from (Some f) h = refl
 
 -- what is not attached, or gone, is not due, and hangs on nothing
 pub none_due : (nodes : List Node) (heads : List NodeKey) (n : Node) → (n.attached && not n.gone) ≡ false → is_due_in nodes heads n ≡ false
@@ -470,11 +503,24 @@ got_is [] i n d on = cc
 got_is (m ∷ ns) zero n d on = ap (λ (o : Option Node). option_map_or (λ (x : Node). x) o n) on
 got_is (m ∷ ns) (suc i) n d on = got_is ns i n d on
 
--- what is reserved after the node's turn
+-- what comes of its turn
 abbrev pub sum_of : Turn → ℕ
 sum_of (Turn.Gets sum) = sum
-sum_of Turn.Passes = 0
+sum_of (Turn.Falls f) = 0
+sum_of (Turn.Passes mark) = 0
 sum_of Turn.Stops = 0
+
+abbrev pub mark_of : Turn → Option Fault
+mark_of (Turn.Gets sum) = None
+mark_of (Turn.Falls f) = Some f
+mark_of (Turn.Passes mark) = mark
+mark_of Turn.Stops = None
+
+abbrev pub fault_in : Turn → Fault → Fault
+fault_in (Turn.Gets sum) d = d
+fault_in (Turn.Falls f) d = f
+fault_in (Turn.Passes mark) d = d
+fault_in Turn.Stops d = d
 
 -- ---- the walk begins
 
@@ -484,26 +530,23 @@ none_given [] = refl
 none_given (n ∷ ns) = ap (λ ms. n ∷ ms) (none_given ns)
 
 pub started : (b : Buffers) (nodes : List Node) (given : List Bool) (taken : ℕ) → given ≡ map (λ (n : Node). false) nodes →
-    taken ≡ sum_by (λ (d : Demand). d.camping) (demands_of is_served nodes) → IsPassing b nodes nodes 0 given [] taken
-started b nodes given taken marks sum = record {
-  before = [];
-  whole = refl;
-  place = refl;
-  given_is = marks;
+    taken ≡ sum_by (λ (d : Demand). d.camping) (demands_of is_served nodes) → IsPassing b nodes nodes 0 given [] [] [] taken
+started b nodes given taken unset sum = record {
+  marks = record {
+    before = [];
+    whole = refl;
+    place = refl;
+    fell_is = refl;
+    origins = λ f on. absurd on;
+  };
+  given_is = unset;
   taken_is = sum ∙ ap (λ ns. sum_by (λ (d : Demand). d.camping) (demands_of is_served ns)) (sym (none_given nodes));
   passed = refl;
   apart = none_of (λ (m : Node). list_any (hangs_in nodes m.key) []) nodes (λ m on e. cc);
-  serves = subst (λ (ns : List Node). Serves b nodes ns) (sym (none_given nodes)) Same;
+  serves = λ fits. Same;
 }
 
 pub got_some : (ns : List Node) (i : ℕ) (d : Node) → i < length ns → slice_get ns i ≡ Some (get_or ns i d)
 got_some [] i d within = absurd (omega arith)
 got_some (m ∷ ns) zero d within = refl
 got_some (m ∷ ns) (suc i) d within = got_some ns i d (omega arith)
-
--- the heads may stand in any order
-pub any_order : (old new : List NodeKey) → ((key : NodeKey) → list_any (same_key key) new ≡ list_any (same_key key) old) →
-    (ns : List Node) →
-    map (given_all new) ns ≡ map (given_all old) ns
-any_order old new same [] = refl
-any_order old new same (n ∷ ns) = λ i. record n { allocated = same n.head i || n.allocated } ∷ any_order old new same ns i

@@ -1,6 +1,6 @@
 -- No held buffer is home between events, and each is one of its collection.
 use Rattle.std.proofs.Common.{ℕ, ◌≡◌, ◌+◌, refl, ap, sym, ◌∙◌, subst, Bool, true, false, cond, ◌==◌, ◌&&◌, not, if◌then◌else◌, inl, inr, List, [], ◌∷◌, Option, Some, None, IfSome, is_some, arith}
-use Rattle.std.proofs.lemmas.Bool.{eq-eqb, eqb-true}
+use Rattle.std.proofs.lemmas.Bool.{eq-eqb, eqb-true, not-true}
 use Rattle.std.specs.List.{list_all}
 use Rattle.std.specs.Option.{option_map, option_map_or, unwrap_or}
 use Rattle.sm_names.specs.declared.keys.BufferName.{BufferName}
@@ -20,7 +20,6 @@ use Rattle.sm_names.specs.Timelines.{laid_out, layout}
 use Rattle.sm_names.proofs.HandleLaws.{same_buffer-true}
 use Rattle.sm_names.proofs.ListLaws.{In, In-append, In-filter, In-find}
 use Rattle.sm_names.proofs.SamenessLaws.{and_both, both_ways, either_way, false_if}
-use Rattle.sm_names.proofs.SettledLaws.{not_back}
 use Rattle.event_laws.specs.ByEvent.{anyone, one_if}
 use Rattle.buffer_holds.specs.Counts.{Counts, total}
 use Rattle.trackers.specs.declared.waiting.Waiting.{Waiting}
@@ -110,7 +109,7 @@ IsOut handles c = (h : HeldBuffer) → In h c.held → (h.buffer.collection ≡ 
 given_out : (handles : Handles) (c : Collection) → AreOurs c → IsOut handles (given_back handles c)
 given_out handles c ours h on =
     let kept = In-filter (λ (x : HeldBuffer). not (is_home_in handles c x.buffer)) c.held h on in
-    (ours h kept.0, not_back (is_home_in handles c h.buffer) kept.1)
+    (ours h kept.0, not-true (is_home_in handles c h.buffer) kept.1)
 
 -- a buffer of which not the last handle of a strength is lost is not brought home
 still_away : (strong strong_now weak weak_now : ℕ) (live : Bool) → ((strong_now == 0) ≡ true → (strong == 0) ≡ true) →

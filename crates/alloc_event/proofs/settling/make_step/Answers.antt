@@ -3,8 +3,6 @@ use Rattle.std.specs.Result.{OnErr, OnOk}
 use Rattle.std.specs.Vec.{with_items}
 use Rattle.sm_names.specs.declared.outcomes.Fault.{Fault}
 use Rattle.alloc_event.specs.declared.node.Node.{Node}
-use Rattle.alloc_event.specs.declared.decision.Decision.{Decision}
-use Rattle.alloc_event.specs.InTurn.{IsGiven}
 use Rattle.alloc_event.specs.Decisions.{IsStep, IsPlacing, IsAllocating}
 use Rattle.alloc_event.specs.Forest.{Collection}
 use Rattle.alloc_event.specs.Progress.{Progress, Left, Lost, Given}
@@ -53,21 +51,3 @@ returns-in-Allocates-clause-moves c =
     (c.allocate.ensures ∙ ap (after_allocation c.in-Allocates.head) c.deref_mut-in-Allocates.ensures.value) in
     let step : IsAllocating it c.in-Allocates.head = subst (IsStep it) c.in-Allocates.is c.requires.step in
     subst (Progress old) (sym nodes) (Given c.in-Allocates.head step.waits)
-
--- it is given, and no more
-on_ok : {A E : Type 0} (r : Result A E) → OnOk r (Unit {0})
-on_ok (Ok x) = tt
-on_ok (Err e) = tt
-
-pub returns-in-Places-clause-given : goal.returns-in-Places-clause-given
-returns-in-Places-clause-given c =
-    subst (λ (s : Decision). OnOk c.place_first.result (IsGiven s (collection_of c.args.scene.now) (collection_of c.place_first.new.scene)))
-    (sym c.in-Places.is) (on_ok c.place_first.result)
-
-pub returns-in-Allocates-clause-given : goal.returns-in-Allocates-clause-given
-returns-in-Allocates-clause-given c =
-    let it : Collection = collection_of c.args.scene.now in
-    let nodes = written c.args.scene.now.nodes (given_buffers c.in-Allocates.head) c.allocate.new.nodes
-    (c.allocate.ensures ∙ ap (after_allocation c.in-Allocates.head) c.deref_mut-in-Allocates.ensures.value) in
-    subst (λ (s : Decision). IsGiven s it (record it { nodes = (with_items c.args.scene.now.nodes c.allocate.new.nodes).items }))
-    (sym c.in-Allocates.is) (ap (λ (ns : List Node). record it { nodes = ns }) nodes)

@@ -26,9 +26,7 @@ steps-smaller c =
     let sound : IsSound mid = sound_by_spines old mid c.steps.invariant.sound
     (spines_by_frames old.nodes mid.nodes
     (same_frames old.nodes mid.nodes c.in_ok-make_step.ensures.moves)) c.in_ok-make_step.ensures.few in
-    let go : Goes (total c.args.holds.now) mid new = goes_on (total c.args.holds.now) c.in-Some.step old mid new (sym
-    c.in-Some.ensures.value)
-    c.steps.invariant.sound sound c.in-Some.ensures.step c.in_ok-make_step.ensures.given c.go_on.ensures in
+    let go : Goes (total c.args.holds.now) mid new = goes_on (total c.args.holds.now) mid new sound c.go_on.ensures in
     let less = less_left old.nodes mid.nodes c.in_ok-make_step.ensures.moves in
     let rest = go.work in
     omega arith
@@ -42,9 +40,7 @@ steps-preserved c =
     let frames = same_frames old.nodes mid.nodes c.in_ok-make_step.ensures.moves in
     let sound : IsSound mid =
     sound_by_spines old mid c.steps.invariant.sound (spines_by_frames old.nodes mid.nodes frames) c.in_ok-make_step.ensures.few in
-    let go : Goes (total c.args.holds.now) mid new = goes_on (total c.args.holds.now) c.in-Some.step old mid new (sym
-    c.in-Some.ensures.value)
-    c.steps.invariant.sound sound c.in-Some.ensures.step c.in_ok-make_step.ensures.given c.go_on.ensures in
+    let go : Goes (total c.args.holds.now) mid new = goes_on (total c.args.holds.now) mid new sound c.go_on.ensures in
     record {
       sound = go.sound sound;
       id = go.id ∙ c.in_ok-make_step.ensures.id ∙ c.steps.invariant.id;

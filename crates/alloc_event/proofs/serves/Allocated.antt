@@ -1,0 +1,103 @@
+-- An attached unit that is allocated in its place: what is forced besides stays as it was.
+use Rattle.std.proofs.Common.{ℕ, ◌≤◌, ◌≡◌, refl, ap, sym, ◌∙◌, subst, Bool, true, false, not, ◌&&◌, ◌||◌, ◌++◌, is_none, List, [], ◌∷◌, map, Option, Some, None, arith}
+use Rattle.std.specs.List.{list_all, find}
+use Rattle.std.specs.Option.{option_map, option_map_or, option_and_then, IfSome, MatchOption}
+use Rattle.sm_names.specs.declared.keys.Interval.{Interval}
+use Rattle.sm_names.specs.declared.keys.NodeKey.{NodeKey}
+use Rattle.sm_names.specs.declared.outcomes.Buffers.{Buffers}
+use Rattle.sm_names.specs.declared.outcomes.Cause.{Cause}
+use Rattle.sm_names.specs.declared.outcomes.Failure.{Failure}
+use Rattle.sm_names.specs.Marks.{Allocated}
+use Rattle.sm_names.specs.Sameness.{same_key}
+use Rattle.sm_names.specs.Words.{first_some, when}
+use Rattle.sm_names.proofs.ListLaws.{In-find}
+use Rattle.sm_names.proofs.SamenessLaws.{and_left, both_ways, false_if, same_key-true}
+use Rattle.alloc_event.specs.declared.decision.Decision.{Decision}
+use Rattle.alloc_event.specs.declared.decision.Decision.TheVariants.{Ends, Loses, Places, Allocates}
+use Rattle.alloc_event.specs.declared.node.Node.{Node}
+use Rattle.alloc_event.specs.Decisions.{decided, early_failure, first_step, has_strong, is_unplaced, late_failure, later_step, mark_of, waiting, wanted_by, IsAllocating, IsStep}
+use Rattle.alloc_event.specs.Forest.{Collection, pages_in}
+use Rattle.alloc_event.specs.Progress.{Given, work}
+use Rattle.alloc_event.specs.Nodes.{after_allocation, given_buffers}
+use Rattle.alloc_event.specs.Questions.{is_deserted_node, is_live_node, is_next_node, is_ready_node, is_root_left, lives_below}
+use Rattle.alloc_event.specs.Scenes.{IsSound, frame_of, heads_itself, is_held_strongly}
+use Rattle.alloc_event.specs.Settling.{Handles, Settles, is_root_of}
+use Rattle.alloc_event.proofs.calm.Calming.{any_map, find_map, later}
+use Rattle.alloc_event.proofs.calm.Forcing.{forced_made}
+use Rattle.alloc_event.proofs.calm.Movings.{less_left, same_frames, sound_by_spines, spines_by_frames, unplaced_before}
+use Rattle.alloc_event.proofs.calm.Settlings.{step_settles}
+use Rattle.alloc_event.proofs.calm.Steps.{all-In, decided_steps, found_by_key}
+use Rattle.alloc_event.proofs.tables.Links.{below_by_links, link_of, map-kept}
+
+-- the root is lost, for want of a strong node
+abbrev pub losing : List Node → Bool → Option Node → Option Decision
+losing nodes strong_open o =
+    option_and_then (λ (root : Node). when (root.allocated && (not (has_strong nodes) && not strong_open)) (Loses root.key
+    Cause.NoStrong)) o
+
+-- none of those steps applies that come before the allocation of an attached unit
+pub record AreCalm (nodes : List Node) (strong_open : Bool) : Type 0 where
+  pub no_end : find (is_deserted_node nodes) nodes ≡ None
+  pub no_loss : losing nodes strong_open (find is_root_left nodes) ≡ None
+  pub no_root : waiting nodes ≡ None
+
+all_same : (p q : Node → Bool) (f : Node → Node) (ns : List Node) → ((n : Node) → p (f n) ≡ q n) → list_all p (map f ns) ≡ list_all q ns
+all_same p q f [] same = refl
+all_same p q f (n ∷ ns) same = λ i. same n i && all_same p q f ns same i
+
+-- ---- the allocation of an attached unit leaves them so
+
+module _ (c : Collection) (sound : IsSound c) (k : NodeKey) (child : is_root_of c k ≡ false) (strong_open : Bool) where
+  abbrev f : Node → Node
+  f = given_buffers k
+
+  abbrev after : List Node
+  after = after_allocation k c.nodes
+
+  pub deserted_same : (n : Node) → is_deserted_node after (f n) ≡ is_deserted_node c.nodes n
+  deserted_same n = ap (λ (b : Bool). (is_none n.parent || n.attached) && (not n.gone && not b))
+      (any_map (lives_below after n.key) (lives_below c.nodes n.key) f c.nodes (λ m. ap (λ (b : Bool). is_live_node m && b)
+      (below_by_links after c.nodes n.key m.key (map-kept f link_of c.nodes (λ x. refl)))))
+
+  pub ready_on : (head : NodeKey) → list_all (is_ready_node head) after ≡ list_all (is_ready_node head) c.nodes
+  ready_on head = all_same (is_ready_node head) (is_ready_node head) f c.nodes (λ n. refl)
+
+  pub strong_on : has_strong after ≡ has_strong c.nodes
+  strong_on = any_map (λ n. is_live_node n && not n.weak) (λ n. is_live_node n && not n.weak) f c.nodes (λ n. refl)
+
+  pub root_on : find is_root_left after ≡ option_map f (find is_root_left c.nodes)
+  root_on = find_map is_root_left is_root_left f c.nodes (λ n. refl)
+
+  -- the root is of another unit
+  pub root_same : (r : Node) → find is_root_left c.nodes ≡ Some r → (same_key k r.head || r.allocated) ≡ r.allocated
+  root_same r e =
+      let on = In-find is_root_left c.nodes r e in
+      let root : is_none r.parent ≡ true = and_left (is_none r.parent) (not r.gone) on.1 in
+      let own : heads_itself r ≡ true = all-In heads_itself c.nodes r on.0 sound.heads in
+      let head : same_key r.head r.key ≡ true = rw root at own in
+      ap (λ (b : Bool). b || r.allocated) (false_if (same_key k r.head) (λ s.
+      let key : r.key ≡ k = sym (same_key-true k r.head s ∙ same_key-true r.head r.key head) in
+      let found : is_root_of c r.key ≡ is_none r.parent =
+      ap (λ (o : Option Node). option_map_or (λ (m : Node). is_none m.parent) o false) (found_by_key c.nodes r sound.distinct on.0) in
+      both_ways (is_root_of c k) (sym (ap (is_root_of c) key) ∙ found ∙ root) child))
+
+  pub wait_on : (o : Option Node) → find is_root_left c.nodes ≡ o →
+      option_and_then (λ (root : Node). when (not root.allocated && list_all (is_ready_node root.key) c.nodes) root) o ≡ None →
+      option_and_then (λ (root : Node). when (not root.allocated && list_all (is_ready_node root.key) after) root) (option_map f o) ≡ None
+  wait_on None e h = refl
+  wait_on (Some r) e h =
+      (λ i. when (not (root_same r e i) && ready_on r.key i) (f r)) ∙ still (not r.allocated && list_all (is_ready_node r.key) c.nodes) h
+    where
+      still : (b : Bool) → when b r ≡ None → when b (f r) ≡ None
+      still true h = cc
+      still false h = refl
+
+-- so the next unit is what is decided
+pub next_decided : (nodes : List Node) (b : Buffers) (strong_open : Bool) (n : Node) → AreCalm nodes strong_open →
+    find (is_next_node nodes) nodes ≡ Some n → late_failure n.key nodes b ≡ None →
+    decided nodes (Some b) strong_open ≡ Some (Allocates n.key)
+next_decided nodes b strong_open n calm found late =
+    (λ i. first_some (option_map (λ (n : Node). Ends n.key) (calm.no_end i) ∷ calm.no_loss i
+    ∷ option_map (λ (n : Node). first_step nodes n.key) (calm.no_root i)
+    ∷ option_map (λ (n : Node). later_step nodes b n.key) (found i) ∷ []))
+    ∙ ap (λ (o : Option Failure). Some (option_map_or (λ why. Loses n.key (Cause.Failed why)) o (Allocates n.key))) late
