@@ -75,10 +75,10 @@ are_enough buffers reserved asked =
     || nat_lt buffers.count (greatest (λ d. d.at_least) asked)) && not (nat_lt buffers.size (greatest (λ d. d.size) asked))
 
 -- the unit of the first node is to be allocated, once an effect made the second one of it
-abbrev pub may_serve : Table Node → List NodeKey → List Unit → Option Buffers → Node → Node → Bool
-may_serve t keys units buffers n after = option_map_or
+abbrev pub may_serve : Table Node → List NodeKey → List Unit → ℕ → Option Buffers → Node → Node → Bool
+may_serve t keys units reserved buffers n after = option_map_or
     (λ b. not n.allocated && (has_turn_at t n.head && (not (list_any (hangs_below_at t units n.head) keys)
-    && are_enough b (reserved_with t keys) (asked_with t keys n.head after))))
+    && are_enough b reserved (asked_with t keys n.head after))))
     buffers false
 
 -- ---- the counts

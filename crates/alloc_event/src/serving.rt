@@ -1,6 +1,6 @@
 //! Attached units that become ready by an effect, allocated in their places.
 ghost use Rattle.std.specs.List.{filter_map, list_any, sum_by};
-ghost use Rattle.std.specs.Prelude.{◌≡◌, ◌≤◌, ◌+◌, ◌^◌, ◌&&◌, not, if◌then◌else◌, ◌∷◌, [], ℕ, List, None, Some, true, false, IfSome, IsSome};
+ghost use Rattle.std.specs.Prelude.{nat_lt, ◌≡◌, ◌≤◌, ◌+◌, ◌^◌, ◌&&◌, not, if◌then◌else◌, ◌∷◌, [], ℕ, List, None, Some, true, false, IfSome, IsSome};
 ghost use Rattle.sm_names.specs.Demands.{Demand};
 ghost use Rattle.sm_names.specs.Members.{greatest};
 ghost use Rattle.sm_names.specs.declared.keys.NodeKey.{NodeKey as Key};
@@ -205,25 +205,36 @@ fn reserved_by(table: &NodeTable<Node>, keys: &[NodeKey]) -> u128
     camping
 }
 
-/// Whether no unit that is ready hangs right below the one with this head, and the buffers are enough
-/// for that, once this node is in the place of the one with its key.
+/// Whether so many buffers are enough where some are reserved and others camped on besides.
+fn has_room(count: u32, reserved: u128, camping: u128) -> bool
+    ensures { result ≡ not (nat_lt count (reserved + camping)) }
+{
+    match reserved.checked_add(camping) {
+        Some(sum) => count as u128 >= sum,
+        None => false,
+    }
+}
+
+/// Whether no unit that is ready hangs right below the one with this head, and the buffers, of which
+/// so many are reserved, are enough for that, once this node is in the place of the one with its key.
 fn fits(
     table: &NodeTable<Node>,
     keys: &[NodeKey],
     units: &[Unit],
+    reserved: u128,
     head: NodeKey,
     after: &Node,
     buffers: Buffers,
 ) -> bool
     ensures { result ≡ (not (list_any (hangs_below_at table.now units.now head) keys.now)
-        && are_enough buffers (reserved_with table.now keys.now) (asked_with table.now keys.now head after.now)) }
+        && are_enough buffers reserved (asked_with table.now keys.now head after.now)) }
 {
     let Some(asks) = asks_with(table, keys, units, head, after) else {
         return false;
     };
-    let count = buffers.count as u128;
-    let reserved = reserved_with(table, keys);
-    count >= reserved + asks.camping && count >= asks.at_least as u128 && buffers.size >= asks.size
+    has_room(buffers.count, reserved, asks.camping)
+        && buffers.count >= asks.at_least as u32
+        && buffers.size >= asks.size
 }
 
 /// Whether the unit of the first node is to be allocated, once an effect made the second one of it:
@@ -233,18 +244,19 @@ fn may_serve(
     table: &NodeTable<Node>,
     keys: &[NodeKey],
     units: &[Unit],
+    reserved: u128,
     given: Option<Buffers>,
     node: &Node,
     after: &Node,
 ) -> bool
-    ensures { result ≡ may_serve table.now keys.now units.now given node.now after.now }
+    ensures { result ≡ may_serve table.now keys.now units.now reserved given node.now after.now }
 {
     let Some(buffers) = given else {
         return false;
     };
     !node.allocated
         && has_turn(table, node.head)
-        && fits(table, keys, units, node.head, after, buffers)
+        && fits(table, keys, units, reserved, node.head, after, buffers)
 }
 
 /// The nodes with these keys that are of the unit with this head have its buffers then.
@@ -315,6 +327,7 @@ fn serve_effect(
     ensures none_units { result ≡ None → units.new.items ≡ units.old.items }
     ensures some { IfSome result (λ left. (ss : List Shelf) →
         IsOpen table.old units.old.items ss (shelf_of entry.now) (Changed.Effect key effect.now) entry.now.strong →
+        entry.now.reserved ≡ reserved_with table.old entry.now.keys.items →
         IsServed table.old table.new units.new.items ss (shelf_of entry.now) (Changed.Effect key effect.now) left) }
 {
     let Some(node) = table.get(key).copied() else {
@@ -324,7 +337,15 @@ fn serve_effect(
     let Some((left, next)) = counts_with(units, entry.strong, &node, &after) else {
         return None;
     };
-    if !may_serve(table, &entry.keys, units, entry.buffers, &node, &after) {
+    if !may_serve(
+        table,
+        &entry.keys,
+        units,
+        entry.reserved,
+        entry.buffers,
+        &node,
+        &after,
+    ) {
         return None;
     }
     serve(table, &entry.keys, node.head, &after);

@@ -450,12 +450,13 @@ module _ (t : Table Node) (us : List Unit) (key : NodeKey) (effect : Effect) (n 
 -- as it was asked and done
 pub served_by : (t now : Table Node) (us : List Unit) (key : NodeKey) (effect : Effect) (n : Node) → node_at t key ≡ Some n →
     (ss : List Shelf) (s : Shelf) (strong : ℕ) → IsOpen t us ss s (Change.Effect key effect) strong → (next : Unit) (lives : ℕ)
-    (after : Node) → after ≡ affected key effect n → AreLess us strong n after lives next → may_serve t s.keys us s.buffers n after ≡ true →
+    (after : Node) → after ≡ affected key effect n → AreLess us strong n after lives next → (reserved : ℕ) →
+    reserved ≡ reserved_with t s.keys → may_serve t s.keys us reserved s.buffers n after ≡ true →
     IsServedAt t now n.head s.keys (given_buffers n.head after) →
     IsServed t now (set us n.head.slot next) ss s (Change.Effect key effect) lives
-served_by t now us key effect n was ss s strong opens next lives after is less may served = by s.buffers refl may
+served_by t now us key effect n was ss s strong opens next lives after is less reserved sum may served = by s.buffers refl may
   where
-    by : (o : Option Buffers) → s.buffers ≡ o → may_serve t s.keys us o n after ≡ true →
+    by : (o : Option Buffers) → s.buffers ≡ o → may_serve t s.keys us reserved o n after ≡ true →
         IsServed t now (set us n.head.slot next) ss s (Change.Effect key effect) lives
     by None has h = cc
     by (Some b) has h =
@@ -465,7 +466,8 @@ served_by t now us key effect n was ss s strong opens next lives after is less m
         not-true _ (and_left (not (list_any (hangs_below_at t us n.head) s.keys)) _ two) in
         let enough : are_enough b (reserved_with t s.keys) (asked_with t s.keys n.head (affected key effect n)) ≡ true =
         subst (λ (m : Node). are_enough b (reserved_with t s.keys) (asked_with t s.keys n.head m) ≡ true) is
-        (and_right (not (list_any (hangs_below_at t us n.head) s.keys)) _ two) in
+        (subst (λ (r : ℕ). are_enough b r (asked_with t s.keys n.head after) ≡ true) sum
+        (and_right (not (list_any (hangs_below_at t us n.head) s.keys)) _ two)) in
         served_made t us key effect n was ss s strong opens b has (not-true n.allocated (and_left (not n.allocated) _ h))
         (and_left (has_turn_at t n.head) _ one) none enough served.between served.given now
         (subst (λ (m : Node). now ≡ table_with_node served.between (given_buffers n.head m).key (given_buffers n.head m)) is served.becomes)

@@ -21,7 +21,7 @@ serve-requires-clause-there c =
     ap is_some (ap (node_at c.args.table.now) own ∙ was)
 
 pub returns-clause-some : goal.returns-clause-some
-returns-clause-some c ss opens =
+returns-clause-some c ss opens sum =
     let n : Node = c.in-Some.node in
     let t = c.args.table.now in
     let us = c.args.units.now.items in
@@ -30,10 +30,11 @@ returns-clause-some c ss opens =
     let was : node_at t c.args.key ≡ Some n = sym c.get.ensures ∙ sym c.copied.ensures ∙ c.in-Some.is in
     let less : AreLess us c.args.entry.now.strong n after c.in-Some-counts_with.left c.in-Some-counts_with.next =
     rw c.deref.ensures.value at c.in-Some-counts_with.ensures in
-    let may : may_serve t keys us c.args.entry.now.buffers n after ≡ true =
+    let may : may_serve t keys us c.args.entry.now.reserved c.args.entry.now.buffers n after ≡ true =
     rw (c.deref-2.ensures.value, c.deref-3.ensures.value) at (sym c.may_serve.ensures ∙ c.if-not-may_serve.false) in
     let served : IsServedAt t c.serve.new.table n.head keys (given_buffers n.head after) = rw c.deref-4.ensures.value at c.serve.ensures in
     subst (λ (l : List Unit). IsServed t c.serve.new.table l ss (shelf_of c.args.entry.now) (Change.Effect c.args.key c.args.effect.now)
     c.in-Some-counts_with.left) (sym c.put_unit.ensures)
     (served_by t c.serve.new.table us c.args.key c.args.effect.now n was ss (shelf_of c.args.entry.now) c.args.entry.now.strong opens
-    c.in-Some-counts_with.next c.in-Some-counts_with.left after c.affected_by-after.ensures less may served)
+    c.in-Some-counts_with.next c.in-Some-counts_with.left after c.affected_by-after.ensures less c.args.entry.now.reserved sum may
+    served)

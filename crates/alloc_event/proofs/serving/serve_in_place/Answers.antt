@@ -12,7 +12,7 @@ use Rattle.alloc_event.specs.Reserved.{reserved_count}
 use Rattle.alloc_event.specs.Serving.{IsServed}
 use Rattle.alloc_event.specs.Settling.{changed, collection_or_new, no_key}
 use Rattle.alloc_event.proofs.changes.Altering.{tracker_room}
-use Rattle.alloc_event.proofs.changes.Done.{counted_at, finishes_at, opens_at, shelves_at, tidy_at}
+use Rattle.alloc_event.proofs.changes.Done.{counted_at, finishes_at, opens_at, reserved_at, shelves_at, tidy_at}
 use Rattle.alloc_event.proofs.shelves.Entries.{IsPlace, place_is}
 use Rattle.alloc_event.proofs.serving.serve_in_place.Goals as goal
 
@@ -73,6 +73,8 @@ module _ (c : goal.After-entries-1) where
   made : IsServed c.args.table.now c.serve_effect.new.table c.serve_effect.new.units.items (shelves_of es) (shelf_of old)
       (Change.Effect c.args.key c.args.effect.now) c.in-Some-serve_effect.left
   made = c.in-Some-serve_effect.ensures.some (shelves_of es) opens
+      (reserved_at c.args.table.now es c.args.id c.in-Some.at old place is c.requires.kept c.requires.counted c.args.units.now.items
+      c.requires.units (Change.Effect c.args.key c.args.effect.now) c.requires.change)
 
   tidies : new.tidy ≡ true → list_any (over_but new.one) (nodes_with c.serve_effect.new.table old.keys.items) ≡ false
   tidies h = made.over new.one ∙ ap (λ (x : Entry). list_any (over_but x.one) (nodes_with c.args.table.now old.keys.items)) again
