@@ -99,6 +99,7 @@ fn settle_effect(
 /// Makes a change to a collection that is there in its place, if it is no birth and the counts tell
 /// that nothing is forced. Answers whether it did; if not, the table and the entries are as they
 /// were. `NoMemory` where the room is refused for what a loss or an end takes.
+#[inline(always)]
 pub(crate) fn settle_counted(
     table: &mut NodeTable<Node>,
     entries: &mut Vec<Entry>,

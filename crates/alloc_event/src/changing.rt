@@ -62,6 +62,7 @@ fn change_scene(
 
 /// Makes a change to a collection that is there, and all that it forces, on a copy of the
 /// collection. `NoMemory` leaves the table, the entries and the pool as they were.
+#[inline(never)]
 fn settle_scene_change(
     table: &mut NodeTable<Node>,
     entries: &mut Vec<Entry>,
@@ -101,6 +102,7 @@ fn settle_scene_change(
 /// Makes a change to a collection that is there, and all that it forces: in its place, where the
 /// counts tell that nothing is forced, and else on a copy of the collection, whose units are then
 /// counted anew. `NoMemory` leaves the table, the entries and the pool as they were.
+#[inline(always)]
 pub(crate) fn settle_change(
     table: &mut NodeTable<Node>,
     entries: &mut Vec<Entry>,
@@ -539,6 +541,7 @@ fn settle_unwatched(
 
 /// The birth of a node, and all that it forces. `NoMemory` leaves the table and the pool as they
 /// were, and of the entries and the units all but their room.
+#[inline(never)]
 pub(crate) fn settle_birth(
     table: &mut NodeTable<Node>,
     entries: &mut Vec<Entry>,

@@ -12,6 +12,7 @@ use crate::node::Node;
 use sm_names::{Call, NodeKey, Reply};
 
 // The effect on the node, where the call was answered Done.
+#[inline(always)]
 fn if_done(reply: &Reply, key: NodeKey, effect: Effect) -> Option<Change>
     ensures { result ≡ option_map (λ e. Changed.Effect e.0 e.1) (where_done reply.now key effect) }
 {
@@ -23,6 +24,7 @@ fn if_done(reply: &Reply, key: NodeKey, effect: Effect) -> Option<Change>
 
 /// The effect of the call, answered so, on the node that it names, if it has one. Each call is told
 /// of here, and none is left to a rest. Takes a constant time.
+#[inline(always)]
 pub fn effect_of(call: &Call, reply: &Reply) -> Option<Change>
     ensures { result ≡ option_map (λ e. Changed.Effect e.0 e.1) (effect_in call.now reply.now) }
 {

@@ -94,6 +94,7 @@ impl Forest {
     /// each node; the end of a collection without a live node one walk. Where no
     /// strong node is live, a birth that forces nothing and sends no buffer home costs the copy, the
     /// pass and one question, and another a copy of the whole table besides.
+    #[inline(always)]
     pub fn settle(
         &mut self,
         pool: &mut Pool,
