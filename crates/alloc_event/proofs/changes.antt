@@ -1,4 +1,5 @@
 -- A change to a collection, and how it is put back.
+pub mod AllLost
 pub mod Altering
 pub mod Done
 pub mod Dropped

@@ -1,4 +1,5 @@
 -- What a loss takes.
+pub mod AllGone
 pub mod Crossing
 pub mod Emptied
 pub mod Endings

@@ -1,5 +1,5 @@
 -- Nodes that go in their places. No public clause cites this module.
-use Rattle.std.specs.Prelude.{◌≡◌, ◌≢◌, ℕ, ◌-◌, ⊤, Bool, true, false, ◌||◌, ◌&&◌, not, ◌==◌, nat_lt, if◌then◌else◌, List, [], ◌∷◌, set, Some}
+use Rattle.std.specs.Prelude.{◌≡◌, ◌≢◌, ℕ, ◌-◌, ⊤, Bool, true, false, ◌||◌, ◌&&◌, not, ◌==◌, nat_lt, if◌then◌else◌, List, [], ◌∷◌, set, slice_get, Some, is_none}
 use Rattle.std.specs.List.{AllPairs, list_any}
 use Rattle.std.specs.List.Sorted.{IsSorted}
 use Rattle.std.specs.Option.{option_map_or}
@@ -63,6 +63,14 @@ pub record IsTop (t : Table Node) (keys : List NodeKey) (head : NodeKey) (attach
   pub head_is : head ≡ above.head
   pub attached_is : attached ≡ node.attached
   pub forest : IsForest t
+
+-- the key has a node, a root
+abbrev pub is_root_at : Table Node → NodeKey → Bool
+is_root_at t key = option_map_or (λ (n : Node). is_none n.parent) (node_at t key) false
+
+-- so has the first of these
+abbrev pub takes_root : Table Node → List NodeKey → Bool
+takes_root t keys = option_map_or (is_root_at t) (slice_get keys 0) false
 
 -- ---- how nodes go
 

@@ -1,8 +1,10 @@
 //! A change in its place, where the counts tell that it forces nothing.
 ghost use Rattle.std.specs.Prelude.{◌≡◌, ℕ, false, true, IfOk, OnErr};
+ghost use Rattle.buffer_holds.specs.Counts.{total};
 ghost use Rattle.alloc_event.specs.declared.change.Change.{Change as Changed};
 ghost use Rattle.alloc_event.specs.Calm.{AreCounted};
 ghost use Rattle.alloc_event.specs.Counts.{HaveUnits};
+ghost use Rattle.alloc_event.specs.Forest.{IsPoolOf};
 ghost use Rattle.alloc_event.specs.Kept.{IsStored, Finishes, SameTable, shelves_of, forest_of};
 ghost use Rattle.alloc_event.specs.Settling.{Handles, MayChange, changed, collection_or_new, no_key};
 
@@ -13,6 +15,8 @@ use crate::in_place::{is_plain, settle_in_place};
 use crate::node::Node;
 use crate::serving::serve_in_place;
 use crate::units::Unit;
+use buffer_holds::Holds;
+use buffer_pool::Pool;
 use node_table::NodeTable;
 use sm_names::{CollectionId, Fault, NoMemory, NodeKey};
 
@@ -96,11 +100,11 @@ fn settle_effect(
     }
 }
 
-/// Makes a change to a collection that is there in its place, if it is no birth and the counts tell
-/// that nothing is forced. Answers whether it did; if not, the table and the entries are as they
-/// were. `NoMemory` where the room is refused for what a loss or an end takes.
+/// Makes a change to a collection that is there in its place, if it is no birth and no loss, and the
+/// counts tell that nothing is forced. Answers whether it did; if not, the table and the entries are
+/// as they were. `NoMemory` where the room is refused for what an end takes.
 #[inline(always)]
-pub(crate) fn settle_counted(
+fn settle_counted(
     table: &mut NodeTable<Node>,
     entries: &mut Vec<Entry>,
     units: &mut Vec<Unit>,
@@ -125,10 +129,49 @@ pub(crate) fn settle_counted(
     ensures same { SameTable table.old table.new }
 {
     match *change {
-        Change::Loss(origin, cause) => {
-            fail_in_place(table, entries, units, id, Fault { cause, origin })
-        }
         Change::Effect(key, effect) => settle_effect(table, entries, units, id, key, &effect),
         _ => Ok(settle_in_place(table, entries, units, id, change)),
     }
+}
+
+/// Makes a change to a collection that is there in its place, if it is no birth, and either a loss of
+/// all that is left, or the counts tell that nothing is forced. Answers whether it did; if not, the
+/// table, the entries and the pool are as they were. `NoMemory` where the room is refused for what a
+/// loss or an end takes.
+#[inline(always)]
+pub(crate) fn settle_there(
+    table: &mut NodeTable<Node>,
+    entries: &mut Vec<Entry>,
+    units: &mut Vec<Unit>,
+    pool: &mut Pool,
+    holds: &Holds,
+    id: CollectionId,
+    change: &Change,
+) -> Result<bool, NoMemory>
+    requires kept { IsStored table.old (shelves_of entries.old.items) }
+    requires counted { AreCounted table.old entries.old.items }
+    requires units { HaveUnits units.old.items table.old entries.old.items }
+    requires change { MayChange (forest_of table.old (shelves_of entries.old.items)) id change.now }
+    requires pool { IsPoolOf pool.old (forest_of table.old (shelves_of entries.old.items)) }
+    ensures err_table { OnErr result (table.new ≡ table.old) }
+    ensures err_entries { OnErr result (entries.new.items ≡ entries.old.items) }
+    ensures err_pool { OnErr result (pool.new ≡ pool.old) }
+    ensures no_table { IfOk result (λ made. made ≡ false → table.new ≡ table.old) }
+    ensures no_entries { IfOk result (λ made. made ≡ false → entries.new.items ≡ entries.old.items) }
+    ensures no_pool { IfOk result (λ made. made ≡ false → pool.new ≡ pool.old) }
+    ensures ok { IfOk result (λ made. made ≡ true → Finishes pool.old.size (total holds.now) table.old (shelves_of entries.old.items)
+        table.new (shelves_of entries.new.items)
+        (changed change.now no_key (collection_or_new (forest_of table.old (shelves_of entries.old.items)) id))) }
+    ensures kept { IfOk result (λ made. made ≡ true → IsStored table.new (shelves_of entries.new.items)) }
+    ensures counted { IfOk result (λ made. made ≡ true → AreCounted table.new entries.new.items) }
+    ensures units { HaveUnits units.new.items table.new entries.new.items }
+    ensures pool { IfOk result (λ made. made ≡ true → IsPoolOf pool.new (forest_of table.new (shelves_of entries.new.items))) }
+    ensures size { pool.new.size ≡ pool.old.size }
+    ensures same { SameTable table.old table.new }
+{
+    if let Change::Loss(origin, cause) = *change {
+        let fault = Fault { cause, origin };
+        return fail_in_place(table, entries, units, pool, holds, id, fault);
+    }
+    settle_counted(table, entries, units, id, change)
 }

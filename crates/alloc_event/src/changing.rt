@@ -17,7 +17,7 @@ ghost use Rattle.alloc_event.specs.Still.{IsStill, no_shelf, shelf_before, shelf
 ghost use Rattle.alloc_event.specs.Ties.{IsTied};
 
 use crate::births::{new_child, new_root};
-use crate::by_counts::settle_counted;
+use crate::by_counts::settle_there;
 use crate::change::Change;
 use crate::effects::affect;
 use crate::entry::{Entry, entry_of, place_of};
@@ -99,8 +99,8 @@ fn settle_scene_change(
     store_settled(table, entries, pool, holds, scene)
 }
 
-/// Makes a change to a collection that is there, and all that it forces: in its place, where the
-/// counts tell that nothing is forced, and else on a copy of the collection, whose units are then
+/// Makes a change to a collection that is there, and all that it forces: in its place, where it is a
+/// loss of all that is left or the counts tell that nothing is forced, and else on a copy of the collection, whose units are then
 /// counted anew. `NoMemory` leaves the table, the entries and the pool as they were.
 #[inline(always)]
 pub(crate) fn settle_change(
@@ -131,7 +131,7 @@ pub(crate) fn settle_change(
     ensures err_entries { OnErr result (entries.new.items ≡ entries.old.items) }
     ensures err_pool { OnErr result (pool.new ≡ pool.old) }
 {
-    if settle_counted(table, entries, units, id, change)? {
+    if settle_there(table, entries, units, pool, holds, id, change)? {
         return Ok(());
     }
     settle_scene_change(table, entries, pool, holds, id, change)?;

@@ -1,20 +1,25 @@
 //! Losses and releases that leave units without a live node, made in their places with the ends of those.
 ghost use Rattle.std.specs.Prelude.{◌≡◌, ℕ, Some, None, true, false, IfOk, IfSome, IsSome, OnErr};
 ghost use Rattle.node_table.specs.Table.{row_at};
+ghost use Rattle.buffer_holds.specs.Counts.{total};
 ghost use Rattle.alloc_event.specs.declared.change.Change.{Change as Changed};
 ghost use Rattle.alloc_event.specs.declared.change.Effect.{Effect as Effected};
 ghost use Rattle.alloc_event.specs.Calm.{AreCounted};
 ghost use Rattle.alloc_event.specs.Counts.{HaveUnits};
 ghost use Rattle.alloc_event.specs.Falling.{IsTaken};
+ghost use Rattle.alloc_event.specs.Forest.{IsPoolOf};
 ghost use Rattle.alloc_event.specs.Kept.{Finishes, IsStored, SameTable, forest_of, shelves_of};
 ghost use Rattle.alloc_event.specs.Settling.{Handles, MayChange, changed, collection_or_new, no_key};
 
+use crate::all_lost::{lose_all, takes_root};
 use crate::entry::Entry;
 use crate::falling::{Going, go_in_place, lose_in_place, unit_above};
 use crate::losses::order;
 use crate::node::Node;
 use crate::questions::is_live;
 use crate::units::{Unit, unit_in};
+use buffer_holds::Holds;
+use buffer_pool::Pool;
 use failure_domains::fall;
 use node_table::NodeTable;
 use sm_names::{CollectionId, Fault, NoMemory, NodeKey};
@@ -126,12 +131,16 @@ fn fail_fallen(
     lose_in_place(table, entries, units, id, head, &Going::Ends(fault, keys))
 }
 
-/// Makes a loss in its place, if the counts tell that nothing more is forced by it than the end of
-/// the units above it, as `fail_fallen` does. It costs what `fall` costs besides.
+/// Makes a loss in its place: one that takes all that is left of the collection as `lose_all` does,
+/// and any other, if the counts tell that nothing more is forced by it than the end of the units
+/// above it, as `fail_fallen` does. Answers whether it did; if not, the table, the entries and the
+/// pool are as they were. It costs what `fall` costs besides.
 pub(crate) fn fail_in_place(
     table: &mut NodeTable<Node>,
     entries: &mut Vec<Entry>,
     units: &mut Vec<Unit>,
+    pool: &mut Pool,
+    holds: &Holds,
     id: CollectionId,
     fault: Fault,
 ) -> Result<bool, NoMemory>
@@ -139,21 +148,37 @@ pub(crate) fn fail_in_place(
     requires counted { AreCounted table.old entries.old.items }
     requires units { HaveUnits units.old.items table.old entries.old.items }
     requires change { MayChange (forest_of table.old (shelves_of entries.old.items)) id (Changed.Loss fault.origin fault.cause) }
+    requires pool { IsPoolOf pool.old (forest_of table.old (shelves_of entries.old.items)) }
     ensures err_table { OnErr result (table.new ≡ table.old) }
     ensures err_entries { OnErr result (entries.new.items ≡ entries.old.items) }
+    ensures err_pool { OnErr result (pool.new ≡ pool.old) }
     ensures no_table { IfOk result (λ made. made ≡ false → table.new ≡ table.old) }
     ensures no_entries { IfOk result (λ made. made ≡ false → entries.new.items ≡ entries.old.items) }
-    ensures ok { IfOk result (λ made. made ≡ true → (pool : ℕ) (handles : Handles) →
-        Finishes pool handles table.old (shelves_of entries.old.items) table.new (shelves_of entries.new.items)
+    ensures no_pool { IfOk result (λ made. made ≡ false → pool.new ≡ pool.old) }
+    ensures ok { IfOk result (λ made. made ≡ true → Finishes pool.old.size (total holds.now) table.old (shelves_of entries.old.items)
+        table.new (shelves_of entries.new.items)
         (changed (Changed.Loss fault.origin fault.cause) no_key (collection_or_new (forest_of table.old (shelves_of entries.old.items)) id))) }
-    ensures shelves { shelves_of entries.new.items ≡ shelves_of entries.old.items }
-    ensures kept { IfOk result (λ made. made ≡ true → IsStored table.new (shelves_of entries.old.items)) }
+    ensures kept { IfOk result (λ made. made ≡ true → IsStored table.new (shelves_of entries.new.items)) }
     ensures counted { IfOk result (λ made. made ≡ true → AreCounted table.new entries.new.items) }
     ensures units { HaveUnits units.new.items table.new entries.new.items }
+    ensures pool { IfOk result (λ made. made ≡ true → IsPoolOf pool.new (forest_of table.new (shelves_of entries.new.items))) }
+    ensures size { pool.new.size ≡ pool.old.size }
     ensures same { SameTable table.old table.new }
 {
     let alloc = *entries.allocator();
     let fallen = fall(alloc, table, fault.origin)?;
+    if takes_root(table, &fallen.keys) {
+        return lose_all(
+            table,
+            entries,
+            units,
+            pool,
+            holds,
+            id,
+            fault,
+            &fallen.keys,
+        );
+    }
     fail_fallen(table, entries, units, id, fault, fallen.keys)
 }
 

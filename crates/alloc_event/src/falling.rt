@@ -49,7 +49,7 @@ fn uncount(units: &mut Vec<Unit>, node: &Node)
 }
 
 /// Counts the nodes no longer for their units.
-fn untally(units: &mut Vec<Unit>, nodes: &[Node])
+pub(crate) fn untally(units: &mut Vec<Unit>, nodes: &[Node])
     ensures { units.new.items ≡ untallied nodes.now units.old.items }
 {
     let mut rest = nodes;
@@ -93,7 +93,7 @@ fn go(node: &mut Node, going: &Going)
 }
 
 /// Each node goes.
-fn go_each(nodes: &mut [Node], going: &Going)
+pub(crate) fn go_each(nodes: &mut [Node], going: &Going)
     requires { IsOrdered going.now }
     ensures { nodes.new ≡ map (gone_by going.now) nodes.old }
 {
@@ -160,7 +160,7 @@ fn may_go(going: &Going, origin: NodeKey, attached: bool, keys: &[NodeKey], node
 }
 
 /// Whether each node is of this collection.
-fn are_of(nodes: &[Node], id: CollectionId) -> bool
+pub(crate) fn are_of(nodes: &[Node], id: CollectionId) -> bool
     ensures { result ≡ all_of id nodes.now }
 {
     nodes.iter().all(|node| node.collection == id)
@@ -271,7 +271,7 @@ fn fell(
 
 /// What is known of a collection once these nodes went: whether none is over but the noted one, as
 /// before or with another noted, and which is noted.
-fn note_gone(tidy: bool, one: Option<NodeKey>, nodes: &[Node]) -> (bool, Option<NodeKey>)
+pub(crate) fn note_gone(tidy: bool, one: Option<NodeKey>, nodes: &[Node]) -> (bool, Option<NodeKey>)
     ensures tidy { result.0 ≡ true → tidy ≡ true }
     ensures one { result.0 ≡ true → (result.1 ≡ one) ⊎ (one ≡ None) }
     ensures over { result.0 ≡ true → list_any (over_but result.1) nodes.now ≡ false }

@@ -3,6 +3,7 @@
 #![tactic(auto)]
 
 pub mod abandoned;
+mod all_lost;
 pub mod allocating;
 pub mod asks;
 pub mod births;

@@ -25,8 +25,25 @@ pub fn give_back(scene: &mut Scene, pool: &mut Pool, holds: &Holds)
     ensures size { pool.new.size ≡ pool.old.size }
 {
     let strong_live = some_strong_live(&scene.nodes);
-    let out = return_pages(&scene.held, pool, holds, strong_live);
-    keep_out(&mut scene.held, holds, strong_live, out);
+    send_home(&mut scene.held, pool, holds, strong_live);
+}
+
+/// The buffers that are home give their pages back, and are not held any longer. It takes no memory,
+/// and costs what `give_back` does.
+pub(crate) fn send_home(
+    held: &mut Vec<HeldBuffer>,
+    pool: &mut Pool,
+    holds: &Holds,
+    strong_live: bool,
+)
+    requires { (others : List Interval) × (pool.old.held ≡ by_page (pages_held held.old.items ++ others)) }
+    ensures held { held.new.items ≡ filter (is_out (total holds.now) strong_live) held.old.items }
+    ensures pool { (others : List Interval) → pool.old.held ≡ by_page (pages_held held.old.items ++ others) →
+        pool.new.held ≡ by_page (pages_held held.new.items ++ others) }
+    ensures size { pool.new.size ≡ pool.old.size }
+{
+    let out = return_pages(held, pool, holds, strong_live);
+    keep_out(held, holds, strong_live, out);
 }
 
 /// Each buffer that is home gives its pages back. Answers how many are not.

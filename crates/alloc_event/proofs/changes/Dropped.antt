@@ -126,7 +126,7 @@ kept_root strong strong_open (Some root) none = from root.allocated strong stron
     from true false false none = let no : true ≡ false = none in cc
 
 -- so nothing is forced in a calm collection, where the root is not abandoned
-still_decided : (nodes : List Node) (buffers : Option Buffers) (strong_open : Bool) → AreNone nodes buffers →
+pub still_decided : (nodes : List Node) (buffers : Option Buffers) (strong_open : Bool) → AreNone nodes buffers →
     (has_strong nodes ≡ true)
     ⊎ ((option_map_or (λ (root : Node). root.allocated) (find is_root_left nodes) false && not strong_open) ≡ false) →
     decided nodes buffers strong_open ≡ None
@@ -149,7 +149,7 @@ pub record IsReturned (handles : Handles) (old new : Entry) : Type 0 where
   pub held : new.held.items ≡ filter (is_out handles (nat_lt 0 old.strong)) old.held.items
 
 -- units of a collection with other buffers
-units_set : (us : List Unit) (t : Table Node) (es : List Entry) (at : ℕ) (new : Entry) →
+pub units_set : (us : List Unit) (t : Table Node) (es : List Entry) (at : ℕ) (new : Entry) →
     (at < length es → new.keys ≡ (get_or es at new).keys) → HaveUnits us t es → HaveUnits us t (set es at new)
 units_set us t [] at new same all = tt
 units_set us t (e ∷ es) zero new same all =

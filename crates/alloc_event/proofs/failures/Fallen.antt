@@ -243,7 +243,7 @@ module _ (t : Table Node) (us : List Unit) (ss : List Shelf) (s : Shelf) (going 
   of_it : (m : Node) → In m nodes → m.collection ≡ s.id
   of_it m there = eqb-true m.collection s.id (all-In (λ (x : Node). x.collection == s.id) nodes m there (looked-of t s.id s.keys own_filed))
 
-  linked : (x : Node) → In x nodes → x.gone ≡ false → parent_at t x.key ≡ x.parent
+  pub linked : (x : Node) → In x nodes → x.gone ≡ false → parent_at t x.key ≡ x.parent
   linked x on here = opens.kept.linked x.key x (at_key x on) here
 
   -- what falls is of the collection
@@ -300,7 +300,7 @@ module _ (t : Table Node) (us : List Unit) (ss : List Shelf) (s : Shelf) (going 
   long : length new ≡ length us
   long = untallied_long fallen us
 
-  has_now : HasUnits new (map f nodes)
+  pub has_now : HasUnits new (map f nodes)
   has_now = all_in (λ (m : Node). m.key.slot < length new → unit_at new m.key.slot ≡ unit_of (map f nodes) m.key) (map f nodes) (λ m there.
       let x = In-map f nodes m there in
       let key : x.0.key ≡ m.key = sym (ap (λ (y : Node). y.key) x.2 ∙ (same x.0).key) in
@@ -336,6 +336,22 @@ module _ (t : Table Node) (us : List Unit) (ss : List Shelf) (s : Shelf) (going 
 
     pub nodes_then : nodes_with now s.keys ≡ map f nodes
     nodes_then = looked-map f (node_at t) (node_at now) look_then s.keys
+
+    -- a test that none of those that went passes, and none did before, none passes
+    pub over_now : (p : Node → Bool) → list_any p (map (gone_by going) fallen) ≡ false → list_any p nodes ≡ false →
+        list_any p (nodes_with now s.keys) ≡ false
+    over_now p some was = ap (list_any p) nodes_then ∙ false_if (list_any p (map f nodes)) (λ e.
+        let x = In-list_any p (map f nodes) e in
+        let y = In-map f nodes x.0 x.1 in
+        let is : p (f y.0) ≡ true = ap p (sym y.2) ∙ x.2 in
+        elim (either_way (falls y.0.key)) [
+          | inl h ↦
+              both_ways (list_any p (map (gone_by going) fallen))
+              (In-any p (map (gone_by going) fallen) (gone_by going y.0)
+              (In-map-back (gone_by going) fallen y.0 (in_looked t opens.kept.named going keys y.0 (at_key y.0 y.1) h))
+              (ap p (sym (goes_in going keys y.0 h)) ∙ is)) some
+          | inr h ↦ both_ways (list_any p nodes) (In-any p nodes y.0 y.1 (ap p (sym (goes_not going keys y.0 h)) ∙ is)) was
+        ])
 
   -- ---- the unit above
 
@@ -491,22 +507,6 @@ module _ (t : Table Node) (us : List Unit) (ss : List Shelf) (s : Shelf) (going 
           let one : x.0 ≡ s = one_shelf ss opens.kept.rising x.0 s x.1 in_shelves (sym (ap (λ (d : Collection). d.id) x.2) ∙ is) in
           subst (λ (d : Collection). HasUnits new d.nodes) (sym (x.2 ∙ (ap (collection_in now) one ∙ now_is))) has_now)
 
-      -- a test that none of those that went passes, and none did before, none passes
-      over_now : (p : Node → Bool) → list_any p (map (gone_by going) fallen) ≡ false → list_any p nodes ≡ false →
-          list_any p (nodes_with now s.keys) ≡ false
-      over_now p some was = ap (list_any p) nodes_now ∙ false_if (list_any p (map f nodes)) (λ e.
-          let x = In-list_any p (map f nodes) e in
-          let y = In-map f nodes x.0 x.1 in
-          let is : p (f y.0) ≡ true = ap p (sym y.2) ∙ x.2 in
-          elim (either_way (falls y.0.key)) [
-            | inl h ↦
-                both_ways (list_any p (map (gone_by going) fallen))
-                (In-any p (map (gone_by going) fallen) (gone_by going y.0)
-                (In-map-back (gone_by going) fallen y.0 (in_looked t opens.kept.named going keys y.0 (at_key y.0 y.1) h))
-                (ap p (sym (goes_in going keys y.0 h)) ∙ is)) some
-            | inr h ↦ both_ways (list_any p nodes) (In-any p nodes y.0 y.1 (ap p (sym (goes_not going keys y.0 h)) ∙ is)) was
-          ])
-
       calm_now : IsCalm (collection_in now s)
       calm_now = subst IsCalm (sym now_is)
           (calm_fallen (collection_in t s) whole falls top.node top.above up (λ on here. top_up) above_one f same (given_of going keys)
@@ -526,5 +526,5 @@ module _ (t : Table Node) (us : List Unit) (ss : List Shelf) (s : Shelf) (going 
           record {
             done = done_led t now ss s opens.kept opens.found (change_of going) (map (gone_by going) fallen) stores filed
                 kept_now between change_is leads new left some (is ∙ ap strong_count (sym nodes_now)) calm_now units_now;
-            over = over_now;
+            over = over_now now stores;
           }

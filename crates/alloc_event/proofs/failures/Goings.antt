@@ -46,7 +46,7 @@ module _ (t : Table Node) (us : List Unit) (ss : List Shelf) (s : Shelf) (fault 
   abbrev kept_nodes : List Node
   kept_nodes = nodes_with t s.keys
 
-  abbrev fails : Node → Node
+  abbrev pub fails : Node → Node
   fails = f t us ss s failing strong opens fault.origin keys taken own
 
   whole_c : IsWhole (collection_in t s)
@@ -65,12 +65,12 @@ module _ (t : Table Node) (us : List Unit) (ss : List Shelf) (s : Shelf) (fault 
   ]
 
   -- what goes is what the loss takes
-  fails_is : map fails kept_nodes ≡ after_loss fault kept_nodes
+  pub fails_is : map fails kept_nodes ≡ after_loss fault kept_nodes
   fails_is =
       map-In fails (lost (λ m. list_any (same_key m.key) keys) fault) kept_nodes (λ n on. one_fails n)
       ∙ losses_by_fall t kept_nodes tied fault left keys taken.fall
 
-  rooted_fails : are_rooted (reverse (map fails kept_nodes)) ≡ true
+  pub rooted_fails : are_rooted (reverse (map fails kept_nodes)) ≡ true
   rooted_fails =
       ap (λ (ns : List Node). are_rooted (reverse ns)) fails_is
       ∙ (rooted_loss kept_nodes (record { one = distinct_one kept_nodes whole_c.sound.distinct; rooted = whole_c.rooted }) fault).rooted
