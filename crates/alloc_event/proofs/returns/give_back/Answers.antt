@@ -1,4 +1,4 @@
-use Rattle.std.proofs.Common.{◌≡◌, ◌∙◌, ◌++◌, sym, ap, Bool, not, List}
+use Rattle.std.proofs.Common.{◌≡◌, ◌∙◌, sym, ap, Bool, not, List}
 use Rattle.std.specs.List.{filter}
 use Rattle.sm_names.specs.Members.{some_strong_live}
 use Rattle.sm_names.specs.declared.keys.HeldBuffer.{HeldBuffer}
@@ -6,7 +6,7 @@ use Rattle.buffer_holds.specs.Counts.{total}
 use Rattle.alloc_event.specs.Decisions.{has_strong}
 use Rattle.alloc_event.specs.Forest.{Collection}
 use Rattle.alloc_event.specs.Nodes.{members_of}
-use Rattle.alloc_event.specs.Scenes.{by_page, collection_of, is_out, pages_held}
+use Rattle.alloc_event.specs.Scenes.{collection_of, is_out}
 use Rattle.alloc_event.specs.Settling.{is_home_in}
 use Rattle.alloc_event.proofs.calm.Forcing.{strong_tie}
 use Rattle.alloc_event.proofs.returns.give_back.Goals as goal
@@ -17,15 +17,10 @@ returns-clause-scene c =
     let own : List HeldBuffer = c.args.scene.now.held.items in
     let live : c.some_strong_live-strong_live.result ≡ some_strong_live (members_of it.nodes) =
     c.some_strong_live-strong_live.ensures ∙ (ap has_strong c.deref.ensures.value ∙ sym (strong_tie it.nodes)) in
-    let held : c.keep_out.new.held.items
+    let held : c.send_home.new.held.items
     ≡ filter (λ (h : HeldBuffer). not (is_home_in (total c.args.holds.now) it h.buffer)) it.held =
-    c.keep_out.ensures ∙ ap (λ (b : Bool). filter (is_out (total c.args.holds.now) b) own) live in
+    c.send_home.ensures.held ∙ ap (λ (b : Bool). filter (is_out (total c.args.holds.now) b) own) live in
     λ i. record it { held = held i }
 
 pub returns-clause-pool : goal.returns-clause-pool
-returns-clause-pool c others beside =
-    let out : HeldBuffer → Bool = is_out (total c.args.holds.now) c.some_strong_live-strong_live.result in
-    c.return_pages-out.ensures.held others (beside
-    ∙ ap (λ (l : List HeldBuffer). by_page (pages_held l ++ others)) (sym c.deref-2.ensures.value))
-    ∙ (ap (λ (l : List HeldBuffer). by_page (pages_held (filter out l) ++ others)) c.deref-2.ensures.value
-    ∙ ap (λ (l : List HeldBuffer). by_page (pages_held l ++ others)) (sym c.keep_out.ensures))
+returns-clause-pool c others beside = c.send_home.ensures.pool others beside
