@@ -1,5 +1,5 @@
 -- The pages of the pool, of one collection and of those beside it.
-use Rattle.std.proofs.Common.{◌≡◌, true, List, ◌++◌, map, sym, ap, ◌∙◌}
+use Rattle.std.proofs.Common.{◌≡◌, true, List, [], ◌∷◌, ◌++◌, map, refl, sym, ap, ◌∙◌, Result, Ok, Err, IfOk}
 use Rattle.std.specs.List.{flat_map}
 use Rattle.sm_names.specs.declared.keys.Interval.{Interval}
 use Rattle.sm_names.specs.declared.keys.HeldBuffer.{HeldBuffer}
@@ -35,3 +35,20 @@ pool_back held t now c new ss rising collections parted is =
     let all = pages_held (map (collection_in now) (put_shelf new ss)) ∙ ap (flat_map pages_in) collections in
     let apart = alike.parted ∙ sym (parted-sorted (pages_in c ++ beside (forest_of t ss) c.id)) ∙ ap are_parted (sym is) ∙ parted in
     is ∙ sym (alike.sorted apart) ∙ ap (sorted_by start_of) (sym all)
+
+-- a pool holds the pages of the same shelves, whatever table they lie in
+pub pool_stays : (held : List Interval) (t now : Table Node) (before behind : List Shelf) → behind ≡ before →
+    held ≡ sorted_by start_of (map (λ (h : HeldBuffer). h.pages) (all_held (forest_of t before))) →
+    held ≡ sorted_by start_of (map (λ (h : HeldBuffer). h.pages) (all_held (forest_of now behind)))
+pool_stays held t now before behind same is =
+    is ∙ ap (λ (hs : List HeldBuffer). sorted_by start_of (map (λ (h : HeldBuffer). h.pages) hs))
+    (from before ∙ ap (λ (ss : List Shelf). all_held (forest_of now ss)) (sym same))
+  where
+    from : (ss : List Shelf) → all_held (forest_of t ss) ≡ all_held (forest_of now ss)
+    from [] = refl
+    from (s ∷ ss) = ap (λ (hs : List HeldBuffer). s.held ++ hs) (from ss)
+
+-- what holds of every value holds of the one that there is
+pub any_ok : {A E : Type 0} {P : A → Type 0} (r : Result A E) → ((x : A) → P x) → IfOk r P
+any_ok (Ok x) each = each x
+any_ok (Err e) each = tt
