@@ -100,8 +100,9 @@ fn settle_scene_change(
 }
 
 /// Makes a change to a collection that is there, and all that it forces: in its place, where it is a
-/// loss of all that is left or the counts tell that nothing is forced, and else on a copy of the collection, whose units are then
-/// counted anew. `NoMemory` leaves the table, the entries and the pool as they were.
+/// loss of all that is left, or the counts tell that nothing is forced; and else on a copy of the
+/// collection, whose units are then counted anew. `NoMemory` leaves the table, the entries and the
+/// pool as they were.
 #[inline(always)]
 pub(crate) fn settle_change(
     table: &mut NodeTable<Node>,

@@ -168,16 +168,7 @@ pub(crate) fn fail_in_place(
     let alloc = *entries.allocator();
     let fallen = fall(alloc, table, fault.origin)?;
     if takes_root(table, &fallen.keys) {
-        return lose_all(
-            table,
-            entries,
-            units,
-            pool,
-            holds,
-            id,
-            fault,
-            &fallen.keys,
-        );
+        return lose_all(table, entries, units, pool, holds, id, fault, &fallen.keys);
     }
     fail_fallen(table, entries, units, id, fault, fallen.keys)
 }

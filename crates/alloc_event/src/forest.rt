@@ -84,7 +84,10 @@ impl Forest {
     /// unit above what it takes, and where that unit does not become ready by it or has its buffers.
     /// So does the release of the last live node at or below the head of an attached unit, which
     /// ends, where a node of the unit above stays live; and a loss that leaves no live node at or
-    /// below the head of such a unit, with a logarithm for each node that goes.
+    /// below the head of such a unit, with a logarithm for each node that goes. A loss that takes the
+    /// root, and so all that is left of the collection, costs what `fall` costs and a binary search;
+    /// then the buffers that are home go back, which costs a look at the handles of each buffer, two
+    /// where some stay held and others go, and what the pool takes.
     ///
     /// These and any other change cost a copy of the collection, a pass over its units, and the
     /// question for the next step after each that is made. Attached units that are allocated or fail

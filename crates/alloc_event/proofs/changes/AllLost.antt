@@ -1,7 +1,7 @@
 -- A loss of all that is left of a collection, after which nothing is forced, and its buffers that are home go back.
-use Rattle.std.proofs.Common.{◌≡◌, ◌≢◌, ℕ, ◌+◌, ◌<◌, Bool, true, false, not, ◌&&◌, ◌⊎◌, ◌++◌, ◌==◌, List, [], ◌∷◌, map, reverse, length, get_or, set, Option, Some, None, option_map, refl, sym, ap, subst, ◌∙◌, inl, inr}
+use Rattle.std.proofs.Common.{◌≡◌, ◌≢◌, ℕ, Bool, true, false, ◌&&◌, ◌⊎◌, ◌++◌, ◌==◌, List, [], ◌∷◌, map, get_or, set, Option, Some, None, option_map, refl, sym, ap, subst, ◌∙◌, inl, inr}
 use Rattle.std.proofs.lemmas.List.{get_or_default}
-use Rattle.std.specs.List.{AllByRecursion, filter, find, list_all, list_any}
+use Rattle.std.specs.List.{AllByRecursion, filter, list_all, list_any}
 use Rattle.sm_names.specs.declared.keys.HeldBuffer.{HeldBuffer}
 use Rattle.sm_names.specs.declared.keys.Interval.{Interval}
 use Rattle.sm_names.specs.declared.keys.NodeKey.{NodeKey}
@@ -18,13 +18,13 @@ use Rattle.alloc_event.specs.declared.falling.Going.{Going}
 use Rattle.alloc_event.specs.declared.node.Node.{Node}
 use Rattle.alloc_event.specs.declared.units.Unit.{Unit}
 use Rattle.alloc_event.specs.Calm.{AreCounted, over_but, put_in, strong_count}
-use Rattle.alloc_event.specs.Counts.{AreUnits, HasUnits, HaveUnits}
+use Rattle.alloc_event.specs.Counts.{HasUnits, HaveUnits}
 use Rattle.alloc_event.specs.Decisions.{decided, mark_of}
 use Rattle.alloc_event.specs.Falling.{IsTaken, gone_by, takes_root, untallied}
 use Rattle.alloc_event.specs.Forest.{Collection, all_held, beside, pages_in, with_nodes}
 use Rattle.alloc_event.specs.InPlace.{IsOpen}
 use Rattle.alloc_event.specs.Kept.{Finishes, IsStored, IsWhole, Shelf, Stores, all_of, collection_in, forest_of, is_filed, nodes_with, place_in, put_shelf, shelf_of, shelves_of}
-use Rattle.alloc_event.specs.Nodes.{after_loss, members_of}
+use Rattle.alloc_event.specs.Nodes.{members_of}
 use Rattle.alloc_event.specs.Parted.{are_parted}
 use Rattle.alloc_event.specs.Reserved.{reserved_count}
 use Rattle.alloc_event.specs.Scenes.{by_page, is_held_strongly, is_out, pages_held}
@@ -38,7 +38,7 @@ use Rattle.alloc_event.proofs.changes.Dropped.{own_id, pool_at, units_set}
 use Rattle.alloc_event.proofs.changes.Finishing.{collection-beside, collections-put, kept-put, keys_in, whole-map, whole-put, whole-unmap}
 use Rattle.alloc_event.proofs.failures.AllGone.{AreGone, all_gone, no_strong, none_decides, none_reserved, none_strong}
 use Rattle.alloc_event.proofs.failures.Endings.{change_nodes}
-use Rattle.alloc_event.proofs.failures.Fallen.{filed_fallen, gone_is, gone_same, has_now, nodes_then, over_now, same_of, units_but, whole}
+use Rattle.alloc_event.proofs.failures.Fallen.{filed_fallen, gone_is, has_now, nodes_then, over_now, same_of, units_but, whole}
 use Rattle.alloc_event.proofs.failures.Goings.{fails, fails_is, rooted_fails}
 use Rattle.alloc_event.proofs.intervals.Pools.{pool_back}
 use Rattle.alloc_event.proofs.leaving.Noted.{fewer_over}

@@ -1,16 +1,15 @@
 -- A loss that takes the root takes all that is left of a collection, and nothing is forced in one that is gone.
-use Rattle.std.proofs.Common.{◌≡◌, ◌≢◌, ℕ, refl, ap, sym, ◌∙◌, subst, Bool, true, false, ◌||◌, ◌&&◌, not, ◌⊎◌, inl, inr, List, [], ◌∷◌, map, reverse, drop, Option, Some, None, is_none, is_some, option_map, arith}
+use Rattle.std.proofs.Common.{◌≡◌, ℕ, refl, ap, sym, ◌∙◌, subst, Bool, true, false, ◌||◌, ◌&&◌, inl, inr, List, [], ◌∷◌, map, reverse, drop, Option, Some, None, is_none, is_some, arith}
 use Rattle.std.proofs.lemmas.Map.Views.{Contains-from_any, list_any-from_Contains}
 use Rattle.std.specs.List.{find, list_all, list_any}
-use Rattle.std.specs.Option.{option_and_then, option_map_or}
+use Rattle.std.specs.Option.{option_map_or}
 use Rattle.sm_names.specs.declared.keys.NodeKey.{NodeKey}
 use Rattle.sm_names.specs.declared.outcomes.Buffers.{Buffers}
 use Rattle.sm_names.specs.declared.outcomes.Fault.{Fault}
 use Rattle.sm_names.specs.Losses.{Down, Reach}
 use Rattle.sm_names.specs.Sameness.{same_key}
-use Rattle.sm_names.specs.Words.{times, when}
 use Rattle.sm_names.proofs.ListLaws.{In, In-map, In-reverse, In-reverse-back}
-use Rattle.sm_names.proofs.SamenessLaws.{and_left, and_right, both_ways, either_way, or_left, or_right, same_key-refl, same_key-true}
+use Rattle.sm_names.proofs.SamenessLaws.{and_left, and_right, both_ways, either_way, or_left, same_key-refl, same_key-true}
 use Rattle.node_table.specs.Table.{Table, node_at, parent_at}
 use Rattle.failure_domains.specs.Falls.{blocked_at}
 use Rattle.alloc_event.specs.declared.change.Change.{Change}
@@ -18,17 +17,17 @@ use Rattle.alloc_event.specs.declared.falling.Going.{Going}
 use Rattle.alloc_event.specs.declared.node.Node.{Node}
 use Rattle.alloc_event.specs.declared.units.Unit.{Unit}
 use Rattle.alloc_event.specs.Calm.{strong_count}
-use Rattle.alloc_event.specs.Decisions.{decided, has_strong, is_left_of}
-use Rattle.alloc_event.specs.Falling.{IsTaken, is_root_at, takes_root}
+use Rattle.alloc_event.specs.Decisions.{decided, is_left_of}
+use Rattle.alloc_event.specs.Falling.{IsTaken, takes_root}
 use Rattle.alloc_event.specs.InPlace.{IsOpen}
 use Rattle.alloc_event.specs.Kept.{IsWhole, Shelf, all_of, collection_in, is_strong, nodes_with}
 use Rattle.alloc_event.specs.Questions.{is_deserted_node, is_next_node, is_root_left}
 use Rattle.alloc_event.specs.Reserved.{camped, reserved_count}
 use Rattle.alloc_event.specs.Ties.{are_rooted, hangs_on, is_blocking}
-use Rattle.alloc_event.proofs.calm.Calming.{AreNone, later}
+use Rattle.alloc_event.proofs.calm.Calming.{later}
 use Rattle.alloc_event.proofs.calm.Steps.{all-In}
 use Rattle.alloc_event.proofs.changes.Dropped.{still_decided}
-use Rattle.alloc_event.proofs.failures.Fallen.{at_key, f, gone_of, in_looked, linked, whole, within}
+use Rattle.alloc_event.proofs.failures.Fallen.{f, gone_of, in_looked, linked, whole, within}
 use Rattle.alloc_event.proofs.failures.Ties.{key_equivalence}
 use Rattle.alloc_event.proofs.tables.Rooted.{left_node}
 use Rattle.alloc_event.proofs.tallies.Amounts.{amount_of}

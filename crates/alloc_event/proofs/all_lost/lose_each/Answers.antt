@@ -1,8 +1,6 @@
 -- All that is left of the collection fails, and its buffers that are home go back.
-use Rattle.std.proofs.Common.{◌≡◌, ◌∙◌, ◌<◌, ◌++◌, ℕ, Bool, true, false, List, Option, Some, map, length, get_or, set, refl, sym, ap, subst, arith}
-use Rattle.std.proofs.lemmas.List.{get_or_default}
+use Rattle.std.proofs.Common.{◌≡◌, ◌∙◌, true, List, Some, map, set, refl, sym, ap, subst, arith}
 use Rattle.std.specs.List.{list_any}
-use Rattle.sm_names.specs.declared.keys.NodeKey.{NodeKey}
 use Rattle.buffer_holds.specs.Counts.{total}
 use Rattle.node_table.specs.Table.{Table}
 use Rattle.alloc_event.specs.declared.entry.Entry.{Entry}
