@@ -4,4 +4,5 @@ pub mod Next
 pub mod Giving
 pub mod Sums
 pub mod Before
+pub mod Below
 pub mod Served

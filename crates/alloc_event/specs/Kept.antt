@@ -19,7 +19,7 @@ use Rattle.alloc_event.specs.Questions.{is_live_node}
 use Rattle.alloc_event.specs.Scenes.{IsSound, has_tracker_room}
 use Rattle.alloc_event.specs.Decisions.{is_left_of}
 use Rattle.alloc_event.specs.Ties.{are_rooted}
-use Rattle.alloc_event.specs.Units.{are_united}
+use Rattle.alloc_event.specs.Units.{GoTogether, are_united}
 
 -- a collection, with the keys of its nodes in their place
 pub record Shelf : Type 0 where
@@ -96,11 +96,12 @@ abbrev pub are_filed : Table Node → List Shelf → Bool
 are_filed t ss = list_all (λ (s : Shelf). list_all (is_filed t s.id) s.keys) ss
 
 -- a collection as the forced steps ask for it, each of whose nodes that is not gone hangs on its parent, and is of its unit
--- or heads one
+-- or heads one, and whose units go together
 pub record IsWhole (c : Collection) : Type 0 where
   pub sound : IsSound c
   pub rooted : are_rooted (reverse c.nodes) ≡ true
   pub united : are_united (reverse c.nodes) ≡ true
+  pub together : GoTogether c.nodes
 
 -- the node, gone without a fault
 abbrev pub left_of : Node → Node
@@ -115,6 +116,10 @@ pub record IsHung (t : Table Node) (nodes : List Node) : Type 0 where
   pub linked : AllByRecursion (λ (n : Node). n.gone ≡ false → parent_at t n.key ≡ n.parent) nodes
   pub rooted : are_rooted (reverse nodes) ≡ true
 
+-- the table gave the keys of the nodes' heads
+abbrev pub AreHeadsGiven : Table Node → List Node → Type 0
+AreHeadsGiven t nodes = AllByRecursion (λ (n : Node). was_given t n.head ≡ true) nodes
+
 -- what holds of the table and the shelves of each forest
 pub record IsStored (t : Table Node) (ss : List Shelf) : Type 0 where
   pub first : t.first ≡ 0
@@ -125,6 +130,7 @@ pub record IsStored (t : Table Node) (ss : List Shelf) : Type 0 where
   pub there : (key : NodeKey) (n : Node) → node_at t key ≡ Some n → list_any (same_key key) (all_keys ss) ≡ true
   pub counted : length (all_keys ss) ≡ table_len t
   pub linked : (key : NodeKey) (n : Node) → node_at t key ≡ Some n → n.gone ≡ false → parent_at t key ≡ n.parent
+  pub heads : (key : NodeKey) (n : Node) → node_at t key ≡ Some n → was_given t n.head ≡ true
   pub whole : AllByRecursion (λ (s : Shelf). IsWhole (collection_in t s)) ss
 
 -- this node, where it has the key of the other

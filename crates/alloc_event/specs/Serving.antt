@@ -1,5 +1,5 @@
 -- An attached unit that becomes ready and is allocated in its place. No public clause cites this module.
-use Rattle.std.specs.Prelude.{◌≡◌, ℕ, ◌+◌, ◌<◌, Bool, true, false, ◌||◌, ◌&&◌, ◌==◌, not, nat_lt, if◌then◌else◌, List, length, Option, None, option_map}
+use Rattle.std.specs.Prelude.{◌≡◌, ℕ, ◌+◌, ◌<◌, Bool, true, false, ◌||◌, ◌&&◌, ◌==◌, not, nat_lt, if◌then◌else◌, List, length, Option, Some, None, option_map}
 use Rattle.std.specs.List.{filter_map, list_any, sum_by}
 use Rattle.std.specs.Option.{option_and_then, option_map_or}
 use Rattle.sm_names.specs.declared.keys.NodeKey.{NodeKey}
@@ -18,7 +18,8 @@ use Rattle.alloc_event.specs.Counts.{is_unready, unit_at}
 use Rattle.alloc_event.specs.InPlace.{IsDone, bit}
 use Rattle.alloc_event.specs.Kept.{SameTable, Shelf, is_strong, nodes_with, written}
 use Rattle.alloc_event.specs.Nodes.{given_buffers}
-use Rattle.alloc_event.specs.Questions.{demands_of, is_in_unit, is_live_node, is_served}
+use Rattle.alloc_event.specs.Questions.{is_in_unit, is_live_node, is_served}
+use Rattle.alloc_event.specs.Reserved.{reserved_count}
 
 -- ---- whether the unit is to be allocated
 
@@ -48,6 +49,10 @@ hangs_below t units head n =
 abbrev pub hangs_below_at : Table Node → List Unit → NodeKey → NodeKey → Bool
 hangs_below_at t units head key = option_map_or (hangs_below t units head) (node_at t key) false
 
+-- or is not of this collection
+abbrev pub bars_at : Table Node → List Unit → ℕ → NodeKey → NodeKey → Bool
+bars_at t units id head key = option_map_or (λ (n : Node). not (n.collection == id) || hangs_below t units head n) (node_at t key) false
+
 -- ---- what it asks for
 
 -- what the node with this key asks for, if it is of the unit and not gone, where this node is in the place of the one with
@@ -60,26 +65,25 @@ asked_at t head after key =
 abbrev pub asked_with : Table Node → List NodeKey → NodeKey → Node → List Demand
 asked_with t keys head after = filter_map (asked_at t head after) keys
 
--- what the node with this key asks for, if its unit has its buffers and it is not gone
-abbrev pub served_at : Table Node → NodeKey → Option Demand
-served_at t key = option_and_then (λ (n : Node). if is_served n then n.constraints else None) (node_at t key)
-
--- what is camped on by the nodes with these keys whose units have their buffers
-abbrev pub reserved_with : Table Node → List NodeKey → ℕ
-reserved_with t keys = sum_by (λ (d : Demand). d.camping) (demands_of is_served (nodes_with t keys))
-
 -- so many buffers of this size are enough, where so many are reserved and this is asked for besides
 abbrev pub are_enough : Buffers → ℕ → List Demand → Bool
 are_enough buffers reserved asked =
     not (nat_lt buffers.count (reserved + sum_by (λ (d : Demand). d.camping) asked)
     || nat_lt buffers.count (greatest (λ d. d.at_least) asked)) && not (nat_lt buffers.size (greatest (λ d. d.size) asked))
 
--- the unit of the first node is to be allocated, once an effect made the second one of it
-abbrev pub may_serve : Table Node → List NodeKey → List Unit → ℕ → Option Buffers → Node → Node → Bool
-may_serve t keys units reserved buffers n after = option_map_or
-    (λ b. not n.allocated && (has_turn_at t n.head && (not (list_any (hangs_below_at t units n.head) keys)
-    && are_enough b reserved (asked_with t keys n.head after))))
-    buffers false
+-- the collection has these buffers; the node's unit has none of them, is attached, and the one above it has them
+pub record IsDue (t : Table Node) (given : Option Buffers) (n : Node) (buffers : Buffers) : Type 0 where
+  pub has : given ≡ Some buffers
+  pub bare : n.allocated ≡ false
+  pub turn : has_turn_at t n.head ≡ true
+
+-- these keys are of nodes of the collection, of which none heads a unit right below that is ready; the buffers are enough for
+-- what is reserved and what the nodes ask for, and so much is reserved then
+pub record IsRoom (t : Table Node) (keys : List NodeKey) (units : List Unit) (id reserved : ℕ) (buffers : Buffers) (head : NodeKey)
+    (after : Node) (sum : ℕ) : Type 0 where
+  pub clear : list_any (bars_at t units id head) keys ≡ false
+  pub enough : are_enough buffers reserved (asked_with t keys head after) ≡ true
+  pub sum_is : sum ≡ reserved + sum_by (λ (d : Demand). d.camping) (asked_with t keys head after)
 
 -- ---- the counts
 
@@ -117,8 +121,9 @@ pub record IsServedAt (old new : Table Node) (head : NodeKey) (keys : List NodeK
   pub becomes : new ≡ table_with_node between n.key n
   pub writes : Writes between new n.key n
 
--- the change was made, the unit's allocation with it, nothing more is forced, and so many strong nodes are live then; as many
--- are over as before, also without one of them
-pub record IsServed (t now : Table Node) (us : List Unit) (ss : List Shelf) (s : Shelf) (change : Change) (lives : ℕ) : Type 0 where
+-- the change was made, the unit's allocation with it, nothing more is forced, so many strong nodes are live then, and so many
+-- buffers are reserved; as many are over as before, also without one of them
+pub record IsServed (t now : Table Node) (us : List Unit) (ss : List Shelf) (s : Shelf) (change : Change) (lives camping : ℕ) : Type 0 where
   pub done : IsDone t now us ss s change lives
   pub over : (one : Option NodeKey) → list_any (over_but one) (nodes_with now s.keys) ≡ list_any (over_but one) (nodes_with t s.keys)
+  pub reserved : camping ≡ reserved_count (nodes_with now s.keys)

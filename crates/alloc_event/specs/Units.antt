@@ -1,7 +1,8 @@
 -- The units of a collection. No public clause cites this module.
-use Rattle.std.specs.Prelude.{Bool, true, false, ◌||◌, ◌&&◌, not, List, [], ◌∷◌, is_none}
+use Rattle.std.specs.Prelude.{◌≡◌, Bool, true, false, ◌||◌, ◌&&◌, not, List, [], ◌∷◌, is_none}
 use Rattle.std.specs.List.{list_all}
 use Rattle.std.specs.Option.{option_map_or}
+use Rattle.sm_names.specs.Elements.{In}
 use Rattle.sm_names.specs.Sameness.{same_key}
 use Rattle.alloc_event.specs.declared.node.Node.{Node}
 use Rattle.alloc_event.specs.Nodes.{is_of}
@@ -22,3 +23,9 @@ shares_unit n other = is_head n || (not (is_parent n other) || same_key other.he
 abbrev pub are_united : List Node → Bool
 are_united [] = true
 are_united (n ∷ older) = list_all (shares_unit n) older && are_united older
+
+-- the nodes of a unit whose head is not gone have their buffers with it, and until then none of them is gone
+pub record GoTogether (nodes : List Node) : Type 0 where
+  pub alike : (n h : Node) → In n nodes → In h nodes → n.head ≡ h.key → h.head ≡ h.key → h.gone ≡ false → n.allocated ≡ h.allocated
+  pub spared : (n h : Node) → In n nodes → In h nodes → n.head ≡ h.key → h.head ≡ h.key → h.gone ≡ false → h.allocated ≡ false →
+      n.gone ≡ false

@@ -3,10 +3,10 @@ ghost use Rattle.std.specs.Prelude.{◌≡◌, true, reverse, OnOk, OnErr};
 ghost use Rattle.buffer_holds.specs.Counts.{total};
 ghost use Rattle.alloc_event.specs.Calm.{AreCounted, AreCountedBut};
 ghost use Rattle.alloc_event.specs.Forest.{IsPoolOf};
-ghost use Rattle.alloc_event.specs.Kept.{IsHung, IsStored, Finishes, SameTable, AreRising, all_of, shelf_in, shelves_of, put_shelf, forest_of};
+ghost use Rattle.alloc_event.specs.Kept.{AreHeadsGiven, IsHung, IsStored, Finishes, SameTable, AreRising, all_of, shelf_in, shelves_of, put_shelf, forest_of};
 ghost use Rattle.alloc_event.specs.Parted.{are_parted};
 ghost use Rattle.alloc_event.specs.Scenes.{IsSound, collection_of};
-ghost use Rattle.alloc_event.specs.Units.{are_united};
+ghost use Rattle.alloc_event.specs.Units.{GoTogether, are_united};
 
 use crate::asks::reserved;
 use crate::entry::Entry;
@@ -40,6 +40,8 @@ pub(crate) fn store_settled(
     requires own { all_of scene.id scene.nodes.items ≡ true }
     requires hung { IsHung table.old scene.nodes.items }
     requires united { are_united (reverse scene.nodes.items) ≡ true }
+    requires together { GoTogether scene.nodes.items }
+    requires heads { AreHeadsGiven table.old scene.nodes.items }
     requires counted { AreCountedBut table.old scene.id entries.old.items }
     requires pool { IsPoolOf pool.old (forest_of table.old (put_shelf (shelf_in scene) (shelves_of entries.old.items))) }
     ensures ok { OnOk result (Finishes pool.old.size (total holds.now) table.old (shelves_of entries.old.items)

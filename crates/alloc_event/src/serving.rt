@@ -4,17 +4,19 @@ ghost use Rattle.std.specs.Prelude.{nat_lt, ◌≡◌, ◌≤◌, ◌+◌, ◌^�
 ghost use Rattle.sm_names.specs.Demands.{Demand};
 ghost use Rattle.sm_names.specs.Members.{greatest};
 ghost use Rattle.sm_names.specs.declared.keys.NodeKey.{NodeKey as Key};
-ghost use Rattle.node_table.specs.Table.{node_at};
+ghost use Rattle.node_table.specs.Table.{node_at, row_at};
 ghost use Rattle.alloc_event.specs.declared.change.Change.{Change as Changed};
 ghost use Rattle.alloc_event.specs.declared.node.Node.{Node as Kept};
 ghost use Rattle.alloc_event.specs.Calm.{AreCounted};
 ghost use Rattle.alloc_event.specs.Counts.{HaveUnits};
+ghost use Rattle.alloc_event.specs.Falling.{IsTaken};
 ghost use Rattle.alloc_event.specs.InPlace.{IsOpen};
-ghost use Rattle.alloc_event.specs.Kept.{Finishes, IsStored, SameTable, Shelf, forest_of, shelf_of, shelves_of};
+ghost use Rattle.alloc_event.specs.Kept.{Finishes, IsStored, SameTable, Shelf, forest_of, nodes_with, shelf_of, shelves_of};
 ghost use Rattle.alloc_event.specs.Nodes.{given_buffers};
 ghost use Rattle.alloc_event.specs.Questions.{is_in_unit};
+ghost use Rattle.alloc_event.specs.Reserved.{reserved_count};
 ghost use Rattle.alloc_event.specs.Scenes.{has_tracker_room};
-ghost use Rattle.alloc_event.specs.Serving.{AreLess, IsGivenAt, IsServed, IsServedAt, are_enough, asked_at, asked_with, hangs_below, hangs_below_at, has_turn_at, is_of_unit, is_served_there, may_serve, reserved_with, served_at};
+ghost use Rattle.alloc_event.specs.Serving.{AreLess, IsDue, IsGivenAt, IsRoom, IsServed, IsServedAt, asked_at, asked_with, bars_at, hangs_below, has_turn_at, is_of_unit, is_served_there};
 ghost use Rattle.alloc_event.specs.Settling.{Handles, MayChange, changed, collection_or_new, no_key};
 
 use crate::asks::Asks;
@@ -26,8 +28,10 @@ use crate::node::Node;
 use crate::questions::is_live;
 use crate::store::write;
 use crate::units::{Unit, is_unready, put_unit, unit_in};
+use failure_domains::fall;
 use node_table::NodeTable;
 use sm_names::{Buffers, CollectionId, Constraints, NodeKey};
+use std::alloc::Global;
 
 /// The counts once the first node is the second one, if a strong node is live then, and one of the
 /// node's unit, which waits for none any more: how many strong nodes are live, and the unit's counts.
@@ -98,12 +102,18 @@ fn hangs_below(table: &NodeTable<Node>, units: &[Unit], head: NodeKey, node: &No
     }
 }
 
-/// Whether the node with this key does.
-fn hangs_below_at(table: &NodeTable<Node>, units: &[Unit], head: NodeKey, key: NodeKey) -> bool
-    ensures { result ≡ hangs_below_at table.now units.now head key }
+/// Whether the node with this key does, or is not of this collection.
+fn bars_at(
+    table: &NodeTable<Node>,
+    units: &[Unit],
+    id: CollectionId,
+    head: NodeKey,
+    key: NodeKey,
+) -> bool
+    ensures { result ≡ bars_at table.now units.now id head key }
 {
     match table.get(key) {
-        Some(node) => hangs_below(table, units, head, node),
+        Some(node) => node.collection != id || hangs_below(table, units, head, node),
         None => false,
     }
 }
@@ -137,21 +147,20 @@ fn asked_at(
     }
 }
 
-/// What the nodes with these keys ask for so, if none of them heads a unit right below this one that
-/// waits for no node, by the counts.
+/// What the nodes with these keys ask for so, if all are of this collection and none of them heads a
+/// unit right below this one that waits for no node, by the counts.
 fn asks_with(
     table: &NodeTable<Node>,
     keys: &[NodeKey],
     units: &[Unit],
+    id: CollectionId,
     head: NodeKey,
     after: &Node,
 ) -> Option<Asks>
-    ensures none { result ≡ None → list_any (hangs_below_at table.now units.now head) keys.now ≡ true }
-    ensures some { IfSome result (λ asks. list_any (hangs_below_at table.now units.now head) keys.now ≡ false) }
+    ensures clear { IfSome result (λ asks. list_any (bars_at table.now units.now id head) keys.now ≡ false) }
     ensures camping { IfSome result (λ asks. asks.camping ≡ sum_by (λ (d : Demand). d.camping) (asked_with table.now keys.now head after.now)) }
     ensures at_least { IfSome result (λ asks. asks.at_least ≡ greatest (λ d. d.at_least) (asked_with table.now keys.now head after.now)) }
     ensures size { IfSome result (λ asks. asks.size ≡ greatest (λ d. d.size) (asked_with table.now keys.now head after.now)) }
-    ensures few { IfSome result (λ asks. asks.camping ≤ 2 ^ 70) }
 {
     let mut asks = Asks {
         camping: 0,
@@ -159,7 +168,7 @@ fn asks_with(
         size: 0,
     };
     for key in keys {
-        if hangs_below_at(table, units, head, *key) {
+        if bars_at(table, units, id, head, *key) {
             return None;
         }
         if let Some(demand) = asked_at(table, head, after, *key) {
@@ -171,92 +180,66 @@ fn asks_with(
     Some(asks)
 }
 
-/// What the node with this key asks for, if its unit has its buffers and it is not gone.
-fn served_at(table: &NodeTable<Node>, key: NodeKey) -> Option<Constraints>
-    ensures { result ≡ served_at table.now key }
+/// What is reserved where so much is camped on besides, if so many buffers are enough for it.
+fn with_room(count: u32, reserved: u128, camping: u128) -> Option<u128>
+    ensures sum { IfSome result (λ sum. sum ≡ reserved + camping) }
+    ensures enough { IfSome result (λ sum. nat_lt count (reserved + camping) ≡ false) }
 {
-    let node = table.get(key)?;
-    if !node.gone && node.allocated {
-        node.constraints
+    let sum = reserved.checked_add(camping)?;
+    if count as u128 >= sum {
+        Some(sum)
     } else {
         None
     }
 }
 
-/// How many buffers are camped on by the nodes with these keys whose units have their buffers.
-fn reserved_with(table: &NodeTable<Node>, keys: &[NodeKey]) -> u128
-    ensures value { result ≡ reserved_with table.now keys.now }
-    ensures few { result ≤ 2 ^ 70 }
-{
-    reserved_by(table, keys)
-}
-
-/// The same, key by key.
-fn reserved_by(table: &NodeTable<Node>, keys: &[NodeKey]) -> u128
-    ensures value { result ≡ sum_by (λ (d : Demand). d.camping) (filter_map (served_at table.now) keys.now) }
-    ensures few { result ≤ 2 ^ 70 }
-{
-    let mut camping = 0;
-    for key in keys {
-        if let Some(demand) = served_at(table, *key) {
-            camping += demand.camping() as u128;
-        }
-    }
-    camping
-}
-
-/// Whether so many buffers are enough where some are reserved and others camped on besides.
-fn has_room(count: u32, reserved: u128, camping: u128) -> bool
-    ensures { result ≡ not (nat_lt count (reserved + camping)) }
-{
-    match reserved.checked_add(camping) {
-        Some(sum) => count as u128 >= sum,
-        None => false,
-    }
-}
-
-/// Whether no unit that is ready hangs right below the one with this head, and the buffers, of which
-/// so many are reserved, are enough for that, once this node is in the place of the one with its key.
-fn fits(
+/// What is reserved once the unit with this head is allocated, and this node is in the place of the one
+/// with its key: if the nodes with these keys are of this collection, no unit that is ready hangs right
+/// below that one, and the buffers, of which so many are reserved, are enough.
+fn room_for(
     table: &NodeTable<Node>,
     keys: &[NodeKey],
     units: &[Unit],
+    id: CollectionId,
     reserved: u128,
+    buffers: Buffers,
     head: NodeKey,
     after: &Node,
-    buffers: Buffers,
-) -> bool
-    ensures { result ≡ (not (list_any (hangs_below_at table.now units.now head) keys.now)
-        && are_enough buffers reserved (asked_with table.now keys.now head after.now)) }
+) -> Option<u128>
+    ensures { IfSome result (λ sum. IsRoom table.now keys.now units.now id reserved buffers head after.now sum) }
 {
-    let Some(asks) = asks_with(table, keys, units, head, after) else {
-        return false;
-    };
-    has_room(buffers.count, reserved, asks.camping)
-        && buffers.count >= asks.at_least as u32
-        && buffers.size >= asks.size
+    let asks = asks_with(table, keys, units, id, head, after)?;
+    let sum = with_room(buffers.count, reserved, asks.camping)?;
+    if buffers.count >= asks.at_least as u32 && buffers.size >= asks.size {
+        Some(sum)
+    } else {
+        None
+    }
 }
 
-/// Whether the unit of the first node is to be allocated, once an effect made the second one of it:
-/// it is attached and has no buffers, the one above it has them, no other that is ready hangs below it,
-/// and the buffers are enough.
-fn may_serve(
-    table: &NodeTable<Node>,
-    keys: &[NodeKey],
-    units: &[Unit],
-    reserved: u128,
-    given: Option<Buffers>,
-    node: &Node,
-    after: &Node,
-) -> bool
-    ensures { result ≡ may_serve table.now keys.now units.now reserved given node.now after.now }
+/// The buffers of the collection, if the unit of the node has none of them, it is attached, and the one
+/// above it has them.
+fn buffers_due(table: &NodeTable<Node>, given: Option<Buffers>, node: &Node) -> Option<Buffers>
+    ensures { IfSome result (λ buffers. IsDue table.now given node.now buffers) }
 {
-    let Some(buffers) = given else {
-        return false;
-    };
-    !node.allocated
-        && has_turn(table, node.head)
-        && fits(table, keys, units, reserved, node.head, after, buffers)
+    let buffers = given?;
+    if !node.allocated && has_turn(table, node.head) {
+        Some(buffers)
+    } else {
+        None
+    }
+}
+
+/// The keys of the node with this key and of all below it, if it is attached; `None` where the room for
+/// them is refused. It costs their number.
+fn keys_below(alloc: Global, table: &NodeTable<Node>, head: NodeKey) -> Option<Vec<NodeKey>>
+    requires { IsSome (row_at table.now head) }
+    ensures { IfSome result (λ keys. IsTaken table.now head keys.items) }
+{
+    match fall(alloc, table, head) {
+        Ok(fallen) => Some(fallen.keys),
+        Err(_) => None,
+    }
 }
 
 /// The nodes with these keys that are of the unit with this head have its buffers then.
@@ -313,52 +296,61 @@ fn serve(table: &mut NodeTable<Node>, keys: &[NodeKey], head: NodeKey, node: &No
 
 /// Makes the effect in its place, if the counts tell that it leaves a strong node live, one of the
 /// node's unit, and that unit ready, and if the unit is then to be allocated, which is made with it.
-/// Answers how many strong nodes are live then. With `None` nothing changed.
+/// Answers how many strong nodes are live then, and how many buffers are reserved. With `None`
+/// nothing changed.
 fn serve_effect(
+    alloc: Global,
     table: &mut NodeTable<Node>,
     units: &mut Vec<Unit>,
     entry: &Entry,
     key: NodeKey,
     effect: &Effect,
-) -> Option<usize>
+) -> Option<(usize, u128)>
     requires named { (at : Key) (n : Kept) → node_at table.old at ≡ Some n → n.key ≡ at }
     requires room { (at : Key) (n : Kept) → node_at table.old at ≡ Some n → has_tracker_room key effect.now n ≡ true }
     ensures none { result ≡ None → table.new ≡ table.old }
     ensures none_units { result ≡ None → units.new.items ≡ units.old.items }
-    ensures some { IfSome result (λ left. (ss : List Shelf) →
+    ensures some { IfSome result (λ made. (ss : List Shelf) →
         IsOpen table.old units.old.items ss (shelf_of entry.now) (Changed.Effect key effect.now) entry.now.strong →
-        entry.now.reserved ≡ reserved_with table.old entry.now.keys.items →
-        IsServed table.old table.new units.new.items ss (shelf_of entry.now) (Changed.Effect key effect.now) left) }
+        entry.now.reserved ≡ reserved_count (nodes_with table.old entry.now.keys.items) →
+        IsServed table.old table.new units.new.items ss (shelf_of entry.now) (Changed.Effect key effect.now) made.0 made.1) }
 {
     let Some(node) = table.get(key).copied() else {
         return None;
     };
     let after = affected_by(&node, key, effect);
+    let Some(buffers) = buffers_due(table, entry.buffers, &node) else {
+        return None;
+    };
     let Some((left, next)) = counts_with(units, entry.strong, &node, &after) else {
         return None;
     };
-    if !may_serve(
-        table,
-        &entry.keys,
-        units,
-        entry.reserved,
-        entry.buffers,
-        &node,
-        &after,
-    ) {
+    let Some(keys) = keys_below(alloc, table, node.head) else {
         return None;
-    }
-    serve(table, &entry.keys, node.head, &after);
+    };
+    let Some(reserved) = room_for(
+        table,
+        &keys,
+        units,
+        entry.id,
+        entry.reserved,
+        buffers,
+        node.head,
+        &after,
+    ) else {
+        return None;
+    };
+    serve(table, &keys, node.head, &after);
     put_unit(units, node.head.slot as usize, next);
-    Some(left)
+    Some((left, reserved))
 }
 
 /// Makes an effect in its place by which an attached unit becomes ready, and the unit's allocation
 /// with it, if the buffers are enough for it, no unit that is ready hangs below it, and the counts
 /// tell that nothing more is forced: a strong node of the collection is live after it, and one of the unit.
-/// Answers whether it did; if not, nothing changed. It takes no memory. It costs a binary search and
-/// a constant; where the unit is ready and due, some reads of each node of the collection besides,
-/// and a write of each node of the unit.
+/// Answers whether it did; if not, nothing changed. It costs a binary search and a constant; where the
+/// unit is ready and due, besides, a list of the keys of all that lies below its head and some reads of
+/// each, and a write of each node of the unit. Where the list is refused room it does nothing.
 pub(crate) fn serve_in_place(
     table: &mut NodeTable<Node>,
     entries: &mut Vec<Entry>,
@@ -382,14 +374,15 @@ pub(crate) fn serve_in_place(
     ensures units { HaveUnits units.new.items table.new entries.new.items }
     ensures same { SameTable table.old table.new }
 {
+    let alloc = *entries.allocator();
     let Some(at) = place_of(entries, id) else {
         return false;
     };
-    let Some(left) = serve_effect(table, units, &entries[at], key, effect) else {
+    let Some((left, reserved)) = serve_effect(alloc, table, units, &entries[at], key, effect) else {
         return false;
     };
     let entry = &mut entries[at];
     entry.strong = left;
-    entry.reserved = reserved_with(table, &entry.keys);
+    entry.reserved = reserved;
     true
 }

@@ -1,5 +1,5 @@
 -- A live node is at or below itself.
-use Rattle.std.proofs.Common.{◌≡◌, ◌<◌, ℕ, zero, suc, get_or, length, arith, refl, Bool, true, false, not, ◌&&◌, ◌||◌, List, [], ◌∷◌, reverse, inl, inr}
+use Rattle.std.proofs.Common.{◌≡◌, ◌<◌, ℕ, zero, suc, get_or, length, arith, refl, Bool, true, false, ◌&&◌, ◌||◌, List, [], ◌∷◌, reverse, inl, inr}
 use Rattle.std.specs.List.{list_any}
 use Rattle.sm_names.specs.declared.keys.NodeKey.{NodeKey}
 use Rattle.sm_names.specs.Sameness.{same_key}

@@ -20,6 +20,7 @@ use Rattle.alloc_event.specs.Nodes.{is_of}
 use Rattle.alloc_event.specs.Questions.{is_allocated_node, is_deserted_node, is_next_node, is_ready_node, is_root_left}
 use Rattle.alloc_event.specs.Counts.{lives_in, waits_in}
 use Rattle.alloc_event.specs.Units.{is_head}
+use Rattle.alloc_event.proofs.calm.Together.{together_same}
 use Rattle.alloc_event.proofs.calm.Calming.{AreNone, calm_none, find_map, later, none_calm}
 use Rattle.alloc_event.proofs.tallies.Holding.{are_held, hangs_in, held_where, holds_unit, is_held, none_deserted}
 use Rattle.alloc_event.proofs.newborns.Members.{find-none, none-find}
@@ -247,7 +248,8 @@ pub calm_changed : (c : Collection) → IsWhole c → (f : Node → Node) → ((
     IsCalm c → IsCalm (with_nodes (map f) c)
 calm_changed c whole f same gone alloc n on alone lives guard calm =
     let was : AreNone c.nodes c.buffers = none_calm c calm in
-    let whole' : IsWhole (with_nodes (map f) c) = IsWhole-map f same gone c whole in
+    let whole' : IsWhole (with_nodes (map f) c) = IsWhole-map f same gone c (together_same c.nodes f
+    (record { key = λ m. (same m).key; head = λ m. (same m).head; allocated = alloc; gone = gone })) whole in
     let one : (m : Node) → In m c.nodes → same_key n.key m.key ≡ true → m ≡ n =
     λ m there e. distinct_one c.nodes whole.sound.distinct m n there on (sym (same_key-true n.key m.key e)) in
     let alone' : (m : Node) → In m c.nodes → same_key n.key m.key ≡ false → f m ≡ m = λ m there other. alone m other in

@@ -55,7 +55,7 @@ found_by_key (m ∷ ns) n h (inr on) =
 -- ---- what a decision is on
 
 -- the first of four that is there has what each has
-first_has : {A : Type 0} (P : A → Type 0) (a b c d : Option A) → IfSome a P → IfSome b P → IfSome c P → IfSome d P →
+pub first_has : {A : Type 0} (P : A → Type 0) (a b c d : Option A) → IfSome a P → IfSome b P → IfSome c P → IfSome d P →
     IfSome (first_some (a ∷ b ∷ c ∷ d ∷ [])) P
 first_has P (Some a) b c d ha hb hc hd = ha
 first_has P None (Some b) c d ha hb hc hd = hb

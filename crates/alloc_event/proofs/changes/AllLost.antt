@@ -11,7 +11,7 @@ use Rattle.sm_names.specs.Members.{some_strong_live}
 use Rattle.sm_names.specs.Words.{sorted_by}
 use Rattle.sm_names.proofs.ListLaws.{In, In-find, In-map}
 use Rattle.sm_names.proofs.SamenessLaws.{both_ways}
-use Rattle.node_table.specs.Table.{Table, parent_at}
+use Rattle.node_table.specs.Table.{Table, parent_at, was_given}
 use Rattle.alloc_event.specs.declared.change.Change.{Change}
 use Rattle.alloc_event.specs.declared.entry.Entry.{Entry}
 use Rattle.alloc_event.specs.declared.falling.Going.{Going}
@@ -23,7 +23,7 @@ use Rattle.alloc_event.specs.Decisions.{decided, mark_of}
 use Rattle.alloc_event.specs.Falling.{IsTaken, gone_by, takes_root, untallied}
 use Rattle.alloc_event.specs.Forest.{Collection, all_held, beside, pages_in, with_nodes}
 use Rattle.alloc_event.specs.InPlace.{IsOpen}
-use Rattle.alloc_event.specs.Kept.{Finishes, IsStored, IsWhole, Shelf, Stores, all_of, collection_in, forest_of, is_filed, nodes_with, place_in, put_shelf, shelf_of, shelves_of}
+use Rattle.alloc_event.specs.Kept.{AreHeadsGiven, Finishes, IsStored, IsWhole, Shelf, Stores, all_of, collection_in, forest_of, is_filed, nodes_with, place_in, put_shelf, shelf_of, shelves_of}
 use Rattle.alloc_event.specs.Nodes.{members_of}
 use Rattle.alloc_event.specs.Parted.{are_parted}
 use Rattle.alloc_event.specs.Reserved.{reserved_count}
@@ -38,7 +38,7 @@ use Rattle.alloc_event.proofs.changes.Dropped.{own_id, pool_at, units_set}
 use Rattle.alloc_event.proofs.changes.Finishing.{collection-beside, collections-put, kept-put, keys_in, whole-map, whole-put, whole-unmap}
 use Rattle.alloc_event.proofs.failures.AllGone.{AreGone, all_gone, no_strong, none_decides, none_reserved, none_strong}
 use Rattle.alloc_event.proofs.failures.Endings.{change_nodes}
-use Rattle.alloc_event.proofs.failures.Fallen.{filed_fallen, gone_is, has_now, nodes_then, over_now, same_of, units_but, whole}
+use Rattle.alloc_event.proofs.failures.Fallen.{filed_fallen, gone_is, has_now, nodes_then, over_now, same_of, units_but, whole, together_now}
 use Rattle.alloc_event.proofs.failures.Goings.{fails, fails_is, rooted_fails}
 use Rattle.alloc_event.proofs.intervals.Pools.{pool_back}
 use Rattle.alloc_event.proofs.leaving.Noted.{fewer_over}
@@ -46,7 +46,7 @@ use Rattle.alloc_event.proofs.lists.SameIntervals.{start_of}
 use Rattle.alloc_event.proofs.shelves.Counted.{counted_but, counted_put, filed_every, moved_but, shelves_put}
 use Rattle.alloc_event.proofs.shelves.Entries.{IsPlace, place_is, set_put}
 use Rattle.alloc_event.proofs.shelves.Putting.{put-map}
-use Rattle.alloc_event.proofs.tables.Hanging.{all_in}
+use Rattle.alloc_event.proofs.tables.Hanging.{all_in, in_all, looked_heads}
 use Rattle.alloc_event.proofs.tables.Writing.{IsSound-map}
 use Rattle.alloc_event.proofs.tallies.Slots.{but_join, but_moved, one_shelf}
 use Rattle.alloc_event.proofs.tallies.Strong.{strong_members}
@@ -67,6 +67,7 @@ whole_back handles c ok = record {
   sound = record { distinct = ok.sound.distinct; heads = ok.sound.heads; one_root = ok.sound.one_root; few = ok.sound.few };
   rooted = ok.rooted;
   united = ok.united;
+  together = ok.together;
 }
 
 module _ (handles : Handles) (t : Table Node) (es : List Entry) (id at : ℕ) (old : Entry) (told : place_in id es ≡ Some at)
@@ -145,6 +146,7 @@ module _ (handles : Handles) (t : Table Node) (es : List Entry) (id at : ℕ) (o
           attached = λ n. (same_of failing keys n).attached;
           head = λ n. (same_of failing keys n).head;
         }) (nodes_with t old.keys.items) ∙ was.united;
+        together = together_now t us ss s failing old.strong opens fault.origin keys taken own_of;
       })
 
   -- ---- the nodes that are written
@@ -156,6 +158,12 @@ module _ (handles : Handles) (t : Table Node) (es : List Entry) (id at : ℕ) (o
   written_gone n on =
       let x = In-map (gone_by failing) (nodes_with t keys) n on in
       ap (λ (m : Node). m.gone) x.2 ∙ gone_is failing x.0
+
+  written_heads : AreHeadsGiven t written
+  written_heads = all_in (λ (n : Node). was_given t n.head ≡ true) written (λ n on.
+      let x = In-map (gone_by failing) (nodes_with t keys) n on in
+      ap (λ (m : Node). was_given t m.head) x.2
+      ∙ in_all (λ (m : Node). was_given t m.head ≡ true) (nodes_with t keys) (looked_heads t kept.named kept.heads keys) x.0 x.1)
 
   written_of : all_of old.id written ≡ true
   written_of = from (nodes_with t keys) own_of
@@ -264,7 +272,7 @@ module _ (handles : Handles) (t : Table Node) (es : List Entry) (id at : ℕ) (o
         let before : AllByRecursion IsWhole (put (collection_in t s) (map (collection_in t) ss)) =
         subst (AllByRecursion IsWhole) (put-map t s ss) (whole-map t (put_shelf s ss) (rw put_same kept.whole)) in
         rw set_is (kept-put t now old.id written stores kept.named filed written_of (shelf_of new) s ss (sym r.id)
-        (ap (λ ks. ks.items) (sym r.keys)) kept.rising (rw put_same kept) linked
+        (ap (λ ks. ks.items) (sym r.keys)) kept.rising (rw put_same kept) linked written_heads
         (whole-unmap now (put_shelf (shelf_of new) ss)
         (subst (AllByRecursion IsWhole) (sym collections_are)
         (whole-put (given_back handles lost) (collection_in t s) (map (collection_in t) ss) refl (whole_back handles lost whole_lost)

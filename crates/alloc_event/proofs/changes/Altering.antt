@@ -7,22 +7,23 @@ use Rattle.std.proofs.lemmas.List.Folds.{list_any-append}
 use Rattle.sm_names.specs.declared.keys.NodeKey.{NodeKey}
 use Rattle.sm_names.specs.Sameness.{same_key}
 use Rattle.sm_names.proofs.SamenessLaws.{and_left, and_right, or_cases}
-use Rattle.node_table.specs.Table.{Table, node_at}
+use Rattle.node_table.specs.Table.{Table, node_at, was_given}
 use Rattle.node_table.proofs.Keys.{true-same_key}
 use Rattle.alloc_event.specs.declared.change.Change.{Change}
 use Rattle.alloc_event.specs.declared.change.Effect.{Effect}
 use Rattle.alloc_event.specs.declared.node.Node.{Node}
 use Rattle.alloc_event.specs.Forest.{Collection, with_nodes, node_at as forest_node}
-use Rattle.alloc_event.specs.Kept.{Shelf, AreRising, IsHung, IsStored, IsWhole, put_shelf, collection_in, nodes_with, forest_of, all_keys, are_filed, is_filed, all_of, has_room_for_tracker}
+use Rattle.alloc_event.specs.Kept.{AreHeadsGiven, Shelf, AreRising, IsHung, IsStored, IsWhole, put_shelf, collection_in, nodes_with, forest_of, all_keys, are_filed, is_filed, all_of, has_room_for_tracker, loses_left}
 use Rattle.alloc_event.specs.Nodes.{affected, lost, is_taken}
 use Rattle.alloc_event.specs.Scenes.{IsSound, has_tracker_room}
 use Rattle.alloc_event.specs.Ties.{IsTied}
-use Rattle.alloc_event.specs.Units.{are_united}
+use Rattle.alloc_event.specs.Units.{GoTogether, are_united}
 use Rattle.alloc_event.specs.Settling.{MayChange, changed, collection_or_new, is_birth, no_key, fits, is_there, has_collection}
 use Rattle.alloc_event.proofs.changes.Finishing.{keys_in, looked-keys}
-use Rattle.alloc_event.proofs.tables.Hanging.{hung_changed, looked_hung, looked_tied}
+use Rattle.alloc_event.proofs.tables.Hanging.{hung_changed, looked_hung, looked_tied, looked_heads}
 use Rattle.alloc_event.proofs.shelves.Putting.{cases_place, above-weaker}
 use Rattle.alloc_event.proofs.shelves.Showing.{node_is, collection_is, filed_found}
+use Rattle.alloc_event.proofs.calm.Lasting.{together_changed, whole_formed}
 use Rattle.alloc_event.proofs.calm.United.{united_mapped}
 use Rattle.alloc_event.proofs.tables.Writing.{IsSameNode, IsSound-map}
 
@@ -315,6 +316,22 @@ module _ (t : Table Node) (ss : List Shelf) (ok : IsStored t ss) (id : ℕ) (s :
         attached = λ n. (made.same n).attached;
         head = λ n. (made.same n).head;
       }) (nodes_with t s.keys) ∙ before.united)
+
+  -- its units go together
+  pub altered-together : loses_left change (nodes_with t s.keys) ≡ true → GoTogether now.nodes
+  altered-together left =
+      subst (λ (d : Collection). GoTogether d.nodes) (sym (became ∙ ap (changed change no_key) loaded))
+      (together_changed change no_key (collection_in t s) birth left (whole_formed (collection_in t s) before))
+
+  -- the heads of its nodes were given
+  pub altered-heads : AreHeadsGiven t now.nodes
+  altered-heads =
+      subst (λ (d : Collection). AreHeadsGiven t d.nodes) (sym is_made)
+      (heads_made (nodes_with t s.keys) (looked_heads t ok.named ok.heads s.keys))
+    where
+      heads_made : (ns : List Node) → AreHeadsGiven t ns → AreHeadsGiven t (map made.of ns)
+      heads_made [] all = tt
+      heads_made (n ∷ ns) all = (ap (was_given t) (made.same n).head ∙ all.0, heads_made ns all.1)
 
   -- and the nodes before are tied to the table
   pub altered-tied : IsTied t c.nodes

@@ -32,7 +32,7 @@ use Rattle.alloc_event.specs.Nodes.{members_of}
 use Rattle.alloc_event.specs.Parted.{are_parted}
 use Rattle.alloc_event.specs.Questions.{is_root_left}
 use Rattle.alloc_event.specs.Scenes.{by_page, given_few, is_held_strongly, is_out, pages_held}
-use Rattle.alloc_event.specs.Settling.{Handles, Rests, collection_or_new, given_back, is_home_in, put}
+use Rattle.alloc_event.specs.Settling.{Handles, Rests, collection_or_new, given_back, put}
 use Rattle.alloc_event.proofs.calm.Calming.{AreNone, none_calm, none_decided}
 use Rattle.alloc_event.proofs.calm.Forcing.{forced_made}
 use Rattle.alloc_event.proofs.calm.Watched.{found_counted, strong_lives, strong_told}
@@ -306,12 +306,13 @@ module _ (handles : Handles) (t : Table Node) (es : List Entry) (id at : ℕ) (o
           };
           rooted = whole.rooted;
           united = whole.united;
+          together = whole.together;
         } in
         let before : AllByRecursion IsWhole (put c (map (collection_in t) ss)) =
         subst (AllByRecursion IsWhole) (put-map t (shelf_of old) ss)
         (whole-map t (put_shelf (shelf_of old) ss) (rw put_same kept.whole)) in
         rw set_is (kept-put t t old.id [] (nothing_stored t) kept.named refl refl (shelf_of new) (shelf_of old) ss (sym r.id)
-        (ap (λ ks. ks.items) (sym r.keys)) kept.rising (rw put_same kept) tt
+        (ap (λ ks. ks.items) (sym r.keys)) kept.rising (rw put_same kept) tt tt
         (whole-unmap t (put_shelf (shelf_of new) ss)
         (subst (AllByRecursion IsWhole) (sym collections_are) (whole-put (given_back handles c) c
         (map (collection_in t) ss) refl back before))))

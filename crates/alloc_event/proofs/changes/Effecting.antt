@@ -30,6 +30,7 @@ use Rattle.alloc_event.specs.Nodes.{affected, is_over, is_of}
 use Rattle.alloc_event.specs.Questions.{is_allocated_node, is_live_node}
 use Rattle.alloc_event.specs.Settling.{Rests, changed, collection_or_new, given_back, is_there, no_key, put, standing}
 use Rattle.alloc_event.specs.Units.{is_head}
+use Rattle.alloc_event.proofs.calm.Together.{together_effect}
 use Rattle.alloc_event.proofs.tallies.Amounts.{times_changed}
 use Rattle.alloc_event.proofs.changes.Altering.{found_filed, found_put, found_whole, looked-of, same_affected}
 use Rattle.alloc_event.proofs.calm.Calming.{IsPlain, any_map, calm_map, rests_strong, times_map}
@@ -196,7 +197,8 @@ module _ (t now : Table Node) (us : List Unit) (key : NodeKey) (effect : Effect)
   look = look-changed t now f key n (f n) (subst (λ (k : NodeKey). Writes t now k (f n)) own writes) was refl opens.kept.named apart
 
   kept_now : IsStored now ss
-  kept_now = kept-map f same (λ m. (remains_affected key effect m).gone) t now (ap (λ (x : Table Node). x.first) becomes) writes.len look
+  kept_now = kept-map f same (λ m. (remains_affected key effect m).gone) (together_effect key effect) t now
+      (ap (λ (x : Table Node). x.first) becomes) (ap (λ (x : Table Node). x.nexts) becomes) writes.len look
       (parents-written t now (f n).key (f n) writes) ss opens.kept
 
   nodes_now : nodes_with now s.keys ≡ map f nodes

@@ -1,5 +1,5 @@
 -- A scene that was worked on, and what holds once it is put back.
-use Rattle.std.proofs.Common.{◌≡◌, ℕ, true, List, [], ◌++◌, map, reverse, not, None, sym, ap, subst, ◌∙◌, Option}
+use Rattle.std.proofs.Common.{◌≡◌, ℕ, true, List, [], ◌∷◌, ◌++◌, map, reverse, not, None, sym, ap, subst, ◌∙◌, Option}
 use Rattle.std.proofs.lemmas.Bool.{not-true}
 use Rattle.std.specs.List.{list_all, list_any, AllByRecursion}
 use Rattle.sm_names.specs.declared.keys.Interval.{Interval}
@@ -13,13 +13,13 @@ use Rattle.alloc_event.specs.declared.node.Node.{Node}
 use Rattle.alloc_event.specs.declared.scene.Scene.{Scene}
 use Rattle.alloc_event.specs.Calm.{AreCounted, AreCountedBut, IsCalm, put_in, strong_count, over_but}
 use Rattle.alloc_event.specs.Forest.{Collection, all_held, pages_in, beside}
-use Rattle.alloc_event.specs.Kept.{Shelf, AreRising, IsHung, IsStored, IsWhole, Stores, put_shelf, shelf_in, collection_in, forest_of, is_filed, all_of, have_places, shelf_of, shelves_of, nodes_with}
+use Rattle.alloc_event.specs.Kept.{AreHeadsGiven, Shelf, AreRising, IsHung, IsStored, IsWhole, Stores, put_shelf, shelf_in, collection_in, forest_of, is_filed, all_of, have_places, shelf_of, shelves_of, nodes_with}
 use Rattle.alloc_event.specs.Nodes.{is_over}
 use Rattle.alloc_event.specs.Reserved.{reserved_count}
 use Rattle.alloc_event.specs.Parted.{are_parted}
 use Rattle.alloc_event.specs.Scenes.{IsSound, collection_of, frame_of}
 use Rattle.alloc_event.specs.Settling.{Handles, put, given_back, standing}
-use Rattle.alloc_event.specs.Units.{are_united}
+use Rattle.alloc_event.specs.Units.{GoTogether, are_united}
 use Rattle.alloc_event.proofs.lists.SameIntervals.{start_of}
 use Rattle.alloc_event.proofs.calm.Calming.{calm_rested}
 use Rattle.alloc_event.proofs.shelves.Counted.{counted_put, filed_but, moved_but}
@@ -31,6 +31,18 @@ use Rattle.alloc_event.proofs.calm.United.{united_frames}
 -- without the pages that went back it is sound
 sound-given_back : (handles : Handles) (c : Collection) → IsSound c → IsSound (given_back handles c)
 sound-given_back handles c ok = record { distinct = ok.distinct; heads = ok.heads; one_root = ok.one_root; few = ok.few }
+
+-- the heads of nodes with the same frames were given
+heads_frames : (t : Table Node) (new old : List Node) → map frame_of new ≡ map frame_of old → AreHeadsGiven t old → AreHeadsGiven t new
+heads_frames t new old same heads = out new (subst (AreHeadsGiven t) (sym same) (into old heads))
+  where
+    into : (ns : List Node) → AreHeadsGiven t ns → AreHeadsGiven t (map frame_of ns)
+    into [] all = tt
+    into (n ∷ ns) all = (all.0, into ns all.1)
+
+    out : (ns : List Node) → AreHeadsGiven t (map frame_of ns) → AreHeadsGiven t ns
+    out [] all = tt
+    out (n ∷ ns) all = (all.0, out ns all.1)
 
 module _ (handles : Handles) (t : Table Node) (ss : List Shelf) (start worked back : Scene)
     (kept : IsStored t (put_shelf (shelf_in start) ss)) (rising : AreRising ss)
@@ -87,9 +99,9 @@ module _ (handles : Handles) (t : Table Node) (ss : List Shelf) (start worked ba
         ∙ ap (λ c. put c (map (collection_in t) ss)) nodes_back
 
     -- all of them are whole
-    finished-whole : IsHung t worked.nodes.items → are_united (reverse start.nodes.items) ≡ true →
+    finished-whole : IsHung t worked.nodes.items → are_united (reverse start.nodes.items) ≡ true → GoTogether worked.nodes.items →
         AllByRecursion (λ (s : Shelf). IsWhole (collection_in now s)) (put_shelf shelf_back ss)
-    finished-whole hung united =
+    finished-whole hung united together =
         let before =
         subst (AllByRecursion IsWhole) (put-map t (shelf_in start) ss) (whole-map t (put_shelf (shelf_in start) ss) kept.whole) in
         whole-unmap now (put_shelf shelf_back ss) (subst (AllByRecursion IsWhole) (sym finished-collections)
@@ -98,14 +110,18 @@ module _ (handles : Handles) (t : Table Node) (ss : List Shelf) (start worked ba
           sound = sound-given_back handles (collection_of worked) sound;
           rooted = hung.rooted;
           united = united_frames worked.nodes.items start.nodes.items frames united;
+          together = together;
         }) before))
 
     -- all that holds of forests holds
-    pub finished-kept : IsHung t worked.nodes.items → are_united (reverse start.nodes.items) ≡ true → IsStored now (put_shelf shelf_back ss)
-    finished-kept hung united =
+    pub finished-kept : IsHung t worked.nodes.items → are_united (reverse start.nodes.items) ≡ true → GoTogether worked.nodes.items →
+        AreHeadsGiven t start.nodes.items → IsStored now (put_shelf shelf_back ss)
+    finished-kept hung united together heads =
         let linked = (subst (IsHung t) (sym back_nodes) hung).linked in
         kept-put t now start.id back.nodes.items stores kept.named back_filed back_of shelf_back (shelf_in start) ss (sym back_id)
-        (sym keys_are) rising kept linked (finished-whole hung united)
+        (sym keys_are) rising kept linked
+        (subst (AreHeadsGiven t) (sym back_nodes) (heads_frames t worked.nodes.items start.nodes.items frames heads))
+        (finished-whole hung united together)
 
     -- the pool is the forest's
     pub finished-pool : (held : List Interval) → are_parted held ≡ true →

@@ -1,5 +1,5 @@
 -- What stays true where a collection that was worked on is put back.
-use Rattle.std.proofs.Common.{◌≡◌, ◌≢◌, ℕ, ◌<◌, ◌==◌, Bool, true, false, ◌&&◌, not, List, [], ◌∷◌, map, Option, Some, None, option_map, is_some, cond, refl, sym, ap, subst, ◌∙◌, inl, inr, arith}
+use Rattle.std.proofs.Common.{◌≡◌, ◌≢◌, ℕ, ◌<◌, ◌==◌, Bool, true, false, ◌&&◌, List, [], ◌∷◌, map, Option, Some, None, option_map, is_some, cond, refl, sym, ap, subst, ◌∙◌, inl, inr, arith}
 use Rattle.std.specs.List.{list_any, list_all, AllByRecursion, cons_option}
 use Rattle.std.specs.Option.{option_map_or}
 use Rattle.std.proofs.lemmas.Bool.{eqb-true, eqb-false, cases_eq, false≢true, ltb-true, not-true}
@@ -8,14 +8,15 @@ use Rattle.sm_names.specs.Sameness.{same_key}
 use Rattle.sm_names.proofs.ListLaws.{In}
 use Rattle.sm_names.proofs.SamenessLaws.{and_left, and_right, or_none_left, or_none_right}
 use Rattle.sm_names.proofs.StandingLaws.{and_both}
-use Rattle.node_table.specs.Table.{Table, node_at, parent_at}
+use Rattle.node_table.specs.Table.{Table, node_at, parent_at, was_given}
 use Rattle.node_table.proofs.Keys.{true-same_key, same_key-true}
 use Rattle.alloc_event.specs.declared.node.Node.{Node}
 use Rattle.alloc_event.specs.Forest.{Collection}
 use Rattle.alloc_event.specs.Nodes.{is_of}
-use Rattle.alloc_event.specs.Kept.{Shelf, AreRising, IsStored, IsWhole, Stores, put_shelf, collection_in, nodes_with, all_keys, are_filed, is_filed, all_of, stored, written, have_places}
+use Rattle.alloc_event.specs.Kept.{AreHeadsGiven, Shelf, AreRising, IsStored, IsWhole, Stores, put_shelf, collection_in, nodes_with, all_keys, are_filed, is_filed, all_of, stored, written, have_places}
 use Rattle.alloc_event.specs.Scenes.{are_distinct, frame_of}
 use Rattle.alloc_event.specs.Settling.{put}
+use Rattle.alloc_event.proofs.tables.Writing.{given-same}
 use Rattle.alloc_event.proofs.tables.Hanging.{in_all}
 use Rattle.alloc_event.proofs.lists.Lookups.{looked-map, same_key-swap}
 use Rattle.alloc_event.proofs.shelves.Putting.{cases_place, rising-put, keys-put, filed-same, filed-put, above-weaker}
@@ -229,11 +230,24 @@ module _ (t now : Table Node) (id : ℕ) (ns : List Node) (stores : Stores t now
             ∙ in_all (λ (m : Node). m.gone ≡ false → parent_at t m.key ≡ m.parent) ns all n (subst (λ (m : Node). In m ns) was.3 on) here
       ])
 
+  -- the heads were given, as those of all that were stored were
+  heads-put : AreHeadsGiven t ns → now.first ≡ t.first → now.nexts ≡ t.nexts → ((key : NodeKey) (n : Node) → node_at t key ≡ Some n →
+      was_given t n.head ≡ true) → (key : NodeKey) (n : Node) → node_at now key ≡ Some n → was_given now n.head ≡ true
+  heads-put all first nexts heads key n is =
+      let was = found-before key (node_at t key) n (sym (stores.look key) ∙ is) in
+      given-same t now first nexts n.head ∙ (elim (stored_one ns was.0) [
+        | inl same ↦
+            let one : was.0 ≡ n = sym same ∙ was.3 in
+            ap (λ (x : Node). was_given t x.head) (sym one) ∙ heads key was.0 was.1
+        | inr on ↦ in_all (λ (m : Node). was_given t m.head ≡ true) ns all n (subst (λ (m : Node). In m ns) was.3 on)
+      ])
+
   -- all stays so
   pub kept-put : all_of id ns ≡ true → (new old : Shelf) (ss : List Shelf) → old.id ≡ new.id → old.keys ≡ new.keys → AreRising ss →
       IsStored t (put_shelf old ss) → AllByRecursion (λ (n : Node). n.gone ≡ false → parent_at t n.key ≡ n.parent) ns →
+      AreHeadsGiven t ns →
       AllByRecursion (λ (s : Shelf). IsWhole (collection_in now s)) (put_shelf new ss) → IsStored now (put_shelf new ss)
-  kept-put all new old ss ids keys rising ok linked whole =
+  kept-put all new old ss ids keys rising ok linked heads whole =
       let same_keys : all_keys (put_shelf new ss) ≡ all_keys (put_shelf old ss) = sym (keys-put old new ss ids keys) in
       record {
         first = stores.same.first ∙ ok.first;
@@ -248,6 +262,7 @@ module _ (t now : Table Node) (id : ℕ) (ns : List Node) (stores : Stores t now
             rw same_keys (ok.there key was.0 was.1);
         counted = rw same_keys ok.counted ∙ sym stores.same.len;
         linked = linked-put linked ok.linked;
+        heads = heads-put heads stores.same.first stores.same.nexts ok.heads;
         whole = whole;
       }
 

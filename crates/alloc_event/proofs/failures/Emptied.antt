@@ -22,6 +22,9 @@ use Rattle.alloc_event.specs.Kept.{IsWhole, Shelf, Stores, all_of, collection_in
 use Rattle.alloc_event.specs.Nodes.{after_loss, lost}
 use Rattle.alloc_event.specs.Questions.{is_below, is_live_node}
 use Rattle.alloc_event.specs.Ties.{IsFall, IsTied}
+use Rattle.alloc_event.specs.Units.{GoTogether}
+use Rattle.alloc_event.proofs.calm.Lasting.{whole_formed}
+use Rattle.alloc_event.proofs.calm.Together.{together_loss}
 use Rattle.alloc_event.proofs.failures.Endings.{change_nodes, ended_made, key_is, on_top, takes, tied_members}
 use Rattle.alloc_event.proofs.failures.Fallen.{at_key, in_looked, whole}
 use Rattle.alloc_event.proofs.failures.Ties.{fall_within, losses_by_fall, lost_gone}
@@ -175,11 +178,14 @@ module _ (t : Table Node) (us : List Unit) (ss : List Shelf) (s : Shelf) (fault 
   rooted_g = subst IsRooted (sym g_is)
       (rooted_loss members (record { one = distinct_one members whole_e.sound.distinct; rooted = whole_e.rooted }) fault)
 
+  together_g : GoTogether (map g members)
+  together_g = subst GoTogether (sym g_is) (together_loss members (whole_formed (collection_in t s) whole_e) fault left_e)
+
   pub ends_made : (now : Table Node) → Stores t now (map (gone_by ending) (nodes_with t keys)) →
       (lives : ℕ) → nat_lt 0 lives ≡ true → lives + strong_count (nodes_with t keys) ≡ strong →
       IsLost t now (untallied (nodes_with t keys) us) ss s (Change.Loss fault.origin fault.cause) lives
       (map (gone_by ending) (nodes_with t keys))
   ends_made now stores =
       ended_made t us ss s ending strong opens origin keys taken own head attached top inside kept_up is_attached stands_first
-      g same_g stays_g top_stays g_out dead_g rooted_g (λ n e. λ i. record (sym (g_in n e) i) { gone = true }) now stores
+      g same_g stays_g top_stays g_out dead_g rooted_g together_g (λ n e. λ i. record (sym (g_in n e) i) { gone = true }) now stores
       (change_nodes t ss s opens.found (Change.Loss fault.origin fault.cause) ∙ (λ i. record (collection_in t s) { nodes = sym g_is i }))

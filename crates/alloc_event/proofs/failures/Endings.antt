@@ -25,6 +25,7 @@ use Rattle.alloc_event.specs.Nodes.{after_end}
 use Rattle.alloc_event.specs.Questions.{is_below, is_deserted_node, is_live_node}
 use Rattle.alloc_event.specs.Settling.{changed, collection_or_new, no_key}
 use Rattle.alloc_event.specs.Ties.{IsTied, are_rooted, is_blocking}
+use Rattle.alloc_event.specs.Units.{GoTogether}
 use Rattle.alloc_event.proofs.calm.Calming.{none_calm}
 use Rattle.alloc_event.proofs.calm.Deserting.{after_is, settled_end}
 use Rattle.alloc_event.proofs.calm.Keeping.{some_pass}
@@ -129,7 +130,7 @@ module _ (t : Table Node) (us : List Unit) (ss : List Shelf) (s : Shelf) (going 
       (top_stays : (g top.node).gone ≡ false)
       (alone : (n : Node) → among n.key ≡ false → g n ≡ n)
       (dead : (n : Node) → In n members → among n.key ≡ true → is_live_node (g n) ≡ false)
-      (rooted : IsRooted (map g members))
+      (rooted : IsRooted (map g members)) (together : GoTogether (map g members))
       (leaves_so : (n : Node) → among n.key ≡ true → gone_by going n ≡ record (g n) { gone = true }) where
     whole_g : IsWhole (with_nodes (map g) (collection_in t s))
     whole_g = record {
@@ -138,6 +139,7 @@ module _ (t : Table Node) (us : List Unit) (ss : List Shelf) (s : Shelf) (going 
       united = united_mapped g
           (record { key = λ n. (same n).key; parent = λ n. (same n).parent; attached = λ n. (same n).attached; head = λ n. (same n).head })
           members ∙ entire.united;
+      together = together;
     }
 
     abbrev leaves : Node → Node

@@ -8,13 +8,14 @@ use Rattle.std.proofs.Math.Bool.{and-false, and-true}
 use Rattle.sm_names.specs.declared.keys.NodeKey.{NodeKey}
 use Rattle.sm_names.specs.declared.keys.Interval.{Interval}
 use Rattle.sm_names.specs.Forced.{forced}
+use Rattle.sm_names.specs.Losses.{Up}
 use Rattle.sm_names.specs.Sameness.{same_key}
 use Rattle.sm_names.specs.Words.{times}
 use Rattle.sm_names.proofs.ListLaws.{In, In-find, In-list_any, In-map, In-map-back}
 use Rattle.sm_names.proofs.SamenessLaws.{and_both, and_left, and_right, both_ways, either_way, false_if, or_cases, same_key-refl, same_key-true}
 use Rattle.sm_names.proofs.StandingLaws.{In-any}
 use Rattle.node_table.specs.Table.{Table, children_at, node_at, parent_at}
-use Rattle.failure_domains.specs.Falls.{IsByLayers}
+use Rattle.failure_domains.specs.Falls.{IsByLayers, blocked_at}
 use Rattle.failure_domains.proofs.Lists.{Contains-cases, flat_map_source}
 use Rattle.alloc_event.specs.declared.falling.Going.{Going}
 use Rattle.alloc_event.specs.declared.node.Node.{Node}
@@ -27,8 +28,8 @@ use Rattle.alloc_event.specs.InPlace.{IsOpen}
 use Rattle.alloc_event.specs.Kept.{IsStored, IsWhole, Shelf, Stores, all_of, collection_in, forest_of, is_filed, is_strong, nodes_with, stored, written}
 use Rattle.alloc_event.specs.Reserved.{camped, reserved_count}
 use Rattle.alloc_event.specs.Settling.{Handles, Settles, standing, changed, collection_or_new, no_key}
-use Rattle.alloc_event.specs.Ties.{are_rooted}
-use Rattle.alloc_event.specs.Units.{is_head}
+use Rattle.alloc_event.specs.Ties.{are_rooted, is_blocking}
+use Rattle.alloc_event.specs.Units.{GoTogether, is_head}
 use Rattle.alloc_event.proofs.changes.Altering.{found_filed, found_whole, looked-of}
 use Rattle.alloc_event.proofs.calm.Calming.{times_map}
 use Rattle.alloc_event.proofs.failures.Crossing.{calm_fallen}
@@ -43,7 +44,9 @@ use Rattle.alloc_event.proofs.tallies.Reckoning.{lives_gone, waits_gone}
 use Rattle.alloc_event.proofs.tallies.Reserved.{camped_but, camped_gone, reserved_left}
 use Rattle.alloc_event.proofs.tables.Rooted.{left_node, left_parent}
 use Rattle.alloc_event.proofs.tallies.Slots.{Stays, all_at, but_all, but_join, but_moved, but_stays, one_shelf, one_slot}
+use Rattle.alloc_event.proofs.calm.Lasting.{whole_formed}
 use Rattle.alloc_event.proofs.calm.Steps.{all-In}
+use Rattle.alloc_event.proofs.calm.Together.{StepsUp, goes_up, together_taken}
 use Rattle.alloc_event.proofs.calm.United.{united_mapped}
 use Rattle.alloc_event.proofs.tallies.Untold.{but, taken_count, untallied_long, untallied_other, untallied_takes}
 use Rattle.alloc_event.proofs.tables.Writing.{IsSameNode, IsSound-map, kept-with}
@@ -201,7 +204,7 @@ module _ (t : Table Node) (named : (key : NodeKey) (n : Node) → node_at t key 
           ∙ (λ i. if sym e i || list_any (same_key n.key) ks then gone_by going n else x))
 
 -- what holds of each shelf
-each_shelf : (P : Shelf → Type 0) (ss : List Shelf) → ((s : Shelf) → In s ss → P s) → AllByRecursion P ss
+pub each_shelf : (P : Shelf → Type 0) (ss : List Shelf) → ((s : Shelf) → In s ss → P s) → AllByRecursion P ss
 each_shelf P [] each = tt
 each_shelf P (s ∷ ss) each = (each s (inl refl), each_shelf P ss (λ x on. each x (inr on)))
 
@@ -321,6 +324,26 @@ module _ (t : Table Node) (us : List Unit) (ss : List Shelf) (s : Shelf) (going 
   -- the other collections have their counts in any case
   pub units_but : AreUnitsBut new s.id (map (collection_in t) ss)
   units_but = but_stays t opens.kept.named us new s.id stays ss opens.kept.filed (but_all us s.id (map (collection_in t) ss) opens.units)
+
+  -- with a node of a unit without buffers its parent falls
+  falls_up : StepsUp nodes (λ n. falls n.key)
+  falls_up n q p on there is key here loose bare e =
+      let at_n : node_at t n.key ≡ Some n = at_key n on in
+      let free : blocked_at is_blocking t n.key ≡ false =
+      ap (λ (o : Option Node). option_map_or is_blocking o false) at_n ∙ rw (loose, bare) (and-false n.dispensable) in
+      let up : parent_at t n.key ≡ Some q.key = linked n on here ∙ (is ∙ ap Some (sym key)) in
+      list_any-from_Contains key_equivalence q.key keys
+      ((taken.fall q.key).1 (Up n.key q.key ((taken.fall n.key).0 (Contains-from_any same_key-true n.key keys e)) free up))
+
+  -- so the units go together
+  pub together_now : GoTogether (map f nodes)
+  together_now = together_taken nodes f (λ n. falls n.key)
+      (record {
+        key = λ n. (same n).key;
+        head = λ n. (same n).head;
+        allocated = given_of going keys;
+        gone = gone_of going keys;
+      }) (goes_up nodes (whole_formed (collection_in t s) whole) (λ n. falls n.key) falls_up) whole.together
 
   -- ---- what is found, where they are written as they went
 
@@ -468,6 +491,7 @@ module _ (t : Table Node) (us : List Unit) (ss : List Shelf) (s : Shelf) (going 
           attached = λ n. (same n).attached;
           head = λ n. (same n).head;
         }) nodes ∙ whole.united;
+        together = together_now;
       }
 
       beside_same : (x : Shelf) → x.id ≢ s.id → list_all (is_filed t x.id) x.keys ≡ true → collection_in now x ≡ collection_in t x
@@ -491,7 +515,7 @@ module _ (t : Table Node) (us : List Unit) (ss : List Shelf) (s : Shelf) (going 
 
       kept_now : IsStored now ss
       kept_now = kept-with f same (λ n h. or_second (falls n.key) n.gone (sym (gone_of going keys n) ∙ h)) t now stores.same.first
-          stores.same.len look stores.parents ss whole_now opens.kept
+          stores.same.nexts stores.same.len look stores.parents ss whole_now opens.kept
         where
           or_second : (a b : Bool) → (a || b) ≡ false → b ≡ false
           or_second true b h = cc

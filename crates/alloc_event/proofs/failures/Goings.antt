@@ -25,6 +25,7 @@ use Rattle.alloc_event.specs.Nodes.{affected, after_loss, lost}
 use Rattle.alloc_event.specs.Questions.{is_live_node}
 use Rattle.alloc_event.specs.Settling.{Rests}
 use Rattle.alloc_event.specs.Ties.{IsTied, are_rooted}
+use Rattle.alloc_event.proofs.calm.Together.{together_effect}
 use Rattle.alloc_event.proofs.changes.Altering.{same_affected}
 use Rattle.alloc_event.proofs.failures.Emptied.{ends_made}
 use Rattle.alloc_event.proofs.failures.Endings.{change_nodes, ended_made}
@@ -165,7 +166,8 @@ module _ (t : Table Node) (us : List Unit) (ss : List Shelf) (s : Shelf) (key : 
       (map (gone_by leaving) (nodes_with t keys))
   leaves_made now stores =
       ended_made t us ss s leaving strong opens origin keys taken own head attached top inside kept_up is_attached stands_first
-      g (λ n. same_affected key Effect.Released n) (λ n gone. gone) top.here alone dead rooted_g (λ n e. refl) now stores
+      g (λ n. same_affected key Effect.Released n) (λ n gone. gone) top.here alone dead rooted_g (together_effect key Effect.Released members whole_r.together)
+      (λ n e. refl) now stores
       (change_nodes t ss s opens.found (Change.Effect key Effect.Released))
 
 -- ---- each

@@ -115,6 +115,7 @@ kept-beside t id ss ok none =
       there = λ key n is. rw keys (ok.there key n is);
       counted = rw keys ok.counted;
       linked = ok.linked;
+      heads = ok.heads;
       whole = all-beside (λ (s : Shelf). IsWhole (collection_in t s)) id ss ok.whole;
     }
 

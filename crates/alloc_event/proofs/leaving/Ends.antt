@@ -10,6 +10,7 @@ use Rattle.alloc_event.specs.declared.node.Node.{Node}
 use Rattle.alloc_event.specs.Forest.{with_nodes, on_collections}
 use Rattle.alloc_event.specs.Kept.{Shelf, forest_of, IsStored}
 use Rattle.alloc_event.specs.Nodes.{with_end}
+use Rattle.alloc_event.proofs.calm.Together.{together_same}
 use Rattle.alloc_event.proofs.tables.Writing.{IsSameNode, look-changed, kept-map, collections-map, parents-written}
 
 module _ (key : NodeKey) (end : End) where
@@ -36,7 +37,9 @@ module _ (key : NodeKey) (end : End) where
     -- the forest stays sound
     pub ends-kept : (es : List Shelf) → now ≡ table_with_node t n.key (record n { end = end }) → IsStored t es → IsStored now es
     ends-kept es becomes ok =
-        kept-map (with_end key end) same_node (λ m. refl) t now (ap (λ (x : Table Node). x.first) becomes) w.len (ends-look ok.named)
+        kept-map (with_end key end) same_node (λ m. refl) (λ ns. together_same ns (with_end key end)
+        (record { key = λ m. refl; head = λ m. refl; allocated = λ m. refl; gone = λ m. refl })) t now
+        (ap (λ (x : Table Node). x.first) becomes) (ap (λ (x : Table Node). x.nexts) becomes) w.len (ends-look ok.named)
         (parents-written t now n.key (record n { end = end }) w) es ok
 
     -- and shows the end

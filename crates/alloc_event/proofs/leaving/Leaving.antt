@@ -149,6 +149,7 @@ module _ (t now : Table Node) (key : NodeKey) (node : Node) (out : TakesOut t no
         there = λ k n is. rw keys (any-other k n is (all_keys ss) (ok.there k n (found-without k n is)));
         counted = ap length keys ∙ omega (arith, one_less key (all_keys ss) ok.apart (ok.there key node out.was), ok.counted, out.shorter);
         linked = linked-without gone ss ok;
+        heads = λ k n is. out.given n.head ∙ ok.heads k n (found-without k n is);
         whole = whole-without gone ok.named ss ok.whole;
       }
 

@@ -22,6 +22,7 @@ use Rattle.alloc_event.proofs.tables.LeftParents.{childless}
 use Rattle.alloc_event.proofs.lists.Lookups.{looked-without}
 use Rattle.alloc_event.proofs.tables.Rooted.{whole_rooted}
 use Rattle.alloc_event.proofs.tables.TakingOut.{same_first}
+use Rattle.alloc_event.proofs.calm.Together.{together_filter}
 use Rattle.alloc_event.proofs.calm.United.{united_filter}
 use Rattle.alloc_event.proofs.changes.Finishing.{place-filed}
 
@@ -152,6 +153,7 @@ IsWhole-filter p c over ok = record {
   sound = IsSound-filter p c ok.sound;
   rooted = (rooted_filter c.nodes (whole_rooted c ok) p over).rooted;
   united = united_filter p c.nodes ok.united;
+  together = together_filter p c.nodes ok.together;
 }
 
 -- ---- shelves with the keys that a table has
@@ -311,5 +313,6 @@ module _ (t now : Table Node) (key : NodeKey) (out : TakesOut t now key) where
         ∙ there-filter (is_found now) k (all_keys ss) (ap is_some is) (ok.there k n (still k n is).1);
     counted = counted-by ss ok (node_at t key) refl out.was;
     linked = linked-kept goes ss ok;
+    heads = λ k n is. out.keys.given n.head ∙ ok.heads k n (still k n is).1;
     whole = whole-kept goes ok.named ss ok.whole;
   }

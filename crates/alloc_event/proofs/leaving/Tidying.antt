@@ -278,5 +278,6 @@ bare-kept t id ss ok = record {
   there = λ key n is. ap (list_any (same_key key)) (bare-keys id ss) ∙ ok.there key n is;
   counted = ap length (bare-keys id ss) ∙ ok.counted;
   linked = ok.linked;
+  heads = ok.heads;
   whole = bare-whole t id ss ok.whole;
 }

@@ -9,7 +9,7 @@ use Rattle.sm_names.specs.declared.keys.NodeKey.{NodeKey}
 use Rattle.sm_names.specs.Sameness.{same_key}
 use Rattle.sm_names.specs.declared.keys.HeldBuffer.{HeldBuffer}
 use Rattle.sm_names.proofs.SamenessLaws.{and_left, and_right, or_right}
-use Rattle.node_table.specs.Table.{Table, node_at, parent_at}
+use Rattle.node_table.specs.Table.{Table, node_at, parent_at, was_given}
 use Rattle.node_table.proofs.Keys.{key_cases, true-same_key, same_key-true, same_key-false}
 use Rattle.alloc_event.specs.declared.node.Node.{Node}
 use Rattle.alloc_event.specs.Forest.{Collection, all_held}
@@ -249,6 +249,19 @@ module _ (t now : Table Node) (node : Node) (bears : Bears t now node) where
         rw (same_key-false node.key key differ) (ok.linked key n was here)
   ])
 
+  -- the head of each node was given
+  heads_more : {ss : List Shelf} → IsStored t ss → was_given now node.head ≡ true → (key : NodeKey) (n : Node) → node_at now key ≡ Some n →
+      was_given now n.head ≡ true
+  heads_more ok head key n is = elim (key_cases node.key key) [
+    | inl same ↦
+        let one : Some node ≡ Some n = sym (bears.look key ∙ rw (same_key-true node.key key same) refl) ∙ is in
+        let node_is : node ≡ n = cc in
+        ap (λ (m : Node). was_given now m.head) (sym node_is) ∙ head
+    | inr differ ↦
+        let was : node_at t key ≡ Some n = sym (bears.look key ∙ rw (same_key-false node.key key differ) refl) ∙ is in
+        bears.gives.given n.head ∙ or_right (same_key node.key n.head) (was_given t n.head) (ok.heads key n was)
+  ]
+
   -- no shelf has the key yet
   none_yet : (ss : List Shelf) → are_filed t ss ≡ true → list_any (same_key node.key) (all_keys ss) ≡ false
   none_yet [] filed = refl
@@ -269,9 +282,9 @@ module _ (t now : Table Node) (node : Node) (bears : Bears t now node) where
 
   -- all that holds of forests holds
   pub kept-born : (new : Shelf) (ss : List Shelf) → IsStored t ss → new.keys ≡ keys_before new.id ss ++ node.key ∷ [] →
-      list_all (is_filed t new.id) (keys_before new.id ss) ≡ true → node.collection ≡ new.id → IsWhole (collection_in now new) →
+      list_all (is_filed t new.id) (keys_before new.id ss) ≡ true → node.collection ≡ new.id → was_given now node.head ≡ true → IsWhole (collection_in now new) →
       IsStored now (put_shelf new ss)
-  kept-born new ss ok keys own of whole =
+  kept-born new ss ok keys own of head whole =
       let same = keys-born new node.key ss ok.rising keys in
       record {
         first = bears.gives.first ∙ ok.first;
@@ -282,6 +295,7 @@ module _ (t now : Table Node) (node : Node) (bears : Bears t now node) where
         there = λ key n is. same.any (same_key key) ∙ there_more ok key n is;
         counted = same.len ∙ omega (arith, ok.counted, bears.len);
         linked = linked_more ok;
+        heads = heads_more ok head;
         whole = whole-unmap now (put_shelf new ss) (subst (AllByRecursion IsWhole) (sym (put-map now new ss
             ∙ ap (put (collection_in now new)) (still_collections ss ok.filed)))
             (whole-born (collection_in now new) (map (collection_in t) ss) whole (whole-map t ss ok.whole)));

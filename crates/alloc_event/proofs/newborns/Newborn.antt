@@ -10,29 +10,31 @@ use Rattle.sm_names.specs.declared.outcomes.Buffers.{Buffers}
 use Rattle.sm_names.specs.Sameness.{same_key}
 use Rattle.sm_names.specs.declared.keys.HeldBuffer.{HeldBuffer}
 use Rattle.sm_names.proofs.ListLaws.{In, In-find}
-use Rattle.sm_names.proofs.SamenessLaws.{and_left, and_right, either_way, or_cases, or_none_left, or_right, same_key-refl, or_none_right}
-use Rattle.node_table.specs.Table.{Table, node_at, row_at}
+use Rattle.sm_names.proofs.SamenessLaws.{and_left, and_right, both_ways, either_way, or_cases, or_left, or_none_left, or_right, same_key-refl, or_none_right}
+use Rattle.sm_names.proofs.StandingLaws.{In-any}
+use Rattle.node_table.specs.Table.{Table, node_at, row_at, was_given}
 use Rattle.node_table.proofs.Keys.{same_key-true, true-same_key}
 use Rattle.alloc_event.specs.declared.change.Change.{Change}
 use Rattle.alloc_event.specs.declared.node.Node.{Node}
 use Rattle.alloc_event.specs.Decisions.{is_left_of}
 use Rattle.alloc_event.specs.Forest.{Collection, all_held, pages_in}
-use Rattle.alloc_event.specs.Kept.{Shelf, AreRising, IsHung, IsStored, IsWhole, Bears, Gives, SameTable, Finishes, born, put_shelf, collection_in, nodes_with, forest_of, all_keys, are_filed, is_filed, all_of}
+use Rattle.alloc_event.specs.Kept.{AreHeadsGiven, Shelf, AreRising, IsHung, IsStored, IsWhole, Bears, Gives, SameTable, Finishes, born, put_shelf, collection_in, nodes_with, forest_of, all_keys, are_filed, is_filed, all_of}
 use Rattle.alloc_event.specs.Nodes.{is_of, node_of, new_root}
 use Rattle.alloc_event.specs.Scenes.{IsSound, are_distinct, heads_itself}
 use Rattle.alloc_event.specs.Settling.{Handles, Settles, put, given_back, MayChange, collection_or_new, with_birth, has_collection}
 use Rattle.alloc_event.specs.Ties.{are_rooted}
-use Rattle.alloc_event.specs.Units.{are_united, shares_unit}
+use Rattle.alloc_event.specs.Units.{GoTogether, are_united, shares_unit}
 use Rattle.alloc_event.proofs.changes.Altering.{filed_at, kept_of, found_id, found_filed, found_whole, shelf_by, looked-of, none_above}
 use Rattle.alloc_event.proofs.newborns.Bearing.{born_key}
 use Rattle.alloc_event.proofs.newborns.Forest.{keys_before, held_before, kept-born, helds-born, helds_in, born_looked, none_there, all-append}
 use Rattle.alloc_event.proofs.changes.Finishing.{keys_in, looked-keys}
-use Rattle.alloc_event.proofs.tables.Hanging.{looked_hung}
+use Rattle.alloc_event.proofs.tables.Hanging.{in_all, looked_heads, looked_hung, looked_there}
 use Rattle.alloc_event.proofs.tables.KeptRoots.{rooted_birth}
 use Rattle.alloc_event.proofs.lists.Lookups.{node_of-looked, same_key-swap}
 use Rattle.alloc_event.proofs.tables.Rooted.{distinct_one, left_in, whole_rooted}
 use Rattle.alloc_event.proofs.shelves.Showing.{node_is, collection_is}
 use Rattle.alloc_event.proofs.tables.Storing.{row_there}
+use Rattle.alloc_event.proofs.calm.Together.{together_born, together_none}
 use Rattle.alloc_event.proofs.calm.United.{united_born}
 
 -- the collection with one more node behind
@@ -49,7 +51,7 @@ pub record IsBefore (t : Table Node) (ss : List Shelf) (id : ℕ) (c : Collectio
 
 -- an empty collection is whole
 whole-empty : (id : ℕ) → IsWhole (record { id = id; nodes = []; buffers = None; held = [] })
-whole-empty id = record { sound = record { distinct = refl; heads = refl; one_root = refl; few = refl }; rooted = refl; united = refl }
+whole-empty id = record { sound = record { distinct = refl; heads = refl; one_root = refl; few = refl }; rooted = refl; united = refl; together = together_none }
 
 -- by the shelf that is found
 before-by : (t : Table Node) (ss : List Shelf) → IsStored t ss → (id : ℕ) (o : Option Shelf) → find (λ (s : Shelf). s.id == id) ss ≡ o →
@@ -222,6 +224,40 @@ above_shares t ss ok id (Some _) false client event (Some _) (Child up n is own 
       | inr e ↦ rw e refl
     ]
 
+-- a node that is born is not gone
+born_here : (above : Option Node) (attached : Bool) (id event client : ℕ) (key : NodeKey) → (born above attached id event client key).gone ≡ false
+born_here None attached id event client key = refl
+born_here (Some above) attached id event client key = refl
+
+-- and heads its unit, or is of its parent's, and has its buffers with it
+head_kind : (t : Table Node) (ss : List Shelf) → IsStored t ss →
+    (id : ℕ) (parent : Option NodeKey) (attached : Bool) (client event : ℕ) (above : Option Node) → Above t ss id parent above →
+    (key : NodeKey) (c : Collection) → IsBefore t ss id c →
+    ((born above attached id event client key).head ≡ (born above attached id event client key).key)
+    ⊎ ((q : Node) × In q c.nodes × ((born above attached id event client key).head ≡ q.head)
+    × ((born above attached id event client key).allocated ≡ q.allocated))
+head_kind t ss ok id None attached client event None (Root none) key c before = inl refl
+head_kind t ss ok id None attached client event (Some _) at key c before = elim at [ ]
+head_kind t ss ok id (Some _) attached client event None at key c before = elim at [ ]
+head_kind t ss ok id (Some _) true client event (Some _) (Child up n is own here) key c before = inl refl
+head_kind t ss ok id (Some _) false client event (Some _) (Child up n is own here) key c before =
+    let found = found_above t ss ok c up n is (before.nodes ∙ ap (λ (i : ℕ). nodes_with t (keys_before i ss)) (sym own)) in
+    inr (n, (In-find (is_of up) c.nodes n found).0, refl, refl)
+
+-- its head was given
+head_given : (t now : Table Node) (ss : List Shelf) → IsStored t ss →
+    (id : ℕ) (parent : Option NodeKey) (attached : Bool) (client event : ℕ) (above : Option Node) → Above t ss id parent above →
+    (key : NodeKey) → Bears t now (born above attached id event client key) →
+    was_given now (born above attached id event client key).head ≡ true
+head_given t now ss ok id None attached client event None (Root none) key bears =
+    bears.gives.given key ∙ or_left (same_key key key) (was_given t key) (same_key-refl key)
+head_given t now ss ok id None attached client event (Some _) at key bears = elim at [ ]
+head_given t now ss ok id (Some _) attached client event None at key bears = elim at [ ]
+head_given t now ss ok id (Some _) true client event (Some _) (Child up n is own here) key bears =
+    bears.gives.given key ∙ or_left (same_key key key) (was_given t key) (same_key-refl key)
+head_given t now ss ok id (Some _) false client event (Some _) (Child up n is own here) key bears =
+    bears.gives.given n.head ∙ or_right (same_key key n.head) (was_given t n.head) (ok.heads up n is)
+
 -- it has the key that is named
 pub above_key : (t : Table Node) (ss : List Shelf) → IsStored t ss → (id : ℕ) (parent : Option NodeKey) (above : Option Node) →
     Above t ss id parent above → option_map (λ (n : Node). n.key) above ≡ parent
@@ -277,6 +313,30 @@ module _ (t now : Table Node) (ss : List Shelf) (ok : IsStored t ss) (id : ℕ) 
   born_united =
       united_born c0.nodes node (above_shares t ss ok id parent attached client event above at key c0 before) before.whole.united
 
+  -- a key that is given to it now was given to no other
+  head_apart : (n : Node) → In n c0.nodes → n.head ≡ node.key → ⊥
+  head_apart n on same =
+      let there : In n (nodes_with t (keys_before id ss)) = subst (λ (ns : List Node). In n ns) before.nodes on in
+      let at_n : node_at t n.key ≡ Some n =
+      in_all (λ (m : Node). node_at t m.key ≡ Some m) (nodes_with t (keys_before id ss)) (looked_there t ok.named (keys_before id ss)) n
+      there in
+      false≢true (sym bears.gives.fresh ∙ (ap (was_given t) (sym same) ∙ ok.heads n.key n at_n))
+
+  key_apart : (n : Node) → In n c0.nodes → n.key ≡ node.key → ⊥
+  key_apart n on same =
+      both_ways (list_any (is_of node.key) c0.nodes)
+      (In-any (is_of node.key) c0.nodes n on (same_key-true n.key node.key same)) born_fresh
+
+  -- its units go together
+  pub born_together : GoTogether born_collection.nodes
+  born_together =
+      together_born c0.nodes node (born_here above attached id event client key) key_apart head_apart
+      (head_kind t ss ok id parent attached client event above at key c0 before) before.whole.together
+
+  -- the head of the node was given
+  born_head : was_given now node.head ≡ true
+  born_head = head_given t now ss ok id parent attached client event above at key bears
+
   -- each node is of it
   pub born_all_of : all_of born_collection.id born_collection.nodes ≡ true
   born_all_of =
@@ -306,8 +366,8 @@ module _ (t now : Table Node) (ss : List Shelf) (ok : IsStored t ss) (id : ℕ) 
   born_kept = kept-born t now node bears (shelf_by born_collection) ss ok
       (subst (λ (i : ℕ). keys_in born_collection.nodes ≡ keys_before i ss ++ node.key ∷ []) (sym before.id_is) born_keys)
       (subst (λ (i : ℕ). list_all (is_filed t i) (keys_before i ss) ≡ true) (sym before.id_is) before.filed)
-      (born_of ∙ sym before.id_is) (subst IsWhole (sym born_shown)
-      (record { sound = born_sound; rooted = born_rooted; united = born_united }))
+      (born_of ∙ sym before.id_is) born_head (subst IsWhole (sym born_shown)
+      (record { sound = born_sound; rooted = born_rooted; united = born_united; together = born_together }))
 
   -- its nodes hang in the table
   pub born_hung : IsHung now born_collection.nodes
@@ -315,6 +375,12 @@ module _ (t now : Table Node) (ss : List Shelf) (ok : IsStored t ss) (id : ℕ) 
       let shown = ap (λ (c : Collection). c.nodes) born_shown in
       subst (IsHung now) shown (looked_hung now born_kept.named born_kept.linked (keys_in born_collection.nodes)
       (subst (λ (ns : List Node). are_rooted (reverse ns) ≡ true) (sym shown) born_rooted))
+
+  -- and the heads of all
+  pub born_heads_given : AreHeadsGiven now born_collection.nodes
+  born_heads_given =
+      let shown = ap (λ (c : Collection). c.nodes) born_shown in
+      subst (AreHeadsGiven now) shown (looked_heads now born_kept.named born_kept.heads (keys_in born_collection.nodes))
 
   -- the pages stay
   pub born_held : all_held (forest_of now (put_shelf (shelf_by born_collection) ss)) ≡ all_held (forest_of t ss)

@@ -1,32 +1,26 @@
 -- An attached unit that is allocated in its place: what is forced besides stays as it was.
-use Rattle.std.proofs.Common.{ℕ, ◌≤◌, ◌≡◌, refl, ap, sym, ◌∙◌, subst, Bool, true, false, not, ◌&&◌, ◌||◌, ◌++◌, is_none, List, [], ◌∷◌, map, Option, Some, None, arith}
+use Rattle.std.proofs.Common.{◌≡◌, refl, ap, sym, ◌∙◌, Bool, true, false, not, ◌&&◌, ◌||◌, is_none, List, [], ◌∷◌, map, Option, Some, None}
 use Rattle.std.specs.List.{list_all, find}
-use Rattle.std.specs.Option.{option_map, option_map_or, option_and_then, IfSome, MatchOption}
-use Rattle.sm_names.specs.declared.keys.Interval.{Interval}
+use Rattle.std.specs.Option.{option_map, option_map_or, option_and_then}
 use Rattle.sm_names.specs.declared.keys.NodeKey.{NodeKey}
 use Rattle.sm_names.specs.declared.outcomes.Buffers.{Buffers}
 use Rattle.sm_names.specs.declared.outcomes.Cause.{Cause}
 use Rattle.sm_names.specs.declared.outcomes.Failure.{Failure}
-use Rattle.sm_names.specs.Marks.{Allocated}
 use Rattle.sm_names.specs.Sameness.{same_key}
 use Rattle.sm_names.specs.Words.{first_some, when}
 use Rattle.sm_names.proofs.ListLaws.{In-find}
 use Rattle.sm_names.proofs.SamenessLaws.{and_left, both_ways, false_if, same_key-true}
 use Rattle.alloc_event.specs.declared.decision.Decision.{Decision}
-use Rattle.alloc_event.specs.declared.decision.Decision.TheVariants.{Ends, Loses, Places, Allocates}
+use Rattle.alloc_event.specs.declared.decision.Decision.TheVariants.{Ends, Loses, Allocates}
 use Rattle.alloc_event.specs.declared.node.Node.{Node}
-use Rattle.alloc_event.specs.Decisions.{decided, early_failure, first_step, has_strong, is_unplaced, late_failure, later_step, mark_of, waiting, wanted_by, IsAllocating, IsStep}
-use Rattle.alloc_event.specs.Forest.{Collection, pages_in}
-use Rattle.alloc_event.specs.Progress.{Given, work}
+use Rattle.alloc_event.specs.Decisions.{decided, first_step, has_strong, late_failure, later_step, waiting}
+use Rattle.alloc_event.specs.Forest.{Collection}
 use Rattle.alloc_event.specs.Nodes.{after_allocation, given_buffers}
 use Rattle.alloc_event.specs.Questions.{is_deserted_node, is_live_node, is_next_node, is_ready_node, is_root_left, lives_below}
-use Rattle.alloc_event.specs.Scenes.{IsSound, frame_of, heads_itself, is_held_strongly}
-use Rattle.alloc_event.specs.Settling.{Handles, Settles, is_root_of}
-use Rattle.alloc_event.proofs.calm.Calming.{any_map, find_map, later}
-use Rattle.alloc_event.proofs.calm.Forcing.{forced_made}
-use Rattle.alloc_event.proofs.calm.Movings.{less_left, same_frames, sound_by_spines, spines_by_frames, unplaced_before}
-use Rattle.alloc_event.proofs.calm.Settlings.{step_settles}
-use Rattle.alloc_event.proofs.calm.Steps.{all-In, decided_steps, found_by_key}
+use Rattle.alloc_event.specs.Scenes.{IsSound, heads_itself}
+use Rattle.alloc_event.specs.Settling.{is_root_of}
+use Rattle.alloc_event.proofs.calm.Calming.{any_map, find_map}
+use Rattle.alloc_event.proofs.calm.Steps.{all-In, found_by_key}
 use Rattle.alloc_event.proofs.tables.Links.{below_by_links, link_of, map-kept}
 
 -- the root is lost, for want of a strong node

@@ -72,12 +72,12 @@ no_root c sound h on p up =
     ∙ ap is_none up
 
 -- what is there
-some_there : (test : NodeKey → Bool) (o : Option NodeKey) → option_map_or test o false ≡ true →
+pub some_there : (test : NodeKey → Bool) (o : Option NodeKey) → option_map_or test o false ≡ true →
     (p : NodeKey) × (o ≡ Some p) × (test p ≡ true)
 some_there test None h = cc
 some_there test (Some p) h = (p, refl, h)
 
-node_there : (test : Node → Bool) (o : Option Node) → option_map_or test o false ≡ true → (n : Node) × (o ≡ Some n) × (test n ≡ true)
+pub node_there : (test : Node → Bool) (o : Option Node) → option_map_or test o false ≡ true → (n : Node) × (o ≡ Some n) × (test n ≡ true)
 node_there test None h = cc
 node_there test (Some n) h = (n, refl, h)
 

@@ -1,7 +1,7 @@
 -- An effect by which an attached unit becomes ready, and the unit's allocation with it, in their places.
-use Rattle.std.proofs.Common.{◌≡◌, ◌≢◌, ℕ, ◌+◌, ◌<◌, ◌==◌, nat_lt, refl, ap, sym, ◌∙◌, subst, Bool, true, false, not, ◌&&◌, if◌then◌else◌, inl, inr, List, [], ◌∷◌, ◌++◌, map, set, Option, Some, None, option_map, arith}
+use Rattle.std.proofs.Common.{◌≡◌, ◌≢◌, ℕ, ◌+◌, ◌<◌, ◌==◌, nat_lt, refl, ap, sym, ◌∙◌, subst, Bool, true, false, not, ◌&&◌, if◌then◌else◌, ◌⊎◌, inl, inr, List, [], ◌∷◌, ◌++◌, map, set, Option, Some, None, option_map, arith}
 use Rattle.std.proofs.lemmas.Bool.{eqb-false, eqb-true, le-ltb, lt-ltb, not-true}
-use Rattle.std.specs.List.{find, list_all, list_any, sum_by}
+use Rattle.std.specs.List.{AllByRecursion, find, list_all, list_any, sum_by}
 use Rattle.std.specs.Option.{option_map_or}
 use Rattle.sm_names.specs.declared.keys.Interval.{Interval}
 use Rattle.sm_names.specs.declared.keys.NodeKey.{NodeKey}
@@ -12,8 +12,8 @@ use Rattle.sm_names.specs.Forced.{forced}
 use Rattle.sm_names.specs.Marks.{Allocated}
 use Rattle.sm_names.specs.Sameness.{same_key}
 use Rattle.sm_names.specs.Words.{times}
-use Rattle.sm_names.proofs.ListLaws.{In, In-find, In-map-back, map-In}
-use Rattle.sm_names.proofs.SamenessLaws.{and_both, and_left, and_right, both_ways, either_way, false_if, same_key-refl, same_key-true}
+use Rattle.sm_names.proofs.ListLaws.{In, In-find, In-map, In-map-back, map-In}
+use Rattle.sm_names.proofs.SamenessLaws.{and_both, and_left, and_right, both_ways, either_way, false_if, same_key-comm, same_key-refl, same_key-true}
 use Rattle.sm_names.proofs.StandingLaws.{In-any}
 use Rattle.sm_names.proofs.SizeLaws.{all_on}
 use Rattle.node_table.specs.Changes.{Writes}
@@ -28,24 +28,30 @@ use Rattle.alloc_event.specs.Calm.{IsCalm, over_but, strong_count}
 use Rattle.alloc_event.specs.Counts.{AreUnits, HasUnits, lives_in, unit_at, waits_in, is_unready}
 use Rattle.alloc_event.specs.Decisions.{decided, has_strong, late_failure, mark_of}
 use Rattle.alloc_event.specs.Due.{is_due_at, is_served_at}
+use Rattle.alloc_event.specs.Falling.{IsTaken}
 use Rattle.alloc_event.specs.Forest.{Collection, beside, pages_in, with_nodes}
 use Rattle.alloc_event.specs.InPlace.{IsMade, IsOpen, bit}
 use Rattle.alloc_event.specs.Kept.{AreRising, Finishes, IsStored, IsWhole, Shelf, collection_in, forest_of, is_filed, is_strong, nodes_with, written}
 use Rattle.alloc_event.specs.Nodes.{affected, after_allocation, given_buffers}
 use Rattle.alloc_event.specs.Questions.{demands_of, is_allocated_node, is_in_unit, is_live_node, is_next_node, is_ready_node, is_served}
+use Rattle.alloc_event.specs.Reserved.{camped, reserved_count}
 use Rattle.alloc_event.specs.Scenes.{IsSound}
-use Rattle.alloc_event.specs.Serving.{AreLess, IsGivenAt, IsServed, IsServedAt, are_enough, asked_with, given_at, hangs_below_at, has_turn_at, may_serve, reserved_with}
+use Rattle.alloc_event.specs.Serving.{AreLess, IsDue, IsGivenAt, IsRoom, IsServed, IsServedAt, are_enough, asked_with, given_at, hangs_below_at, has_turn_at}
 use Rattle.alloc_event.specs.Settling.{Handles, Rests, Settles, changed, collection_or_new, given_back, is_root_of, is_there, no_key, put, standing}
 use Rattle.alloc_event.proofs.calm.Calming.{any_map, count_none, rests_strong, times_map}
 use Rattle.alloc_event.proofs.calm.Forcing.{forced_made}
 use Rattle.alloc_event.proofs.calm.Settlings.{step_settles}
 use Rattle.alloc_event.proofs.calm.Steps.{all-In}
+use Rattle.alloc_event.proofs.calm.Together.{together_given}
 use Rattle.alloc_event.proofs.calm.Watched.{nothing_back, strong_lives}
 use Rattle.alloc_event.proofs.changes.Altering.{Some-shelf, filed_at, found_filed, looked-of, same_affected}
 use Rattle.alloc_event.proofs.changes.Effecting.{alone_affected, counted_made, live_before, live_is, now_is, remains_affected, strong_before, strong_is, unready_before, unready_is}
 use Rattle.alloc_event.proofs.failures.Endings.{change_nodes}
-use Rattle.alloc_event.proofs.lists.Lookups.{looked-map}
+use Rattle.alloc_event.proofs.failures.Fallen.{each_shelf}
+use Rattle.alloc_event.proofs.lists.Lookups.{looked-map, same_key-swap}
 use Rattle.alloc_event.proofs.serves.Before.{IsDueHead, due_head, key_listed, no_root, none_below, whole_before}
+use Rattle.alloc_event.proofs.serves.Before.{at_key as key_before}
+use Rattle.alloc_event.proofs.serves.Below.{enough_below, given_all_below, none_hangs, of_unit, sum_below}
 use Rattle.alloc_event.proofs.serves.Giving.{given_in, given_out, kept_given, same_given}
 use Rattle.alloc_event.proofs.serves.Next.{calm_given, serves}
 use Rattle.alloc_event.proofs.serves.Sums.{asked_is, enough_is, reserved_same}
@@ -53,8 +59,11 @@ use Rattle.alloc_event.proofs.shelves.Showing.{node_is}
 use Rattle.alloc_event.proofs.tables.Hanging.{in_all, looked_there}
 use Rattle.alloc_event.proofs.tables.LeftParents.{loss_left}
 use Rattle.alloc_event.proofs.tables.Rooted.{IsLeft, distinct_one, left_node}
-use Rattle.alloc_event.proofs.tables.Writing.{IsSameNode, IsSound-map, collections-map, filed-map, kept-map}
-use Rattle.alloc_event.proofs.tallies.Slots.{all_at, units_with}
+use Rattle.alloc_event.proofs.tables.Writing.{IsSameNode, IsSound-map, IsWhole-map, collections-map, filed-map, kept-with}
+use Rattle.alloc_event.proofs.tallies.Amounts.{amount_of}
+use Rattle.alloc_event.proofs.tallies.Reserved.{amount_both, amount_map, camped_if, camped_sum}
+use Rattle.alloc_event.proofs.tallies.Reserved.{reserved_is as reserved_sum}
+use Rattle.alloc_event.proofs.tallies.Slots.{all_at, one_shelf, units_with}
 use Rattle.alloc_event.proofs.serves.Allocated.{strong_on}
 
 -- ---- lists
@@ -116,7 +125,7 @@ module _ (t : Table Node) (us : List Unit) (key : NodeKey) (effect : Effect) (n 
     (ss : List Shelf) (s : Shelf) (strong : ℕ) (opens : IsOpen t us ss s (Change.Effect key effect) strong)
     (b : Buffers) (has : s.buffers ≡ Some b) (bare : n.allocated ≡ false) (turn : has_turn_at t n.head ≡ true)
     (none : list_any (hangs_below_at t us n.head) s.keys ≡ false)
-    (enough : are_enough b (reserved_with t s.keys) (asked_with t s.keys n.head (affected key effect n)) ≡ true) where
+    (enough : are_enough b (reserved_count (nodes_with t s.keys)) (asked_with t s.keys n.head (affected key effect n)) ≡ true) where
   abbrev k : NodeKey
   k = n.head
 
@@ -192,7 +201,7 @@ module _ (t : Table Node) (us : List Unit) (key : NodeKey) (effect : Effect) (n 
 
   -- ---- the buffers are enough
 
-  reserved_is : reserved_with t s.keys ≡ sum_by (λ (d : Demand). d.camping) (demands_of is_served (map f nodes))
+  reserved_is : reserved_count nodes ≡ sum_by (λ (d : Demand). d.camping) (demands_of is_served (map f nodes))
   reserved_is = ap (sum_by (λ (d : Demand). d.camping)) (sym (reserved_same f nodes
       (λ m there. (remains_affected key effect m).gone) (λ m there. (remains_affected key effect m).allocated)
       (λ m there given. elim (either_way (same_key n.key m.key)) [
@@ -209,7 +218,7 @@ module _ (t : Table Node) (us : List Unit) (key : NodeKey) (effect : Effect) (n 
       ]))
 
   fits : late_failure k c1.nodes b ≡ None
-  fits = enough_is (map f nodes) k b (reserved_with t s.keys) (asked_with t s.keys k (f n)) reserved_is asks_are enough
+  fits = enough_is (map f nodes) k b (reserved_count nodes) (asked_with t s.keys k (f n)) reserved_is asks_are enough
 
   -- ---- the unit is next
 
@@ -252,9 +261,42 @@ module _ (t : Table Node) (us : List Unit) (key : NodeKey) (effect : Effect) (n 
     between_is : collection_in between s ≡ with_nodes (after_allocation k) c0
     between_is = λ i. record c0 { nodes = nodes_between i }
 
+    -- the other collections stay
+    others_between : (x : Shelf) → x.id ≢ s.id → list_all (is_filed t x.id) x.keys ≡ true → collection_in between x ≡ collection_in t x
+    others_between x differ filed = λ i. record (collection_in t x) { nodes = stay i }
+      where
+        apart : (m : Node) → In m (nodes_with t x.keys) → g m ≡ m
+        apart m there = given_out k s.keys m (false_if (list_any (same_key m.key) s.keys) (λ e.
+            let at : node_at t m.key ≡ Some m =
+            in_all (λ (y : Node). node_at t y.key ≡ Some y) (nodes_with t x.keys) (looked_there t opens.kept.named x.keys) m there in
+            let mine : (m.collection == s.id) ≡ true =
+            filed_at t s.id s.keys m.key m (found_filed t s.id ss s opens.kept.filed opens.found) at e in
+            let its : (m.collection == x.id) ≡ true =
+            all-In (λ (y : Node). y.collection == x.id) (nodes_with t x.keys) m there (looked-of t x.id x.keys filed) in
+            differ (sym (eqb-true m.collection x.id its) ∙ eqb-true m.collection s.id mine)))
+
+        stay : nodes_with between x.keys ≡ nodes_with t x.keys
+        stay = looked-map g (node_at t) (node_at between) given.look x.keys ∙ still_map g (nodes_with t x.keys) apart
+
+    -- and all are whole
+    whole_between : AllByRecursion (λ (x : Shelf). IsWhole (collection_in between x)) ss
+    whole_between = each_shelf (λ (x : Shelf). IsWhole (collection_in between x)) ss (λ x there. elim (either_way (x.id == s.id)) [
+      | inl e ↦
+          subst (λ (y : Shelf). IsWhole (collection_in between y))
+          (sym (one_shelf ss opens.kept.rising x s there (In-find (λ (y : Shelf). y.id == s.id) ss s opens.found).0
+          (eqb-true x.id s.id e)))
+          (subst IsWhole (sym between_is)
+          (IsWhole-map (given_buffers k) (λ m. record { key = refl; parent = refl; attached = refl; collection = refl; head = refl })
+          (λ m. refl) c0 (together_given k nodes) whole))
+      | inr e ↦
+          subst IsWhole (sym (others_between x (eqb-false x.id s.id e)
+          (all-In (λ (y : Shelf). list_all (is_filed t y.id) y.keys) ss x there opens.kept.filed)))
+          (all_at (λ (y : Shelf). IsWhole (collection_in t y)) ss opens.kept.whole x there)
+    ])
+
     kept_between : IsStored between ss
-    kept_between = kept-map g same_g (λ m. kept_given (λ (x : Node). x.gone) k (λ x. refl) s.keys m) t between given.same.first
-        given.same.len given.look given.parents ss opens.kept
+    kept_between = kept-with g same_g (λ m h. sym (kept_given (λ (x : Node). x.gone) k (λ x. refl) s.keys m) ∙ h) t between
+        given.same.first given.same.nexts given.same.len given.look given.parents ss whole_between opens.kept
 
     unit_has : HasUnits us nodes
     unit_has = all_at (λ (c : Collection). HasUnits us c.nodes) (map (collection_in t) ss) opens.units c0
@@ -305,23 +347,6 @@ module _ (t : Table Node) (us : List Unit) (key : NodeKey) (effect : Effect) (n 
           (units_with us g (λ m. (same_g m).key) (λ j m. kept_given (lives_in j) k (λ x. refl) s.keys m)
           (λ j m. kept_given (waits_in j) k (λ x. refl) s.keys m) (map (collection_in t) ss) opens.units);
     }
-
-    -- the other collections stay
-    others_between : (x : Shelf) → x.id ≢ s.id → list_all (is_filed t x.id) x.keys ≡ true → collection_in between x ≡ collection_in t x
-    others_between x differ filed = λ i. record (collection_in t x) { nodes = stay i }
-      where
-        apart : (m : Node) → In m (nodes_with t x.keys) → g m ≡ m
-        apart m there = given_out k s.keys m (false_if (list_any (same_key m.key) s.keys) (λ e.
-            let at : node_at t m.key ≡ Some m =
-            in_all (λ (y : Node). node_at t y.key ≡ Some y) (nodes_with t x.keys) (looked_there t opens.kept.named x.keys) m there in
-            let mine : (m.collection == s.id) ≡ true =
-            filed_at t s.id s.keys m.key m (found_filed t s.id ss s opens.kept.filed opens.found) at e in
-            let its : (m.collection == x.id) ≡ true =
-            all-In (λ (y : Node). y.collection == x.id) (nodes_with t x.keys) m there (looked-of t x.id x.keys filed) in
-            differ (sym (eqb-true m.collection x.id its) ∙ eqb-true m.collection s.id mine)))
-
-        stay : nodes_with between x.keys ≡ nodes_with t x.keys
-        stay = looked-map g (node_at t) (node_at between) given.look x.keys ∙ still_map g (nodes_with t x.keys) apart
 
     due_between : is_due_at between k ≡ false
     due_between =
@@ -426,50 +451,142 @@ module _ (t : Table Node) (us : List Unit) (key : NodeKey) (effect : Effect) (n 
                 ∙ rests (beside (forest_of now ss) s.id);
           })
 
-      pub served_made : IsServed t now (set us k.slot next) ss s (Change.Effect key effect) lives
-      served_made = record {
-        done = record {
-          kept = made_between.done.kept;
-          finishes = finishes_now;
-          calm = made_between.done.calm;
-          strong = made_between.done.strong;
-          others = beside_now;
-          units = made_between.done.units;
-          same = record {
-            first = made_between.done.same.first ∙ given.same.first;
-            nexts = made_between.done.same.nexts ∙ given.same.nexts;
-            limit = made_between.done.same.limit ∙ given.same.limit;
-            len = made_between.done.same.len ∙ given.same.len;
+      -- what the unit camps on is reserved besides
+      module _ (unitwide : (m : Node) → In m nodes → m.head ≡ k → m.allocated ≡ false) where
+        camps_more : (m : Node) → In m (map f nodes) →
+            camped (given_buffers k m) ≡ camped m + camped_if (is_in_unit k) m
+        camps_more m there =
+            let x = In-map f nodes m there in
+            by m (either_way m.gone) (either_way (same_key k m.head)) (λ own.
+            ap (λ (y : Node). y.allocated) x.2 ∙ ((remains_affected key effect x.0).allocated
+            ∙ unitwide x.0 x.1 (sym (same x.0).head ∙ (ap (λ (y : Node). y.head) (sym x.2) ∙ sym (same_key-true k m.head own)))))
+          where
+            asks : Bool → Option Demand → ℕ
+            asks b o = option_map_or (λ (d : Demand). d.camping) (if b then o else None) 0
+
+            by : (m : Node) → (m.gone ≡ true) ⊎ (m.gone ≡ false) → (same_key k m.head ≡ true) ⊎ (same_key k m.head ≡ false) →
+                (same_key k m.head ≡ true → m.allocated ≡ false) → camped (given_buffers k m) ≡ camped m + camped_if (is_in_unit k) m
+            by m (inl e) h bare = rw e refl
+            by m (inr e) (inl h) bare =
+                let none : m.allocated ≡ false = bare h in
+                let swap : same_key m.head k ≡ true = same_key-comm k m.head h in
+                rw (e, h, none, swap) (omega arith)
+            by m (inr e) (inr h) bare =
+                let swap : same_key m.head k ≡ false = same_key-swap m.head k ∙ h in
+                rw (e, h, swap) (omega arith)
+
+        pub served_reserved : reserved_count (nodes_with now s.keys)
+            ≡ reserved_count nodes + sum_by (λ (d : Demand). d.camping) (asked_with t s.keys k (f n))
+        served_reserved =
+            let now_are : nodes_with now s.keys ≡ map (given_buffers k) (map f nodes) = ap (λ (c : Collection). c.nodes) allocated in
+            let a : reserved_count (nodes_with now s.keys) ≡ amount_of camped (map (given_buffers k) (map f nodes)) =
+            ap reserved_count now_are ∙ reserved_sum (map (given_buffers k) (map f nodes)) in
+            let b = amount_map camped (given_buffers k) (map f nodes) in
+            let c = amount_both camped (camped_if (is_in_unit k)) (λ m. camped (given_buffers k m)) (map f nodes) camps_more in
+            let d : reserved_count nodes ≡ amount_of camped (map f nodes) = reserved_is ∙ reserved_sum (map f nodes) in
+            let e : sum_by (λ (d : Demand). d.camping) (asked_with t s.keys k (f n)) ≡ amount_of (camped_if (is_in_unit k)) (map f nodes) =
+            ap (sum_by (λ (d : Demand). d.camping)) asks_are ∙ camped_sum (is_in_unit k) (map f nodes) in
+            omega arith
+
+        pub served_made : (camping : ℕ) → camping ≡ reserved_count nodes + sum_by (λ (d : Demand). d.camping) (asked_with t s.keys k (f n)) →
+            IsServed t now (set us k.slot next) ss s (Change.Effect key effect) lives camping
+        served_made camping told = record {
+          done = record {
+            kept = made_between.done.kept;
+            finishes = finishes_now;
+            calm = made_between.done.calm;
+            strong = made_between.done.strong;
+            others = beside_now;
+            units = made_between.done.units;
+            same = record {
+              first = made_between.done.same.first ∙ given.same.first;
+              nexts = made_between.done.same.nexts ∙ given.same.nexts;
+              limit = made_between.done.same.limit ∙ given.same.limit;
+              len = made_between.done.same.len ∙ given.same.len;
+            };
           };
-        };
-        over = λ noted. made_between.over noted
-            ∙ (ap (list_any (over_but noted)) nodes_between
-            ∙ any_map (over_but noted) (over_but noted) (given_buffers k) nodes (over_given k noted));
-      }
+          over = λ noted. made_between.over noted
+              ∙ (ap (list_any (over_but noted)) nodes_between
+              ∙ any_map (over_but noted) (over_but noted) (given_buffers k) nodes (over_given k noted));
+          reserved = told ∙ sym served_reserved;
+        }
+
+-- where the unit of a node has no buffers, and its head is there, each node of it is there
+unitwide_at : (t : Table Node) (ss : List Shelf) → IsStored t ss → (s : Shelf) → find (λ (x : Shelf). x.id == s.id) ss ≡ Some s →
+    (n : Node) → IsDueHead t (nodes_with t s.keys) n.head → (m : Node) → In m (nodes_with t s.keys) → m.head ≡ n.head →
+    (m.allocated ≡ false) × (m.gone ≡ false)
+unitwide_at t ss kept s found n due m on own =
+    let whole : IsWhole (collection_in t s) = whole_before t ss kept s found n.head in
+    let unit : m.head ≡ due.head.key = own ∙ sym due.key in
+    let head : due.head.head ≡ due.head.key = due.own ∙ sym due.key in (
+      whole.together.alike m due.head on due.on unit head due.here ∙ due.waits,
+      whole.together.spared m due.head on due.on unit head due.here due.waits,
+    )
 
 -- as it was asked and done
 pub served_by : (t now : Table Node) (us : List Unit) (key : NodeKey) (effect : Effect) (n : Node) → node_at t key ≡ Some n →
     (ss : List Shelf) (s : Shelf) (strong : ℕ) → IsOpen t us ss s (Change.Effect key effect) strong → (next : Unit) (lives : ℕ)
     (after : Node) → after ≡ affected key effect n → AreLess us strong n after lives next → (reserved : ℕ) →
-    reserved ≡ reserved_with t s.keys → may_serve t s.keys us reserved s.buffers n after ≡ true →
-    IsServedAt t now n.head s.keys (given_buffers n.head after) →
-    IsServed t now (set us n.head.slot next) ss s (Change.Effect key effect) lives
-served_by t now us key effect n was ss s strong opens next lives after is less reserved sum may served = by s.buffers refl may
+    reserved ≡ reserved_count (nodes_with t s.keys) → (b : Buffers) → IsDue t s.buffers n b → (ks : List NodeKey) → IsTaken t n.head ks →
+    (sum : ℕ) → IsRoom t ks us s.id reserved b n.head after sum → IsServedAt t now n.head ks (given_buffers n.head after) →
+    IsServed t now (set us n.head.slot next) ss s (Change.Effect key effect) lives sum
+served_by t now us key effect n was ss s strong opens next lives after is less reserved sum b due ks taken all room served =
+    served_made t us key effect n was ss s strong opens b due.has due.bare due.turn none enough served.between given now
+    (subst (λ (m : Node). now ≡ table_with_node served.between (given_buffers n.head m).key (given_buffers n.head m)) is served.becomes)
+    (subst (λ (m : Node). Writes served.between now (given_buffers n.head m).key (given_buffers n.head m)) is served.writes)
+    lives next (subst (λ (m : Node). AreLess us strong n m lives next) is less) (λ m on own. (unitwide m on own).0) all
+    (room.sum_is ∙ ((λ i. sum i + sum_by (λ (d : Demand). d.camping) (asked_with t ks n.head after))
+    ∙ (ap (λ (m : ℕ). reserved_count (nodes_with t s.keys) + m) (sum_below t ss opens.kept s opens.found n.head head ks taken us room.clear
+    after outside)
+    ∙ ap (λ (m : Node). reserved_count (nodes_with t s.keys) + sum_by (λ (d : Demand). d.camping) (asked_with t s.keys n.head m)) is)))
   where
-    by : (o : Option Buffers) → s.buffers ≡ o → may_serve t s.keys us reserved o n after ≡ true →
-        IsServed t now (set us n.head.slot next) ss s (Change.Effect key effect) lives
-    by None has h = cc
-    by (Some b) has h =
-        let one = and_right (not n.allocated) _ h in
-        let two = and_right (has_turn_at t n.head) _ one in
-        let none : list_any (hangs_below_at t us n.head) s.keys ≡ false =
-        not-true _ (and_left (not (list_any (hangs_below_at t us n.head) s.keys)) _ two) in
-        let enough : are_enough b (reserved_with t s.keys) (asked_with t s.keys n.head (affected key effect n)) ≡ true =
-        subst (λ (m : Node). are_enough b (reserved_with t s.keys) (asked_with t s.keys n.head m) ≡ true) is
+    left : IsLeft (nodes_with t s.keys) key
+    left = left_node (nodes_with t s.keys) key (loss_left t ss opens.kept s.id (Change.Loss key Cause.Lost)
+        (record { named = opens.may.named; room = λ e. cc; heads = refl; trackers = λ k m e. cc }) s opens.found)
+
+    is_left : n ≡ left.node
+    is_left =
+        let both : Some n ≡ Some left.node =
+        sym was ∙ (ap (node_at t) (sym left.is) ∙ key_before t ss opens.kept s opens.found n.head left.node left.on) in
+        cc
+
+    on : In n (nodes_with t s.keys)
+    on = subst (λ (m : Node). In m (nodes_with t s.keys)) (sym is_left) left.on
+
+    here : n.gone ≡ false
+    here = ap (λ (m : Node). m.gone) is_left ∙ left.here
+
+    head : IsDueHead t (nodes_with t s.keys) n.head
+    head = due_head t ss opens.kept s opens.found n.head due.turn n on here refl
+
+    unitwide : (m : Node) → In m (nodes_with t s.keys) → m.head ≡ n.head → (m.allocated ≡ false) × (m.gone ≡ false)
+    unitwide = unitwide_at t ss opens.kept s opens.found n head
+
+    -- a node that is not below is not of the unit, nor is it by the effect
+    outside : (m : Node) → In m (nodes_with t s.keys) → list_any (same_key m.key) ks ≡ false → is_in_unit n.head (written after m) ≡ false
+    outside m there out = elim (either_way (same_key after.key m.key)) [
+      | inl e ↦
+          let own : n.key ≡ m.key =
+          sym (same_affected key effect n).key ∙ (ap (λ (x : Node). x.key) (sym is) ∙ same_key-true after.key m.key e) in
+          both_ways (list_any (same_key m.key) ks)
+          (subst (λ (j : NodeKey). list_any (same_key j) ks ≡ true) own
+          (of_unit t ss opens.kept s opens.found n.head head ks taken n on here refl)) out
+      | inr e ↦ (λ i. is_in_unit n.head (if e i then after else m)) ∙ false_if (is_in_unit n.head m) (λ h.
+          let stays : m.gone ≡ false = not-true m.gone (and_left (not m.gone) _ h) in
+          both_ways (list_any (same_key m.key) ks)
+          (of_unit t ss opens.kept s opens.found n.head head ks taken m there stays
+          (same_key-true m.head n.head (and_right (not m.gone) _ h))) out)
+    ]
+
+    none : list_any (hangs_below_at t us n.head) s.keys ≡ false
+    none = none_hangs t ss opens.kept s opens.found n.head head ks taken us room.clear
+
+    enough : are_enough b (reserved_count (nodes_with t s.keys)) (asked_with t s.keys n.head (affected key effect n)) ≡ true
+    enough =
+        subst (λ (m : Node). are_enough b (reserved_count (nodes_with t s.keys)) (asked_with t s.keys n.head m) ≡ true) is
         (subst (λ (r : ℕ). are_enough b r (asked_with t s.keys n.head after) ≡ true) sum
-        (and_right (not (list_any (hangs_below_at t us n.head) s.keys)) _ two)) in
-        served_made t us key effect n was ss s strong opens b has (not-true n.allocated (and_left (not n.allocated) _ h))
-        (and_left (has_turn_at t n.head) _ one) none enough served.between served.given now
-        (subst (λ (m : Node). now ≡ table_with_node served.between (given_buffers n.head m).key (given_buffers n.head m)) is served.becomes)
-        (subst (λ (m : Node). Writes served.between now (given_buffers n.head m).key (given_buffers n.head m)) is served.writes)
-        lives next (subst (λ (m : Node). AreLess us strong n m lives next) is less)
+        (enough_below t ss opens.kept s opens.found n.head head ks taken us room.clear after outside b reserved room.enough))
+
+    given : IsGivenAt t served.between n.head s.keys
+    given = given_all_below t ss opens.kept s opens.found n.head head ks taken us room.clear (λ m there own. (unitwide m there own).1)
+        served.between served.given

@@ -15,7 +15,7 @@ use Rattle.alloc_event.specs.declared.node.Node.{Node}
 use Rattle.alloc_event.specs.Decisions.{late_failure}
 use Rattle.alloc_event.specs.Kept.{nodes_with, written}
 use Rattle.alloc_event.specs.Questions.{demands_of, is_in_unit, is_served}
-use Rattle.alloc_event.specs.Serving.{IsLess, are_enough, asked_with, served_at}
+use Rattle.alloc_event.specs.Serving.{IsLess, are_enough, asked_with}
 
 -- tests that are others
 pub less_by : (count counted result : ℕ) (was w is i : Bool) → IsLess count was is result → count ≡ counted → was ≡ w → is ≡ i →
@@ -47,9 +47,6 @@ mapped g f (n ∷ ns) = ap (cons_option (f (g n))) (mapped g f ns)
 alike : {A : Type 0} (f g : Node → Option A) (ns : List Node) → ((n : Node) → In n ns → f n ≡ g n) → filter_map f ns ≡ filter_map g ns
 alike f g [] same = refl
 alike {A = A} f g (n ∷ ns) same = λ i. cons_option (same n (inl refl) i) (alike f g ns (λ m on. same m (inr on)) i)
-
-pub served_is : (t : Table Node) (keys : List NodeKey) → filter_map (served_at t) keys ≡ demands_of is_served (nodes_with t keys)
-served_is t keys = joined (node_at t) (λ (n : Node). if is_served n then n.constraints else None) keys
 
 pub asked_is : (t : Table Node) (keys : List NodeKey) (head : NodeKey) (after : Node) →
     asked_with t keys head after ≡ demands_of (is_in_unit head) (map (written after) (nodes_with t keys))

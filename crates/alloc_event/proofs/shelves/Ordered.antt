@@ -1,7 +1,6 @@
 -- The live nodes and the buffers of a forest, in order, told by its table and its entries.
-use Rattle.std.proofs.Common.{ℕ, ◌≡◌, refl, ap, sym, ◌∙◌, nat_lt, cond, true, false, Bool, List, [], ◌∷◌, ◌++◌, map}
+use Rattle.std.proofs.Common.{ℕ, ◌≡◌, refl, ap, ◌∙◌, nat_lt, cond, true, false, Bool, List, [], ◌∷◌, ◌++◌, map}
 use Rattle.std.specs.List.{filter, flat_map}
-use Rattle.std.proofs.lemmas.List.{map-append}
 use Rattle.sm_names.specs.Words.{insert_by, sorted_by}
 use Rattle.node_table.specs.Table.{Table}
 use Rattle.alloc_event.specs.declared.entry.Entry.{Entry}

@@ -8,11 +8,11 @@ use Rattle.sm_names.specs.Marks.{Mark, Called, Loss, Allocated, Ended}
 use Rattle.sm_names.specs.Members.{is_under}
 use Rattle.sm_names.proofs.ListLaws.{In, In-map}
 use Rattle.sm_names.proofs.SamenessLaws.{either_way, or_parts, same_key-true}
-use Rattle.node_table.specs.Table.{Table, node_at, parent_at}
+use Rattle.node_table.specs.Table.{Table, node_at, parent_at, was_given}
 use Rattle.alloc_event.specs.declared.change.Change.{Change}
 use Rattle.alloc_event.specs.declared.node.Node.{Node}
 use Rattle.alloc_event.specs.Forest.{Collection}
-use Rattle.alloc_event.specs.Kept.{IsHung, nodes_with}
+use Rattle.alloc_event.specs.Kept.{AreHeadsGiven, IsHung, nodes_with}
 use Rattle.alloc_event.specs.Nodes.{affected, ended, given_buffers, is_of, is_taken, lost, member_of}
 use Rattle.alloc_event.specs.Scenes.{are_distinct}
 use Rattle.alloc_event.specs.Settling.{Handles, Settles, Rests, Forces, changed, is_birth, is_root_of, made}
@@ -154,6 +154,11 @@ module _ (t : Table Node) where
           ∙ linked key n is here) keys;
       rooted = rooted;
     }
+
+    -- their heads were given, where all were
+    pub looked_heads : ((key : NodeKey) (n : Node) → node_at t key ≡ Some n → was_given t n.head ≡ true) → (keys : List NodeKey) →
+        AreHeadsGiven t (nodes_with t keys)
+    looked_heads heads = looked_each (λ (n : Node). was_given t n.head ≡ true) heads
 
     -- so they are tied to it
     pub looked_tied : (keys : List NodeKey) → IsHung t (nodes_with t keys) → IsTied t (nodes_with t keys)

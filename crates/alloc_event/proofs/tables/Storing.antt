@@ -11,7 +11,7 @@ use Rattle.node_table.specs.Lending.{table_with_node}
 use Rattle.node_table.proofs.Keys.{true-same_key}
 use Rattle.alloc_event.specs.declared.node.Node.{Node}
 use Rattle.alloc_event.specs.Kept.{written, stored, Stores, have_places}
-use Rattle.alloc_event.proofs.lists.Lookups.{Look, nothing}
+use Rattle.alloc_event.proofs.lists.Lookups.{nothing}
 use Rattle.alloc_event.proofs.tables.Writing.{look-written, parents-written}
 
 -- by whether they have one key

@@ -1,5 +1,5 @@
 -- A node that is taken out of the table, with its children cut.
-use Rattle.std.proofs.Common.{◌≡◌, ◌≢◌, suc, ◌+◌, ◌<◌, ◌≤◌, nat_lt, slice_index_or, Bool, true, false, not, List, [], ◌∷◌, length, Option, Some, None, option_map, IsSome, Contains, cond, if◌then◌else◌, refl, sym, ap, subst, ◌∙◌, inl, inr, arith, is_some}
+use Rattle.std.proofs.Common.{◌≡◌, ◌≢◌, suc, ◌+◌, ◌<◌, nat_lt, slice_index_or, Bool, true, false, not, List, [], ◌∷◌, length, Option, Some, None, option_map, IsSome, Contains, cond, if◌then◌else◌, refl, sym, ap, subst, ◌∙◌, inl, inr, arith}
 use Rattle.std.specs.Option.{MatchOption}
 use Rattle.std.proofs.lemmas.List.{get_or_past}
 use Rattle.sm_names.specs.declared.keys.NodeKey.{NodeKey}

@@ -1,21 +1,27 @@
 -- What stays true of a forest where nodes are written in their places.
-use Rattle.std.proofs.Common.{◌≡◌, ◌≢◌, ℕ, ◌==◌, false, ◌&&◌, List, [], ◌∷◌, map, drop, Option, Some, None, option_map, is_some, if◌then◌else◌, refl, sym, ap, subst, ◌∙◌, inl, inr}
+use Rattle.std.proofs.Common.{◌≡◌, ◌≢◌, ℕ, ◌==◌, nat_le, nat_lt, slice_index_or, false, ◌&&◌, List, [], ◌∷◌, map, drop, Option, Some, None, option_map, is_some, if◌then◌else◌, refl, sym, ap, subst, ◌∙◌, inl, inr}
 use Rattle.std.specs.List.{list_any, list_all, AllByRecursion}
 use Rattle.std.specs.Option.{option_map_or}
 use Rattle.sm_names.specs.declared.keys.NodeKey.{NodeKey}
 use Rattle.sm_names.specs.Sameness.{same_key}
-use Rattle.node_table.specs.Table.{Row, Table, row_at, node_at, parent_at, parent_in, table_len}
+use Rattle.node_table.specs.Table.{Row, Table, row_at, node_at, parent_at, parent_in, table_len, was_given}
 use Rattle.node_table.specs.Changes.{Writes, with_node}
 use Rattle.node_table.proofs.Keys.{key_cases, same_key-true, same_key-false}
 use Rattle.alloc_event.specs.declared.node.Node.{Node}
 use Rattle.alloc_event.specs.Forest.{Collection, with_nodes}
-use Rattle.alloc_event.specs.Kept.{Shelf, collection_in, is_filed, are_filed, IsStored, IsWhole}
+use Rattle.alloc_event.specs.Kept.{Shelf, collection_in, is_filed, are_filed, IsStored, IsWhole, nodes_with}
 use Rattle.alloc_event.specs.Nodes.{is_of}
 use Rattle.alloc_event.specs.Scenes.{IsSound, are_distinct, heads_itself}
+use Rattle.alloc_event.specs.Units.{GoTogether}
 use Rattle.alloc_event.proofs.tables.KeptRoots.{rooted_same}
 use Rattle.alloc_event.proofs.lists.Lookups.{looked-map}
 use Rattle.alloc_event.proofs.tables.Rooted.{whole_rooted}
 use Rattle.alloc_event.proofs.calm.United.{united_mapped}
+
+-- the same keys were given
+pub given-same : (t now : Table Node) → now.first ≡ t.first → now.nexts ≡ t.nexts → (key : NodeKey) → was_given now key ≡ was_given t key
+given-same t now first nexts key =
+    λ i. nat_le (first i) key.generation && nat_lt key.generation (slice_index_or (nexts i) key.slot (first i))
 
 -- the first is the second, but for what a change may make of it
 pub record IsSameNode (m n : Node) : Type 0 where
@@ -32,12 +38,12 @@ module _ (f : Node → Node) (same : (n : Node) → IsSameNode (f n) n) where
   lacks-map key (n ∷ ns) = rw ((same n).key, lacks-map key ns) refl
 
   -- the keys stay distinct
-  distinct-map : (ns : List Node) → are_distinct (map f ns) ≡ are_distinct ns
+  pub distinct-map : (ns : List Node) → are_distinct (map f ns) ≡ are_distinct ns
   distinct-map [] = refl
   distinct-map (n ∷ ns) = rw ((same n).key, lacks-map n.key ns, distinct-map ns) refl
 
   -- the heads stay
-  heads-map : (ns : List Node) → list_all heads_itself (map f ns) ≡ list_all heads_itself ns
+  pub heads-map : (ns : List Node) → list_all heads_itself (map f ns) ≡ list_all heads_itself ns
   heads-map [] = refl
   heads-map (n ∷ ns) = rw ((same n).key, (same n).parent, (same n).attached, (same n).head, heads-map ns) refl
 
@@ -62,8 +68,9 @@ module _ (f : Node → Node) (same : (n : Node) → IsSameNode (f n) n) where
   }
 
   -- and whole, where no node goes
-  pub IsWhole-map : ((n : Node) → (f n).gone ≡ n.gone) → (c : Collection) → IsWhole c → IsWhole (with_nodes (map f) c)
-  IsWhole-map gone c ok = record {
+  pub IsWhole-map : ((n : Node) → (f n).gone ≡ n.gone) → (c : Collection) → (GoTogether c.nodes → GoTogether (map f c.nodes)) → IsWhole c →
+      IsWhole (with_nodes (map f) c)
+  IsWhole-map gone c together ok = record {
     sound = IsSound-map c ok.sound;
     rooted = (rooted_same c.nodes (whole_rooted c ok) f
         (record { key = λ n. (same n).key; parent = λ n. (same n).parent; gone = gone })).rooted;
@@ -73,6 +80,7 @@ module _ (f : Node → Node) (same : (n : Node) → IsSameNode (f n) n) where
       attached = λ n. (same n).attached;
       head = λ n. (same n).head;
     }) c.nodes ∙ ok.united;
+    together = together ok.together;
   }
 
   -- a key is filed where it was
@@ -109,21 +117,21 @@ module _ (f : Node → Node) (same : (n : Node) → IsSameNode (f n) n) where
   found-map t now each key n is = found-map-by (node_at t key) n (sym (each key) ∙ is)
 
   -- the collections stay whole
-  whole-map : ((n : Node) → (f n).gone ≡ n.gone) → (t now : Table Node) →
+  whole-map : ((n : Node) → (f n).gone ≡ n.gone) → ((ns : List Node) → GoTogether ns → GoTogether (map f ns)) → (t now : Table Node) →
       ((key : NodeKey) → node_at now key ≡ option_map f (node_at t key)) → (es : List Shelf) →
       AllByRecursion (λ (e : Shelf). IsWhole (collection_in t e)) es → AllByRecursion (λ (e : Shelf). IsWhole (collection_in now e)) es
-  whole-map gone t now each [] whole = tt
-  whole-map gone t now each (e ∷ es) whole = (
-    rw (looked-map f (node_at t) (node_at now) each e.keys) (IsWhole-map gone (collection_in t e) whole.0),
-    whole-map gone t now each es whole.1,
+  whole-map gone together t now each [] whole = tt
+  whole-map gone together t now each (e ∷ es) whole = (
+    rw (looked-map f (node_at t) (node_at now) each e.keys) (IsWhole-map gone (collection_in t e) (together (nodes_with t e.keys)) whole.0),
+    whole-map gone together t now each es whole.1,
   )
 
   -- all stays so, where no node comes back, and the collections stay whole
   pub kept-with : ((n : Node) → (f n).gone ≡ false → n.gone ≡ false) → (t now : Table Node) → now.first ≡ t.first →
-      table_len now ≡ table_len t → ((key : NodeKey) → node_at now key ≡ option_map f (node_at t key)) →
+      now.nexts ≡ t.nexts → table_len now ≡ table_len t → ((key : NodeKey) → node_at now key ≡ option_map f (node_at t key)) →
       ((key : NodeKey) → parent_at now key ≡ parent_at t key) → (es : List Shelf) →
       AllByRecursion (λ (e : Shelf). IsWhole (collection_in now e)) es → IsStored t es → IsStored now es
-  kept-with before t now first len each parents es whole ok = record {
+  kept-with before t now first nexts len each parents es whole ok = record {
     first = first ∙ ok.first;
     rising = ok.rising;
     apart = ok.apart;
@@ -135,15 +143,19 @@ module _ (f : Node → Node) (same : (n : Node) → IsSameNode (f n) n) where
     linked = λ key n is here. let was = found-map t now each key n is in
         let left : was.0.gone ≡ false = before was.0 (ap (λ (x : Node). x.gone) was.2 ∙ here) in
         parents key ∙ ok.linked key was.0 was.1 left ∙ sym (same was.0).parent ∙ ap (λ (x : Node). x.parent) was.2;
+    heads = λ key n is. let was = found-map t now each key n is in
+        given-same t now first nexts n.head
+        ∙ (ap (was_given t) (ap (λ (x : Node). x.head) (sym was.2) ∙ (same was.0).head) ∙ ok.heads key was.0 was.1);
     whole = whole;
   }
 
   -- so where no node goes
-  pub kept-map : ((n : Node) → (f n).gone ≡ n.gone) → (t now : Table Node) → now.first ≡ t.first → table_len now ≡ table_len t →
+  pub kept-map : ((n : Node) → (f n).gone ≡ n.gone) → ((ns : List Node) → GoTogether ns → GoTogether (map f ns)) → (t now : Table Node) →
+      now.first ≡ t.first → now.nexts ≡ t.nexts → table_len now ≡ table_len t →
       ((key : NodeKey) → node_at now key ≡ option_map f (node_at t key)) → ((key : NodeKey) → parent_at now key ≡ parent_at t key) →
       (es : List Shelf) → IsStored t es → IsStored now es
-  kept-map gone t now first len each parents es ok =
-      kept-with (λ n h. sym (gone n) ∙ h) t now first len each parents es (whole-map gone t now each es ok.whole) ok
+  kept-map gone together t now first nexts len each parents es ok =
+      kept-with (λ n h. sym (gone n) ∙ h) t now first nexts len each parents es (whole-map gone together t now each es ok.whole) ok
 
 -- the row that is written has the node
 written_row : (node : Node) (o : Option (Row Node)) → option_map (λ (row : Row Node). row.node) (option_map (with_node node) o) ≡ option_map

@@ -1,7 +1,7 @@
 -- What is reserved, node by node: what each camps on is added up.
-use Rattle.std.proofs.Common.{◌≡◌, ◌≢◌, ℕ, ◌+◌, Bool, true, false, ◌&&◌, not, if◌then◌else◌, inl, inr, List, [], ◌∷◌, ◌++◌, map, Option, Some, None, refl, sym, ap, subst, ◌∙◌, arith}
+use Rattle.std.proofs.Common.{◌≡◌, ◌≢◌, ℕ, ◌+◌, Bool, true, false, if◌then◌else◌, inl, inr, List, [], ◌∷◌, ◌++◌, map, Option, Some, None, refl, sym, ap, subst, ◌∙◌, arith}
 use Rattle.std.proofs.lemmas.Bool.{not-true}
-use Rattle.std.specs.List.{AllPairs, cons_option, filter, fold, list_any}
+use Rattle.std.specs.List.{AllPairs, cons_option, filter, fold, list_any, sum_by}
 use Rattle.std.specs.Option.{option_map_or}
 use Rattle.sm_names.specs.declared.keys.NodeKey.{NodeKey}
 use Rattle.sm_names.specs.Demands.{Demand}
@@ -32,16 +32,25 @@ folded : (x : ℕ) (o : Option Demand) (rest : List Demand) →
 folded x None rest = ap (λ (y : ℕ). fold (λ (a : ℕ) (d : Demand). a + d.camping) y rest) (omega arith)
 folded x (Some d) rest = refl
 
-reserved_on : (ns : List Node) (x : ℕ) →
-    fold (λ (a : ℕ) (d : Demand). a + d.camping) x (demands_of is_served ns) ≡ x + amount_of camped ns
-reserved_on [] x = omega arith
-reserved_on (n ∷ ns) x =
-    let first = folded x (if is_served n then n.constraints else None) (demands_of is_served ns) in
-    let rest = reserved_on ns (x + camped n) in
+-- how many buffers this node camps on, if it passes
+abbrev pub camped_if : (Node → Bool) → Node → ℕ
+camped_if test n = option_map_or (λ (d : Demand). d.camping) (if test n then n.constraints else None) 0
+
+camped_on : (test : Node → Bool) (ns : List Node) (x : ℕ) →
+    fold (λ (a : ℕ) (d : Demand). a + d.camping) x (demands_of test ns) ≡ x + amount_of (camped_if test) ns
+camped_on test [] x = omega arith
+camped_on test (n ∷ ns) x =
+    let first = folded x (if test n then n.constraints else None) (demands_of test ns) in
+    let rest = camped_on test ns (x + camped_if test n) in
     first ∙ (rest ∙ omega arith)
 
+-- what those camp on that pass
+pub camped_sum : (test : Node → Bool) (ns : List Node) →
+    sum_by (λ (d : Demand). d.camping) (demands_of test ns) ≡ amount_of (camped_if test) ns
+camped_sum test ns = camped_on test ns 0 ∙ omega arith
+
 pub reserved_is : (ns : List Node) → reserved_count ns ≡ amount_of camped ns
-reserved_is ns = reserved_on ns 0 ∙ omega arith
+reserved_is ns = camped_sum is_served ns
 
 -- a node that is gone camps on nothing
 pub camped_gone : (n : Node) → n.gone ≡ true → camped n ≡ 0
@@ -71,6 +80,28 @@ amount_mapped f amount same [] = refl
 amount_mapped f amount same (n ∷ ns) =
     let here = same n in
     let rest = amount_mapped f amount same ns in
+    omega arith
+
+-- how much of all that are changed
+pub amount_map : (amount : Node → ℕ) (f : Node → Node) (ns : List Node) → amount_of amount (map f ns) ≡ amount_of (λ n. amount (f n)) ns
+amount_map amount f [] = refl
+amount_map amount f (n ∷ ns) = let rest = amount_map amount f ns in omega arith
+
+-- how much of each kind together
+pub amount_both : (a b c : Node → ℕ) (ns : List Node) → ((n : Node) → In n ns → c n ≡ a n + b n) →
+    amount_of c ns ≡ amount_of a ns + amount_of b ns
+amount_both a b c [] same = refl
+amount_both a b c (n ∷ ns) same =
+    let here = same n (inl refl) in
+    let rest = amount_both a b c ns (λ m on. same m (inr on)) in
+    omega arith
+
+-- nothing of nodes of which each is nothing
+amount_none : (amount : Node → ℕ) (ns : List Node) → ((n : Node) → In n ns → amount n ≡ 0) → amount_of amount ns ≡ 0
+amount_none amount [] none = refl
+amount_none amount (n ∷ ns) none =
+    let here = none n (inl refl) in
+    let rest = amount_none amount ns (λ m on. none m (inr on)) in
     omega arith
 
 -- where each camps on as much as before
@@ -139,44 +170,61 @@ amount_differ p q (x ∷ xs) m distinct (inr on) same =
     let rest = amount_differ p q xs m (and_right _ (are_distinct xs) distinct) on (λ n there. same n (inr there)) in
     omega arith
 
--- what the node camps on, unless its key is one of these
+-- how much of the node, unless its key is one of these
+abbrev pub amount_but : (Node → ℕ) → List NodeKey → Node → ℕ
+amount_but amount ks n = if list_any (same_key n.key) ks then 0 else amount n
+
+-- what it camps on so
 abbrev pub camped_but : List NodeKey → Node → ℕ
-camped_but ks n = if list_any (same_key n.key) ks then 0 else camped n
+camped_but ks n = amount_but camped ks n
 
 module _ (t : Table Node) (nodes : List Node) (distinct : are_distinct nodes ≡ true) (at_key : (n : Node) → In n nodes →
     node_at t n.key ≡ Some n)
     (named : (key : NodeKey) (n : Node) → node_at t key ≡ Some n → n.key ≡ key) where
-  -- those with other keys, and those of these keys, are all
-  taken_amount : (ks : List NodeKey) → AllPairs (λ (a b : NodeKey). a ≢ b) ks → ((n : Node) → In n (nodes_with t ks) → In n nodes) →
-      amount_of (camped_but ks) nodes + amount_of camped (nodes_with t ks) ≡ amount_of camped nodes
-  taken_amount [] once within = omega arith
-  taken_amount (k ∷ ks) once within = by (λ fewer. taken_amount ks (rest_once k ks once) fewer) (node_at t k) refl within
-    where
-      skip : (n : Node) → same_key n.key k ≡ false → camped_but (k ∷ ks) n ≡ camped_but ks n
-      skip n other = rw other refl
+  module _ (amount : Node → ℕ) where
+    -- those with other keys, and those of these keys, are all
+    taken_amount : (ks : List NodeKey) → AllPairs (λ (a b : NodeKey). a ≢ b) ks → ((n : Node) → In n (nodes_with t ks) → In n nodes) →
+        amount_of (amount_but amount ks) nodes + amount_of amount (nodes_with t ks) ≡ amount_of amount nodes
+    taken_amount [] once within = omega arith
+    taken_amount (k ∷ ks) once within = by (λ fewer. taken_amount ks (rest_once k ks once) fewer) (node_at t k) refl within
+      where
+        skip : (n : Node) → same_key n.key k ≡ false → amount_but amount (k ∷ ks) n ≡ amount_but amount ks n
+        skip n other = rw other refl
 
-      by : (((n : Node) → In n (nodes_with t ks) → In n nodes) →
-          amount_of (camped_but ks) nodes + amount_of camped (nodes_with t ks) ≡ amount_of camped nodes) →
-          (o : Option Node) → node_at t k ≡ o → ((n : Node) → In n (cons_option o (nodes_with t ks)) → In n nodes) →
-          amount_of (camped_but (k ∷ ks)) nodes + amount_of camped (cons_option o (nodes_with t ks)) ≡ amount_of camped nodes
-      by on None is fewer =
-          let a : amount_of (camped_but (k ∷ ks)) nodes ≡ amount_of (camped_but ks) nodes =
-          amount_same (camped_but (k ∷ ks)) (camped_but ks) nodes (λ n there. skip n (elim (either_way (same_key n.key k)) [
-            | inl e ↦ let both : Some n ≡ None = sym (at_key n there) ∙ (ap (node_at t) (same_key-true n.key k e) ∙ is) in cc
-            | inr e ↦ e
-          ])) in
-          let b = on fewer in
-          omega arith
-      by on (Some m) is fewer =
-          let key : m.key ≡ k = named k m is in
-          let own : same_key m.key k ≡ true = ap (λ (j : NodeKey). same_key j k) key ∙ same_key-refl k in
-          let other : list_any (same_key m.key) ks ≡ false = ap (λ (j : NodeKey). list_any (same_key j) ks) key ∙ first_once k ks once in
-          let a = amount_differ (camped_but (k ∷ ks)) (camped_but ks) nodes m distinct (fewer m (inl refl)) (λ n there differ. skip n
-          (same_key-swap n.key k ∙ (ap (λ (j : NodeKey). same_key j n.key) (sym key) ∙ differ))) in
-          let b : camped_but (k ∷ ks) m ≡ 0 = rw own refl in
-          let c : camped_but ks m ≡ camped m = rw other refl in
-          let e = on (λ n there. fewer n (inr there)) in
-          omega arith
+        by : (((n : Node) → In n (nodes_with t ks) → In n nodes) →
+            amount_of (amount_but amount ks) nodes + amount_of amount (nodes_with t ks) ≡ amount_of amount nodes) →
+            (o : Option Node) → node_at t k ≡ o → ((n : Node) → In n (cons_option o (nodes_with t ks)) → In n nodes) →
+            amount_of (amount_but amount (k ∷ ks)) nodes + amount_of amount (cons_option o (nodes_with t ks)) ≡ amount_of amount nodes
+        by on None is fewer =
+            let a : amount_of (amount_but amount (k ∷ ks)) nodes ≡ amount_of (amount_but amount ks) nodes =
+            amount_same (amount_but amount (k ∷ ks)) (amount_but amount ks) nodes (λ n there. skip n (elim (either_way (same_key n.key k)) [
+              | inl e ↦ let both : Some n ≡ None = sym (at_key n there) ∙ (ap (node_at t) (same_key-true n.key k e) ∙ is) in cc
+              | inr e ↦ e
+            ])) in
+            let b = on fewer in
+            omega arith
+        by on (Some m) is fewer =
+            let key : m.key ≡ k = named k m is in
+            let own : same_key m.key k ≡ true = ap (λ (j : NodeKey). same_key j k) key ∙ same_key-refl k in
+            let other : list_any (same_key m.key) ks ≡ false = ap (λ (j : NodeKey). list_any (same_key j) ks) key ∙ first_once k ks once in
+            let a = amount_differ (amount_but amount (k ∷ ks)) (amount_but amount ks) nodes m distinct (fewer m (inl refl))
+            (λ n there differ. skip n (same_key-swap n.key k ∙ (ap (λ (j : NodeKey). same_key j n.key) (sym key) ∙ differ))) in
+            let b : amount_but amount (k ∷ ks) m ≡ 0 = rw own refl in
+            let c : amount_but amount ks m ≡ amount m = rw other refl in
+            let e = on (λ n there. fewer n (inr there)) in
+            omega arith
+
+    -- where the others are nothing, those of these keys are all
+    pub amount_within : (ks : List NodeKey) → AllPairs (λ (a b : NodeKey). a ≢ b) ks → ((n : Node) → In n (nodes_with t ks) → In n nodes) →
+        ((n : Node) → In n nodes → list_any (same_key n.key) ks ≡ false → amount n ≡ 0) →
+        amount_of amount (nodes_with t ks) ≡ amount_of amount nodes
+    amount_within ks once within none =
+        let all = taken_amount ks once within in
+        let rest = amount_none (amount_but amount ks) nodes (λ n on. elim (either_way (list_any (same_key n.key) ks)) [
+          | inl e ↦ rw e refl
+          | inr e ↦ rw e (none n on e)
+        ]) in
+        omega arith
 
   -- where those of these keys camp on nothing any more
   pub reserved_left : (f : Node → Node) (ks : List NodeKey) → ((n : Node) → camped (f n) ≡ camped_but ks n) →
@@ -187,5 +235,5 @@ module _ (t : Table Node) (nodes : List Node) (distinct : are_distinct nodes ≡
       let b = amount_mapped f (camped_but ks) is nodes in
       let c = reserved_is (nodes_with t ks) in
       let d = reserved_is nodes in
-      let e = taken_amount ks once within in
+      let e = taken_amount camped ks once within in
       omega arith

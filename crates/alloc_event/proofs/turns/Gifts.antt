@@ -1,32 +1,22 @@
 -- Lists of nodes, and what units ask for while some are allocated.
-use Rattle.std.proofs.Common.{ℕ, zero, suc, ◌+◌, ◌<◌, ◌≡◌, refl, ap, sym, ◌∙◌, subst, Bool, true, false, not, ◌&&◌, ◌||◌, inl, inr, nat_lt, if◌then◌else◌, List, [], ◌∷◌, ◌++◌, map, set, get_or, is_none, length, Option, Some, None, arith}
-use Rattle.std.proofs.lemmas.Bool.{not-true}
-use Rattle.std.proofs.lemmas.List.{append_assoc, length-append}
-use Rattle.std.specs.List.{list_any, list_all, fold, find, cons_option, slice_get, sum_by}
+use Rattle.std.proofs.Common.{ℕ, zero, suc, ◌+◌, ◌<◌, ◌≡◌, refl, ap, sym, ◌∙◌, subst, Bool, true, false, not, ◌&&◌, ◌||◌, inl, inr, if◌then◌else◌, List, [], ◌∷◌, ◌++◌, map, length, Option, Some, None, arith}
+use Rattle.std.specs.List.{list_any, list_all, fold, find, cons_option, slice_get}
 use Rattle.std.specs.Option.{option_map_or}
 use Rattle.sm_names.specs.declared.keys.NodeKey.{NodeKey}
-use Rattle.sm_names.specs.declared.outcomes.Buffers.{Buffers}
-use Rattle.sm_names.specs.declared.outcomes.Failure.{Failure}
 use Rattle.sm_names.specs.Demands.{Demand}
-use Rattle.sm_names.specs.Members.{greatest}
 use Rattle.sm_names.specs.Sameness.{same_key}
-use Rattle.sm_names.specs.Words.{first_some, when}
 use Rattle.sm_names.proofs.ListLaws.{In, In-list_any}
-use Rattle.sm_names.proofs.SamenessLaws.{and_both, and_left, and_right, both_ways, either_way, false_if, or_both, or_cases, or_none_left, or_none_right, or_right, same_key-refl, same_key-true, some-injective}
+use Rattle.sm_names.proofs.SamenessLaws.{and_right, both_ways, false_if, or_none_left, or_none_right, same_key-true, some-injective}
 use Rattle.sm_names.proofs.StandingLaws.{In-any, both_tests}
-use Rattle.alloc_event.specs.declared.in_turn.Claim.{Claim}
-use Rattle.alloc_event.specs.declared.in_turn.Turn.{Turn}
 use Rattle.alloc_event.specs.declared.node.Node.{Node}
-use Rattle.alloc_event.specs.Decisions.{late_failure}
 use Rattle.alloc_event.specs.Falls.{given_all}
 use Rattle.alloc_event.specs.InTurn.{IsKeyAt, is_new_in, summed}
 use Rattle.alloc_event.specs.Nodes.{after_allocation, given_buffers, is_of, node_of}
-use Rattle.alloc_event.specs.Questions.{demands_of, is_allocated_node, is_in_unit, is_next_node, is_ready_node, is_served}
-use Rattle.alloc_event.specs.Scenes.{are_distinct, heads_itself}
-use Rattle.alloc_event.proofs.calm.Calming.{any_map}
+use Rattle.alloc_event.specs.Questions.{demands_of, is_in_unit, is_ready_node, is_served}
+use Rattle.alloc_event.specs.Scenes.{are_distinct}
 use Rattle.alloc_event.proofs.calm.Steps.{found_by_key}
 use Rattle.alloc_event.proofs.lists.Lookups.{same_key-swap}
-use Rattle.alloc_event.proofs.turns.Claims.{camping_is, changed_flag, claim_at, least_is, more_is, others_apart, ready_is, size_is}
+use Rattle.alloc_event.proofs.turns.Claims.{others_apart}
 
 -- ---- lists
 

@@ -1,5 +1,5 @@
 -- The fault by which a node falls with its parent.
-use Rattle.std.proofs.Common.{ℕ, zero, suc, ◌<◌, ◌≡◌, refl, ap, sym, ◌∙◌, subst, Bool, true, false, not, inl, inr, if◌then◌else◌, List, [], ◌∷◌, ◌++◌, map, get_or, is_none, length, Option, Some, None, arith}
+use Rattle.std.proofs.Common.{ℕ, zero, suc, ◌<◌, ◌≡◌, refl, ap, sym, ◌∙◌, subst, Bool, true, false, inl, inr, if◌then◌else◌, List, [], ◌∷◌, ◌++◌, map, get_or, length, Option, Some, None, arith}
 use Rattle.std.proofs.lemmas.List.{length-map}
 use Rattle.std.specs.List.{list_all, find, slice_get}
 use Rattle.sm_names.specs.declared.keys.NodeKey.{NodeKey}
@@ -8,7 +8,7 @@ use Rattle.sm_names.specs.Sameness.{same_key}
 use Rattle.sm_names.proofs.ListLaws.{In}
 use Rattle.sm_names.proofs.SamenessLaws.{either_way, false_if, same_key-true, some-injective}
 use Rattle.alloc_event.specs.declared.node.Node.{Node}
-use Rattle.alloc_event.specs.Falls.{AreGrown, Hangs, IsHanging, IsPlaced, Roots, fall_mark, fall_of}
+use Rattle.alloc_event.specs.Falls.{AreGrown, Hangs, IsPlaced, Roots, fall_mark, fall_of}
 use Rattle.alloc_event.specs.InTurn.{IsKeyAt, IsMarking}
 use Rattle.alloc_event.specs.Questions.{is_below}
 use Rattle.alloc_event.specs.Scenes.{are_distinct, heads_itself}

@@ -1,7 +1,7 @@
 -- Attached units that are allocated or fail one after another are forced steps, each the next one.
-use Rattle.std.proofs.Common.{ℕ, ◌≤◌, ◌≡◌, refl, ap, sym, ◌∙◌, subst, Bool, true, false, not, ◌&&◌, ◌||◌, ◌⊎◌, inl, inr, ◌++◌, is_none, List, [], ◌∷◌, map, Option, Some, None, arith}
+use Rattle.std.proofs.Common.{ℕ, ◌≤◌, ◌≡◌, refl, ap, sym, ◌∙◌, subst, Bool, true, false, not, ◌&&◌, ◌||◌, inl, inr, ◌++◌, is_none, List, [], ◌∷◌, map, Option, Some, None, arith}
 use Rattle.std.proofs.lemmas.Bool.{not-true}
-use Rattle.std.specs.List.{list_all, list_any, find}
+use Rattle.std.specs.List.{list_all, find}
 use Rattle.std.specs.Option.{option_map, option_map_or, option_and_then, IfSome}
 use Rattle.sm_names.specs.declared.keys.Interval.{Interval}
 use Rattle.sm_names.specs.declared.keys.NodeKey.{NodeKey}
@@ -11,18 +11,17 @@ use Rattle.sm_names.specs.declared.outcomes.Failure.{Failure}
 use Rattle.sm_names.specs.declared.outcomes.Fault.{Fault}
 use Rattle.sm_names.specs.Words.{first_some, when}
 use Rattle.sm_names.proofs.ListLaws.{In, In-append, In-find}
-use Rattle.sm_names.proofs.SamenessLaws.{and_both, and_left, and_right, both_ways, either_way, or_cases, or_left, or_none_right, or_right}
-use Rattle.sm_names.proofs.StandingLaws.{In-any}
+use Rattle.sm_names.proofs.SamenessLaws.{and_both, and_left, and_right, either_way, or_cases, or_left, or_none_right, or_right}
 use Rattle.alloc_event.specs.declared.decision.Decision.{Decision}
 use Rattle.alloc_event.specs.declared.decision.Decision.TheVariants.{Ends, Loses, Allocates}
 use Rattle.alloc_event.specs.declared.node.Node.{Node}
 use Rattle.alloc_event.specs.Decisions.{decided, first_step, has_strong, is_unplaced, late_failure, later_step, mark_of, waiting, IsAllocating, IsStep}
 use Rattle.alloc_event.specs.Falls.{AreGrown, stand, stands}
 use Rattle.alloc_event.specs.Forest.{Collection, pages_in}
-use Rattle.alloc_event.specs.InTurn.{Fails, GoesOn, IsOrigin, Next, Runs, Same, Serves, fault_of}
+use Rattle.alloc_event.specs.InTurn.{Fails, GoesOn, IsOrigin, Next, Same, Serves, fault_of}
 use Rattle.alloc_event.specs.Nodes.{after_allocation, after_loss}
 use Rattle.alloc_event.specs.Progress.{Given, Lost, Progress, work}
-use Rattle.alloc_event.specs.Questions.{is_below, is_deserted_node, is_next_node, is_ready_node, is_root_left}
+use Rattle.alloc_event.specs.Questions.{is_deserted_node, is_next_node, is_ready_node, is_root_left}
 use Rattle.alloc_event.specs.Scenes.{IsSound, frame_of, is_held_strongly}
 use Rattle.alloc_event.specs.Settling.{Handles, Settles, is_root_of, made}
 use Rattle.alloc_event.proofs.calm.Forcing.{forced_made}

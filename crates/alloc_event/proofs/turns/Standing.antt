@@ -1,5 +1,5 @@
 -- What the forced steps read of the nodes, where some units were allocated and others fell.
-use Rattle.std.proofs.Common.{ℕ, ◌+◌, ◌≡◌, refl, ap, sym, ◌∙◌, subst, Bool, true, false, not, ◌&&◌, ◌||◌, ◌⊎◌, inl, inr, nat_lt, if◌then◌else◌, List, [], ◌∷◌, ◌++◌, map, reverse, is_none, is_some, Option, Some, None}
+use Rattle.std.proofs.Common.{◌+◌, ◌≡◌, refl, ap, sym, ◌∙◌, subst, Bool, true, false, not, ◌&&◌, ◌||◌, inl, inr, nat_lt, if◌then◌else◌, List, [], ◌∷◌, ◌++◌, map, reverse, is_none, is_some, Option, Some, None}
 use Rattle.std.specs.List.{list_all, list_any, cons_option, find, sum_by}
 use Rattle.std.specs.Option.{option_map_or}
 use Rattle.sm_names.specs.declared.keys.NodeKey.{NodeKey}
@@ -11,8 +11,8 @@ use Rattle.sm_names.specs.Losses.{top as topmost}
 use Rattle.sm_names.specs.Members.{greatest}
 use Rattle.sm_names.specs.Sameness.{same_key}
 use Rattle.sm_names.specs.Words.{first_some, when}
-use Rattle.sm_names.proofs.ListLaws.{In, In-list_any, In-map-back, map-In}
-use Rattle.sm_names.proofs.SamenessLaws.{and_both, both_ways, either_way, or_left, same_key-refl, same_key-true}
+use Rattle.sm_names.proofs.ListLaws.{In, In-map-back}
+use Rattle.sm_names.proofs.SamenessLaws.{and_both, either_way, or_left, same_key-refl, same_key-true}
 use Rattle.sm_names.proofs.StandingLaws.{In-any}
 use Rattle.alloc_event.specs.declared.node.Node.{Node}
 use Rattle.alloc_event.specs.Decisions.{late_failure}
@@ -23,7 +23,7 @@ use Rattle.alloc_event.specs.Scenes.{are_distinct, heads_itself}
 use Rattle.alloc_event.proofs.calm.Marking.{lost_by}
 use Rattle.alloc_event.proofs.failures.Takings.{highest_of, lost_there}
 use Rattle.alloc_event.proofs.tables.Links.{below_by_links, link_of, map-kept}
-use Rattle.alloc_event.proofs.turns.Trees.{heads_own, unit_below}
+use Rattle.alloc_event.proofs.turns.Trees.{unit_below}
 use Rattle.alloc_event.proofs.turns.Gifts.{given_snoc}
 
 -- ---- tests that agree

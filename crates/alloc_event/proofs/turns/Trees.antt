@@ -1,13 +1,12 @@
 -- What lies above nodes that are not gone, where each stands behind its parent.
-use Rattle.std.proofs.Common.{ℕ, zero, suc, ◌<◌, ◌≡◌, refl, ap, sym, ◌∙◌, subst, Bool, true, false, not, ◌||◌, ◌⊎◌, inl, inr, List, [], ◌∷◌, ◌++◌, length, is_none, Some, None, arith}
-use Rattle.std.specs.List.{list_all, list_any, slice_get}
+use Rattle.std.proofs.Common.{ℕ, zero, suc, ◌<◌, ◌≡◌, refl, ap, sym, ◌∙◌, subst, Bool, true, false, ◌||◌, ◌⊎◌, inl, inr, List, [], ◌∷◌, ◌++◌, length, is_none, Some, None, arith}
+use Rattle.std.specs.List.{list_all, slice_get}
 use Rattle.sm_names.specs.declared.keys.NodeKey.{NodeKey}
 use Rattle.sm_names.specs.Sameness.{same_key}
 use Rattle.sm_names.proofs.ListLaws.{In}
-use Rattle.sm_names.proofs.SamenessLaws.{both_ways, either_way, false_if, or_both, or_cases, or_right, same_key-refl, same_key-true}
+use Rattle.sm_names.proofs.SamenessLaws.{both_ways, either_way, false_if, or_both, or_cases, or_right, same_key-true}
 use Rattle.alloc_event.specs.declared.node.Node.{Node}
 use Rattle.alloc_event.specs.Falls.{AreGrown, Hangs, IsHanging, Roots}
-use Rattle.alloc_event.specs.Nodes.{above_among}
 use Rattle.alloc_event.specs.Questions.{is_below}
 use Rattle.alloc_event.specs.Scenes.{are_distinct, heads_itself}
 use Rattle.alloc_event.proofs.calm.Lines.{below_parent, below_root}

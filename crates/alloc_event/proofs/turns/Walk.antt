@@ -1,7 +1,7 @@
 -- One node more in the walk: it is passed, or its unit is allocated or fails.
-use Rattle.std.proofs.Common.{ℕ, zero, suc, ◌+◌, ◌<◌, ◌≡◌, refl, ap, sym, ◌∙◌, subst, Bool, true, false, not, ◌&&◌, ◌||◌, inl, inr, nat_lt, List, [], ◌∷◌, ◌++◌, map, drop, set, get_or, is_none, is_some, length, Option, Some, None, arith}
+use Rattle.std.proofs.Common.{ℕ, zero, suc, ◌+◌, ◌<◌, ◌≡◌, refl, ap, sym, ◌∙◌, subst, Bool, true, false, not, ◌&&◌, ◌||◌, inl, inr, nat_lt, List, [], ◌∷◌, ◌++◌, map, set, get_or, is_none, is_some, length, Option, Some, None, arith}
 use Rattle.std.proofs.lemmas.Bool.{not-true}
-use Rattle.std.proofs.lemmas.List.{append_assoc, length-append, length-map, map-append}
+use Rattle.std.proofs.lemmas.List.{append_assoc, length-append, map-append}
 use Rattle.std.specs.List.{list_any, list_all, find, slice_get, sum_by}
 use Rattle.std.specs.Option.{option_map_or}
 use Rattle.sm_names.specs.declared.keys.NodeKey.{NodeKey}
@@ -13,21 +13,21 @@ use Rattle.sm_names.specs.Members.{greatest}
 use Rattle.sm_names.specs.Sameness.{same_key}
 use Rattle.sm_names.specs.Words.{first_some, when}
 use Rattle.sm_names.proofs.ListLaws.{In, In-append, In-list_any, map-In}
-use Rattle.sm_names.proofs.SamenessLaws.{and_both, and_left, and_right, both_ways, either_way, false_if, or_both, or_cases, or_left, or_none_left, or_none_right, or_right, same_key-refl, same_key-true}
+use Rattle.sm_names.proofs.SamenessLaws.{and_both, and_left, and_right, both_ways, either_way, false_if, or_both, or_cases, or_left, or_none_left, or_right, same_key-refl, same_key-true}
 use Rattle.sm_names.proofs.StandingLaws.{In-any}
 use Rattle.alloc_event.specs.declared.in_turn.Claim.{Claim}
 use Rattle.alloc_event.specs.declared.in_turn.Turn.{Turn}
 use Rattle.alloc_event.specs.declared.node.Node.{Node}
 use Rattle.alloc_event.specs.Decisions.{late_failure}
 use Rattle.alloc_event.specs.Falls.{AreGrown, Fits, fall_mark, fall_of, given_all, stand, stands}
-use Rattle.alloc_event.specs.InTurn.{Fails, IsAbove, IsKeyAt, IsMarking, IsOrigin, IsPassing, Next, Same, Serves, claim_of, fault_of, hangs_in, has_turn_in, is_due_in}
+use Rattle.alloc_event.specs.InTurn.{Fails, IsAbove, IsKeyAt, IsMarking, IsOrigin, IsPassing, Next, Same, claim_of, fault_of, hangs_in, has_turn_in, is_due_in}
 use Rattle.alloc_event.specs.Nodes.{is_of}
 use Rattle.alloc_event.specs.Questions.{demands_of, is_allocated_node, is_below, is_next_node, is_ready_node, is_served}
 use Rattle.alloc_event.specs.Scenes.{are_distinct, heads_itself}
 use Rattle.alloc_event.proofs.calm.Calming.{any_map}
 use Rattle.alloc_event.proofs.calm.Steps.{all-In}
 use Rattle.alloc_event.proofs.turns.Claims.{camping_is, changed_flag, claim_at, least_is, more_is, ready_is, size_is}
-use Rattle.alloc_event.proofs.turns.Gifts.{In_behind, In_front, any_snoc, asks_same, at_front, first_at, got_In, none_of, not_this, one_node, only_this, parts_apart, ready_same, sums_on}
+use Rattle.alloc_event.proofs.turns.Gifts.{In_behind, In_front, any_snoc, asks_same, at_front, first_at, got_In, none_of, not_this, only_this, parts_apart, ready_same, sums_on}
 use Rattle.alloc_event.proofs.turns.Holding.{still_none}
 use Rattle.alloc_event.proofs.turns.Standing.{find_snoc, late_same, next_stands}
 use Rattle.alloc_event.proofs.turns.Trees.{heads_own, not_below, unit_below}

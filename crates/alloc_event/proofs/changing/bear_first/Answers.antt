@@ -1,5 +1,5 @@
 -- The entry of the new collection has the key alone.
-use Rattle.std.proofs.Common.{◌≡◌, refl, rules, true, None, [], ◌∷◌, map, ap, ◌∙◌}
+use Rattle.std.proofs.Common.{◌≡◌, refl, rules, true, None, [], ◌∷◌, ap, ◌∙◌}
 use Rattle.alloc_event.specs.declared.entry.Entry.{Entry}
 use Rattle.alloc_event.specs.Calm.{put_in}
 use Rattle.alloc_event.specs.Kept.{shelf_of}

@@ -1,5 +1,5 @@
 -- The collection is loaded where it is there, and is empty else.
-use Rattle.std.proofs.Common.{None, map, option_map, sym, ◌∙◌, ap}
+use Rattle.std.proofs.Common.{None, option_map, sym, ◌∙◌, ap}
 use Rattle.alloc_event.specs.Kept.{collection_in, shelf_of, shelves_of}
 use Rattle.alloc_event.proofs.shelves.Showing.{shelf_found, collection_is, collection_none}
 use Rattle.alloc_event.proofs.changing.load_or_new.Goals as goal

@@ -6,15 +6,15 @@ use Rattle.buffer_holds.specs.Counts.{total}
 use Rattle.node_table.specs.Table.{Table, row_at}
 use Rattle.alloc_event.specs.declared.node.Node.{Node}
 use Rattle.alloc_event.specs.Forest.{Collection, all_held}
-use Rattle.alloc_event.specs.Kept.{Gives, shelf_of, shelves_of, IsHung, IsStored, put_shelf, forest_of, all_of}
+use Rattle.alloc_event.specs.Kept.{AreHeadsGiven, Gives, shelf_of, shelves_of, IsHung, IsStored, put_shelf, forest_of, all_of}
 use Rattle.alloc_event.specs.Scenes.{IsSound}
-use Rattle.alloc_event.specs.Units.{are_united}
+use Rattle.alloc_event.specs.Units.{GoTogether, are_united}
 use Rattle.alloc_event.proofs.lists.SameIntervals.{start_of}
 use Rattle.alloc_event.proofs.changes.Altering.{shelf_by}
 use Rattle.alloc_event.proofs.newborns.Bearing.{born_key}
 use Rattle.alloc_event.proofs.newborns.Forest.{still_collection, still_collections}
 use Rattle.alloc_event.proofs.shelves.Counted.{counted_but, moved_all}
-use Rattle.alloc_event.proofs.newborns.Newborn.{above_is, above_key, above_there, born_hung, born_kept, born_sound, born_united, born_all_of, born_held, born_is, grown_scene, Gives-same, Finishes-before}
+use Rattle.alloc_event.proofs.newborns.Newborn.{above_is, above_key, above_there, born_hung, born_kept, born_sound, born_united, born_all_of, born_held, born_is, grown_scene, Gives-same, Finishes-before, born_heads_given, born_together}
 use Rattle.alloc_event.proofs.changing.settle_newborn.Goals as goal
 
 pub bear-requires-clause-parent : goal.bear-requires-clause-parent
@@ -75,6 +75,30 @@ store_settled-requires-clause-united c =
     let made = grown_scene _ c.args.scene.id c.add.new.nodes.items c.args.scene.nodes.items c.args.scene.buffers
     c.args.scene.held.items c.newborn-node.result _ c.requires.scene c.in-Ok-add.ensures newborn_is in
     subst (λ (d : Collection). are_united (reverse d.nodes) ≡ true) (sym made) (born_united c.args.table.now c.bear.new.table
+    (shelves_of c.args.entries.now.items) c.requires.kept c.args.id c.args.parent c.args.attached c.args.client c.args.event _ at
+    c.in_ok-key.key bears)
+
+pub store_settled-requires-clause-together : goal.store_settled-requires-clause-together
+store_settled-requires-clause-together c =
+    let bears = rw (c.in-Ok.ensures, c.above_in-above.ensures) at c.in_ok-key.ensures.ok in
+    let newborn_is = rw c.above_in-above.ensures at c.newborn-node.ensures in
+    let at = above_is c.args.table.now (shelves_of c.args.entries.now.items) c.requires.kept c.args.id c.args.parent c.args.attached
+    c.args.client c.args.event c.requires.change in
+    let made = grown_scene _ c.args.scene.id c.add.new.nodes.items c.args.scene.nodes.items c.args.scene.buffers
+    c.args.scene.held.items c.newborn-node.result _ c.requires.scene c.in-Ok-add.ensures newborn_is in
+    subst (λ (d : Collection). GoTogether d.nodes) (sym made) (born_together c.args.table.now c.bear.new.table
+    (shelves_of c.args.entries.now.items) c.requires.kept c.args.id c.args.parent c.args.attached c.args.client c.args.event _ at
+    c.in_ok-key.key bears)
+
+pub store_settled-requires-clause-heads : goal.store_settled-requires-clause-heads
+store_settled-requires-clause-heads c =
+    let bears = rw (c.in-Ok.ensures, c.above_in-above.ensures) at c.in_ok-key.ensures.ok in
+    let newborn_is = rw c.above_in-above.ensures at c.newborn-node.ensures in
+    let at = above_is c.args.table.now (shelves_of c.args.entries.now.items) c.requires.kept c.args.id c.args.parent c.args.attached
+    c.args.client c.args.event c.requires.change in
+    let made = grown_scene _ c.args.scene.id c.add.new.nodes.items c.args.scene.nodes.items c.args.scene.buffers
+    c.args.scene.held.items c.newborn-node.result _ c.requires.scene c.in-Ok-add.ensures newborn_is in
+    subst (λ (d : Collection). AreHeadsGiven c.bear.new.table d.nodes) (sym made) (born_heads_given c.args.table.now c.bear.new.table
     (shelves_of c.args.entries.now.items) c.requires.kept c.args.id c.args.parent c.args.attached c.args.client c.args.event _ at
     c.in_ok-key.key bears)
 

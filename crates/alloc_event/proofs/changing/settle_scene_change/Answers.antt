@@ -4,7 +4,7 @@ use Rattle.std.proofs.lemmas.Bool.{false≢true}
 use Rattle.alloc_event.specs.Forest.{Collection, IsPoolOf}
 use Rattle.alloc_event.specs.Kept.{shelf_of, shelves_of, nodes_with}
 use Rattle.alloc_event.specs.Scenes.{collection_of}
-use Rattle.alloc_event.proofs.changes.Altering.{change_kept, change_room, altered-kept, altered-forest, altered-hung, altered-sound, altered-tied, altered-united, altered-of, altered-is}
+use Rattle.alloc_event.proofs.changes.Altering.{change_kept, change_room, altered-kept, altered-forest, altered-hung, altered-sound, altered-tied, altered-united, altered-of, altered-is, altered-heads, altered-together}
 use Rattle.alloc_event.proofs.shelves.Counted.{counted_but}
 use Rattle.alloc_event.proofs.tables.LeftParents.{loss_left}
 use Rattle.alloc_event.proofs.shelves.Showing.{shelf_found}
@@ -70,6 +70,23 @@ store_settled-requires-clause-hung c =
 pub store_settled-requires-clause-united : goal.store_settled-requires-clause-united
 store_settled-requires-clause-united c =
     altered-united c.args.table.now (shelves_of c.args.entries.now.items) c.requires.kept c.args.id (shelf_of c.in-Some.entry.now)
+    (shelf_found c.args.id c.args.entries.now.items ∙ ap (option_map shelf_of) (sym (rw c.deref.ensures.value at c.in-Some.ensures)))
+    c.args.change.now c.requires.birth (collection_of c.in-Ok.scene) (collection_of c.change_scene.new.scene) c.in-Ok.ensures
+    c.in_ok-change_scene.ensures
+
+pub store_settled-requires-clause-together : goal.store_settled-requires-clause-together
+store_settled-requires-clause-together c =
+    altered-together c.args.table.now (shelves_of c.args.entries.now.items) c.requires.kept c.args.id (shelf_of c.in-Some.entry.now)
+    (shelf_found c.args.id c.args.entries.now.items ∙ ap (option_map shelf_of) (sym (rw c.deref.ensures.value at c.in-Some.ensures)))
+    c.args.change.now c.requires.birth (collection_of c.in-Ok.scene) (collection_of c.change_scene.new.scene) c.in-Ok.ensures
+    c.in_ok-change_scene.ensures
+    (loss_left c.args.table.now (shelves_of c.args.entries.now.items) c.requires.kept c.args.id c.args.change.now c.requires.change
+    (shelf_of c.in-Some.entry.now)
+    (shelf_found c.args.id c.args.entries.now.items ∙ ap (option_map shelf_of) (sym (rw c.deref.ensures.value at c.in-Some.ensures))))
+
+pub store_settled-requires-clause-heads : goal.store_settled-requires-clause-heads
+store_settled-requires-clause-heads c =
+    altered-heads c.args.table.now (shelves_of c.args.entries.now.items) c.requires.kept c.args.id (shelf_of c.in-Some.entry.now)
     (shelf_found c.args.id c.args.entries.now.items ∙ ap (option_map shelf_of) (sym (rw c.deref.ensures.value at c.in-Some.ensures)))
     c.args.change.now c.requires.birth (collection_of c.in-Ok.scene) (collection_of c.change_scene.new.scene) c.in-Ok.ensures
     c.in_ok-change_scene.ensures

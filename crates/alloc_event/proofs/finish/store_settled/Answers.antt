@@ -6,13 +6,14 @@ use Rattle.alloc_event.specs.Calm.{put_in}
 use Rattle.alloc_event.specs.Forest.{beside}
 use Rattle.alloc_event.specs.Kept.{shelf_in, shelves_of, forest_of}
 use Rattle.alloc_event.specs.Scenes.{collection_of}
+use Rattle.alloc_event.proofs.calm.Lasting.{together_settled}
 use Rattle.alloc_event.proofs.changes.Finished.{back_places, finished-collections, finished-counted, finished-kept, finished-pool}
 use Rattle.alloc_event.proofs.tables.Hanging.{hung_settled}
 use Rattle.alloc_event.proofs.intervals.Pools.{pool_beside}
 use Rattle.alloc_event.proofs.finish.store_settled.Goals as goal
 
 pub settle_whole-requires : goal.settle_whole-requires
-settle_whole-requires c = record { sound = c.requires.sound; rooted = c.requires.hung.rooted; united = c.requires.united }
+settle_whole-requires c = record { sound = c.requires.sound; rooted = c.requires.hung.rooted; united = c.requires.united; together = c.requires.together }
 
 pub give_back-requires : goal.give_back-requires
 give_back-requires c = (
@@ -58,7 +59,15 @@ returns-clause-kept c =
     rw placed (finished-kept (total c.args.holds.now) c.args.table.now (shelves_of c.args.entries.now.items) c.args.scene
     c.settle_whole.new.scene c.give_back.new.scene
     c.requires.kept c.requires.rising c.requires.own s.sound s.id s.frames c.give_back.ensures.scene c.store.new.table
-    (rw c.deref-3.ensures.value at c.store.ensures) c.in-Ok.keys.items keys hung c.requires.united)
+    (rw c.deref-3.ensures.value at c.store.ensures) c.in-Ok.keys.items keys hung c.requires.united
+    (together_settled _ _ _ (collection_of c.args.scene) (collection_of c.settle_whole.new.scene)
+    (record {
+      distinct = c.requires.sound.distinct;
+      heads = c.requires.sound.heads;
+      rooted = c.requires.hung.rooted;
+      united = c.requires.united;
+      together = c.requires.together;
+    }) settles) c.requires.heads)
 
 pub returns-clause-pool : goal.returns-clause-pool
 returns-clause-pool c =

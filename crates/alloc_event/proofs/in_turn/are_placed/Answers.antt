@@ -1,5 +1,5 @@
 -- Each place so far, and this one.
-use Rattle.std.proofs.Common.{◌≡◌, ◌<◌, ◌∙◌, sym, subst, refl, inl, inr, length, Some, false, arith}
+use Rattle.std.proofs.Common.{◌≡◌, ◌∙◌, sym, subst, refl, inl, inr, Some, false, arith}
 use Rattle.std.specs.List.{slice_get}
 use Rattle.alloc_event.specs.declared.node.Node.{Node}
 use Rattle.alloc_event.specs.Falls.{IsPlaced}

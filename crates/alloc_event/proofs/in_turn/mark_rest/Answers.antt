@@ -1,5 +1,5 @@
 -- From each node the walk goes on to the next one.
-use Rattle.std.proofs.Common.{◌≡◌, ◌<◌, ◌+◌, ◌∙◌, ap, sym, refl, subst, List, ◌∷◌, map, drop, length, arith}
+use Rattle.std.proofs.Common.{◌<◌, ◌+◌, ◌∙◌, ap, sym, refl, subst, List, ◌∷◌, map, drop, length, arith}
 use Rattle.std.proofs.lemmas.List.{at_drop_more}
 use Rattle.alloc_event.specs.declared.node.Node.{Node}
 use Rattle.alloc_event.specs.Falls.{fall_mark}

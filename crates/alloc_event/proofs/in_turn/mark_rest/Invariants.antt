@@ -1,4 +1,4 @@
-use Rattle.std.proofs.Common.{◌≡◌, List, length, drop}
+use Rattle.std.proofs.Common.{List, length, drop}
 use Rattle.sm_names.specs.declared.outcomes.Fault.{Fault}
 use Rattle.alloc_event.specs.InTurn.{IsMarking}
 use Rattle.alloc_event.proofs.in_turn.mark_rest.Given as goal

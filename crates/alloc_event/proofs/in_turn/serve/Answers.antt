@@ -1,7 +1,6 @@
 -- The nodes stand as the walk told.
-use Rattle.std.proofs.Common.{◌≡◌, ◌∙◌, sym, refl, subst}
+use Rattle.std.proofs.Common.{◌∙◌, refl, subst}
 use Rattle.alloc_event.specs.InTurn.{HasServed, IsStood}
-use Rattle.alloc_event.specs.Falls.{stand}
 use Rattle.alloc_event.proofs.turns.Stood.{any_fits, any_order, if_some}
 use Rattle.alloc_event.proofs.in_turn.serve.Goals as goal
 

@@ -1,5 +1,5 @@
 -- The keys stay apart.
-use Rattle.std.proofs.Common.{◌≡◌, ◌∙◌, ap, sym, subst, true}
+use Rattle.std.proofs.Common.{◌∙◌, ap}
 use Rattle.alloc_event.specs.Scenes.{are_distinct}
 use Rattle.alloc_event.proofs.turns.Stood.{distinct_stand}
 use Rattle.alloc_event.proofs.in_turn.serve_in_turn.Goals as goal

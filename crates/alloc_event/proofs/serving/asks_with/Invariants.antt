@@ -2,7 +2,7 @@ use Rattle.std.proofs.Common.{◌≡◌, ◌≤◌, ◌+◌, ◌*◌, max, drop}
 use Rattle.std.specs.List.{filter_map, fold, list_any, sum_by}
 use Rattle.sm_names.specs.Demands.{Demand}
 use Rattle.sm_names.specs.Members.{greatest}
-use Rattle.alloc_event.specs.Serving.{asked_at, hangs_below_at}
+use Rattle.alloc_event.specs.Serving.{asked_at, bars_at}
 use Rattle.alloc_event.proofs.serving.asks_with.Given as goal
 
 -- with those that are still to come it is what all ask for
@@ -15,7 +15,7 @@ invariant-loop-key l = record {
       ≡ greatest (λ d. d.at_least) (filter_map (asked_at l.table l.head l.after) l.keys);
   size : fold (λ n (d : Demand). max n d.size) l.asks.size (filter_map (asked_at l.table l.head l.after) (drop l.key-index l.keys))
       ≡ greatest (λ d. d.size) (filter_map (asked_at l.table l.head l.after) l.keys);
-  below : list_any (hangs_below_at l.table l.units l.head) (drop l.key-index l.keys)
-      ≡ list_any (hangs_below_at l.table l.units l.head) l.keys;
+  below : list_any (bars_at l.table l.units l.id l.head) (drop l.key-index l.keys)
+      ≡ list_any (bars_at l.table l.units l.id l.head) l.keys;
   few : l.asks.camping ≤ 64 * l.key-index;
 }

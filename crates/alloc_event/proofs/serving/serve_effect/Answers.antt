@@ -1,15 +1,29 @@
 -- The effect is made and the unit allocated.
-use Rattle.std.proofs.Common.{◌≡◌, is_some, List, Some, true, sym, ◌∙◌, ap, subst}
+use Rattle.std.proofs.Common.{◌≡◌, is_some, List, Option, Some, None, Bool, true, false, ◌&&◌, sym, ◌∙◌, ap, subst, refl}
+use Rattle.std.specs.Option.{option_map_or}
 use Rattle.node_table.specs.Table.{node_at}
 use Rattle.alloc_event.specs.declared.change.Change.{Change}
 use Rattle.alloc_event.specs.declared.node.Node.{Node}
 use Rattle.alloc_event.specs.declared.units.Unit.{Unit}
+use Rattle.alloc_event.specs.Falling.{IsTaken}
 use Rattle.alloc_event.specs.Kept.{shelf_of}
 use Rattle.alloc_event.specs.Nodes.{given_buffers}
-use Rattle.alloc_event.specs.Serving.{AreLess, IsServed, IsServedAt, may_serve}
+use Rattle.alloc_event.specs.Serving.{AreLess, IsDue, IsRoom, IsServed, IsServedAt, is_waiting_head}
 use Rattle.alloc_event.proofs.changes.Altering.{same_affected}
 use Rattle.alloc_event.proofs.serves.Served.{served_by}
+use Rattle.alloc_event.proofs.tables.Storing.{row_there}
 use Rattle.alloc_event.proofs.serving.serve_effect.Goals as goal
+
+-- the head that is to be given is there
+some_if : (p : Node → Bool) (o : Option Node) (b : Bool) → (option_map_or p o false && b) ≡ true → is_some o ≡ true
+some_if p None b h = cc
+some_if p (Some n) b h = refl
+
+pub keys_below-requires : goal.keys_below-requires
+keys_below-requires c =
+    let t = c.args.table.now in
+    let due : IsDue t c.args.entry.now.buffers c.in-Some.node c.in-Some-buffers_due.buffers = c.in-Some-buffers_due.ensures in
+    row_there t c.in-Some.node.head (some_if is_waiting_head (node_at t c.in-Some.node.head) _ due.turn)
 
 pub serve-requires-clause-there : goal.serve-requires-clause-there
 serve-requires-clause-there c =
@@ -25,16 +39,20 @@ returns-clause-some c ss opens sum =
     let n : Node = c.in-Some.node in
     let t = c.args.table.now in
     let us = c.args.units.now.items in
-    let keys = c.args.entry.now.keys.items in
     let after : Node = c.affected_by-after.result in
+    let buffers = c.in-Some-buffers_due.buffers in
+    let keys = c.in-Some-keys_below.keys.items in
+    let reserved = c.in-Some-room_for.reserved in
     let was : node_at t c.args.key ≡ Some n = sym c.get.ensures ∙ sym c.copied.ensures ∙ c.in-Some.is in
+    let due : IsDue t c.args.entry.now.buffers n buffers = c.in-Some-buffers_due.ensures in
     let less : AreLess us c.args.entry.now.strong n after c.in-Some-counts_with.left c.in-Some-counts_with.next =
     rw c.deref.ensures.value at c.in-Some-counts_with.ensures in
-    let may : may_serve t keys us c.args.entry.now.reserved c.args.entry.now.buffers n after ≡ true =
-    rw (c.deref-2.ensures.value, c.deref-3.ensures.value) at (sym c.may_serve.ensures ∙ c.if-not-may_serve.false) in
+    let taken : IsTaken t n.head keys = c.in-Some-keys_below.ensures in
+    let room : IsRoom t keys us c.args.entry.now.id c.args.entry.now.reserved buffers n.head after reserved =
+    rw (c.deref-2.ensures.value, c.deref-3.ensures.value) at c.in-Some-room_for.ensures in
     let served : IsServedAt t c.serve.new.table n.head keys (given_buffers n.head after) = rw c.deref-4.ensures.value at c.serve.ensures in
     subst (λ (l : List Unit). IsServed t c.serve.new.table l ss (shelf_of c.args.entry.now) (Change.Effect c.args.key c.args.effect.now)
-    c.in-Some-counts_with.left) (sym c.put_unit.ensures)
+    c.in-Some-counts_with.left reserved) (sym c.put_unit.ensures)
     (served_by t c.serve.new.table us c.args.key c.args.effect.now n was ss (shelf_of c.args.entry.now) c.args.entry.now.strong opens
-    c.in-Some-counts_with.next c.in-Some-counts_with.left after c.affected_by-after.ensures less c.args.entry.now.reserved sum may
-    served)
+    c.in-Some-counts_with.next c.in-Some-counts_with.left after c.affected_by-after.ensures less c.args.entry.now.reserved sum buffers due
+    keys taken reserved room served)

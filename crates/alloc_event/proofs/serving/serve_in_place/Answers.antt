@@ -48,7 +48,7 @@ module _ (c : goal.After-entries-1) where
     buffers = c.index_mut-entry.result.now.buffers;
     held = c.index_mut-entry.result.now.held;
     strong = c.in-Some-serve_effect.left;
-    reserved = c.reserved_with-entry.result;
+    reserved = c.in-Some-serve_effect.reserved;
     tidy = c.index_mut-entry.result.now.tidy;
     one = c.index_mut-entry.result.now.one;
   }
@@ -71,7 +71,7 @@ module _ (c : goal.After-entries-1) where
       c.requires.units (Change.Effect c.args.key c.args.effect.now) c.requires.change
 
   made : IsServed c.args.table.now c.serve_effect.new.table c.serve_effect.new.units.items (shelves_of es) (shelf_of old)
-      (Change.Effect c.args.key c.args.effect.now) c.in-Some-serve_effect.left
+      (Change.Effect c.args.key c.args.effect.now) c.in-Some-serve_effect.left c.in-Some-serve_effect.reserved
   made = c.in-Some-serve_effect.ensures.some (shelves_of es) opens
       (reserved_at c.args.table.now es c.args.id c.in-Some.at old place is c.requires.kept c.requires.counted c.args.units.now.items
       c.requires.units (Change.Effect c.args.key c.args.effect.now) c.requires.change)
@@ -83,8 +83,7 @@ module _ (c : goal.After-entries-1) where
       (sym (ap (λ (x : Entry). x.tidy) again) ∙ h)
 
   reserved_now : new.reserved ≡ reserved_count (nodes_with c.serve_effect.new.table old.keys.items)
-  reserved_now = rw c.deref-2.ensures.value at c.reserved_with-entry.ensures.value
-      ∙ ap (λ (x : Entry). reserved_count (nodes_with c.serve_effect.new.table x.keys.items)) again
+  reserved_now = made.reserved
 
   same_shelves : shelves_of (set es c.in-Some.at new) ≡ shelves_of es
   same_shelves = shelves_at c.args.table.now es c.args.id c.in-Some.at old place is c.requires.kept c.requires.counted

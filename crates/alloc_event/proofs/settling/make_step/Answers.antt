@@ -1,5 +1,5 @@
 use Rattle.std.proofs.Common.{◌≡◌, ◌∙◌, sym, ap, subst, List, Result, Ok, Err}
-use Rattle.std.specs.Result.{OnErr, OnOk}
+use Rattle.std.specs.Result.{OnErr}
 use Rattle.std.specs.Vec.{with_items}
 use Rattle.sm_names.specs.declared.outcomes.Fault.{Fault}
 use Rattle.alloc_event.specs.declared.node.Node.{Node}
