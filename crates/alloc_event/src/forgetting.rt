@@ -126,17 +126,31 @@ fn born_before(table: &NodeTable<Node>, keys: &[NodeKey], event: u64) -> usize
     keys.partition_point(|key| is_born_before(table, *key, event))
 }
 
-/// The place of the key among these, which stand by birth. A binary search.
-fn place_by_birth(table: &NodeTable<Node>, keys: &[NodeKey], key: NodeKey) -> Option<usize>
+/// The place, if the key stands there.
+fn found_at(keys: &[NodeKey], at: usize, key: NodeKey) -> Option<usize>
     ensures { IfSome result (λ at. IsPlace keys.now key at) }
 {
-    let node = table.get(key)?;
-    let at = born_before(table, keys, node.event);
     if at < keys.len() && keys[at] == key {
         Some(at)
     } else {
         None
     }
+}
+
+/// The place of the key among these, which stand by birth: a constant for the first and the last,
+/// and else a binary search.
+fn place_by_birth(table: &NodeTable<Node>, keys: &[NodeKey], key: NodeKey) -> Option<usize>
+    ensures { IfSome result (λ at. IsPlace keys.now key at) }
+{
+    if let Some(at) = found_at(keys, 0, key) {
+        return Some(at);
+    }
+    if let Some(at) = found_at(keys, keys.len().saturating_sub(1), key) {
+        return Some(at);
+    }
+    let node = table.get(key)?;
+    let at = born_before(table, keys, node.event);
+    found_at(keys, at, key)
 }
 
 /// The one node of the collection that is over, and the place of its key, if that is known.
