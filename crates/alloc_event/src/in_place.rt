@@ -2,6 +2,8 @@
 ghost use Rattle.std.specs.Option.{option_map_or};
 ghost use Rattle.std.specs.Prelude.{◌≡◌, ◌<◌, ◌⊎◌, ◌+◌, ◌==◌, ◌&&◌, not, ℕ, List, None, Some, true, false, IfSome};
 ghost use Rattle.sm_names.specs.declared.keys.NodeKey.{NodeKey as Key};
+ghost use Rattle.node_table.specs.Changes.{Writes};
+ghost use Rattle.node_table.specs.Lending.{table_with_node};
 ghost use Rattle.node_table.specs.Table.{node_at};
 ghost use Rattle.alloc_event.specs.declared.change.Change.{Change as Changed};
 ghost use Rattle.alloc_event.specs.declared.change.Effect.{Effect as Effected};
@@ -54,6 +56,33 @@ pub(crate) fn affected_by(node: &Node, key: NodeKey, effect: &Effect) -> Node
     after
 }
 
+/// Whether the node is live and strong after the effect on the one with this key.
+fn is_strong_after(node: &Node, key: NodeKey, effect: &Effect) -> bool
+    ensures { result ≡ is_strong (affected key effect.now node.now) }
+{
+    match *effect {
+        Effect::Weak => is_live(node) && !(key == node.key || node.weak),
+        Effect::Released => !node.gone && !(key == node.key || node.released) && !node.weak,
+        Effect::Bound
+        | Effect::Dispensable
+        | Effect::WeakOk(_)
+        | Effect::Constrained(_)
+        | Effect::Taken
+        | Effect::Tracked => is_strong(node),
+    }
+}
+
+/// Makes the effect on the node with this key, in its place.
+fn affect_at(table: &mut NodeTable<Node>, key: NodeKey, effect: &Effect)
+    requires { (n : Kept) → node_at table.old key ≡ Some n → has_tracker_room key effect.now n ≡ true }
+    ensures becomes { (n : Kept) → node_at table.old key ≡ Some n → table.new ≡ table_with_node table.old key (affected key effect.now n) }
+    ensures writes { (n : Kept) → node_at table.old key ≡ Some n → Writes table.old table.new key (affected key effect.now n) }
+{
+    if let Some(node) = table.get_mut(key) {
+        affect_one(node, key, effect);
+    }
+}
+
 /// The count, where a node that it may have counted is counted no longer.
 pub(crate) fn less(count: usize, was: bool, is: bool) -> usize
     ensures { (real : ℕ) → (is ≡ true → was ≡ true) → real + bit was ≡ count + bit is → result ≡ real }
@@ -83,15 +112,14 @@ fn affect_in_place(
     if !is_plain(effect) {
         return None;
     }
-    let Some(node) = table.get(key).copied() else {
+    let Some(node) = table.get(key) else {
         return None;
     };
-    let after = affected_by(&node, key, effect);
-    let left = less(strong, is_strong(&node), is_strong(&after));
+    let left = less(strong, is_strong(node), is_strong_after(node, key, effect));
     if left == 0 {
         return None;
     }
-    write(table, after);
+    affect_at(table, key, effect);
     Some(left)
 }
 
