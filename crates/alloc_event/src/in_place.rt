@@ -10,11 +10,12 @@ ghost use Rattle.alloc_event.specs.declared.change.Effect.{Effect as Effected};
 ghost use Rattle.alloc_event.specs.declared.node.Node.{Node as Kept};
 ghost use Rattle.alloc_event.specs.declared.units.Unit.{Unit as Counts};
 ghost use Rattle.alloc_event.specs.Calm.{AreCounted};
-ghost use Rattle.alloc_event.specs.Counts.{HasBelow, HaveUnits};
+ghost use Rattle.alloc_event.specs.Counts.{HasBelow, HaveUnits, is_unready};
 ghost use Rattle.alloc_event.specs.Due.{is_due_at};
 ghost use Rattle.alloc_event.specs.InPlace.{IsMade, IsOpen, bit, is_plain as is_plain_effect};
 ghost use Rattle.alloc_event.specs.Kept.{Finishes, IsStored, SameTable, Shelf, forest_of, is_strong, shelves_of};
 ghost use Rattle.alloc_event.specs.Nodes.{affected};
+ghost use Rattle.alloc_event.specs.Questions.{is_live_node};
 ghost use Rattle.alloc_event.specs.Scenes.{has_tracker_room};
 ghost use Rattle.alloc_event.specs.Settling.{Handles, MayChange, changed, collection_or_new, no_key};
 
@@ -26,7 +27,6 @@ use crate::kept::is_strong;
 use crate::node::Node;
 use crate::questions::is_live;
 use crate::reserving::reserved_after;
-use crate::store::write;
 use crate::units::{Unit, is_unready, put_unit, unit_in};
 use node_table::NodeTable;
 use sm_names::{CollectionId, NodeKey};
@@ -69,6 +69,37 @@ fn is_strong_after(node: &Node, key: NodeKey, effect: &Effect) -> bool
         | Effect::Constrained(_)
         | Effect::Taken
         | Effect::Tracked => is_strong(node),
+    }
+}
+
+/// Whether the node is live after that effect.
+fn is_live_after(node: &Node, key: NodeKey, effect: &Effect) -> bool
+    ensures { result ≡ is_live_node (affected key effect.now node.now) }
+{
+    match *effect {
+        Effect::Released => !node.gone && !(key == node.key || node.released),
+        Effect::Bound
+        | Effect::Dispensable
+        | Effect::Weak
+        | Effect::WeakOk(_)
+        | Effect::Constrained(_)
+        | Effect::Taken
+        | Effect::Tracked => is_live(node),
+    }
+}
+
+/// Whether its unit waits for the node after that effect.
+fn is_unready_after(node: &Node, key: NodeKey, effect: &Effect) -> bool
+    ensures { result ≡ is_unready (affected key effect.now node.now) }
+{
+    match *effect {
+        Effect::Constrained(_) | Effect::Released => key != node.key && is_unready(node),
+        Effect::Bound
+        | Effect::Dispensable
+        | Effect::Weak
+        | Effect::WeakOk(_)
+        | Effect::Taken
+        | Effect::Tracked => is_unready(node),
     }
 }
 
@@ -194,7 +225,7 @@ fn count_in_place(
         IsOpen table.old units.old.items ss s (Changed.Effect key effect.now) strong →
         IsMade table.old table.new units.new.items ss s (Changed.Effect key effect.now) left) }
 {
-    let Some(node) = table.get(key).copied() else {
+    let Some(node) = table.get(key) else {
         return None;
     };
     let slot = node.head.slot as usize;
@@ -202,17 +233,20 @@ fn count_in_place(
         return None;
     }
     let unit = unit_in(units, slot);
-    let after = affected_by(&node, key, effect);
-    let left = less(strong, is_strong(&node), is_strong(&after));
-    let live = less(unit.live, is_live(&node), is_live(&after));
-    let unready = less(unit.unready, is_unready(&node), is_unready(&after));
+    let left = less(strong, is_strong(node), is_strong_after(node, key, effect));
+    let live = less(unit.live, is_live(node), is_live_after(node, key, effect));
+    let unready = less(
+        unit.unready,
+        is_unready(node),
+        is_unready_after(node, key, effect),
+    );
     if left == 0 || !is_held(table, live, key, node.collection) {
         return None;
     }
-    if is_unready(&node) && unready == 0 && is_due(table, node.head) {
+    if is_unready(node) && unready == 0 && is_due(table, node.head) {
         return None;
     }
-    write(table, after);
+    affect_at(table, key, effect);
     put_unit(units, slot, Unit { live, unready });
     Some(left)
 }

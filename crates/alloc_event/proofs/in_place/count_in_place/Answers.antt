@@ -1,6 +1,7 @@
 -- The node is written, and the counts tell that nothing is forced.
-use Rattle.std.proofs.Common.{◌≡◌, ◌+◌, ◌<◌, ◌⊎◌, false, inl, inr, is_some, List, map, length, Some, sym, ◌∙◌, ap, subst, arith}
+use Rattle.std.proofs.Common.{◌≡◌, ◌+◌, ◌<◌, ◌⊎◌, false, inl, inr, List, map, length, option_copied, Some, sym, ◌∙◌, ap, subst, arith}
 use Rattle.std.proofs.lemmas.Bool.{lt-ltb}
+use Rattle.sm_names.specs.declared.keys.NodeKey.{NodeKey}
 use Rattle.sm_names.specs.Words.{times}
 use Rattle.node_table.specs.Table.{node_at}
 use Rattle.node_table.specs.Changes.{Writes}
@@ -17,61 +18,55 @@ use Rattle.alloc_event.specs.Nodes.{affected}
 use Rattle.alloc_event.specs.Questions.{is_live_node}
 use Rattle.alloc_event.proofs.changes.Altering.{same_affected}
 use Rattle.alloc_event.proofs.changes.Effecting.{counted_made, less_is, live_before, live_is, strong_before, strong_is, unready_before, unready_is}
-use Rattle.alloc_event.proofs.tables.Storing.{row_there}
 use Rattle.alloc_event.proofs.in_place.count_in_place.Goals.{else-is_unready-via-then-is_unready+then-unready-eq0+else-is_due, else-is_unready-via-then-is_unready+else-unready-eq0, else-is_unready-via-else-is_unready}
 use Rattle.alloc_event.proofs.in_place.count_in_place.Goals as goal
 
-pub write-requires : goal.write-requires
-write-requires c =
-    let n : Node = c.in-Some.node in
-    let was : node_at c.args.table.now c.args.key ≡ Some n = sym c.get.ensures ∙ sym c.copied.ensures ∙ c.in-Some.is in
-    let own : c.affected_by-after.result.key ≡ c.args.key =
-    ap (λ (m : Node). m.key) c.affected_by-after.ensures ∙ (same_affected c.args.key c.args.effect.now n).key
-    ∙ c.requires.named c.args.key n was in
-    row_there c.args.table.now c.affected_by-after.result.key (ap is_some (ap (node_at c.args.table.now) own ∙ was))
+-- the node that is there
+found : (c : goal.After-put_unit) → node_at c.args.table.now c.args.key ≡ Some c.in-Some.node.now
+found c = sym c.get.ensures ∙ ap option_copied c.in-Some.is
 
 -- the unit does not get its buffers next, or waits for another, or did not wait for the node
-guard : (c : goal.After-put_unit) → (is_unready c.in-Some.node ≡ false) ⊎ ((0 < c.less-unready.result)
-    ⊎ (is_due_at c.args.table.now c.in-Some.node.head ≡ false))
+guard : (c : goal.After-put_unit) → (is_unready c.in-Some.node.now ≡ false) ⊎ ((0 < c.less-unready.result)
+    ⊎ (is_due_at c.args.table.now c.in-Some.node.now.head ≡ false))
 guard c = elim c.else-is_unready.branch [
   | else-is_unready-via-then-is_unready+then-unready-eq0+else-is_due w ↦ inr (inr (sym w.is_due.ensures ∙ w.if-is_due.false))
   | else-is_unready-via-then-is_unready+else-unready-eq0 w ↦ inr (inl (omega (arith, w.if-unready-eq0.false)))
-  | else-is_unready-via-else-is_unready w ↦ inl (sym c.is_unready-3.ensures ∙ w.if-is_unready.false)
+  | else-is_unready-via-else-is_unready w ↦ inl (sym c.is_unready-2.ensures ∙ w.if-is_unready.false)
 ]
 
 pub returns-clause-some : goal.returns-clause-some
 returns-clause-some c ss s opens =
-    let n : Node = c.in-Some.node in
+    let n : Node = c.in-Some.node.now in
     let t = c.args.table.now in
     let key = c.args.key in
     let effect = c.args.effect.now in
     let us = c.args.units.now.items in
-    let was : node_at t c.args.key ≡ Some n = sym c.get.ensures ∙ sym c.copied.ensures ∙ c.in-Some.is in
-    let after : c.affected_by-after.result ≡ affected key effect n = c.affected_by-after.ensures in
-    let becomes : c.write.new.table ≡ table_with_node t (affected key effect n).key (affected key effect n) =
-    subst (λ (m : Node). c.write.new.table ≡ table_with_node t m.key m) after c.write.ensures.becomes in
-    let writes : Writes t c.write.new.table (affected key effect n).key (affected key effect n) =
-    subst (λ (m : Node). Writes t c.write.new.table m.key m) after c.write.ensures.writes in
+    let was : node_at t c.args.key ≡ Some n = found c in
+    let own : key ≡ (affected key effect n).key = sym ((same_affected key effect n).key ∙ c.requires.named key n was) in
+    let becomes : c.affect_at.new.table ≡ table_with_node t (affected key effect n).key (affected key effect n) =
+    subst (λ (k : NodeKey). c.affect_at.new.table ≡ table_with_node t k (affected key effect n)) own (c.affect_at.ensures.becomes n was) in
+    let writes : Writes t c.affect_at.new.table (affected key effect n).key (affected key effect n) =
+    subst (λ (k : NodeKey). Writes t c.affect_at.new.table k (affected key effect n)) own (c.affect_at.ensures.writes n was) in
     let within : n.head.slot < length us = omega (arith, c.if-slot-len.false, c.len.ensures) in
     let unit : c.unit_in-unit.result ≡ unit_at us n.head.slot = rw c.deref.ensures.value at c.unit_in-unit.ensures in
     let left : c.less-left.result ≡ strong_count (map (affected key effect) (nodes_with t s.keys)) =
-    less_is c.args.strong c.less-left.result c.is_strong.result c.is_strong-2.result (is_strong n) (is_strong (affected key effect n))
-    c.less-left.ensures c.is_strong.ensures (c.is_strong-2.ensures ∙ ap is_strong after) (strong_before key effect n) _
-    (strong_is t c.write.new.table us key effect n was becomes writes ss s c.args.strong opens) in
+    less_is c.args.strong c.less-left.result c.is_strong.result c.is_strong_after.result (is_strong n) (is_strong (affected key effect n))
+    c.less-left.ensures c.is_strong.ensures c.is_strong_after.ensures (strong_before key effect n) _
+    (strong_is t c.affect_at.new.table us key effect n was becomes writes ss s c.args.strong opens) in
     let live : c.less-live.result ≡ times (lives_in n.head) (map (affected key effect) (nodes_with t s.keys)) =
-    less_is c.unit_in-unit.result.live c.less-live.result c.is_live.result c.is_live-2.result (is_live_node n)
+    less_is c.unit_in-unit.result.live c.less-live.result c.is_live.result c.is_live_after.result (is_live_node n)
     (is_live_node (affected key effect n))
-    c.less-live.ensures c.is_live.ensures (c.is_live-2.ensures ∙ ap is_live_node after) (live_before key effect n) _
-    (live_is t c.write.new.table us key effect n was becomes writes ss s c.args.strong opens within
+    c.less-live.ensures c.is_live.ensures c.is_live_after.ensures (live_before key effect n) _
+    (live_is t c.affect_at.new.table us key effect n was becomes writes ss s c.args.strong opens within
     ∙ ap (λ (u : Unit). u.live + bit (is_live_node (affected key effect n))) (sym unit)) in
     let unready : c.less-unready.result ≡ times (waits_in n.head) (map (affected key effect) (nodes_with t s.keys)) =
-    less_is c.unit_in-unit.result.unready c.less-unready.result c.is_unready.result c.is_unready-2.result (is_unready n)
+    less_is c.unit_in-unit.result.unready c.less-unready.result c.is_unready.result c.is_unready_after.result (is_unready n)
     (is_unready (affected key effect n))
-    c.less-unready.ensures c.is_unready.ensures (c.is_unready-2.ensures ∙ ap is_unready after) (unready_before key effect n) _
-    (unready_is t c.write.new.table us key effect n was becomes writes ss s c.args.strong opens within
+    c.less-unready.ensures c.is_unready.ensures c.is_unready_after.ensures (unready_before key effect n) _
+    (unready_is t c.affect_at.new.table us key effect n was becomes writes ss s c.args.strong opens within
     ∙ ap (λ (u : Unit). u.unready + bit (is_unready (affected key effect n))) (sym unit)) in
-    subst (λ (l : List Unit). IsMade t c.write.new.table l ss s (Change.Effect key effect) c.less-left.result) (sym c.put_unit.ensures)
-    (counted_made t c.write.new.table us key effect n was becomes writes ss s c.args.strong opens within
+    subst (λ (l : List Unit). IsMade t c.affect_at.new.table l ss s (Change.Effect key effect) c.less-left.result) (sym c.put_unit.ensures)
+    (counted_made t c.affect_at.new.table us key effect n was becomes writes ss s c.args.strong opens within
     (record { live = c.less-live.result; unready = c.less-unready.result }) live unready
     c.less-left.result (lt-ltb 0 c.less-left.result (omega (arith, c.if-left-eq0.false))) left (c.is_held.ensures c.if-not-is_held.false)
     (guard c))
