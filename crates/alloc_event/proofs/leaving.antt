@@ -3,6 +3,7 @@ pub mod Alone
 pub mod Emptying
 pub mod Ends
 pub mod Forgotten
+pub mod KeyMoves
 pub mod Leaving
 pub mod Noted
 pub mod Places

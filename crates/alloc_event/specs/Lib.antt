@@ -11,6 +11,7 @@ pub mod Forgetting
 pub mod InPlace
 pub mod InTurn
 pub mod Kept
+pub mod Keys
 pub mod Marks
 pub mod Progress
 pub mod Nodes

@@ -22,6 +22,7 @@ use crate::change::Change;
 use crate::effects::affect;
 use crate::entry::{Entry, entry_of, place_of};
 use crate::finish::store_settled;
+use crate::key_list::KeyList;
 use crate::losses::lose_by_fall;
 use crate::marks::marks_of;
 use crate::node::Node;
@@ -348,12 +349,12 @@ fn bear_among(
     ensures tidy { entry.new.tidy ≡ entry.old.tidy }
     ensures one { entry.new.one ≡ entry.old.one }
 {
-    if entry.keys.reserve(1).is_err() {
+    if entry.keys.reserve_one().is_err() {
         return Err(NoMemory);
     }
     let more = strong_below(above);
     let key = bear(table, entry.id, parent, above, attached, client, event)?;
-    entry.keys.push(key).unwrap();
+    entry.keys.push(key);
     entry.strong += more;
     Ok(key)
 }
@@ -384,13 +385,13 @@ fn bear_first(
     ensures err_entries { OnErr result (entries.new.items ≡ entries.old.items) }
 {
     let alloc = *entries.allocator();
-    let mut keys = Vec::new(alloc);
-    if keys.reserve(1).is_err() || entries.reserve(1).is_err() {
+    let mut keys = KeyList::new(alloc);
+    if keys.reserve_one().is_err() || entries.reserve(1).is_err() {
         return Err(NoMemory);
     }
     let strong = strong_below(above);
     let key = bear(table, id, parent, above, attached, client, event)?;
-    keys.push(key).unwrap();
+    keys.push(key);
     put_entry(
         entries,
         Entry {

@@ -57,7 +57,7 @@ fn is_abandoned(table: &NodeTable<Node>, entry: &Entry, holds: &Holds) -> bool
     ensures { result ≡ (has_given_root table.now entry.now.keys.items
         && not (is_held_strongly (total holds.now) entry.now.id entry.now.buffers)) }
 {
-    has_given_root(table, &entry.keys) && !is_strong_open(entry.id, entry.buffers, holds)
+    has_given_root(table, entry.keys.as_slice()) && !is_strong_open(entry.id, entry.buffers, holds)
 }
 
 /// The buffer with this name is not held any longer, and gives its pages back. It costs a pass over

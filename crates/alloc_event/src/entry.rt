@@ -3,6 +3,7 @@ ghost use Rattle.std.specs.Prelude.{◌≡◌, ◌==◌, nat_lt, option_copied};
 ghost use Rattle.std.specs.List.{prefix_len, find};
 ghost use Rattle.alloc_event.specs.Kept.{AreRising, place_in, shelves_of};
 
+use crate::key_list::KeyList;
 use sm_names::{Buffers, CollectionId, HeldBuffer, NodeKey};
 
 /// A collection, with the keys of its nodes.
@@ -10,7 +11,7 @@ use sm_names::{Buffers, CollectionId, HeldBuffer, NodeKey};
 pub(crate) struct Entry {
     pub(crate) id: CollectionId,
     /// The keys of the kept nodes, by birth.
-    pub(crate) keys: Vec<NodeKey>,
+    pub(crate) keys: KeyList,
     /// What it was given.
     pub(crate) buffers: Option<Buffers>,
     /// The buffers whose pages were not given back, by index.

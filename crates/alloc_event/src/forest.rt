@@ -17,7 +17,7 @@ use crate::change::Change;
 use crate::changing::{settle_birth, settle_change};
 use crate::dropped::settle_dropped;
 use crate::entry::{Entry, entry_of, place_of};
-use crate::forgetting::{forget_key, forget_over, note_over, take_out};
+use crate::forgetting::{forget_over, note_over, take_out};
 use crate::kept::{held_by_page, is_over, live_by_birth};
 use crate::node::{End, Node};
 use crate::store::write;
@@ -253,7 +253,7 @@ impl Forest {
     {
         let node = take_out(&mut self.table, key);
         if let Some(at) = place_of(&self.entries, node.collection) {
-            forget_key(&mut self.entries[at].keys, key);
+            self.entries[at].keys.forget(key);
         }
     }
 

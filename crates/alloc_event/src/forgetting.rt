@@ -17,6 +17,7 @@ ghost use Rattle.alloc_event.specs.Nodes.{is_over};
 
 use crate::entry::{Entry, entry_of, place_of};
 use crate::kept::is_over;
+use crate::key_list::KeyList;
 use crate::node::Node;
 use node_table::NodeTable;
 use sm_names::{CollectionId, NodeKey};
@@ -47,13 +48,6 @@ pub(crate) fn take_out(table: &mut NodeTable<Node>, key: NodeKey) -> Node
     table.remove(key)
 }
 
-/// Takes the key out of the list.
-pub(crate) fn forget_key(keys: &mut Vec<NodeKey>, key: NodeKey)
-    ensures { keys.new.items ≡ filter (λ other. not (same_key key other)) keys.old.items }
-{
-    keys.retain(|other| key != *other);
-}
-
 /// Whether the table has a node of the key that is gone and whose end is spent.
 fn is_over_at(table: &NodeTable<Node>, key: NodeKey) -> bool
     ensures { result ≡ option_map_or is_over (node_at table.now key) false }
@@ -81,17 +75,10 @@ fn take_out_over(table: &mut NodeTable<Node>, keys: &[NodeKey])
 }
 
 /// Whether the table has a node of the key.
-fn is_found(table: &NodeTable<Node>, key: NodeKey) -> bool
+pub(crate) fn is_found(table: &NodeTable<Node>, key: NodeKey) -> bool
     ensures { result ≡ is_found table.now key }
 {
     table.get(key).is_some()
-}
-
-/// Keeps those of the keys that the table has.
-fn keep_found(keys: &mut Vec<NodeKey>, table: &NodeTable<Node>)
-    ensures { keys.new.items ≡ filter (is_found table.now) keys.old.items }
-{
-    keys.retain(|key| is_found(table, *key));
 }
 
 /// Whether the key is one of these.
@@ -159,7 +146,7 @@ fn only_over(table: &NodeTable<Node>, entry: &Entry) -> Option<(NodeKey, usize)>
 {
     let key = entry.one?;
     if entry.tidy && is_over_at(table, key) {
-        let at = place_by_birth(table, &entry.keys, key)?;
+        let at = place_by_birth(table, entry.keys.as_slice(), key)?;
         Some((key, at))
     } else {
         None
@@ -182,7 +169,7 @@ fn take_out_noted(table: &mut NodeTable<Node>, keys: &[NodeKey], one: Option<(No
 }
 
 /// Keeps those of the keys that the table has: all but the one at this place, if that is known.
-fn keep(keys: &mut Vec<NodeKey>, table: &NodeTable<Node>, one: Option<(NodeKey, usize)>)
+fn keep(keys: &mut KeyList, table: &NodeTable<Node>, one: Option<(NodeKey, usize)>)
     requires { IfSome one (λ one. IsMissing table.now keys.old.items one.1) }
     ensures { keys.new.items ≡ filter (is_found table.now) keys.old.items }
 {
@@ -190,7 +177,7 @@ fn keep(keys: &mut Vec<NodeKey>, table: &NodeTable<Node>, one: Option<(NodeKey, 
         Some((_, at)) => {
             keys.remove(at);
         }
-        None => keep_found(keys, table),
+        None => keys.keep_found(table),
     }
 }
 
@@ -223,14 +210,14 @@ pub(crate) fn drop_bare(entries: &mut Vec<Entry>, id: CollectionId)
     ensures counted { (t : Table Kept) → AreCounted t entries.old.items → AreCounted t entries.new.items }
 {
     if let Some(at) = place_of(entries, id) {
-        if entries[at].keys.is_empty() && entries[at].held.is_empty() {
+        if entries[at].keys.as_slice().is_empty() && entries[at].held.is_empty() {
             entries.remove(at);
         }
     }
 }
 
 /// Forgets the nodes of the collection that are over. It costs a pass over its nodes. Where it is
-/// known which one is over, it costs a binary search among them and a shift of their keys instead,
+/// known which one is over, it costs a binary search among them and a move of the keys on its shorter side instead,
 /// and where it is known that none is, a binary search of the collection alone.
 fn forget_nodes(table: &mut NodeTable<Node>, entries: &mut Vec<Entry>, id: CollectionId)
     requires kept { IsStored table.old (shelves_of entries.old.items) }
@@ -250,7 +237,7 @@ fn forget_nodes(table: &mut NodeTable<Node>, entries: &mut Vec<Entry>, id: Colle
         return;
     }
     let one = only_over(table, entry);
-    take_out_noted(table, &entry.keys, one);
+    take_out_noted(table, entry.keys.as_slice(), one);
     thin(entries, table, id, one);
 }
 

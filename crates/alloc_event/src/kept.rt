@@ -78,7 +78,7 @@ pub(crate) fn live_by_birth(
 {
     let mut nodes = Vec::new(alloc);
     for entry in entries {
-        add_live(&mut nodes, table, &entry.keys)?;
+        add_live(&mut nodes, table, entry.keys.as_slice())?;
     }
     nodes.sort_by_key(|node| node.event)?;
     let mut keys = Vec::with_capacity(alloc, nodes.len())?;

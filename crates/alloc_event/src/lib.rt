@@ -25,6 +25,7 @@ mod in_place;
 mod in_turn;
 pub mod initial;
 mod kept;
+mod key_list;
 pub mod laws;
 pub mod logical;
 pub mod losses;

@@ -10,6 +10,7 @@ ghost use Rattle.alloc_event.specs.Kept.{Stores, have_places, collection_in, she
 ghost use Rattle.alloc_event.specs.Scenes.{collection_of};
 
 use crate::entry::{Entry, entries_before, place_of};
+use crate::key_list::KeyList;
 use crate::node::Node;
 use crate::scene::Scene;
 use node_table::NodeTable;
@@ -63,7 +64,7 @@ pub(crate) fn load(
 ) -> Result<Scene, AllocError>
     ensures { IfOk result (λ scene. collection_of scene ≡ collection_in table.now (shelf_of entry.now)) }
 {
-    let nodes = load_nodes(alloc, table, &entry.keys)?;
+    let nodes = load_nodes(alloc, table, entry.keys.as_slice())?;
     let held = entry.held.as_slice().to_vec(alloc)?;
     Ok(Scene {
         id: entry.id,
@@ -74,14 +75,14 @@ pub(crate) fn load(
 }
 
 /// The keys of the nodes, with room for one more.
-pub(crate) fn keys_of(alloc: Global, nodes: &[Node]) -> Result<Vec<NodeKey>, AllocError>
+pub(crate) fn keys_of(alloc: Global, nodes: &[Node]) -> Result<KeyList, AllocError>
     ensures { IfOk result (λ keys. keys.items ≡ map (λ n. n.key) nodes.now) }
 {
     let mut keys = Vec::with_capacity(alloc, nodes.len() + 1)?;
     for node in nodes {
         keys.push(node.key)?;
     }
-    Ok(keys)
+    Ok(KeyList::of(keys))
 }
 
 /// Puts the entry in the place of the one with its id, or where that would stand.

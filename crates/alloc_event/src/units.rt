@@ -147,7 +147,7 @@ pub(crate) fn recount(
     ensures { HaveUnits units.new.items table.now entries.now }
 {
     if let Some(entry) = entry_of(entries, id) {
-        clear(units, &entry.keys);
-        tally(units, table, &entry.keys);
+        clear(units, entry.keys.as_slice());
+        tally(units, table, entry.keys.as_slice());
     }
 }

@@ -22,4 +22,4 @@ returns-clause-entries c =
     let held : c.new.result.items ≡ [] = c.new.ensures.items in
     let shelf : shelf_of new ≡ shelf_with (no_shelf c.args.id) c.in_ok-key.key =
     λ i. record { id = c.args.id; keys = items i; buffers = None; held = held i } in
-    (new, c.put_entry.ensures.items ∙ ap (put_in new) c.reserve-else-is_err.ensures.items, shelf, c.strong_below-strong.ensures, refl)
+    (new, c.put_entry.ensures.items ∙ ap (put_in new) c.reserve.ensures.items, shelf, c.strong_below-strong.ensures, refl)

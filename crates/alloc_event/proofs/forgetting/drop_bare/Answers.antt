@@ -38,7 +38,7 @@ returns-then-is_empty-2-clause-shelves c =
     let within = (place_is c.args.id c.args.entries.now.items c.in-Some.at told).within in
     let again : c.index-then-is_empty.result.now ≡ at = c.index-then-is_empty.ensures ∙ get_or_default _ _ _ c.index.result.now within in
     let keys : (length at.keys.items == 0) ≡ true = ap (λ (x : Entry). length x.keys.items == 0) (sym c.index.ensures)
-    ∙ ap (λ n. n == 0) (sym c.index.result.now.keys.ok.0) ∙ sym c.is_empty.ensures ∙ c.if-is_empty.true in
+    ∙ ap (λ keys. length keys == 0) (sym c.as_slice.ensures.items) ∙ sym c.is_empty.ensures ∙ c.if-is_empty.true in
     let held : (length at.held.items == 0) ≡ true =
     ap (λ (x : Entry). length x.held.items == 0) (sym again) ∙ ap (λ n. n == 0) (sym c.index-then-is_empty.result.now.held.ok.0)
     ∙ sym c.is_empty-then-is_empty.ensures ∙ c.if-is_empty-2.true in
@@ -64,8 +64,8 @@ returns-else-is_empty-clause-shelves c =
           stays (and_right _ _ held)
       | else-is_empty-via-else-is_empty w ↦
           let keys : (length at.keys.items == 0) ≡ false =
-          ap (λ (x : Entry). length x.keys.items == 0) (sym c.index.ensures) ∙ ap (λ n. n == 0) (sym c.index.result.now.keys.ok.0)
-          ∙ sym c.is_empty.ensures ∙ w.if-is_empty.false in
+          ap (λ (x : Entry). length x.keys.items == 0) (sym c.index.ensures)
+          ∙ ap (λ keys. length keys == 0) (sym c.as_slice.ensures.items) ∙ sym c.is_empty.ensures ∙ w.if-is_empty.false in
           stays (and_left _ _ keys)
     ]
 

@@ -102,7 +102,7 @@ pub take_out_noted-requires-clause-one : goal.take_out_noted-requires-clause-one
 take_out_noted-requires-clause-one c =
     let found : find (λ (e : Entry). e.id == c.args.id) c.args.entries.now.items ≡ Some c.in-Some.entry.now =
     sym (rw c.deref.ensures.value at c.in-Some.ensures) in
-    rw c.deref-2.ensures.value (alone_if c.args.table.now c.args.id c.args.entries.now.items c.in-Some.entry.now c.requires.counted found
+    rw c.as_slice.ensures.items (alone_if c.args.table.now c.args.id c.args.entries.now.items c.in-Some.entry.now c.requires.counted found
     c.only_over-one.result c.only_over-one.ensures)
 
 pub thin-requires-clause-one : goal.thin-requires-clause-one
@@ -111,7 +111,7 @@ thin-requires-clause-one c =
     sym (rw c.deref.ensures.value at c.in-Some.ensures) in
     missing_if c.args.table.now c.take_out_noted.new.table c.args.id c.args.entries.now.items c.in-Some.entry.now c.requires.kept
     c.requires.counted found
-    (λ k. c.take_out_noted.ensures.look k ∙ ap (λ keys. left_at c.args.table.now keys k) c.deref-2.ensures.value) c.only_over-one.result
+    (λ k. c.take_out_noted.ensures.look k ∙ ap (λ keys. left_at c.args.table.now keys k) c.as_slice.ensures.items) c.only_over-one.result
     c.only_over-one.ensures
 
 pub returns-clause-look : goal.returns-clause-look
@@ -120,7 +120,7 @@ returns-clause-look c s found k =
     sym (shelf_found c.args.id c.args.entries.now.items ∙ ap (option_map shelf_of) (sym (rw c.deref.ensures.value at c.in-Some.ensures)))
     ∙ found in
     let one : shelf_of c.in-Some.entry.now ≡ s = cc in
-    c.take_out_noted.ensures.look k ∙ ap (λ keys. left_at c.args.table.now keys k) (c.deref-2.ensures.value
+    c.take_out_noted.ensures.look k ∙ ap (λ keys. left_at c.args.table.now keys k) (c.as_slice.ensures.items
     ∙ ap (λ (x : Shelf). x.keys) one)
 
 pub returns-clause-none : goal.returns-clause-none
@@ -138,7 +138,7 @@ returns-clause-counted c =
     let entry : find (λ (e : Entry). e.id == c.args.id) es ≡ Some c.in-Some.entry.now =
     sym (rw c.deref.ensures.value at c.in-Some.ensures) in
     let look : (k : NodeKey) → node_at now k ≡ left_at t c.in-Some.entry.now.keys.items k =
-    λ k. c.take_out_noted.ensures.look k ∙ ap (λ keys. left_at t keys k) c.deref-2.ensures.value in
+    λ k. c.take_out_noted.ensures.look k ∙ ap (λ keys. left_at t keys k) c.as_slice.ensures.items in
     c.thin.ensures.counted
     (dropped_all t now c.requires.kept.named (drops_over t now c.in-Some.entry.now.keys.items look) es c.requires.kept.whole
     c.requires.counted)

@@ -9,9 +9,9 @@ pub returns-in-Some : goal.returns-in-Some
 returns-in-Some c =
     let entry = c.in-Some.entry.now in
     let found = shelf_found c.args.id c.args.entries.now ∙ ap (option_map shelf_of) (sym c.in-Some.ensures) in
-    let few : length entry.keys.items ≤ 18446744073709551615 = omega arith in
-    let cleared_is = rw c.deref.ensures.value at c.clear.ensures in
-    let tallied_is = rw c.deref-in-Some.ensures.value at c.tally.ensures in
+    let few : length entry.keys.items ≤ 18446744073709551615 = omega (arith, c.as_slice.ensures.few) in
+    let cleared_is = rw c.as_slice.ensures.items at c.clear.ensures in
+    let tallied_is = rw c.as_slice-in-Some.ensures.items at c.tally.ensures in
     rw (tallied_is, cleared_is)
     (recounted_all c.args.table.now (shelves_of c.args.entries.now) c.requires.kept c.args.id (shelf_of entry) found c.args.units.now.items
     few c.requires.others)

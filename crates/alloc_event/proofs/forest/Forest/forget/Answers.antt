@@ -36,7 +36,7 @@ invariant_of-self c =
     sym (rw c.deref.ensures.value at c.place_of.ensures) ∙ c.in-Some.is in
     let e : Entry = record {
       id = c.index_mut.result.now.id;
-      keys = c.forget_key.new.keys;
+      keys = c.forget.new.self;
       buffers = c.index_mut.result.now.buffers;
       held = c.index_mut.result.now.held;
       strong = c.index_mut.result.now.strong;
@@ -48,7 +48,7 @@ invariant_of-self c =
     let was : c.index_mut.result.now ≡ get_or c.self.inside.entries.items c.in-Some.at e =
     c.index_mut.ensures.value ∙ get_or_default c.self.inside.entries.items c.in-Some.at c.index_mut.result.now e within in
     let own : shelf_of e ≡ shelf_without c.args.key (shelf_of c.index_mut.result.now) =
-    λ i. record (shelf_of c.index_mut.result.now) { keys = c.forget_key.ensures i } in
+    λ i. record (shelf_of c.index_mut.result.now) { keys = c.forget.ensures i } in
     let is : shelf_of e ≡ shelf_without c.args.key (shelf_of (get_or c.self.inside.entries.items c.in-Some.at e)) =
     own ∙ ap (λ (x : Entry). shelf_without c.args.key (shelf_of x)) was in
     let same = set_without c.self.inside.table c.args.key c.take_out-node.result e c.self.inside.entries.items c.in-Some.at
@@ -67,7 +67,7 @@ invariant_of-self c =
     let old : Entry = c.index_mut.result.now in
     let shown : collection_in c.take_out-node.new.table (shelf_of e) ≡ collection_in c.take_out-node.new.table (shelf_of old) =
     λ i. record (collection_in c.take_out-node.new.table (shelf_of old)) {
-      nodes = (ap (nodes_with c.take_out-node.new.table) c.forget_key.ensures
+      nodes = (ap (nodes_with c.take_out-node.new.table) c.forget.ensures
           ∙ looked-kept c.args.key (node_at c.take_out-node.new.table) none old.keys.items) i;
     } in
     record {
@@ -98,7 +98,7 @@ returns-in-Some-clause-nodes c =
     sym (rw c.deref.ensures.value at c.place_of.ensures) ∙ c.in-Some.is in
     let e : Entry = record {
       id = c.index_mut.result.now.id;
-      keys = c.forget_key.new.keys;
+      keys = c.forget.new.self;
       buffers = c.index_mut.result.now.buffers;
       held = c.index_mut.result.now.held;
       strong = c.index_mut.result.now.strong;
@@ -110,7 +110,7 @@ returns-in-Some-clause-nodes c =
     let was : c.index_mut.result.now ≡ get_or c.self.inside.entries.items c.in-Some.at e =
     c.index_mut.ensures.value ∙ get_or_default c.self.inside.entries.items c.in-Some.at c.index_mut.result.now e within in
     let own : shelf_of e ≡ shelf_without c.args.key (shelf_of c.index_mut.result.now) =
-    λ i. record (shelf_of c.index_mut.result.now) { keys = c.forget_key.ensures i } in
+    λ i. record (shelf_of c.index_mut.result.now) { keys = c.forget.ensures i } in
     let is : shelf_of e ≡ shelf_without c.args.key (shelf_of (get_or c.self.inside.entries.items c.in-Some.at e)) =
     own ∙ ap (λ (x : Entry). shelf_without c.args.key (shelf_of x)) was in
     let same = set_without c.self.inside.table c.args.key c.take_out-node.result e c.self.inside.entries.items c.in-Some.at
