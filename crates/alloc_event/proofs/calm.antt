@@ -10,6 +10,7 @@ pub mod Lines
 pub mod Living
 pub mod Marking
 pub mod Movings
+pub mod Resting
 pub mod Settlings
 pub mod Steps
 pub mod Together

@@ -18,6 +18,7 @@ pub mod Nodes
 pub mod Parted
 pub mod Questions
 pub mod Reserved
+pub mod Resting
 pub mod Scenes
 pub mod Serving
 pub mod Settling

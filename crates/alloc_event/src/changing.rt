@@ -11,6 +11,7 @@ ghost use Rattle.alloc_event.specs.Calm.{AreCounted, put_in};
 ghost use Rattle.alloc_event.specs.Counts.{HaveUnits};
 ghost use Rattle.alloc_event.specs.Forest.{IsPoolOf};
 ghost use Rattle.alloc_event.specs.Kept.{AreRising, IsStored, Bears, Gives, Finishes, SameTable, born, put_shelf, shelf_of, shelves_of, forest_of, has_room_for_tracker, loses_left};
+ghost use Rattle.alloc_event.specs.Resting.{is_kept_by};
 ghost use Rattle.alloc_event.specs.Scenes.{collection_of};
 ghost use Rattle.alloc_event.specs.Settling.{Handles, MayChange, changed, with_birth, collection_or_new, is_birth, no_key};
 ghost use Rattle.alloc_event.specs.Still.{IsStill, no_shelf, shelf_before, shelf_with};
@@ -26,6 +27,7 @@ use crate::key_list::KeyList;
 use crate::losses::lose_by_fall;
 use crate::marks::marks_of;
 use crate::node::Node;
+use crate::resting::is_at_rest;
 use crate::scene::Scene;
 use crate::still::is_still;
 use crate::store::{load, put_entry, write};
@@ -300,13 +302,15 @@ fn settle_newborn(
 }
 
 /// Whether a birth in the collection forces nothing and sends no buffer home, as the count of its
-/// strong nodes tells: it has one, or is not there yet. A binary search.
-fn is_watched(entries: &[Entry], id: CollectionId) -> bool
-    requires rising { AreRising (shelves_of entries.now) }
-    ensures { result ≡ option_map_or (λ e. nat_lt 0 e.strong) (find (λ e. e.id == id) entries.now) true }
+/// strong nodes and the handles of its buffers tell: it has such a node, or rests without one, or is
+/// not there yet. A binary search, and where no strong node is live a look at the handles.
+fn is_watched(table: &NodeTable<Node>, entries: &[Entry], id: CollectionId, holds: &Holds) -> bool
+    requires kept { IsStored table.now (shelves_of entries.now) }
+    ensures { result ≡ option_map_or (λ e. is_kept_by (total holds.now) table.now (shelf_of e) e.strong)
+        (find (λ e. e.id == id) entries.now) true }
 {
     match entry_of(entries, id) {
-        Some(entry) => entry.strong > 0,
+        Some(entry) => entry.strong > 0 || is_at_rest(table, entry, holds),
         None => true,
     }
 }
@@ -496,7 +500,8 @@ fn bear_counted(
     Ok(key)
 }
 
-/// The birth of a node in a collection without a strong live node, and all that it forces.
+/// The birth of a node in a collection without a strong live node that does not rest, and all that it
+/// forces.
 /// `NoMemory` leaves the table and the pool as they were, and of the entries all but their room.
 fn settle_unwatched(
     table: &mut NodeTable<Node>,
@@ -578,7 +583,7 @@ pub(crate) fn settle_birth(
     if units.reserve(1).is_err() {
         return Err(NoMemory);
     }
-    if is_watched(entries, id) {
+    if is_watched(table, entries, id, holds) {
         return bear_counted(table, entries, units, id, parent, attached, client, event);
     }
     let key = settle_unwatched(

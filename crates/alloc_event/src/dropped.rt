@@ -52,7 +52,7 @@ fn has_given_root(table: &NodeTable<Node>, keys: &[NodeKey]) -> bool
 
 /// Whether the buffers of the collection are abandoned, where none of its strong nodes is live. It
 /// looks at the handles of its buffers only where the root is not gone.
-fn is_abandoned(table: &NodeTable<Node>, entry: &Entry, holds: &Holds) -> bool
+pub(crate) fn is_abandoned(table: &NodeTable<Node>, entry: &Entry, holds: &Holds) -> bool
     requires { given_few entry.now.buffers ≡ true }
     ensures { result ≡ (has_given_root table.now entry.now.keys.items
         && not (is_held_strongly (total holds.now) entry.now.id entry.now.buffers)) }

@@ -95,8 +95,11 @@ impl Forest {
     /// logarithm, and times another one where such a failure leaves the collection or a unit above
     /// without a node that keeps it. A loss costs besides what `fall` costs, and a logarithm for
     /// each node; the end of a collection without a live node one walk. Where no
-    /// strong node is live, a birth that forces nothing and sends no buffer home costs the copy, the
-    /// pass and one question, and another a copy of the whole table besides.
+    /// strong node is live, a birth costs what it does with one, and a look at the handles of the
+    /// buffers besides, of which there are at most 64: where the root has buffers one of them has an
+    /// open strong handle, and none that is held is home. Such a birth that forces nothing and sends
+    /// no buffer home else costs the copy, the pass and one question, and another a copy of the whole
+    /// table besides.
     #[inline(always)]
     pub fn settle(
         &mut self,

@@ -34,6 +34,7 @@ pub mod node;
 pub mod placing;
 pub mod questions;
 mod reserving;
+mod resting;
 pub mod returns;
 pub mod scene;
 mod serving;

@@ -31,7 +31,7 @@ pub(crate) fn is_still(scene: &Scene, marks: &mut Marks, holds: &Holds) -> bool
 }
 
 /// Whether none of the buffers is home.
-fn are_out(held: &[HeldBuffer], holds: &Holds, strong_live: bool) -> bool
+pub(crate) fn are_out(held: &[HeldBuffer], holds: &Holds, strong_live: bool) -> bool
     ensures { result ≡ list_all (is_out (total holds.now) strong_live) held.now }
 {
     held.iter()

@@ -1,8 +1,7 @@
 -- A collection with a strong live node: nothing is forced in it, and no buffer is home.
-use Rattle.std.proofs.Common.{◌≡◌, ℕ, zero, suc, Bool, true, false, ◌&&◌, ◌==◌, not, nat_lt, List, [], ◌∷◌, Option, Some, None, option_map, cond, refl, sym, ap, subst, ◌∙◌, arith}
+use Rattle.std.proofs.Common.{◌≡◌, ℕ, zero, suc, Bool, true, false, ◌&&◌, ◌==◌, not, nat_lt, List, [], ◌∷◌, Some, cond, refl, sym, ap, subst, ◌∙◌, arith}
 use Rattle.std.proofs.lemmas.Bool.{lt-ltb}
 use Rattle.std.specs.List.{find, filter, list_all, list_any}
-use Rattle.std.specs.Option.{option_map_or, unwrap_or}
 use Rattle.sm_names.specs.declared.keys.Strength.{Strength}
 use Rattle.sm_names.specs.Handles.{is_home}
 use Rattle.sm_names.specs.Members.{some_strong_live}
@@ -13,13 +12,11 @@ use Rattle.alloc_event.specs.declared.node.Node.{Node}
 use Rattle.alloc_event.specs.Calm.{AreCounted, IsCounted, strong_count}
 use Rattle.alloc_event.specs.Decisions.{has_strong}
 use Rattle.alloc_event.specs.Forest.{Collection}
-use Rattle.alloc_event.specs.Kept.{collection_in, forest_of, is_strong, nodes_with, shelf_of, shelves_of}
+use Rattle.alloc_event.specs.Kept.{is_strong}
 use Rattle.alloc_event.specs.Nodes.{members_of}
-use Rattle.alloc_event.specs.Settling.{Handles, collection_or_new, given_back, is_home_in}
-use Rattle.alloc_event.specs.Still.{IsStill}
-use Rattle.alloc_event.proofs.calm.Calming.{count_none, count_some, rests_strong}
+use Rattle.alloc_event.specs.Settling.{Handles, given_back, is_home_in}
+use Rattle.alloc_event.proofs.calm.Calming.{count_none, count_some}
 use Rattle.alloc_event.proofs.calm.Forcing.{strong_tie}
-use Rattle.alloc_event.proofs.shelves.Showing.{collection_is, shelf_found}
 
 -- the entry that is found is counted
 found_counted-by : (t : Table Node) (id : ℕ) (x : Entry) (xs : List Entry) (e : Entry) (here : Bool) → AreCounted t (x ∷ xs) →
@@ -74,24 +71,3 @@ module _ (handles : Handles) (c : Collection) (strong : has_strong c.nodes ≡ t
 
   pub all_out : list_all (λ (h : HeldBuffer). not (is_home_in handles c h.buffer)) c.held ≡ true
   all_out = all_pass (λ (h : HeldBuffer). not (is_home_in handles c h.buffer)) c.held away
-
--- a collection with a strong live node is still, and so is one that is not there yet
-pub watched_still : (t : Table Node) (es : List Entry) (id : ℕ) → AreCounted t es →
-    option_map_or (λ (e : Entry). nat_lt 0 e.strong) (find (λ (e : Entry). e.id == id) es) true ≡ true → (handles : Handles) →
-    IsStill handles (collection_or_new (forest_of t (shelves_of es)) id)
-watched_still t es id all watched handles =
-    subst (λ (o : Option Collection). IsStill handles (unwrap_or o (record { id = id; nodes = []; buffers = None; held = [] })))
-    (sym (collection_is t id (shelves_of es) ∙ ap (option_map (collection_in t)) (shelf_found id es)))
-    (from (find (λ (e : Entry). e.id == id) es) refl watched)
-  where
-    from : (o : Option Entry) → find (λ (e : Entry). e.id == id) es ≡ o → option_map_or (λ (e : Entry). nat_lt 0 e.strong) o true ≡ true →
-        IsStill handles (unwrap_or (option_map (collection_in t) (option_map shelf_of o))
-        (record { id = id; nodes = []; buffers = None; held = [] }))
-    from None found some = record { rest = λ pool others. refl; out = refl }
-    from (Some e) found some =
-        let counted = found_counted t id es e all found in
-        let strong = strong_lives (nodes_with t e.keys.items) e.strong some counted.strong in
-        record {
-          rest = λ pool others. rests_strong (collection_in t (shelf_of e)) counted.calm strong pool handles others;
-          out = all_out handles (collection_in t (shelf_of e)) strong;
-        }

@@ -1,40 +1,37 @@
 -- A collection of which a handle was dropped: nothing is forced in it, and only one buffer goes home.
-use Rattle.std.proofs.Common.{◌≡◌, ℕ, ◌<◌, ◌==◌, zero, suc, Bool, true, false, ◌||◌, ◌&&◌, not, nat_lt, List, [], ◌∷◌, ◌++◌, map, length, drop, get_or, set, Option, Some, None, option_map, is_none, is_some, refl, sym, ap, subst, ◌∙◌, ◌⊎◌, inl, inr, arith}
+use Rattle.std.proofs.Common.{◌≡◌, ℕ, ◌<◌, ◌==◌, zero, suc, Bool, true, false, ◌||◌, ◌&&◌, not, nat_lt, List, [], ◌∷◌, ◌++◌, map, length, get_or, set, Option, Some, None, option_map, refl, sym, ap, subst, ◌∙◌, ◌⊎◌, inl, inr, arith}
 use Rattle.std.proofs.lemmas.List.{get_or_default}
-use Rattle.std.specs.List.{cons_option, find, filter, list_all, AllByRecursion}
-use Rattle.std.specs.Option.{option_map_or, option_and_then, unwrap_or}
+use Rattle.std.specs.List.{find, filter, list_all, AllByRecursion}
+use Rattle.std.specs.Option.{option_map_or, unwrap_or}
 use Rattle.sm_names.specs.declared.keys.BufferName.{BufferName}
 use Rattle.sm_names.specs.declared.keys.Interval.{Interval}
 use Rattle.sm_names.specs.declared.keys.NodeKey.{NodeKey}
 use Rattle.sm_names.specs.declared.keys.Strength.{Strength}
-use Rattle.sm_names.specs.declared.outcomes.Buffers.{Buffers}
-use Rattle.sm_names.specs.declared.outcomes.Cause.{Cause}
 use Rattle.sm_names.specs.Handles.{is_home}
 use Rattle.sm_names.specs.Members.{some_strong_live}
 use Rattle.sm_names.specs.Sameness.{same_buffer}
 use Rattle.sm_names.specs.declared.keys.HeldBuffer.{HeldBuffer}
-use Rattle.sm_names.specs.Words.{first_some, sorted_by, when}
+use Rattle.sm_names.specs.Words.{sorted_by}
 use Rattle.sm_names.proofs.HandleLaws.{same_buffer-true}
 use Rattle.sm_names.proofs.SamenessLaws.{and_both, and_left, and_right, either_way}
 use Rattle.node_table.specs.Table.{Table, node_at}
-use Rattle.alloc_event.specs.declared.decision.Decision.{Decision}
-use Rattle.alloc_event.specs.declared.decision.Decision.TheVariants.{Ends, Loses}
 use Rattle.alloc_event.specs.declared.entry.Entry.{Entry}
 use Rattle.alloc_event.specs.declared.node.Node.{Node}
 use Rattle.alloc_event.specs.declared.units.Unit.{Unit}
 use Rattle.alloc_event.specs.Calm.{AreCounted, IsCounted}
 use Rattle.alloc_event.specs.Counts.{HasUnits, HaveUnits}
-use Rattle.alloc_event.specs.Decisions.{decided, first_step, has_strong, mark_of}
+use Rattle.alloc_event.specs.Decisions.{decided, has_strong, mark_of}
 use Rattle.alloc_event.specs.Dropped.{are_others_out, are_rest_out, has_given_root}
 use Rattle.alloc_event.specs.Forest.{Collection, all_held, beside, collection_at, pages_in}
-use Rattle.alloc_event.specs.Kept.{Finishes, IsStored, IsWhole, Shelf, Stores, collection_in, forest_of, is_filed, nodes_with, place_in, put_shelf, shelf_of, shelves_of, stored}
+use Rattle.alloc_event.specs.Kept.{Finishes, IsStored, IsWhole, Shelf, Stores, collection_in, forest_of, nodes_with, place_in, put_shelf, shelf_of, shelves_of, stored}
 use Rattle.alloc_event.specs.Nodes.{members_of}
 use Rattle.alloc_event.specs.Parted.{are_parted}
 use Rattle.alloc_event.specs.Questions.{is_root_left}
 use Rattle.alloc_event.specs.Scenes.{by_page, given_few, is_held_strongly, is_out, pages_held}
 use Rattle.alloc_event.specs.Settling.{Handles, Rests, collection_or_new, given_back, put}
-use Rattle.alloc_event.proofs.calm.Calming.{AreNone, none_calm, none_decided}
+use Rattle.alloc_event.proofs.calm.Calming.{none_calm}
 use Rattle.alloc_event.proofs.calm.Forcing.{forced_made}
+use Rattle.alloc_event.proofs.calm.Resting.{root_first, still_decided}
 use Rattle.alloc_event.proofs.calm.Watched.{found_counted, strong_lives, strong_told}
 use Rattle.alloc_event.proofs.changes.Altering.{found_filed, found_put, found_whole}
 use Rattle.alloc_event.proofs.changes.Finishing.{kept-put, whole-map, whole-put, whole-unmap}
@@ -76,68 +73,6 @@ none_goes handles buffer live held stays rest = all_stay (is_out handles live) h
             (same_buffer-true h.buffer buffer is)
             ∙ ap not stays
         one false is out = out
-
--- ---- what is forced
-
--- where all have parents, none is a root
-no_root : (ns : List Node) → list_all (λ (n : Node). is_some n.parent) ns ≡ true → find is_root_left ns ≡ None
-no_root [] all = refl
-no_root (n ∷ ns) all =
-    let other : is_root_left n ≡ false = from n.parent (and_left (is_some n.parent) _ all) in
-    rw other (no_root ns (and_right (is_some n.parent) _ all))
-  where
-    from : (o : Option NodeKey) → is_some o ≡ true → (is_none o && not n.gone) ≡ false
-    from None there = let no : false ≡ true = there in cc
-    from (Some key) there = refl
-
--- only the first node may be a root
-root_first : (t : Table Node) (id : ℕ) (keys : List NodeKey) → list_all (is_filed t id) keys ≡ true →
-    list_all (λ (n : Node). is_some n.parent) (drop 1 (nodes_with t keys)) ≡ true → has_given_root t keys ≡ false →
-    option_map_or (λ (root : Node). root.allocated) (find is_root_left (nodes_with t keys)) false ≡ false
-root_first t id [] filed one none = refl
-root_first t id (k ∷ ks) filed one none = from (node_at t k) (and_left (is_filed t id k) _ filed) one none
-  where
-    from : (o : Option Node) → option_map_or (λ (n : Node). n.collection == id) o false ≡ true →
-        list_all (λ (n : Node). is_some n.parent) (drop 1 (cons_option o (nodes_with t ks))) ≡ true →
-        option_map_or (λ (n : Node). is_root_left n && n.allocated) o false ≡ false →
-        option_map_or (λ (root : Node). root.allocated) (find is_root_left (cons_option o (nodes_with t ks))) false ≡ false
-    from None filed one none = let no : false ≡ true = filed in cc
-    from (Some n) filed one none = elim (either_way (is_root_left n)) [
-      | inl e ↦ let waits : n.allocated ≡ false = rw e at none in rw e waits
-      | inr e ↦
-          rw e (ap (λ (o : Option Node). option_map_or (λ (root : Node). root.allocated) o false) (no_root (nodes_with t ks) one))
-    ]
-
--- none of four
-none_four : (a b c d : Option Decision) → a ≡ None → b ≡ None → c ≡ None → d ≡ None → first_some (a ∷ b ∷ c ∷ d ∷ []) ≡ None
-none_four a b c d ha hb hc hd = rw (ha, hb, hc, hd) refl
-
--- a root without buffers is not abandoned, nor is one of whose buffers a strong handle is open
-kept_root : (strong strong_open : Bool) (o : Option Node) →
-    (option_map_or (λ (root : Node). root.allocated) o false && not strong_open) ≡ false →
-    option_and_then (λ (root : Node). when (root.allocated && (not strong && not strong_open)) (Loses root.key Cause.NoStrong)) o ≡ None
-kept_root strong strong_open None none = refl
-kept_root strong strong_open (Some root) none = from root.allocated strong strong_open none
-  where
-    from : (a s h : Bool) → (a && not h) ≡ false → when (a && (not s && not h)) (Loses root.key Cause.NoStrong) ≡ None
-    from false s h none = refl
-    from true true h none = refl
-    from true false true none = refl
-    from true false false none = let no : true ≡ false = none in cc
-
--- so nothing is forced in a calm collection, where the root is not abandoned
-pub still_decided : (nodes : List Node) (buffers : Option Buffers) (strong_open : Bool) → AreNone nodes buffers →
-    (has_strong nodes ≡ true)
-    ⊎ ((option_map_or (λ (root : Node). root.allocated) (find is_root_left nodes) false && not strong_open) ≡ false) →
-    decided nodes buffers strong_open ≡ None
-still_decided nodes buffers strong_open none (inl strong) =
-    none_decided nodes buffers strong_open (rw strong refl) none
-still_decided nodes buffers strong_open none (inr kept) =
-    none_four _ _ _ _
-    (ap (option_map (λ (n : Node). Ends n.key)) none.no_end)
-    (kept_root (has_strong nodes) strong_open (find is_root_left nodes) kept)
-    (ap (option_map (λ (n : Node). first_step nodes n.key)) none.no_root)
-    none.no_head
 
 -- ---- the entry at its place
 

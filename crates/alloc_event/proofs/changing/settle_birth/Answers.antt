@@ -10,7 +10,7 @@ use Rattle.alloc_event.proofs.newborns.Entries.{on_two}
 use Rattle.alloc_event.proofs.newborns.Newborn.{above_is}
 use Rattle.alloc_event.proofs.newborns.Quiet.{quiet_held, quiet_kept, quiet_ok}
 use Rattle.alloc_event.proofs.tallies.Slots.{birth_id, but_started, or_new_id}
-use Rattle.alloc_event.proofs.calm.Watched.{watched_still}
+use Rattle.alloc_event.proofs.calm.Resting.{watched_still}
 use Rattle.alloc_event.proofs.changing.settle_birth.Goals as goal
 
 -- what two facts of an answer make true of it
@@ -23,15 +23,15 @@ pub bear_counted-requires-clause-still : goal.bear_counted-requires-clause-still
 bear_counted-requires-clause-still c =
     let watched = rw c.deref.ensures.value at c.is_watched.ensures in (
       total c.args.holds.now,
-      watched_still c.args.table.now c.args.entries.now.items c.args.id c.requires.counted (sym watched
-          ∙ c.if-is_watched.true) (total c.args.holds.now),
+      watched_still c.args.table.now c.args.entries.now.items c.args.id c.requires.kept c.requires.counted (total c.args.holds.now)
+          (sym watched ∙ c.if-is_watched.true),
     )
 
 pub returns-then-is_watched-clause-ok : goal.returns-then-is_watched-clause-ok
 returns-then-is_watched-clause-ok c =
     let watched = rw c.deref.ensures.value at c.is_watched.ensures in
-    let still = watched_still c.args.table.now c.args.entries.now.items c.args.id c.requires.counted (sym watched
-    ∙ c.if-is_watched.true) (total c.args.holds.now) in
+    let still = watched_still c.args.table.now c.args.entries.now.items c.args.id c.requires.kept c.requires.counted
+    (total c.args.holds.now) (sym watched ∙ c.if-is_watched.true) in
     let at = above_is c.args.table.now (shelves_of c.args.entries.now.items) c.requires.kept c.args.id c.args.parent c.args.attached
     c.args.client c.args.event c.requires.change in
     by_both c.bear_counted.result c.bear_counted.ensures.bears c.bear_counted.ensures.entries (λ key bears placed.
@@ -42,8 +42,8 @@ returns-then-is_watched-clause-ok c =
 pub returns-then-is_watched-clause-kept : goal.returns-then-is_watched-clause-kept
 returns-then-is_watched-clause-kept c =
     let watched = rw c.deref.ensures.value at c.is_watched.ensures in
-    let still = watched_still c.args.table.now c.args.entries.now.items c.args.id c.requires.counted (sym watched
-    ∙ c.if-is_watched.true) (total c.args.holds.now) in
+    let still = watched_still c.args.table.now c.args.entries.now.items c.args.id c.requires.kept c.requires.counted
+    (total c.args.holds.now) (sym watched ∙ c.if-is_watched.true) in
     let at = above_is c.args.table.now (shelves_of c.args.entries.now.items) c.requires.kept c.args.id c.args.parent c.args.attached
     c.args.client c.args.event c.requires.change in
     on_two c.bear_counted.result c.bear_counted.ensures.bears c.bear_counted.ensures.entries (λ key bears placed.
@@ -54,8 +54,8 @@ returns-then-is_watched-clause-kept c =
 pub returns-then-is_watched-clause-pool : goal.returns-then-is_watched-clause-pool
 returns-then-is_watched-clause-pool c =
     let watched = rw c.deref.ensures.value at c.is_watched.ensures in
-    let still = watched_still c.args.table.now c.args.entries.now.items c.args.id c.requires.counted (sym watched
-    ∙ c.if-is_watched.true) (total c.args.holds.now) in
+    let still = watched_still c.args.table.now c.args.entries.now.items c.args.id c.requires.kept c.requires.counted
+    (total c.args.holds.now) (sym watched ∙ c.if-is_watched.true) in
     let at = above_is c.args.table.now (shelves_of c.args.entries.now.items) c.requires.kept c.args.id c.args.parent c.args.attached
     c.args.client c.args.event c.requires.change in
     on_two c.bear_counted.result c.bear_counted.ensures.bears c.bear_counted.ensures.entries (λ key bears placed.

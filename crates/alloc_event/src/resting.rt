@@ -1,0 +1,23 @@
+//! Whether a collection rests where none of its strong nodes is live.
+ghost use Rattle.std.specs.Prelude.{◌≡◌, true};
+ghost use Rattle.buffer_holds.specs.Counts.{total};
+ghost use Rattle.alloc_event.specs.Kept.{shelf_of};
+ghost use Rattle.alloc_event.specs.Resting.{is_at_rest};
+ghost use Rattle.alloc_event.specs.Scenes.{given_few};
+
+use crate::dropped::is_abandoned;
+use crate::entry::Entry;
+use crate::node::Node;
+use crate::still::are_out;
+use buffer_holds::Holds;
+use node_table::NodeTable;
+
+/// Whether the buffers of the collection are not abandoned and none of those that it holds is home,
+/// where none of its strong nodes is live: then nothing is forced for the want of one. It looks at
+/// the handles of its buffers, of which there are at most 64.
+pub(crate) fn is_at_rest(table: &NodeTable<Node>, entry: &Entry, holds: &Holds) -> bool
+    requires { given_few entry.now.buffers ≡ true }
+    ensures { result ≡ is_at_rest (total holds.now) table.now (shelf_of entry.now) }
+{
+    !is_abandoned(table, entry, holds) && are_out(&entry.held, holds, false)
+}
