@@ -1,5 +1,5 @@
 -- How a forest lies in its table of nodes and its entries. No public clause cites this module.
-use Rattle.std.specs.Prelude.{◌≡◌, ◌≢◌, ℕ, ◌+◌, ◌<◌, Bool, true, false, ◌==◌, ◌&&◌, ◌||◌, not, nat_lt, ⊤, if◌then◌else◌, List, [], ◌∷◌, map, length, reverse, Option, Some, None, option_map, is_some}
+use Rattle.std.specs.Prelude.{◌≡◌, ◌≢◌, ℕ, ◌+◌, ◌<◌, Bool, true, false, ◌==◌, ◌&&◌, ◌||◌, not, nat_lt, ⊤, if◌then◌else◌, List, [], ◌∷◌, map, length, reverse, Option, Some, None, option_map, is_none, is_some}
 use Rattle.std.specs.List.{list_any, list_all, filter_map, flat_map, AllByRecursion}
 use Rattle.std.specs.Option.{option_map_or}
 use Rattle.sm_names.specs.declared.keys.NodeKey.{NodeKey}
@@ -185,6 +185,10 @@ loses_left _ nodes = true
 abbrev pub born : Option Node → Bool → ℕ → ℕ → ℕ → NodeKey → Node
 born None attached id event client key = new_root key id event client
 born (Some above) attached id event client key = new_child attached key event client above
+
+-- the node with this key in place of the one that it was drafted with: it heads its unit if it is a root or attached
+abbrev pub named : NodeKey → Node → Node
+named key n = record n { key = key; head = if is_none n.parent || n.attached then key else n.head }
 
 -- the key was given to no node before, and to this one now
 pub record Gives (old new : Table Node) (key : NodeKey) : Type 0 where

@@ -6,6 +6,7 @@ pub mod abandoned;
 mod all_lost;
 pub mod allocating;
 pub mod asks;
+mod bearing;
 pub mod births;
 mod by_counts;
 pub mod change;

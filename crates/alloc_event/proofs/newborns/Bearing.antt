@@ -1,5 +1,6 @@
 -- A node that is born: what the table has, and what stays true.
-use Rattle.std.proofs.Common.{◌≡◌, ℕ, ◌+◌, nat_lt, nat_le, Bool, true, false, length, Option, Some, None, option_map, cond, if◌then◌else◌, refl, sym, ap, ◌∙◌, inl, inr, arith}
+use Rattle.std.proofs.Common.{◌≡◌, ℕ, ◌+◌, nat_lt, nat_le, Bool, true, false, length, Option, Some, None, option_map, cond, if◌then◌else◌, refl, sym, ap, subst, ◌∙◌, inl, inr, Result, Ok, Err, IfOk, arith}
+use Rattle.std.specs.Option.{option_map_or}
 use Rattle.std.proofs.lemmas.Bool.{ne_eqb, lt-ltb, le-leb, false≢true, cases_eq}
 use Rattle.std.proofs.lemmas.List.{get_or_past}
 use Rattle.sm_names.specs.declared.keys.NodeKey.{NodeKey}
@@ -9,7 +10,7 @@ use Rattle.node_table.specs.Changes.{Births, Writes, at_parent, with_child}
 use Rattle.node_table.specs.Lending.{table_with_node}
 use Rattle.node_table.proofs.Keys.{key_cases, same_key-true, same_key-false}
 use Rattle.alloc_event.specs.declared.node.Node.{Node}
-use Rattle.alloc_event.specs.Kept.{Bears, born}
+use Rattle.alloc_event.specs.Kept.{Bears, born, named}
 use Rattle.alloc_event.proofs.tables.Writing.{look-written, parents-written}
 
 -- ---- the table
@@ -99,3 +100,25 @@ pub born_parent : (above : Option Node) (attached : Bool) (id event client : ℕ
     (born above attached id event client key).parent ≡ option_map (λ (n : Node). n.key) above
 born_parent None attached id event client key = refl
 born_parent (Some above) attached id event client key = refl
+
+-- it is as weak as the one above
+pub born_weak : (above : Option Node) (attached : Bool) (id event client : ℕ) (key : NodeKey) →
+    (born above attached id event client key).weak ≡ option_map_or (λ (n : Node). n.weak) above false
+born_weak None attached id event client key = refl
+born_weak (Some above) attached id event client key = refl
+
+-- a draft that is given its key is the node
+pub born_named : (above : Option Node) (attached : Bool) (id event client : ℕ) (any key : NodeKey) →
+    named key (born above attached id event client any) ≡ born above attached id event client key
+born_named None attached id event client any key = refl
+born_named (Some above) true id event client any key = refl
+born_named (Some above) false id event client any key = refl
+
+-- so it is born
+pub named_bears : {E : Type 0} (t now : Table Node) (above : Option Node) (attached : Bool) (id event client : ℕ) (any : NodeKey) (draft : Node) →
+    draft ≡ born above attached id event client any → (result : Result NodeKey E) →
+    IfOk result (λ key. Bears t now (named key draft)) →
+    IfOk result (λ key. Bears t now (born above attached id event client key))
+named_bears t now above attached id event client any draft is (Ok key) bears =
+    subst (Bears t now) (ap (named key) is ∙ born_named above attached id event client any key) bears
+named_bears t now above attached id event client any draft is (Err e) bears = bears

@@ -2,7 +2,7 @@
 use Rattle.alloc_event.specs.Kept.{shelves_of}
 use Rattle.alloc_event.proofs.newborns.Units.{newborn_units}
 use Rattle.alloc_event.proofs.newborns.Newborn.{above_is}
-use Rattle.alloc_event.proofs.changing.bear_counted.Goals as goal
+use Rattle.alloc_event.proofs.bearing.bear_counted.Goals as goal
 
 pub returns-clause-units : goal.returns-clause-units
 returns-clause-units c =

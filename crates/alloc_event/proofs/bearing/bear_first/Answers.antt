@@ -4,7 +4,7 @@ use Rattle.alloc_event.specs.declared.entry.Entry.{Entry}
 use Rattle.alloc_event.specs.Calm.{put_in}
 use Rattle.alloc_event.specs.Kept.{shelf_of}
 use Rattle.alloc_event.specs.Still.{no_shelf, shelf_with}
-use Rattle.alloc_event.proofs.changing.bear_first.Goals as goal
+use Rattle.alloc_event.proofs.bearing.bear_first.Goals as goal
 
 pub returns-clause-entries : goal.returns-clause-entries
 returns-clause-entries c =
@@ -13,7 +13,7 @@ returns-clause-entries c =
       keys = c.push.new.self;
       buffers = None;
       held = c.new.result;
-      strong = c.strong_below-strong.result;
+      strong = c.strong_with-strong.result;
       reserved = 0;
       tidy = true;
       one = None;
@@ -22,4 +22,4 @@ returns-clause-entries c =
     let held : c.new.result.items ≡ [] = c.new.ensures.items in
     let shelf : shelf_of new ≡ shelf_with (no_shelf c.args.id) c.in_ok-key.key =
     λ i. record { id = c.args.id; keys = items i; buffers = None; held = held i } in
-    (new, c.put_entry.ensures.items ∙ ap (put_in new) c.reserve.ensures.items, shelf, c.strong_below-strong.ensures, refl)
+    (new, c.put_entry.ensures.items ∙ ap (put_in new) c.reserve.ensures.items, shelf, c.strong_with-strong.ensures, refl)

@@ -1,18 +1,30 @@
 -- The node is born among those of its collection, or is its first.
-use Rattle.std.proofs.Common.{◌≡◌, ℕ, ◌==◌, Option, Some, None, option_map, option_copied, sym, ◌∙◌, ap, subst, IfOk, arith}
+use Rattle.std.proofs.Common.{◌≡◌, ℕ, ◌==◌, Bool, List, Option, Some, None, option_map, IfSome, IsSome, sym, ◌∙◌, ap, subst, arith}
 use Rattle.std.specs.List.{find}
 use Rattle.std.specs.Option.{option_and_then}
-use Rattle.node_table.specs.Table.{node_at}
+use Rattle.sm_names.specs.declared.keys.NodeKey.{NodeKey}
+use Rattle.node_table.specs.Table.{Table, node_at, row_at}
+use Rattle.alloc_event.specs.declared.change.Change.{Change}
 use Rattle.alloc_event.specs.declared.entry.Entry.{Entry}
 use Rattle.alloc_event.specs.declared.node.Node.{Node}
-use Rattle.alloc_event.specs.Kept.{Bears, born, place_in, shelf_of, shelves_of}
+use Rattle.alloc_event.specs.Kept.{IsStored, Shelf, born, forest_of, place_in, shelf_of, shelves_of}
+use Rattle.alloc_event.specs.Settling.{MayChange, no_key}
+use Rattle.alloc_event.proofs.newborns.Bearing.{born_parent, born_weak, named_bears}
 use Rattle.alloc_event.proofs.newborns.Entries.{among_counted, among_shelves, by_two, first_counted, first_shelves, on_three, on_two, refused_counted, refused_shelves, refused_two}
 use Rattle.alloc_event.proofs.shelves.Counted.{count_few}
 use Rattle.alloc_event.proofs.shelves.Entries.{IsPlace, none_in, place_is}
 use Rattle.alloc_event.proofs.newborns.Newborn.{above_is, above_key, above_there}
 use Rattle.alloc_event.proofs.shelves.Showing.{filed_found, shelf_found}
 use Rattle.alloc_event.proofs.calm.Watched.{found_counted}
-use Rattle.alloc_event.proofs.changing.bear_still.Goals as goal
+use Rattle.alloc_event.proofs.bearing.bear_still.Goals as goal
+
+-- the draft has the one above as its parent
+up : (t : Table Node) (ss : List Shelf) → IsStored t ss → (id : ℕ) (parent : Option NodeKey) (attached : Bool) (client event : ℕ) →
+    MayChange (forest_of t ss) id (Change.Birth parent attached client event) →
+    (born (option_and_then (node_at t) parent) attached id event client no_key).parent ≡ parent
+up t ss kept id parent attached client event may =
+    born_parent (option_and_then (node_at t) parent) attached id event client no_key
+    ∙ above_key t ss kept id parent _ (above_is t ss kept id parent attached client event may)
 
 pub index_mut-requires : goal.index_mut-requires
 index_mut-requires c =
@@ -22,16 +34,12 @@ index_mut-requires c =
 
 pub bear_among-requires-clause-parent : goal.bear_among-requires-clause-parent
 bear_among-requires-clause-parent c =
-    above_there c.args.table.now (shelves_of c.args.entries.now.items) c.args.id c.args.parent _
-    (above_is c.args.table.now (shelves_of c.args.entries.now.items) c.requires.kept c.args.id c.args.parent c.args.attached c.args.client
-    c.args.event c.requires.change)
-
-pub bear_among-requires-clause-above : goal.bear_among-requires-clause-above
-bear_among-requires-clause-above c =
-    ap (option_map (λ (n : Node). n.key)) (c.as_ref.ensures.value ∙ c.copied-above.ensures ∙ c.above_in.ensures)
-    ∙ above_key c.args.table.now (shelves_of c.args.entries.now.items) c.requires.kept c.args.id c.args.parent _
-    (above_is c.args.table.now (shelves_of c.args.entries.now.items) c.requires.kept c.args.id c.args.parent c.args.attached c.args.client
-    c.args.event c.requires.change)
+    subst (λ (o : Option NodeKey). IfSome o (λ p. IsSome (row_at c.args.table.now p))) (sym (ap (λ (n : Node). n.parent)
+    c.drafted-draft.ensures ∙ up c.args.table.now (shelves_of c.args.entries.now.items) c.requires.kept c.args.id c.args.parent
+    c.args.attached c.args.client c.args.event c.requires.change))
+    (above_there c.args.table.now (shelves_of c.args.entries.now.items) c.args.id c.args.parent _
+    (above_is c.args.table.now (shelves_of c.args.entries.now.items) c.requires.kept c.args.id c.args.parent c.args.attached
+    c.args.client c.args.event c.requires.change))
 
 pub bear_among-requires-clause-few : goal.bear_among-requires-clause-few
 bear_among-requires-clause-few c =
@@ -48,33 +56,18 @@ bear_among-requires-clause-few c =
 
 pub bear_first-requires-clause-parent : goal.bear_first-requires-clause-parent
 bear_first-requires-clause-parent c =
-    above_there c.args.table.now (shelves_of c.args.entries.now.items) c.args.id c.args.parent _
-    (above_is c.args.table.now (shelves_of c.args.entries.now.items) c.requires.kept c.args.id c.args.parent c.args.attached c.args.client
-    c.args.event c.requires.change)
-
-pub bear_first-requires-clause-above : goal.bear_first-requires-clause-above
-bear_first-requires-clause-above c =
-    ap (option_map (λ (n : Node). n.key)) (c.as_ref-in-None.ensures.value ∙ c.copied-above.ensures ∙ c.above_in.ensures)
-    ∙ above_key c.args.table.now (shelves_of c.args.entries.now.items) c.requires.kept c.args.id c.args.parent _
-    (above_is c.args.table.now (shelves_of c.args.entries.now.items) c.requires.kept c.args.id c.args.parent c.args.attached c.args.client
-    c.args.event c.requires.change)
+    subst (λ (o : Option NodeKey). IfSome o (λ p. IsSome (row_at c.args.table.now p))) (sym (ap (λ (n : Node). n.parent)
+    c.drafted-draft.ensures ∙ up c.args.table.now (shelves_of c.args.entries.now.items) c.requires.kept c.args.id c.args.parent
+    c.args.attached c.args.client c.args.event c.requires.change))
+    (above_there c.args.table.now (shelves_of c.args.entries.now.items) c.args.id c.args.parent _
+    (above_is c.args.table.now (shelves_of c.args.entries.now.items) c.requires.kept c.args.id c.args.parent c.args.attached
+    c.args.client c.args.event c.requires.change))
 
 -- the node is born as the contract says it
 pub returns-in-Some-clause-bears : goal.returns-in-Some-clause-bears
 returns-in-Some-clause-bears c =
-    let told : place_in c.args.id c.args.entries.now.items ≡ Some c.in-Some.at =
-    sym (rw c.deref.ensures.value at c.place_of.ensures) ∙ c.in-Some.is in
-    let old : Entry = c.index_mut.result.now in
-    let own : old.id ≡ c.args.id =
-    ap (λ (e : Entry). e.id) c.index_mut.ensures.value ∙ (place_is c.args.id c.args.entries.now.items c.in-Some.at told).id_is old in
-    let above : option_copied c.as_ref.result ≡ option_and_then (node_at c.args.table.now) c.args.parent =
-    c.as_ref.ensures.value ∙ c.copied-above.ensures ∙ c.above_in.ensures in
-    subst (λ (o : Option Node). IfOk c.bear_among.result (λ key.
-    Bears c.args.table.now c.bear_among.new.table (born o c.args.attached c.args.id c.args.event c.args.client key))) above
-    (subst (λ (i : ℕ). IfOk c.bear_among.result (λ key.
-    Bears c.args.table.now c.bear_among.new.table (born (option_copied c.as_ref.result) c.args.attached i c.args.event c.args.client
-    key))) own
-    c.bear_among.ensures.ok)
+    named_bears c.args.table.now c.bear_among.new.table _ c.args.attached c.args.id c.args.event c.args.client _ c.drafted-draft.result
+    c.drafted-draft.ensures c.bear_among.result c.bear_among.ensures.ok
 
 pub returns-in-Some-clause-entries : goal.returns-in-Some-clause-entries
 returns-in-Some-clause-entries c =
@@ -89,8 +82,8 @@ pub returns-in-Some-clause-counted : goal.returns-in-Some-clause-counted
 returns-in-Some-clause-counted c =
     let told : place_in c.args.id c.args.entries.now.items ≡ Some c.in-Some.at =
     sym (rw c.deref.ensures.value at c.place_of.ensures) ∙ c.in-Some.is in
-    let above : option_copied c.as_ref.result ≡ option_and_then (node_at c.args.table.now) c.args.parent =
-    c.as_ref.ensures.value ∙ c.copied-above.ensures ∙ c.above_in.ensures in
+    let weak = ap (λ (n : Node). n.weak) c.drafted-draft.ensures
+    ∙ born_weak (option_and_then (node_at c.args.table.now) c.args.parent) c.args.attached c.args.id c.args.event c.args.client no_key in
     on_three c.bear_among.result (returns-in-Some-clause-bears c) c.bear_among.ensures.shelf c.bear_among.ensures.strong
     (λ key bears shelf strong.
     among_counted c.args.table.now c.args.entries.now.items c.requires.kept c.requires.counted c.args.id c.in-Some.at told
@@ -99,7 +92,7 @@ returns-in-Some-clause-counted c =
     c.bear_among.new.table c.args.parent c.args.attached c.args.client c.args.event _
     (above_is c.args.table.now (shelves_of c.args.entries.now.items) c.requires.kept c.args.id c.args.parent c.args.attached c.args.client
     c.args.event c.requires.change)
-    bears c.requires.still.0 c.requires.still.1 (rw above at strong) c.bear_among.ensures.reserved c.bear_among.ensures.tidy
+    bears c.requires.still.0 c.requires.still.1 (rw weak at strong) c.bear_among.ensures.reserved c.bear_among.ensures.tidy
     c.bear_among.ensures.one)
 
 pub returns-in-Some-clause-err_entries : goal.returns-in-Some-clause-err_entries
@@ -123,11 +116,8 @@ returns-in-Some-clause-err_counted c =
 -- so where it is the first
 pub returns-in-None-clause-bears : goal.returns-in-None-clause-bears
 returns-in-None-clause-bears c =
-    let above : option_copied c.as_ref-in-None.result ≡ option_and_then (node_at c.args.table.now) c.args.parent =
-    c.as_ref-in-None.ensures.value ∙ c.copied-above.ensures ∙ c.above_in.ensures in
-    subst (λ (o : Option Node). IfOk c.bear_first.result (λ key.
-    Bears c.args.table.now c.bear_first.new.table (born o c.args.attached c.args.id c.args.event c.args.client key))) above
-    c.bear_first.ensures.ok
+    named_bears c.args.table.now c.bear_first.new.table _ c.args.attached c.args.id c.args.event c.args.client _ c.drafted-draft.result
+    c.drafted-draft.ensures c.bear_first.result c.bear_first.ensures.ok
 
 pub returns-in-None-clause-entries : goal.returns-in-None-clause-entries
 returns-in-None-clause-entries c =
@@ -139,12 +129,12 @@ returns-in-None-clause-entries c =
 pub returns-in-None-clause-counted : goal.returns-in-None-clause-counted
 returns-in-None-clause-counted c =
     let told : place_in c.args.id c.args.entries.now.items ≡ None = sym (rw c.deref.ensures.value at c.place_of.ensures) ∙ c.in-None.is in
-    let above : option_copied c.as_ref-in-None.result ≡ option_and_then (node_at c.args.table.now) c.args.parent =
-    c.as_ref-in-None.ensures.value ∙ c.copied-above.ensures ∙ c.above_in.ensures in
+    let weak = ap (λ (n : Node). n.weak) c.drafted-draft.ensures
+    ∙ born_weak (option_and_then (node_at c.args.table.now) c.args.parent) c.args.attached c.args.id c.args.event c.args.client no_key in
     on_two c.bear_first.result (returns-in-None-clause-bears c) c.bear_first.ensures.entries (λ key bears e.
     rw e.1 (first_counted c.args.table.now c.args.entries.now.items c.requires.kept c.requires.counted c.args.id
     (none_in c.args.id c.args.entries.now.items told) key e.0 e.2
     c.bear_first.new.table c.args.parent c.args.attached c.args.client c.args.event _
     (above_is c.args.table.now (shelves_of c.args.entries.now.items) c.requires.kept c.args.id c.args.parent c.args.attached c.args.client
     c.args.event c.requires.change)
-    bears c.requires.still.0 c.requires.still.1 (rw above at e.3) e.4))
+    bears c.requires.still.0 c.requires.still.1 (rw weak at e.3) e.4))

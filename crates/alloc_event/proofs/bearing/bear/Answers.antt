@@ -1,0 +1,16 @@
+-- The node is stored under the key, and then knows it.
+use Rattle.std.proofs.Common.{◌≡◌, Some, option_map, refl, ap}
+use Rattle.node_table.specs.Table.{Row, node_at}
+use Rattle.alloc_event.specs.declared.node.Node.{Node}
+use Rattle.alloc_event.specs.Kept.{named}
+use Rattle.alloc_event.proofs.newborns.Bearing.{bears_node}
+use Rattle.alloc_event.proofs.bearing.bear.Goals as goal
+
+pub returns-clause-ok : goal.returns-clause-ok
+returns-clause-ok c =
+    let births = c.in_ok-key.ensures.ok in
+    let there : node_at c.insert_copy.new.table c.in_ok-key.key ≡ Some c.args.draft.now =
+    ap (option_map (λ (row : Row Node). row.node)) births.born in
+    bears_node c.args.table.now c.insert_copy.new.table c.name_at.new.table c.args.draft.now.parent c.args.draft.now
+    (named c.in_ok-key.key c.args.draft.now) c.requires.first refl births
+    (c.name_at.ensures.becomes c.args.draft.now there) (c.name_at.ensures.writes c.args.draft.now there)

@@ -1,0 +1,269 @@
+//! The births of nodes, where nothing else changes with them.
+ghost use Rattle.std.specs.Prelude.{◌≡◌, ◌≤◌, ◌+◌, ◌<◌, vec_len, vec_capacity, if◌then◌else◌, None, IfOk, IfSome, IsSome, OnOk, OnErr, length, option_copied};
+ghost use Rattle.std.specs.Option.{option_and_then};
+ghost use Rattle.node_table.specs.Changes.{Births, Writes};
+ghost use Rattle.node_table.specs.Lending.{table_with_node};
+ghost use Rattle.node_table.specs.Table.{row_at, node_at};
+ghost use Rattle.alloc_event.specs.declared.entry.Entry.{Entry as Kept};
+ghost use Rattle.alloc_event.specs.declared.node.Node.{Node as KeptNode};
+ghost use Rattle.alloc_event.specs.Calm.{AreCounted, put_in};
+ghost use Rattle.alloc_event.specs.Counts.{HaveUnits};
+ghost use Rattle.alloc_event.specs.Kept.{AreRising, Bears, IsStored, born, forest_of, named, put_shelf, shelf_of, shelves_of};
+ghost use Rattle.alloc_event.specs.Settling.{Handles, MayChange, collection_or_new, no_key};
+ghost use Rattle.alloc_event.specs.Still.{IsStill, no_shelf, shelf_before, shelf_with};
+
+use crate::births::{new_child, new_root};
+use crate::change::Change;
+use crate::entry::{Entry, place_of};
+use crate::key_list::KeyList;
+use crate::node::Node;
+use crate::store::put_entry;
+use crate::units::{Unit, bound, count_at, start};
+use node_table::NodeTable;
+use sm_names::{ClientId, CollectionId, NoMemory, NodeKey};
+
+// The key of a node that was given none yet.
+const NO_KEY: NodeKey = NodeKey {
+    slot: 0,
+    generation: 0,
+};
+
+/// A node that is to be born, without its key: a child of the parent, or a root of the collection.
+pub(crate) fn drafted(
+    table: &NodeTable<Node>,
+    parent: Option<NodeKey>,
+    attached: bool,
+    id: CollectionId,
+    event: u64,
+    client: ClientId,
+) -> Node
+    ensures { result ≡ born (option_and_then (node_at table.now) parent) attached id event client no_key }
+{
+    if let Some(parent) = parent {
+        if let Some(above) = table.get(parent) {
+            return new_child(attached, NO_KEY, event, client, above);
+        }
+    }
+    new_root(NO_KEY, id, event, client)
+}
+
+/// The node is given its key. It heads its unit, if it is a root or attached.
+fn name(node: &mut Node, key: NodeKey)
+    ensures { node.new ≡ named key node.old }
+{
+    node.key = key;
+    if node.parent.is_none() || node.attached {
+        node.head = key;
+    }
+}
+
+/// The node with its key.
+pub(crate) fn named(draft: &Node, key: NodeKey) -> Node
+    ensures { result ≡ named key draft.now }
+{
+    let mut node = *draft;
+    name(&mut node, key);
+    node
+}
+
+/// The node is given its key in the table.
+fn name_at(table: &mut NodeTable<Node>, key: NodeKey)
+    ensures becomes { (n : KeptNode) → node_at table.old key ≡ Some n → table.new ≡ table_with_node table.old key (named key n) }
+    ensures writes { (n : KeptNode) → node_at table.old key ≡ Some n → Writes table.old table.new key (named key n) }
+{
+    if let Some(node) = table.get_mut(key) {
+        name(node, key);
+    }
+}
+
+/// Stores the node under a key that was never given.
+fn insert<N: Drop>(
+    table: &mut NodeTable<N>,
+    parent: Option<NodeKey>,
+    node: N,
+) -> Result<NodeKey, NoMemory>
+    requires { IfSome parent (λ p. IsSome (row_at table.old p)) }
+    ensures ok { IfOk result (Births table.old table.new parent node) }
+    ensures err { OnErr result (table.new ≡ table.old) }
+{
+    match table.insert(parent, node) {
+        Ok(key) => Ok(key),
+        Err(_) => Err(NoMemory),
+    }
+}
+
+/// Stores a copy of the node so.
+fn insert_copy(
+    table: &mut NodeTable<Node>,
+    parent: Option<NodeKey>,
+    node: &Node,
+) -> Result<NodeKey, NoMemory>
+    requires { IfSome parent (λ p. IsSome (row_at table.old p)) }
+    ensures ok { IfOk result (Births table.old table.new parent node.now) }
+    ensures err { OnErr result (table.new ≡ table.old) }
+{
+    insert(table, parent, Node { ..*node })
+}
+
+/// One more node in the table, which is given its key.
+pub(crate) fn bear(table: &mut NodeTable<Node>, draft: &Node) -> Result<NodeKey, NoMemory>
+    requires first { table.old.first ≡ 0 }
+    requires parent { IfSome draft.now.parent (λ p. IsSome (row_at table.old p)) }
+    ensures ok { IfOk result (λ key. Bears table.old table.new (named key draft.now)) }
+    ensures err { OnErr result (table.new ≡ table.old) }
+{
+    let key = insert_copy(table, draft.parent, draft)?;
+    name_at(table, key);
+    Ok(key)
+}
+
+/// How many strong nodes the node adds.
+fn strong_with(draft: &Node) -> usize
+    ensures { result ≡ (if draft.now.weak then 0 else 1) }
+{
+    if draft.weak { 0 } else { 1 }
+}
+
+/// One more node of a collection that is there. `NoMemory` leaves the table as it was, and of the
+/// entry all but its room.
+fn bear_among(
+    table: &mut NodeTable<Node>,
+    entry: &mut Entry,
+    draft: &Node,
+) -> Result<NodeKey, NoMemory>
+    requires first { table.old.first ≡ 0 }
+    requires parent { IfSome draft.now.parent (λ p. IsSome (row_at table.old p)) }
+    requires few { entry.old.strong ≤ length entry.old.keys.items }
+    ensures ok { IfOk result (λ key. Bears table.old table.new (named key draft.now)) }
+    ensures err { OnErr result (table.new ≡ table.old) }
+    ensures shelf { IfOk result (λ key. shelf_of entry.new ≡ shelf_with (shelf_of entry.old) key) }
+    ensures strong { OnOk result (entry.new.strong ≡ entry.old.strong + (if draft.now.weak then 0 else 1)) }
+    ensures err_shelf { OnErr result (shelf_of entry.new ≡ shelf_of entry.old) }
+    ensures err_strong { OnErr result (entry.new.strong ≡ entry.old.strong) }
+    ensures reserved { entry.new.reserved ≡ entry.old.reserved }
+    ensures id { entry.new.id ≡ entry.old.id }
+    ensures tidy { entry.new.tidy ≡ entry.old.tidy }
+    ensures one { entry.new.one ≡ entry.old.one }
+{
+    if entry.keys.reserve_one().is_err() {
+        return Err(NoMemory);
+    }
+    let key = bear(table, draft)?;
+    entry.keys.push(key);
+    entry.strong += strong_with(draft);
+    Ok(key)
+}
+
+/// The first node of a collection that is not there yet. `NoMemory` leaves the table and the
+/// entries as they were.
+fn bear_first(
+    table: &mut NodeTable<Node>,
+    entries: &mut Vec<Entry>,
+    id: CollectionId,
+    draft: &Node,
+) -> Result<NodeKey, NoMemory>
+    requires rising { AreRising (shelves_of entries.old.items) }
+    requires first { table.old.first ≡ 0 }
+    requires parent { IfSome draft.now.parent (λ p. IsSome (row_at table.old p)) }
+    ensures ok { IfOk result (λ key. Bears table.old table.new (named key draft.now)) }
+    ensures err { OnErr result (table.new ≡ table.old) }
+    ensures entries { IfOk result (λ key. (e : Kept) × (entries.new.items ≡ put_in e entries.old.items)
+        × (shelf_of e ≡ shelf_with (no_shelf id) key)
+        × (e.strong ≡ (if draft.now.weak then 0 else 1))
+        × (e.reserved ≡ 0)) }
+    ensures err_entries { OnErr result (entries.new.items ≡ entries.old.items) }
+{
+    let alloc = *entries.allocator();
+    let mut keys = KeyList::new(alloc);
+    if keys.reserve_one().is_err() || entries.reserve(1).is_err() {
+        return Err(NoMemory);
+    }
+    let strong = strong_with(draft);
+    let key = bear(table, draft)?;
+    keys.push(key);
+    put_entry(
+        entries,
+        Entry {
+            id,
+            keys,
+            buffers: None,
+            held: Vec::new(alloc),
+            strong,
+            reserved: 0,
+            tidy: true,
+            one: None,
+        },
+    );
+    Ok(key)
+}
+
+/// The birth of a node, where nothing else changes with it. `NoMemory` leaves the table as it was,
+/// and of the entries all but their room. It costs a constant and a binary search, growth spread
+/// over the births, and for a root the shift of the entries behind it.
+pub(crate) fn bear_still(
+    table: &mut NodeTable<Node>,
+    entries: &mut Vec<Entry>,
+    id: CollectionId,
+    parent: Option<NodeKey>,
+    attached: bool,
+    client: ClientId,
+    event: u64,
+) -> Result<NodeKey, NoMemory>
+    requires kept { IsStored table.old (shelves_of entries.old.items) }
+    requires counted { AreCounted table.old entries.old.items }
+    requires change { MayChange (forest_of table.old (shelves_of entries.old.items)) id (Change.Birth parent attached client event) }
+    requires still { (handles : Handles) × IsStill handles
+        (collection_or_new (forest_of table.old (shelves_of entries.old.items)) id) }
+    ensures bears { IfOk result (λ key. Bears table.old table.new
+        (born (option_and_then (node_at table.old) parent) attached id event client key)) }
+    ensures entries { IfOk result (λ key. shelves_of entries.new.items
+        ≡ put_shelf (shelf_with (shelf_before id (shelves_of entries.old.items)) key) (shelves_of entries.old.items)) }
+    ensures counted { OnOk result (AreCounted table.new entries.new.items) }
+    ensures err_counted { OnErr result (AreCounted table.old entries.new.items) }
+    ensures err_table { OnErr result (table.new ≡ table.old) }
+    ensures err_entries { OnErr result (shelves_of entries.new.items ≡ shelves_of entries.old.items) }
+{
+    let draft = drafted(table, parent, attached, id, event, client);
+    match place_of(entries, id) {
+        Some(at) => bear_among(table, &mut entries[at], &draft),
+        None => bear_first(table, entries, id, &draft),
+    }
+}
+
+/// The birth of a node, where nothing else changes with it, counted for its unit. `NoMemory` leaves
+/// the table as it was, and of the entries and the units all but their room. It costs a constant
+/// and a binary search, growth spread over the births, and for a root the shift of the entries
+/// behind it.
+pub(crate) fn bear_counted(
+    table: &mut NodeTable<Node>,
+    entries: &mut Vec<Entry>,
+    units: &mut Vec<Unit>,
+    id: CollectionId,
+    parent: Option<NodeKey>,
+    attached: bool,
+    client: ClientId,
+    event: u64,
+) -> Result<NodeKey, NoMemory>
+    requires kept { IsStored table.old (shelves_of entries.old.items) }
+    requires counted { AreCounted table.old entries.old.items }
+    requires units { HaveUnits units.old.items table.old entries.old.items }
+    requires room { vec_len units.old < vec_capacity units.old }
+    requires change { MayChange (forest_of table.old (shelves_of entries.old.items)) id (Change.Birth parent attached client event) }
+    requires still { (handles : Handles) × IsStill handles
+        (collection_or_new (forest_of table.old (shelves_of entries.old.items)) id) }
+    ensures bears { IfOk result (λ key. Bears table.old table.new
+        (born (option_and_then (node_at table.old) parent) attached id event client key)) }
+    ensures entries { IfOk result (λ key. shelves_of entries.new.items
+        ≡ put_shelf (shelf_with (shelf_before id (shelves_of entries.old.items)) key) (shelves_of entries.old.items)) }
+    ensures counted { OnOk result (AreCounted table.new entries.new.items) }
+    ensures units { HaveUnits units.new.items table.new entries.new.items }
+    ensures err_counted { OnErr result (AreCounted table.old entries.new.items) }
+    ensures err_table { OnErr result (table.new ≡ table.old) }
+    ensures err_entries { OnErr result (shelves_of entries.new.items ≡ shelves_of entries.old.items) }
+{
+    let key = bear_still(table, entries, id, parent, attached, client, event)?;
+    bound(table);
+    start(units, key.slot as usize);
+    count_at(units, table, key);
+    Ok(key)
+}
