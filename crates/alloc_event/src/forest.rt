@@ -18,9 +18,9 @@ use crate::changing::{settle_birth, settle_change};
 use crate::dropped::settle_dropped;
 use crate::entry::{Entry, entry_of, place_of};
 use crate::forgetting::{forget_over, note_over, take_out};
-use crate::kept::{held_by_page, is_over, live_by_birth};
+use crate::kept::{held_by_page, live_by_birth};
 use crate::node::{End, Node};
-use crate::store::write;
+use crate::store::put_end;
 use crate::summary::Summary;
 use crate::units::Unit;
 use buffer_holds::Holds;
@@ -238,10 +238,8 @@ impl Forest {
         requires { is_some (node_at self.old key) ≡ true }
         ensures { self.new ≡ on_collections (with_nodes (map (with_end key end))) self.old }
     {
-        if let Some(node) = self.table.get(key).copied() {
-            let after = Node { end, ..node };
-            note_over(&mut self.entries, node.collection, key, is_over(&after));
-            write(&mut self.table, after);
+        if let Some((id, over)) = put_end(&mut self.table, key, end) {
+            note_over(&mut self.entries, id, key, over);
         }
     }
 

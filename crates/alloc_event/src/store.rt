@@ -1,5 +1,5 @@
 //! Collections as they are taken out of the table, and put back.
-ghost use Rattle.std.specs.Prelude.{◌≡◌, true, map, IfOk, OnErr, OnOk, IsSome, Some, vec_len, vec_capacity, ◌<◌};
+ghost use Rattle.std.specs.Prelude.{◌≡◌, true, map, IfOk, OnErr, OnOk, IsSome, Some, None, vec_len, vec_capacity, ◌<◌};
 ghost use Rattle.sm_names.specs.declared.keys.NodeKey.{NodeKey as Key};
 ghost use Rattle.node_table.specs.Table.{row_at, node_at};
 ghost use Rattle.node_table.specs.Changes.{Writes};
@@ -7,14 +7,16 @@ ghost use Rattle.node_table.specs.Lending.{table_with_node};
 ghost use Rattle.alloc_event.specs.declared.node.Node.{Node as Kept};
 ghost use Rattle.alloc_event.specs.Calm.{put_in};
 ghost use Rattle.alloc_event.specs.Kept.{Stores, have_places, collection_in, shelf_of, shelves_of, put_shelf, nodes_with, AreRising};
+ghost use Rattle.alloc_event.specs.Nodes.{is_over};
 ghost use Rattle.alloc_event.specs.Scenes.{collection_of};
 
 use crate::entry::{Entry, entries_before, place_of};
+use crate::kept::is_over;
 use crate::key_list::KeyList;
-use crate::node::Node;
+use crate::node::{End, Node};
 use crate::scene::Scene;
 use node_table::NodeTable;
-use sm_names::{HeldBuffer, NodeKey};
+use sm_names::{CollectionId, HeldBuffer, NodeKey};
 use std::alloc::{AllocError, Global};
 
 /// Puts the node in the place of the one with its key.
@@ -25,6 +27,27 @@ pub(crate) fn write(table: &mut NodeTable<Node>, node: Node)
 {
     if let Some(place) = table.get_mut(node.key) {
         *place = node;
+    }
+}
+
+/// Puts the end of the node with this key. Answers the node's collection, and whether it is over
+/// then.
+pub(crate) fn put_end(
+    table: &mut NodeTable<Node>,
+    key: NodeKey,
+    end: End,
+) -> Option<(CollectionId, bool)>
+    ensures none { result ≡ None → node_at table.old key ≡ None }
+    ensures told { (n : Kept) → node_at table.old key ≡ Some n → result ≡ Some (n.collection, is_over (record n { end = end })) }
+    ensures becomes { (n : Kept) → node_at table.old key ≡ Some n → table.new ≡ table_with_node table.old key (record n { end = end }) }
+    ensures writes { (n : Kept) → node_at table.old key ≡ Some n → Writes table.old table.new key (record n { end = end }) }
+{
+    match table.get_mut(key) {
+        Some(node) => {
+            node.end = end;
+            Some((node.collection, is_over(node)))
+        }
+        None => None,
     }
 }
 

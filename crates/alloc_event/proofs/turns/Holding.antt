@@ -39,7 +39,7 @@ AreHeld nodes falls = (m : Node) → In m nodes → (is_none m.parent || m.attac
 
 -- ---- what is found
 
-found_some : {A : Type 0} (o : Option A) → is_some o ≡ true → (x : A) × (o ≡ Some x)
+pub found_some : {A : Type 0} (o : Option A) → is_some o ≡ true → (x : A) × (o ≡ Some x)
 found_some None h = cc
 found_some (Some x) h = (x, refl)
 

@@ -1,61 +1,101 @@
 -- One node is written, and the others stay.
-use Rattle.std.proofs.Common.{refl, sym, ◌∙◌, ◌≡◌, Some, is_some, map, ap, subst}
+use Rattle.std.proofs.Common.{refl, sym, ◌∙◌, ◌≡◌, ℕ, Bool, true, false, List, Option, Some, is_some, map, ap, subst}
 use Rattle.std.proofs.lemmas.Bool.{false≢true}
-use Rattle.node_table.specs.Table.{node_at}
+use Rattle.sm_names.specs.declared.keys.NodeKey.{NodeKey}
+use Rattle.std.specs.Option.{option_map_or}
+use Rattle.node_table.specs.Changes.{Writes}
+use Rattle.node_table.specs.Lending.{table_with_node}
+use Rattle.node_table.specs.Table.{Table, node_at}
+use Rattle.alloc_event.specs.declared.node.Node.{Node}
 use Rattle.alloc_event.specs.Counts.{AreUnits}
 use Rattle.alloc_event.specs.Forest.{Forest, node_at as forest_node, on_collections, with_nodes}
-use Rattle.alloc_event.specs.Kept.{IsStored, are_filed, collection_in, forest_of, shelves_of}
-use Rattle.alloc_event.specs.Nodes.{with_end}
+use Rattle.alloc_event.specs.Kept.{IsStored, Shelf, are_filed, collection_in, forest_of, shelves_of}
+use Rattle.alloc_event.specs.Nodes.{is_over, with_end}
 use Rattle.alloc_event.proofs.shelves.Counted.{ends_tidy, mapped_all}
 use Rattle.alloc_event.proofs.leaving.Ends.{ends-kept, ends-look, ends-shown}
 use Rattle.alloc_event.proofs.shelves.Showing.{node_is}
 use Rattle.alloc_event.proofs.tallies.Slots.{units_with}
+use Rattle.alloc_event.proofs.turns.Holding.{found_some}
 use Rattle.alloc_event.proofs.forest.Forest.set_end.Goals as goal
 
--- the table has the node
-there : (c : goal.After-write) → node_at c.self.inside.table c.args.key ≡ Some c.in-Some.node
-there c = sym c.get.ensures ∙ sym c.copied.ensures ∙ c.in-Some.is
+-- a node that the forest has is in the table
+known : (t : Table Node) (ss : List Shelf) → IsStored t ss → (f : Forest) (key : NodeKey) → forest_of t ss ≡ f →
+    is_some (forest_node f key) ≡ true → is_some (node_at t key) ≡ true
+known t ss kept f key is some = ap is_some (sym (node_is t ss kept key)) ∙ ap (λ (g : Forest). is_some (forest_node g key)) is ∙ some
 
--- what the forest is then
-shown : (c : goal.After-write) → forest_of c.write.new.table (shelves_of c.note_over.new.entries.items)
-    ≡ on_collections (with_nodes (map (with_end c.args.key c.args.end))) (forest_of c.self.inside.table
-    (shelves_of c.self.inside.entries.items))
-shown c =
-    ap (forest_of c.write.new.table) c.note_over.ensures.shelves
-    ∙ ends-shown c.args.key c.args.end c.self.inside.table c.write.new.table c.in-Some.node (there c)
-    (c.self.invariant.kept.named _ _ (there c)) c.write.ensures.writes (shelves_of c.self.inside.entries.items) c.write.ensures.becomes
-    c.self.invariant.kept
+module _ (c : goal.After-note_over) where
+  there : (n : Node) × (node_at c.self.inside.table c.args.key ≡ Some n)
+  there = found_some (node_at c.self.inside.table c.args.key) (known c.self.inside.table (shelves_of c.self.inside.entries.items)
+      c.self.invariant.kept c.args.self.now c.args.key c.self.view_is c.requires)
+
+  abbrev n : Node
+  n = there.0
+
+  named : n.key ≡ c.args.key
+  named = c.self.invariant.kept.named _ _ there.1
+
+  abbrev after : Node
+  after = record n { end = c.args.end }
+
+  writes : Writes c.self.inside.table c.put_end.new.table n.key after
+  writes = subst (λ (k : NodeKey). Writes c.self.inside.table c.put_end.new.table k after) (sym named)
+      (c.put_end.ensures.writes n there.1)
+
+  becomes : c.put_end.new.table ≡ table_with_node c.self.inside.table n.key after
+  becomes = c.put_end.ensures.becomes n there.1 ∙ ap (λ (k : NodeKey). table_with_node c.self.inside.table k after) (sym named)
+
+  -- what the forest is then
+  shown : forest_of c.put_end.new.table (shelves_of c.note_over.new.entries.items)
+      ≡ on_collections (with_nodes (map (with_end c.args.key c.args.end))) (forest_of c.self.inside.table
+      (shelves_of c.self.inside.entries.items))
+  shown =
+      ap (forest_of c.put_end.new.table) c.note_over.ensures.shelves
+      ∙ ends-shown c.args.key c.args.end c.self.inside.table c.put_end.new.table n there.1
+      named writes (shelves_of c.self.inside.entries.items) becomes c.self.invariant.kept
+
+  -- what was told of the node
+  over_is : c.in-Some.over ≡ is_over (record n { end = c.args.end })
+  over_is = ap (λ (o : Option (ℕ × Bool)). option_map_or (λ p. p.1) o false) (sym c.in-Some.is ∙ c.put_end.ensures.told n there.1)
+
+  id_is : c.in-Some.id ≡ n.collection
+  id_is = ap (λ (o : Option (ℕ × Bool)). option_map_or (λ p. p.0) o 0) (sym c.in-Some.is ∙ c.put_end.ensures.told n there.1)
 
 pub invariant_of-self : goal.invariant_of-self
-invariant_of-self c = record {
-  kept = subst (IsStored c.write.new.table) (sym c.note_over.ensures.shelves)
-      (ends-kept c.args.key c.args.end c.self.inside.table c.write.new.table c.in-Some.node (there c)
-      (c.self.invariant.kept.named _ _ (there c)) c.write.ensures.writes (shelves_of c.self.inside.entries.items) c.write.ensures.becomes
-      c.self.invariant.kept);
-  counted = mapped_all c.self.inside.table c.write.new.table (with_end c.args.key c.args.end)
-      (λ n. record { key = refl; parent = refl; attached = refl; head = refl; allocated = refl; gone = refl; released = refl; asks = refl })
-      (λ n. refl) (λ n. refl)
-      (ends-look c.args.key c.args.end c.self.inside.table c.write.new.table c.in-Some.node (there c)
-      (c.self.invariant.kept.named _ _ (there c)) c.write.ensures.writes c.self.invariant.kept.named)
-      c.note_over.new.entries.items
-      (ends_tidy c.self.inside.table c.self.invariant.kept.named c.args.key c.args.end c.in-Some.node (there c)
-      c.note_over.new.entries.items
-      (ap (are_filed c.self.inside.table) c.note_over.ensures.shelves ∙ c.self.invariant.kept.filed)
-      (c.note_over.ensures.counted c.self.inside.table c.self.invariant.counted)
-      (λ over. c.note_over.ensures.noted (c.is_over.ensures ∙ over)))
-      (c.note_over.ensures.counted c.self.inside.table c.self.invariant.counted);
-  units = subst (AreUnits c.self.inside.units.items) (sym (ap (λ (f : Forest). f.collections) (shown c)))
-      (units_with c.self.inside.units.items (with_end c.args.key c.args.end) (λ n. refl) (λ k n. refl) (λ k n. refl)
-      (map (collection_in c.self.inside.table) (shelves_of c.self.inside.entries.items)) c.self.invariant.units);
-}
+invariant_of-self c =
+    let now = there c in
+    record {
+      kept = subst (IsStored c.put_end.new.table) (sym c.note_over.ensures.shelves)
+          (ends-kept c.args.key c.args.end c.self.inside.table c.put_end.new.table now.0 now.1 (named c) (writes c)
+          (shelves_of c.self.inside.entries.items) (becomes c) c.self.invariant.kept);
+      counted = mapped_all c.self.inside.table c.put_end.new.table (with_end c.args.key c.args.end)
+          (λ n. record { key = refl; parent = refl; attached = refl; head = refl; allocated = refl; gone = refl; released = refl; asks = refl })
+          (λ n. refl) (λ n. refl)
+          (ends-look c.args.key c.args.end c.self.inside.table c.put_end.new.table now.0 now.1 (named c) (writes c)
+          c.self.invariant.kept.named)
+          c.note_over.new.entries.items
+          (ends_tidy c.self.inside.table c.self.invariant.kept.named c.args.key c.args.end now.0 now.1
+          c.note_over.new.entries.items
+          (ap (are_filed c.self.inside.table) c.note_over.ensures.shelves ∙ c.self.invariant.kept.filed)
+          (c.note_over.ensures.counted c.self.inside.table c.self.invariant.counted)
+          (λ over. rw (id_is c) at (c.note_over.ensures.noted (over_is c ∙ over))))
+          (c.note_over.ensures.counted c.self.inside.table c.self.invariant.counted);
+      units = subst (AreUnits c.self.inside.units.items) (sym (ap (λ (f : Forest). f.collections) (shown c)))
+          (units_with c.self.inside.units.items (with_end c.args.key c.args.end) (λ n. refl) (λ k n. refl) (λ k n. refl)
+          (map (collection_in c.self.inside.table) (shelves_of c.self.inside.entries.items)) c.self.invariant.units);
+    }
 
 pub returns-in-Some : goal.returns-in-Some
 returns-in-Some c = rw (← c.self.view_is) (shown c)
 
 -- the node is there
+pub invariant_of-self-in_default : goal.invariant_of-self-in_default
+invariant_of-self-in_default c =
+    let told = known c.self.inside.table (shelves_of c.self.inside.entries.items) c.self.invariant.kept c.args.self.now c.args.key
+    c.self.view_is c.requires in
+    absurd (false≢true (sym (ap is_some (c.in_default.ensures.none refl)) ∙ told))
+
 pub returns-in_default : goal.returns-in_default
 returns-in_default c =
-    let none = sym c.get.ensures ∙ sym c.copied.ensures ∙ c.in_default.is in
-    let told = ap (λ (f : Forest). is_some (forest_node f c.args.key)) c.self.view_is ∙ c.requires in
-    let is = node_is c.self.inside.table (shelves_of c.self.inside.entries.items) c.self.invariant.kept c.args.key in
-    absurd (false≢true (sym (ap is_some (is ∙ none)) ∙ told))
+    let told = known c.self.inside.table (shelves_of c.self.inside.entries.items) c.self.invariant.kept c.args.self.now c.args.key
+    c.self.view_is c.requires in
+    absurd (false≢true (sym (ap is_some (c.in_default.ensures.none refl)) ∙ told))
