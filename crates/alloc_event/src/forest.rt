@@ -93,7 +93,7 @@ impl Forest {
     /// So it is too where no strong node is live then and the collection rests without one: its root
     /// has no buffers, or one of them has an open strong handle, and each buffer that it holds has an
     /// open handle. To tell that costs a look at the handles of each buffer, of which there are at
-    /// most 64. No strong node is born any more then.
+    /// most 64.
     ///
     /// Any other change costs a copy of the collection, a pass over its units, and the
     /// question for the next step after each that is made. Attached units that are allocated or fail
