@@ -9,8 +9,10 @@ use Rattle.alloc_event.specs.declared.node.Node.{Node}
 use Rattle.alloc_event.specs.declared.units.Unit.{Unit}
 use Rattle.alloc_event.specs.Calm.{IsCalm, over_but, strong_count}
 use Rattle.alloc_event.specs.Counts.{AreUnits}
+use Rattle.alloc_event.specs.Dropped.{has_given_root}
 use Rattle.alloc_event.specs.Kept.{Finishes, IsStored, SameTable, Shelf, collection_in, forest_of, is_filed, nodes_with}
 use Rattle.alloc_event.specs.Reserved.{effected}
+use Rattle.alloc_event.specs.Resting.{is_kept_by}
 use Rattle.alloc_event.specs.Settling.{Handles, MayChange, changed, collection_or_new, no_key}
 
 -- 1 where the test holds
@@ -38,11 +40,13 @@ pub record IsOpen (t : Table Node) (us : List Unit) (ss : List Shelf) (s : Shelf
   pub strong : lives ≡ strong_count (nodes_with t s.keys)
   pub units : AreUnits us (map (collection_in t) ss)
 
--- the change was made, nothing is forced by it, and so many strong nodes are live then
+-- the change was made, and so many strong nodes are live then; nothing is forced by it where some are, or the collection rests
+-- without
 pub record IsDone (t now : Table Node) (us : List Unit) (ss : List Shelf) (s : Shelf) (change : Change) (lives : ℕ) : Type 0 where
   pub kept : IsStored now ss
-  pub finishes : (pool : ℕ) (handles : Handles) →
+  pub finishes : (pool : ℕ) (handles : Handles) → is_kept_by handles t s lives ≡ true →
       Finishes pool handles t ss now ss (changed change no_key (collection_or_new (forest_of t ss) s.id))
+  pub roots : has_given_root t s.keys ≡ false → has_given_root now s.keys ≡ false
   pub calm : IsCalm (collection_in now s)
   pub strong : lives ≡ strong_count (nodes_with now s.keys)
   pub others : (x : Shelf) → x.id ≢ s.id → list_all (is_filed t x.id) x.keys ≡ true → collection_in now x ≡ collection_in t x

@@ -98,7 +98,6 @@ pub record AreLess (units : List Unit) (strong : ℕ) (n after : Node) (left : �
   pub left_is : IsLess strong (is_strong n) (is_strong after) left
   pub live_is : IsLess (unit_at units n.head.slot).live (is_live_node n) (is_live_node after) next.live
   pub unready_is : IsLess (unit_at units n.head.slot).unready (is_unready n) (is_unready after) next.unready
-  pub some : 0 < left
   pub lives : 0 < next.live
   pub ready : next.unready ≡ 0
 

@@ -6,7 +6,7 @@ ghost use Rattle.alloc_event.specs.Calm.{AreCounted};
 ghost use Rattle.alloc_event.specs.Counts.{HaveUnits};
 ghost use Rattle.alloc_event.specs.Forest.{IsPoolOf};
 ghost use Rattle.alloc_event.specs.Kept.{IsStored, Finishes, SameTable, shelves_of, forest_of};
-ghost use Rattle.alloc_event.specs.Settling.{Handles, MayChange, changed, collection_or_new, no_key};
+ghost use Rattle.alloc_event.specs.Settling.{MayChange, changed, collection_or_new, no_key};
 
 use crate::change::{Change, Effect};
 use crate::emptied::{fail_in_place, leave_in_place};
@@ -27,6 +27,7 @@ fn make_effect(
     table: &mut NodeTable<Node>,
     entries: &mut Vec<Entry>,
     units: &mut Vec<Unit>,
+    holds: &Holds,
     id: CollectionId,
     key: NodeKey,
     effect: &Effect,
@@ -37,8 +38,8 @@ fn make_effect(
     requires change { MayChange (forest_of table.old (shelves_of entries.old.items)) id (Changed.Effect key effect.now) }
     ensures no_table { result ≡ false → table.new ≡ table.old }
     ensures no_entries { result ≡ false → entries.new.items ≡ entries.old.items }
-    ensures ok { result ≡ true → (pool : ℕ) (handles : Handles) →
-        Finishes pool handles table.old (shelves_of entries.old.items) table.new (shelves_of entries.new.items)
+    ensures ok { result ≡ true → (pool : ℕ) →
+        Finishes pool (total holds.now) table.old (shelves_of entries.old.items) table.new (shelves_of entries.new.items)
         (changed (Changed.Effect key effect.now) no_key (collection_or_new (forest_of table.old (shelves_of entries.old.items)) id)) }
     ensures shelves { shelves_of entries.new.items ≡ shelves_of entries.old.items }
     ensures kept { result ≡ true → IsStored table.new (shelves_of entries.old.items) }
@@ -47,13 +48,13 @@ fn make_effect(
     ensures same { SameTable table.old table.new }
 {
     let change = Change::Effect(key, *effect);
-    if settle_in_place(table, entries, units, id, &change) {
+    if settle_in_place(table, entries, units, holds, id, &change) {
         return true;
     }
     if is_plain(effect) {
         return false;
     }
-    serve_in_place(table, entries, units, id, key, effect)
+    serve_in_place(table, entries, units, holds, id, key, effect)
 }
 
 /// Makes an effect in its place, if the counts tell that nothing is forced by it, or nothing but the
@@ -64,6 +65,7 @@ fn settle_effect(
     table: &mut NodeTable<Node>,
     entries: &mut Vec<Entry>,
     units: &mut Vec<Unit>,
+    holds: &Holds,
     id: CollectionId,
     key: NodeKey,
     effect: &Effect,
@@ -76,8 +78,8 @@ fn settle_effect(
     ensures err_entries { OnErr result (entries.new.items ≡ entries.old.items) }
     ensures no_table { IfOk result (λ made. made ≡ false → table.new ≡ table.old) }
     ensures no_entries { IfOk result (λ made. made ≡ false → entries.new.items ≡ entries.old.items) }
-    ensures ok { IfOk result (λ made. made ≡ true → (pool : ℕ) (handles : Handles) →
-        Finishes pool handles table.old (shelves_of entries.old.items) table.new (shelves_of entries.new.items)
+    ensures ok { IfOk result (λ made. made ≡ true → (pool : ℕ) →
+        Finishes pool (total holds.now) table.old (shelves_of entries.old.items) table.new (shelves_of entries.new.items)
         (changed (Changed.Effect key effect.now) no_key (collection_or_new (forest_of table.old (shelves_of entries.old.items)) id))) }
     ensures shelves { shelves_of entries.new.items ≡ shelves_of entries.old.items }
     ensures kept { IfOk result (λ made. made ≡ true → IsStored table.new (shelves_of entries.old.items)) }
@@ -85,11 +87,11 @@ fn settle_effect(
     ensures units { HaveUnits units.new.items table.new entries.new.items }
     ensures same { SameTable table.old table.new }
 {
-    if make_effect(table, entries, units, id, key, effect) {
+    if make_effect(table, entries, units, holds, id, key, effect) {
         return Ok(true);
     }
     match *effect {
-        Effect::Released => leave_in_place(table, entries, units, id, key),
+        Effect::Released => leave_in_place(table, entries, units, holds, id, key),
         Effect::Bound
         | Effect::Dispensable
         | Effect::Weak
@@ -108,6 +110,7 @@ fn settle_counted(
     table: &mut NodeTable<Node>,
     entries: &mut Vec<Entry>,
     units: &mut Vec<Unit>,
+    holds: &Holds,
     id: CollectionId,
     change: &Change,
 ) -> Result<bool, NoMemory>
@@ -119,8 +122,8 @@ fn settle_counted(
     ensures err_entries { OnErr result (entries.new.items ≡ entries.old.items) }
     ensures no_table { IfOk result (λ made. made ≡ false → table.new ≡ table.old) }
     ensures no_entries { IfOk result (λ made. made ≡ false → entries.new.items ≡ entries.old.items) }
-    ensures ok { IfOk result (λ made. made ≡ true → (pool : ℕ) (handles : Handles) →
-        Finishes pool handles table.old (shelves_of entries.old.items) table.new (shelves_of entries.new.items)
+    ensures ok { IfOk result (λ made. made ≡ true → (pool : ℕ) →
+        Finishes pool (total holds.now) table.old (shelves_of entries.old.items) table.new (shelves_of entries.new.items)
         (changed change.now no_key (collection_or_new (forest_of table.old (shelves_of entries.old.items)) id))) }
     ensures shelves { shelves_of entries.new.items ≡ shelves_of entries.old.items }
     ensures kept { IfOk result (λ made. made ≡ true → IsStored table.new (shelves_of entries.old.items)) }
@@ -129,8 +132,10 @@ fn settle_counted(
     ensures same { SameTable table.old table.new }
 {
     match *change {
-        Change::Effect(key, effect) => settle_effect(table, entries, units, id, key, &effect),
-        _ => Ok(settle_in_place(table, entries, units, id, change)),
+        Change::Effect(key, effect) => settle_effect(
+            table, entries, units, holds, id, key, &effect,
+        ),
+        _ => Ok(settle_in_place(table, entries, units, holds, id, change)),
     }
 }
 
@@ -173,5 +178,5 @@ pub(crate) fn settle_there(
         let fault = Fault { cause, origin };
         return fail_in_place(table, entries, units, pool, holds, id, fault);
     }
-    settle_counted(table, entries, units, id, change)
+    settle_counted(table, entries, units, holds, id, change)
 }

@@ -26,7 +26,7 @@ use crate::finish::store_settled;
 use crate::losses::lose_by_fall;
 use crate::marks::marks_of;
 use crate::node::Node;
-use crate::resting::is_at_rest;
+use crate::resting::is_kept_by;
 use crate::scene::Scene;
 use crate::still::is_still;
 use crate::store::load;
@@ -225,7 +225,7 @@ fn is_watched(table: &NodeTable<Node>, entries: &[Entry], id: CollectionId, hold
         (find (λ e. e.id == id) entries.now) true }
 {
     match entry_of(entries, id) {
-        Some(entry) => entry.strong > 0 || is_at_rest(table, entry, holds),
+        Some(entry) => is_kept_by(table, entry, holds, entry.strong),
         None => true,
     }
 }

@@ -9,7 +9,7 @@ ghost use Rattle.alloc_event.specs.Counts.{HaveUnits};
 ghost use Rattle.alloc_event.specs.Falling.{IsTaken};
 ghost use Rattle.alloc_event.specs.Forest.{IsPoolOf};
 ghost use Rattle.alloc_event.specs.Kept.{Finishes, IsStored, SameTable, forest_of, shelves_of};
-ghost use Rattle.alloc_event.specs.Settling.{Handles, MayChange, changed, collection_or_new, no_key};
+ghost use Rattle.alloc_event.specs.Settling.{MayChange, changed, collection_or_new, no_key};
 
 use crate::all_lost::{lose_all, takes_root};
 use crate::entry::Entry;
@@ -94,6 +94,7 @@ fn fail_fallen(
     table: &mut NodeTable<Node>,
     entries: &mut Vec<Entry>,
     units: &mut Vec<Unit>,
+    holds: &Holds,
     id: CollectionId,
     fault: Fault,
     mut keys: Vec<NodeKey>,
@@ -107,8 +108,8 @@ fn fail_fallen(
     ensures err_entries { OnErr result (entries.new.items ≡ entries.old.items) }
     ensures no_table { IfOk result (λ made. made ≡ false → table.new ≡ table.old) }
     ensures no_entries { IfOk result (λ made. made ≡ false → entries.new.items ≡ entries.old.items) }
-    ensures ok { IfOk result (λ made. made ≡ true → (pool : ℕ) (handles : Handles) →
-        Finishes pool handles table.old (shelves_of entries.old.items) table.new (shelves_of entries.new.items)
+    ensures ok { IfOk result (λ made. made ≡ true → (pool : ℕ) →
+        Finishes pool (total holds.now) table.old (shelves_of entries.old.items) table.new (shelves_of entries.new.items)
         (changed (Changed.Loss fault.origin fault.cause) no_key (collection_or_new (forest_of table.old (shelves_of entries.old.items)) id))) }
     ensures shelves { shelves_of entries.new.items ≡ shelves_of entries.old.items }
     ensures kept { IfOk result (λ made. made ≡ true → IsStored table.new (shelves_of entries.old.items)) }
@@ -121,6 +122,7 @@ fn fail_fallen(
             table,
             entries,
             units,
+            holds,
             id,
             fault.origin,
             &keys,
@@ -128,7 +130,15 @@ fn fail_fallen(
         );
     };
     order(&mut keys);
-    lose_in_place(table, entries, units, id, head, &Going::Ends(fault, keys))
+    lose_in_place(
+        table,
+        entries,
+        units,
+        holds,
+        id,
+        head,
+        &Going::Ends(fault, keys),
+    )
 }
 
 /// Makes a loss in its place: one that takes all that is left of the collection as `lose_all` does,
@@ -170,7 +180,7 @@ pub(crate) fn fail_in_place(
     if takes_root(table, &fallen.keys) {
         return lose_all(table, entries, units, pool, holds, id, fault, &fallen.keys);
     }
-    fail_fallen(table, entries, units, id, fault, fallen.keys)
+    fail_fallen(table, entries, units, holds, id, fault, fallen.keys)
 }
 
 /// The head of the unit that the release of the node with this key leaves without a live node, if
@@ -196,6 +206,7 @@ pub(crate) fn leave_in_place(
     table: &mut NodeTable<Node>,
     entries: &mut Vec<Entry>,
     units: &mut Vec<Unit>,
+    holds: &Holds,
     id: CollectionId,
     key: NodeKey,
 ) -> Result<bool, NoMemory>
@@ -207,8 +218,8 @@ pub(crate) fn leave_in_place(
     ensures err_entries { OnErr result (entries.new.items ≡ entries.old.items) }
     ensures no_table { IfOk result (λ made. made ≡ false → table.new ≡ table.old) }
     ensures no_entries { IfOk result (λ made. made ≡ false → entries.new.items ≡ entries.old.items) }
-    ensures ok { IfOk result (λ made. made ≡ true → (pool : ℕ) (handles : Handles) →
-        Finishes pool handles table.old (shelves_of entries.old.items) table.new (shelves_of entries.new.items)
+    ensures ok { IfOk result (λ made. made ≡ true → (pool : ℕ) →
+        Finishes pool (total holds.now) table.old (shelves_of entries.old.items) table.new (shelves_of entries.new.items)
         (changed (Changed.Effect key Effected.Released) no_key (collection_or_new (forest_of table.old (shelves_of entries.old.items)) id))) }
     ensures shelves { shelves_of entries.new.items ≡ shelves_of entries.old.items }
     ensures kept { IfOk result (λ made. made ≡ true → IsStored table.new (shelves_of entries.old.items)) }
@@ -219,5 +230,5 @@ pub(crate) fn leave_in_place(
     let Some(head) = unit_left(table, units, key) else {
         return Ok(false);
     };
-    lose_in_place(table, entries, units, id, head, &Going::Leaves(key))
+    lose_in_place(table, entries, units, holds, id, head, &Going::Leaves(key))
 }

@@ -3,15 +3,18 @@ ghost use Rattle.std.specs.Prelude.{◌≡◌, ◌⊎◌, ◌+◌, ℕ, List, So
 ghost use Rattle.std.specs.List.{list_any};
 ghost use Rattle.std.specs.List.Sorted.{IsSorted};
 ghost use Rattle.sm_names.specs.declared.keys.NodeKey.{NodeKey as Key};
+ghost use Rattle.buffer_holds.specs.Counts.{total};
 ghost use Rattle.node_table.specs.Table.{node_at, row_at};
 ghost use Rattle.alloc_event.specs.declared.node.Node.{Node as Kept};
 ghost use Rattle.alloc_event.specs.Calm.{AreCounted, over_but};
 ghost use Rattle.alloc_event.specs.Counts.{AreUnitsBut, HaveUnits, unit_at};
 ghost use Rattle.alloc_event.specs.Falling.{IsFailing, IsLost, IsOrdered, IsTaken, IsTop, change_of, gone_by, is_first, is_kept_up, is_spared, key_order, lowered, may_go, stays_live, untallied, without_node};
 ghost use Rattle.alloc_event.specs.InPlace.{IsOpen};
-ghost use Rattle.alloc_event.specs.Kept.{Finishes, IsStored, SameTable, Shelf, all_of, collection_in, forest_of, nodes_with, shelves_of};
+ghost use Rattle.alloc_event.specs.Kept.{Finishes, IsStored, SameTable, Shelf, all_of, collection_in, forest_of, nodes_with, shelf_of, shelves_of};
 ghost use Rattle.alloc_event.specs.Reserved.{reserved_count};
-ghost use Rattle.alloc_event.specs.Settling.{Handles, MayChange, changed, collection_or_new, no_key};
+ghost use Rattle.alloc_event.specs.Resting.{is_kept_by};
+ghost use Rattle.alloc_event.specs.Scenes.{given_few};
+ghost use Rattle.alloc_event.specs.Settling.{MayChange, changed, collection_or_new, no_key};
 
 use crate::asks::reserved;
 use crate::entry::{Entry, place_of};
@@ -22,8 +25,10 @@ use crate::losses::{fail, is_among, order};
 use crate::node::Node;
 use crate::questions::is_live;
 use crate::reserving::without;
+use crate::resting::is_kept_by;
 use crate::store::{load_nodes, store};
 use crate::units::{Unit, is_unready, put_unit, recount, unit_in};
+use buffer_holds::Holds;
 use failure_domains::fall;
 use node_table::NodeTable;
 use sm_names::{CollectionId, Fault, NoMemory, NodeKey};
@@ -218,20 +223,23 @@ fn lower(
 
 /// Makes these nodes go in their places, which a failure at `origin` takes, if they may go so and
 /// the counts tell that nothing more is forced by it: a strong node of the collection is live after
-/// it, and one of the unit above, which does not become ready by it, or has its buffers. Answers
-/// how many strong nodes are live then, and the nodes are as they are then. With `None` the table is
+/// it, or the collection rests without one; and one of the unit above is live, which does not become
+/// ready by it, or has its buffers. Answers how many strong nodes are live then, and the nodes are as
+/// they are then. With `None` the table is
 /// as it was, and the units of the collection are to be counted anew. It costs the number of the
 /// nodes.
 fn fell(
     table: &mut NodeTable<Node>,
     units: &mut Vec<Unit>,
-    strong: usize,
+    entry: &Entry,
+    holds: &Holds,
     id: CollectionId,
     origin: NodeKey,
     keys: &[NodeKey],
     nodes: &mut [Node],
     going: &Going,
 ) -> Option<usize>
+    requires few { given_few entry.now.buffers ≡ true }
     requires named { (key : Key) (n : Kept) → node_at table.old key ≡ Some n → n.key ≡ key }
     requires taken { IsTaken table.old origin keys.now }
     requires nodes { nodes.old ≡ nodes_with table.old keys.now }
@@ -239,19 +247,21 @@ fn fell(
     requires failing { IsFailing table.old going.now }
     ensures none { result ≡ None → table.new ≡ table.old }
     ensures none_units { result ≡ None → (ss : List Shelf) (s : Shelf) →
-        IsOpen table.old units.old.items ss s (change_of going.now) strong → s.id ≡ id →
+        IsOpen table.old units.old.items ss s (change_of going.now) entry.now.strong → s.id ≡ id →
         AreUnitsBut units.new.items s.id (map (collection_in table.old) ss) }
+    ensures rests { IfSome result (λ left. is_kept_by (total holds.now) table.old (shelf_of entry.now) left ≡ true) }
     ensures some { IfSome result (λ left. (ss : List Shelf) (s : Shelf) →
-        IsOpen table.old units.old.items ss s (change_of going.now) strong → s.id ≡ id →
+        IsOpen table.old units.old.items ss s (change_of going.now) entry.now.strong → s.id ≡ id →
         IsLost table.old table.new units.new.items ss s (change_of going.now) left nodes.new) }
     ensures reserved { IfSome result (λ left. (ss : List Shelf) (s : Shelf) →
-        IsOpen table.old units.old.items ss s (change_of going.now) strong → s.id ≡ id →
+        IsOpen table.old units.old.items ss s (change_of going.now) entry.now.strong → s.id ≡ id →
         reserved_count (nodes_with table.new s.keys) + reserved_count nodes.old ≡ reserved_count (nodes_with table.old s.keys)) }
 {
     let lost = count_strong(nodes);
-    if strong <= lost || !are_of(nodes, id) {
+    if entry.strong < lost || !are_of(nodes, id) {
         return None;
     }
+    let left = entry.strong - lost;
     let Some((head, attached)) = unit_above(table, keys) else {
         return None;
     };
@@ -261,12 +271,15 @@ fn fell(
     if !may_go(going, origin, attached, keys, nodes) {
         return None;
     }
+    if !is_kept_by(table, entry, holds, left) {
+        return None;
+    }
     if !lower(table, units, nodes, head, attached) {
         return None;
     }
     go_each(nodes, going);
     store(table, nodes);
-    Some(strong - lost)
+    Some(left)
 }
 
 /// What is known of a collection once these nodes went: whether none is over but the noted one, as
@@ -299,6 +312,7 @@ fn lose_nodes(
     table: &mut NodeTable<Node>,
     entries: &mut Vec<Entry>,
     units: &mut Vec<Unit>,
+    holds: &Holds,
     id: CollectionId,
     origin: NodeKey,
     keys: &[NodeKey],
@@ -315,8 +329,8 @@ fn lose_nodes(
     requires failing { IsFailing table.old going.now }
     ensures no_table { result ≡ false → table.new ≡ table.old }
     ensures no_entries { result ≡ false → entries.new.items ≡ entries.old.items }
-    ensures ok { result ≡ true → (pool : ℕ) (handles : Handles) →
-        Finishes pool handles table.old (shelves_of entries.old.items) table.new (shelves_of entries.new.items)
+    ensures ok { result ≡ true → (pool : ℕ) →
+        Finishes pool (total holds.now) table.old (shelves_of entries.old.items) table.new (shelves_of entries.new.items)
         (changed (change_of going.now) no_key (collection_or_new (forest_of table.old (shelves_of entries.old.items)) id)) }
     ensures shelves { shelves_of entries.new.items ≡ shelves_of entries.old.items }
     ensures kept { result ≡ true → IsStored table.new (shelves_of entries.old.items) }
@@ -327,9 +341,18 @@ fn lose_nodes(
     let Some(at) = place_of(entries, id) else {
         return false;
     };
-    let strong = entries[at].strong;
     let freed = reserved(nodes);
-    let Some(left) = fell(table, units, strong, id, origin, keys, nodes, going) else {
+    let Some(left) = fell(
+        table,
+        units,
+        &entries[at],
+        holds,
+        id,
+        origin,
+        keys,
+        nodes,
+        going,
+    ) else {
         recount(units, table, entries, id);
         return false;
     };
@@ -344,17 +367,19 @@ fn lose_nodes(
 
 /// Makes the nodes with these keys go in their places, which are what a failure at `origin` takes,
 /// if they may go so and the counts tell that nothing more is forced by it: a strong node of the
-/// collection is live after it, and one of the unit above what goes, which does not become ready by
-/// it, or has its buffers. Answers whether it did; if not, the table and the entries are as they
-/// were.
+/// collection is live after it, or it rests without one; and one of the unit above what goes is live,
+/// which does not become ready by it, or has its buffers. Answers whether it did; if not, the table
+/// and the entries are as they were.
 ///
 /// `NoMemory` where the list of what goes is refused room; then nothing changed. It costs the number
-/// of what goes, with a logarithm for each where some leave by a failure of the others; where it was
-/// not made, a count of the units of the collection besides.
+/// of what goes, with a logarithm for each where some leave by a failure of the others, and where no
+/// strong node is live then, a look at the handles of the buffers; where it was not made, a count of
+/// the units of the collection besides.
 pub(crate) fn go_in_place(
     table: &mut NodeTable<Node>,
     entries: &mut Vec<Entry>,
     units: &mut Vec<Unit>,
+    holds: &Holds,
     id: CollectionId,
     origin: NodeKey,
     keys: &[NodeKey],
@@ -371,8 +396,8 @@ pub(crate) fn go_in_place(
     ensures err_entries { OnErr result (entries.new.items ≡ entries.old.items) }
     ensures no_table { IfOk result (λ made. made ≡ false → table.new ≡ table.old) }
     ensures no_entries { IfOk result (λ made. made ≡ false → entries.new.items ≡ entries.old.items) }
-    ensures ok { IfOk result (λ made. made ≡ true → (pool : ℕ) (handles : Handles) →
-        Finishes pool handles table.old (shelves_of entries.old.items) table.new (shelves_of entries.new.items)
+    ensures ok { IfOk result (λ made. made ≡ true → (pool : ℕ) →
+        Finishes pool (total holds.now) table.old (shelves_of entries.old.items) table.new (shelves_of entries.new.items)
         (changed (change_of going.now) no_key (collection_or_new (forest_of table.old (shelves_of entries.old.items)) id))) }
     ensures shelves { shelves_of entries.new.items ≡ shelves_of entries.old.items }
     ensures kept { IfOk result (λ made. made ≡ true → IsStored table.new (shelves_of entries.old.items)) }
@@ -384,7 +409,9 @@ pub(crate) fn go_in_place(
     let Ok(mut nodes) = load_nodes(alloc, table, keys) else {
         return Err(NoMemory);
     };
-    Ok(lose_nodes(table, entries, units, id, origin, keys, &mut nodes, going))
+    Ok(lose_nodes(
+        table, entries, units, holds, id, origin, keys, &mut nodes, going,
+    ))
 }
 
 /// Finds what a failure at `origin` takes, and makes it go in its place, as `go_in_place` does. It
@@ -393,6 +420,7 @@ pub(crate) fn lose_in_place(
     table: &mut NodeTable<Node>,
     entries: &mut Vec<Entry>,
     units: &mut Vec<Unit>,
+    holds: &Holds,
     id: CollectionId,
     origin: NodeKey,
     going: &Going,
@@ -408,8 +436,8 @@ pub(crate) fn lose_in_place(
     ensures err_entries { OnErr result (entries.new.items ≡ entries.old.items) }
     ensures no_table { IfOk result (λ made. made ≡ false → table.new ≡ table.old) }
     ensures no_entries { IfOk result (λ made. made ≡ false → entries.new.items ≡ entries.old.items) }
-    ensures ok { IfOk result (λ made. made ≡ true → (pool : ℕ) (handles : Handles) →
-        Finishes pool handles table.old (shelves_of entries.old.items) table.new (shelves_of entries.new.items)
+    ensures ok { IfOk result (λ made. made ≡ true → (pool : ℕ) →
+        Finishes pool (total holds.now) table.old (shelves_of entries.old.items) table.new (shelves_of entries.new.items)
         (changed (change_of going.now) no_key (collection_or_new (forest_of table.old (shelves_of entries.old.items)) id))) }
     ensures shelves { shelves_of entries.new.items ≡ shelves_of entries.old.items }
     ensures kept { IfOk result (λ made. made ≡ true → IsStored table.new (shelves_of entries.old.items)) }
@@ -419,5 +447,14 @@ pub(crate) fn lose_in_place(
 {
     let alloc = *entries.allocator();
     let fallen = fall(alloc, table, origin)?;
-    go_in_place(table, entries, units, id, origin, &fallen.keys, going)
+    go_in_place(
+        table,
+        entries,
+        units,
+        holds,
+        id,
+        origin,
+        &fallen.keys,
+        going,
+    )
 }

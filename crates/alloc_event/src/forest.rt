@@ -80,8 +80,9 @@ impl Forest {
     /// has none either. Where that unit is attached, a node of it stays live, no other unit that is
     /// ready hangs right below it and the buffers are enough for it, it is allocated in its place,
     /// which costs a list of the keys at and below its head, some reads of each, and a write of each
-    /// node of the unit; where the list is refused room, a copy as below. A loss costs what `fall` costs and a binary search, where a node stays live of the
-    /// unit above what it takes, and where that unit does not become ready by it or has its buffers.
+    /// node of the unit; where the list is refused room, a copy as below. A loss costs what `fall`
+    /// costs and a binary search, where a node stays live of the unit above what it takes, and where
+    /// that unit does not become ready by it or has its buffers.
     /// So does the release of the last live node at or below the head of an attached unit, which
     /// ends, where a node of the unit above stays live; and a loss that leaves no live node at or
     /// below the head of such a unit, with a logarithm for each node that goes. A loss that takes the
@@ -89,17 +90,19 @@ impl Forest {
     /// then the buffers that are home go back, which costs a look at the handles of each buffer, two
     /// where some stay held and others go, and what the pool takes.
     ///
-    /// These and any other change cost a copy of the collection, a pass over its units, and the
+    /// So it is too where no strong node is live then and the collection rests without one: its root
+    /// has no buffers, or one of them has an open strong handle, and each buffer that it holds has an
+    /// open handle. To tell that costs a look at the handles of each buffer, of which there are at
+    /// most 64.
+    ///
+    /// Any other change costs a copy of the collection, a pass over its units, and the
     /// question for the next step after each that is made. Attached units that are allocated or fail
     /// one after another count as one step, from the second on, which costs the nodes times a
     /// logarithm, and times another one where such a failure leaves the collection or a unit above
     /// without a node that keeps it. A loss costs besides what `fall` costs, and a logarithm for
-    /// each node; the end of a collection without a live node one walk. Where no
-    /// strong node is live, a birth costs what it does with one, and a look at the handles of the
-    /// buffers besides, of which there are at most 64: where the root has buffers one of them has an
-    /// open strong handle, and none that is held is home. Such a birth that forces nothing and sends
-    /// no buffer home else costs the copy, the pass and one question, and another a copy of the whole
-    /// table besides.
+    /// each node; the end of a collection without a live node one walk. Where no strong node is live
+    /// and the collection does not rest, a birth that forces nothing and sends no buffer home costs
+    /// the copy, the pass and one question, and another a copy of the whole table besides.
     #[inline(always)]
     pub fn settle(
         &mut self,

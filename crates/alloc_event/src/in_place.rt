@@ -2,6 +2,7 @@
 ghost use Rattle.std.specs.Option.{option_map_or};
 ghost use Rattle.std.specs.Prelude.{◌≡◌, ◌<◌, ◌⊎◌, ◌+◌, ◌==◌, ◌&&◌, not, ℕ, List, None, Some, true, false, IfSome};
 ghost use Rattle.sm_names.specs.declared.keys.NodeKey.{NodeKey as Key};
+ghost use Rattle.buffer_holds.specs.Counts.{total};
 ghost use Rattle.node_table.specs.Changes.{Writes};
 ghost use Rattle.node_table.specs.Lending.{table_with_node};
 ghost use Rattle.node_table.specs.Table.{node_at};
@@ -13,11 +14,12 @@ ghost use Rattle.alloc_event.specs.Calm.{AreCounted};
 ghost use Rattle.alloc_event.specs.Counts.{HasBelow, HaveUnits, is_unready};
 ghost use Rattle.alloc_event.specs.Due.{is_due_at};
 ghost use Rattle.alloc_event.specs.InPlace.{IsMade, IsOpen, bit, is_plain as is_plain_effect};
-ghost use Rattle.alloc_event.specs.Kept.{Finishes, IsStored, SameTable, Shelf, forest_of, is_strong, shelves_of};
+ghost use Rattle.alloc_event.specs.Kept.{Finishes, IsStored, SameTable, Shelf, forest_of, is_strong, shelf_of, shelves_of};
 ghost use Rattle.alloc_event.specs.Nodes.{affected};
 ghost use Rattle.alloc_event.specs.Questions.{is_live_node};
-ghost use Rattle.alloc_event.specs.Scenes.{has_tracker_room};
-ghost use Rattle.alloc_event.specs.Settling.{Handles, MayChange, changed, collection_or_new, no_key};
+ghost use Rattle.alloc_event.specs.Resting.{is_kept_by};
+ghost use Rattle.alloc_event.specs.Scenes.{given_few, has_tracker_room};
+ghost use Rattle.alloc_event.specs.Settling.{MayChange, changed, collection_or_new, no_key};
 
 use crate::change::{Change, Effect};
 use crate::effects::affect_one;
@@ -27,7 +29,9 @@ use crate::kept::is_strong;
 use crate::node::Node;
 use crate::questions::is_live;
 use crate::reserving::reserved_after;
+use crate::resting::is_kept_by;
 use crate::units::{Unit, is_unready, put_unit, unit_in};
+use buffer_holds::Holds;
 use node_table::NodeTable;
 use sm_names::{CollectionId, NodeKey};
 
@@ -126,19 +130,23 @@ pub(crate) fn less(count: usize, was: bool, is: bool) -> usize
 }
 
 /// Makes the effect in its place, if it neither releases the node nor sets its constraints, and a
-/// strong node is live after it: then nothing is forced. Answers how many strong nodes are live
-/// then. With `None` nothing changed.
+/// strong node is live after it, or the collection rests without one: then nothing is forced. Answers
+/// how many strong nodes are live then. With `None` nothing changed.
 fn affect_in_place(
     table: &mut NodeTable<Node>,
-    strong: usize,
+    entry: &Entry,
+    holds: &Holds,
     key: NodeKey,
     effect: &Effect,
 ) -> Option<usize>
+    requires few { given_few entry.now.buffers ≡ true }
     requires named { (at : Key) (n : Kept) → node_at table.old at ≡ Some n → n.key ≡ at }
     requires room { (at : Key) (n : Kept) → node_at table.old at ≡ Some n → has_tracker_room key effect.now n ≡ true }
     ensures none { result ≡ None → table.new ≡ table.old }
+    ensures rests { IfSome result (λ left. is_kept_by (total holds.now) table.old (shelf_of entry.now) left ≡ true) }
     ensures some { IfSome result (λ left. (us : List Counts) (ss : List Shelf) (s : Shelf) →
-        IsOpen table.old us ss s (Changed.Effect key effect.now) strong → IsMade table.old table.new us ss s (Changed.Effect key effect.now) left) }
+        IsOpen table.old us ss s (Changed.Effect key effect.now) entry.now.strong →
+        IsMade table.old table.new us ss s (Changed.Effect key effect.now) left) }
 {
     if !is_plain(effect) {
         return None;
@@ -146,8 +154,12 @@ fn affect_in_place(
     let Some(node) = table.get(key) else {
         return None;
     };
-    let left = less(strong, is_strong(node), is_strong_after(node, key, effect));
-    if left == 0 {
+    let left = less(
+        entry.strong,
+        is_strong(node),
+        is_strong_after(node, key, effect),
+    );
+    if !is_kept_by(table, entry, holds, left) {
         return None;
     }
     affect_at(table, key, effect);
@@ -207,22 +219,26 @@ fn is_held(table: &NodeTable<Node>, live: usize, key: NodeKey, id: CollectionId)
 }
 
 /// Makes the effect in its place, if the counts tell that nothing is forced: a strong node is live
-/// after it, and one of the node's unit, or its first child heads a unit, and the node's unit has
-/// its buffers, or waits for another node, or did not wait for this one, or lies below a unit
-/// without buffers. Answers how many strong nodes are live then. With `None` nothing changed.
+/// after it, or the collection rests without one; and one of the node's unit is live, or its first
+/// child heads a unit, and the node's unit has its buffers, or waits for another node, or did not
+/// wait for this one, or lies below a unit without buffers. Answers how many strong nodes are live
+/// then. With `None` nothing changed.
 fn count_in_place(
     table: &mut NodeTable<Node>,
     units: &mut Vec<Unit>,
-    strong: usize,
+    entry: &Entry,
+    holds: &Holds,
     key: NodeKey,
     effect: &Effect,
 ) -> Option<usize>
+    requires few { given_few entry.now.buffers ≡ true }
     requires named { (at : Key) (n : Kept) → node_at table.old at ≡ Some n → n.key ≡ at }
     requires room { (at : Key) (n : Kept) → node_at table.old at ≡ Some n → has_tracker_room key effect.now n ≡ true }
     ensures none { result ≡ None → table.new ≡ table.old }
     ensures none_units { result ≡ None → units.new.items ≡ units.old.items }
+    ensures rests { IfSome result (λ left. is_kept_by (total holds.now) table.old (shelf_of entry.now) left ≡ true) }
     ensures some { IfSome result (λ left. (ss : List Shelf) (s : Shelf) →
-        IsOpen table.old units.old.items ss s (Changed.Effect key effect.now) strong →
+        IsOpen table.old units.old.items ss s (Changed.Effect key effect.now) entry.now.strong →
         IsMade table.old table.new units.new.items ss s (Changed.Effect key effect.now) left) }
 {
     let Some(node) = table.get(key) else {
@@ -233,17 +249,24 @@ fn count_in_place(
         return None;
     }
     let unit = unit_in(units, slot);
-    let left = less(strong, is_strong(node), is_strong_after(node, key, effect));
+    let left = less(
+        entry.strong,
+        is_strong(node),
+        is_strong_after(node, key, effect),
+    );
     let live = less(unit.live, is_live(node), is_live_after(node, key, effect));
     let unready = less(
         unit.unready,
         is_unready(node),
         is_unready_after(node, key, effect),
     );
-    if left == 0 || !is_held(table, live, key, node.collection) {
+    if !is_held(table, live, key, node.collection) {
         return None;
     }
     if is_unready(node) && unready == 0 && is_due(table, node.head) {
+        return None;
+    }
+    if !is_kept_by(table, entry, holds, left) {
         return None;
     }
     affect_at(table, key, effect);
@@ -256,21 +279,24 @@ fn count_in_place(
 fn effect_in_place(
     table: &mut NodeTable<Node>,
     units: &mut Vec<Unit>,
-    strong: usize,
+    entry: &Entry,
+    holds: &Holds,
     key: NodeKey,
     effect: &Effect,
 ) -> Option<usize>
+    requires few { given_few entry.now.buffers ≡ true }
     requires named { (at : Key) (n : Kept) → node_at table.old at ≡ Some n → n.key ≡ at }
     requires room { (at : Key) (n : Kept) → node_at table.old at ≡ Some n → has_tracker_room key effect.now n ≡ true }
     ensures none { result ≡ None → table.new ≡ table.old }
     ensures none_units { result ≡ None → units.new.items ≡ units.old.items }
+    ensures rests { IfSome result (λ left. is_kept_by (total holds.now) table.old (shelf_of entry.now) left ≡ true) }
     ensures some { IfSome result (λ left. (ss : List Shelf) (s : Shelf) →
-        IsOpen table.old units.old.items ss s (Changed.Effect key effect.now) strong →
+        IsOpen table.old units.old.items ss s (Changed.Effect key effect.now) entry.now.strong →
         IsMade table.old table.new units.new.items ss s (Changed.Effect key effect.now) left) }
 {
-    match affect_in_place(table, strong, key, effect) {
+    match affect_in_place(table, entry, holds, key, effect) {
         Some(left) => Some(left),
-        None => count_in_place(table, units, strong, key, effect),
+        None => count_in_place(table, units, entry, holds, key, effect),
     }
 }
 
@@ -279,33 +305,39 @@ fn effect_in_place(
 fn change_in_place(
     table: &mut NodeTable<Node>,
     units: &mut Vec<Unit>,
-    strong: usize,
+    entry: &Entry,
+    holds: &Holds,
     change: &Change,
 ) -> Option<usize>
+    requires few { given_few entry.now.buffers ≡ true }
     requires named { (key : Key) (n : Kept) → node_at table.old key ≡ Some n → n.key ≡ key }
     requires room { (key : Key) (effect : Effected) (at : Key) (n : Kept) → change.now ≡ Changed.Effect key effect → node_at table.old at ≡ Some n → has_tracker_room key effect n ≡ true }
     ensures none { result ≡ None → table.new ≡ table.old }
     ensures none_units { result ≡ None → units.new.items ≡ units.old.items }
+    ensures rests { IfSome result (λ left. is_kept_by (total holds.now) table.old (shelf_of entry.now) left ≡ true) }
     ensures some { IfSome result (λ left. (ss : List Shelf) (s : Shelf) →
-        IsOpen table.old units.old.items ss s change.now strong → IsMade table.old table.new units.new.items ss s change.now left) }
+        IsOpen table.old units.old.items ss s change.now entry.now.strong →
+        IsMade table.old table.new units.new.items ss s change.now left) }
 {
     match *change {
-        Change::Nothing if strong > 0 => Some(strong),
-        Change::Effect(key, effect) => effect_in_place(table, units, strong, key, &effect),
+        Change::Nothing if is_kept_by(table, entry, holds, entry.strong) => Some(entry.strong),
+        Change::Effect(key, effect) => effect_in_place(table, units, entry, holds, key, &effect),
         _ => None,
     }
 }
 
 /// Makes the change to a collection in its place, if it is none of nodes, or an effect, and the
 /// counts tell that nothing is forced, and no buffer goes home: a strong node of the collection is
-/// live after it, and a release leaves a node of its unit live or a unit that its first child
-/// heads, and the unit does not become ready, has its buffers, or lies below one without buffers.
-/// Answers whether it did; if not, nothing changed. It takes no memory, and costs a binary search
-/// and a constant.
+/// live after it, or it rests without one; and a release leaves a node of its unit live or a unit
+/// that its first child heads, and the unit does not become ready, has its buffers, or lies below
+/// one without buffers. Answers whether it did; if not, nothing changed. It takes no memory, and
+/// costs a binary search and a constant, and where no strong node is live after it, a look at the
+/// handles of the buffers.
 pub(crate) fn settle_in_place(
     table: &mut NodeTable<Node>,
     entries: &mut Vec<Entry>,
     units: &mut Vec<Unit>,
+    holds: &Holds,
     id: CollectionId,
     change: &Change,
 ) -> bool
@@ -315,8 +347,8 @@ pub(crate) fn settle_in_place(
     requires change { MayChange (forest_of table.old (shelves_of entries.old.items)) id change.now }
     ensures no_table { result ≡ false → table.new ≡ table.old }
     ensures no_entries { result ≡ false → entries.new.items ≡ entries.old.items }
-    ensures ok { result ≡ true → (pool : ℕ) (handles : Handles) →
-        Finishes pool handles table.old (shelves_of entries.old.items) table.new (shelves_of entries.new.items)
+    ensures ok { result ≡ true → (pool : ℕ) →
+        Finishes pool (total holds.now) table.old (shelves_of entries.old.items) table.new (shelves_of entries.new.items)
         (changed change.now no_key (collection_or_new (forest_of table.old (shelves_of entries.old.items)) id)) }
     ensures shelves { shelves_of entries.new.items ≡ shelves_of entries.old.items }
     ensures kept { result ≡ true → IsStored table.new (shelves_of entries.old.items) }
@@ -328,11 +360,10 @@ pub(crate) fn settle_in_place(
         return false;
     };
     let entry = &entries[at];
-    let strong = entry.strong;
     let Some(reserved) = reserved_after(table, change, entry.reserved) else {
         return false;
     };
-    let Some(left) = change_in_place(table, units, strong, change) else {
+    let Some(left) = change_in_place(table, units, entry, holds, change) else {
         return false;
     };
     let entry = &mut entries[at];

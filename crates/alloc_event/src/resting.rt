@@ -2,7 +2,7 @@
 ghost use Rattle.std.specs.Prelude.{◌≡◌, true};
 ghost use Rattle.buffer_holds.specs.Counts.{total};
 ghost use Rattle.alloc_event.specs.Kept.{shelf_of};
-ghost use Rattle.alloc_event.specs.Resting.{is_at_rest};
+ghost use Rattle.alloc_event.specs.Resting.{is_at_rest, is_kept_by};
 ghost use Rattle.alloc_event.specs.Scenes.{given_few};
 
 use crate::dropped::is_abandoned;
@@ -15,9 +15,25 @@ use node_table::NodeTable;
 /// Whether the buffers of the collection are not abandoned and none of those that it holds is home,
 /// where none of its strong nodes is live: then nothing is forced for the want of one. It looks at
 /// the handles of its buffers, of which there are at most 64.
-pub(crate) fn is_at_rest(table: &NodeTable<Node>, entry: &Entry, holds: &Holds) -> bool
+#[inline(never)]
+fn is_at_rest(table: &NodeTable<Node>, entry: &Entry, holds: &Holds) -> bool
     requires { given_few entry.now.buffers ≡ true }
     ensures { result ≡ is_at_rest (total holds.now) table.now (shelf_of entry.now) }
 {
     !is_abandoned(table, entry, holds) && are_out(&entry.held, holds, false)
+}
+
+/// Whether so many strong live nodes keep the collection, or it rests without one. It looks at the
+/// handles only where there is none.
+#[inline(always)]
+pub(crate) fn is_kept_by(
+    table: &NodeTable<Node>,
+    entry: &Entry,
+    holds: &Holds,
+    lives: usize,
+) -> bool
+    requires { given_few entry.now.buffers ≡ true }
+    ensures { result ≡ is_kept_by (total holds.now) table.now (shelf_of entry.now) lives }
+{
+    lives > 0 || is_at_rest(table, entry, holds)
 }

@@ -4,6 +4,7 @@ ghost use Rattle.std.specs.Prelude.{nat_lt, ◌≡◌, ◌≤◌, ◌+◌, ◌^�
 ghost use Rattle.sm_names.specs.Demands.{Demand};
 ghost use Rattle.sm_names.specs.Members.{greatest};
 ghost use Rattle.sm_names.specs.declared.keys.NodeKey.{NodeKey as Key};
+ghost use Rattle.buffer_holds.specs.Counts.{total};
 ghost use Rattle.node_table.specs.Table.{node_at, row_at};
 ghost use Rattle.alloc_event.specs.declared.change.Change.{Change as Changed};
 ghost use Rattle.alloc_event.specs.declared.node.Node.{Node as Kept};
@@ -15,9 +16,10 @@ ghost use Rattle.alloc_event.specs.Kept.{Finishes, IsStored, SameTable, Shelf, f
 ghost use Rattle.alloc_event.specs.Nodes.{given_buffers};
 ghost use Rattle.alloc_event.specs.Questions.{is_in_unit};
 ghost use Rattle.alloc_event.specs.Reserved.{reserved_count};
-ghost use Rattle.alloc_event.specs.Scenes.{has_tracker_room};
+ghost use Rattle.alloc_event.specs.Resting.{is_kept_by};
+ghost use Rattle.alloc_event.specs.Scenes.{given_few, has_tracker_room};
 ghost use Rattle.alloc_event.specs.Serving.{AreLess, IsDue, IsGivenAt, IsRoom, IsServed, IsServedAt, asked_at, asked_with, bars_at, hangs_below, has_turn_at, is_of_unit, is_served_there};
-ghost use Rattle.alloc_event.specs.Settling.{Handles, MayChange, changed, collection_or_new, no_key};
+ghost use Rattle.alloc_event.specs.Settling.{MayChange, changed, collection_or_new, no_key};
 
 use crate::asks::Asks;
 use crate::change::Effect;
@@ -26,15 +28,17 @@ use crate::in_place::{affected_by, less};
 use crate::kept::is_strong;
 use crate::node::Node;
 use crate::questions::is_live;
+use crate::resting::is_kept_by;
 use crate::store::write;
 use crate::units::{Unit, is_unready, put_unit, unit_in};
+use buffer_holds::Holds;
 use failure_domains::fall;
 use node_table::NodeTable;
 use sm_names::{Buffers, CollectionId, Constraints, NodeKey};
 use std::alloc::Global;
 
-/// The counts once the first node is the second one, if a strong node is live then, and one of the
-/// node's unit, which waits for none any more: how many strong nodes are live, and the unit's counts.
+/// The counts once the first node is the second one, if a node of its unit is live then, which waits
+/// for none any more: how many strong nodes are live, and the unit's counts.
 fn counts_with(units: &[Unit], strong: usize, node: &Node, after: &Node) -> Option<(usize, Unit)>
     ensures { IfSome result (λ counts. AreLess units.now strong node.now after.now counts.0 counts.1) }
 {
@@ -46,7 +50,7 @@ fn counts_with(units: &[Unit], strong: usize, node: &Node, after: &Node) -> Opti
     let left = less(strong, is_strong(node), is_strong(after));
     let live = less(unit.live, is_live(node), is_live(after));
     let unready = less(unit.unready, is_unready(node), is_unready(after));
-    if left == 0 || live == 0 || unready > 0 {
+    if live == 0 || unready > 0 {
         return None;
     }
     Some((left, Unit { live, unready }))
@@ -294,8 +298,9 @@ fn serve(table: &mut NodeTable<Node>, keys: &[NodeKey], head: NodeKey, node: &No
     write(table, given(*node, head));
 }
 
-/// Makes the effect in its place, if the counts tell that it leaves a strong node live, one of the
-/// node's unit, and that unit ready, and if the unit is then to be allocated, which is made with it.
+/// Makes the effect in its place, if the counts tell that it leaves a node of the node's unit live and
+/// that unit ready, and a strong node live, or the collection rests without one, and if the unit is
+/// then to be allocated, which is made with it.
 /// Answers how many strong nodes are live then, and how many buffers are reserved. With `None`
 /// nothing changed.
 fn serve_effect(
@@ -303,13 +308,16 @@ fn serve_effect(
     table: &mut NodeTable<Node>,
     units: &mut Vec<Unit>,
     entry: &Entry,
+    holds: &Holds,
     key: NodeKey,
     effect: &Effect,
 ) -> Option<(usize, u128)>
+    requires few { given_few entry.now.buffers ≡ true }
     requires named { (at : Key) (n : Kept) → node_at table.old at ≡ Some n → n.key ≡ at }
     requires room { (at : Key) (n : Kept) → node_at table.old at ≡ Some n → has_tracker_room key effect.now n ≡ true }
     ensures none { result ≡ None → table.new ≡ table.old }
     ensures none_units { result ≡ None → units.new.items ≡ units.old.items }
+    ensures rests { IfSome result (λ made. is_kept_by (total holds.now) table.old (shelf_of entry.now) made.0 ≡ true) }
     ensures some { IfSome result (λ made. (ss : List Shelf) →
         IsOpen table.old units.old.items ss (shelf_of entry.now) (Changed.Effect key effect.now) entry.now.strong →
         entry.now.reserved ≡ reserved_count (nodes_with table.old entry.now.keys.items) →
@@ -325,6 +333,9 @@ fn serve_effect(
     let Some((left, next)) = counts_with(units, entry.strong, &node, &after) else {
         return None;
     };
+    if !is_kept_by(table, entry, holds, left) {
+        return None;
+    }
     let Some(keys) = keys_below(alloc, table, node.head) else {
         return None;
     };
@@ -347,7 +358,8 @@ fn serve_effect(
 
 /// Makes an effect in its place by which an attached unit becomes ready, and the unit's allocation
 /// with it, if the buffers are enough for it, no unit that is ready hangs below it, and the counts
-/// tell that nothing more is forced: a strong node of the collection is live after it, and one of the unit.
+/// tell that nothing more is forced: a strong node of the collection is live after it, or it rests
+/// without one, and one of the unit is live.
 /// Answers whether it did; if not, nothing changed. It costs a binary search and a constant; where the
 /// unit is ready and due, besides, a list of the keys of all that lies below its head and some reads of
 /// each, and a write of each node of the unit. Where the list is refused room it does nothing.
@@ -355,6 +367,7 @@ pub(crate) fn serve_in_place(
     table: &mut NodeTable<Node>,
     entries: &mut Vec<Entry>,
     units: &mut Vec<Unit>,
+    holds: &Holds,
     id: CollectionId,
     key: NodeKey,
     effect: &Effect,
@@ -365,8 +378,8 @@ pub(crate) fn serve_in_place(
     requires change { MayChange (forest_of table.old (shelves_of entries.old.items)) id (Changed.Effect key effect.now) }
     ensures no_table { result ≡ false → table.new ≡ table.old }
     ensures no_entries { result ≡ false → entries.new.items ≡ entries.old.items }
-    ensures ok { result ≡ true → (pool : ℕ) (handles : Handles) →
-        Finishes pool handles table.old (shelves_of entries.old.items) table.new (shelves_of entries.new.items)
+    ensures ok { result ≡ true → (pool : ℕ) →
+        Finishes pool (total holds.now) table.old (shelves_of entries.old.items) table.new (shelves_of entries.new.items)
         (changed (Changed.Effect key effect.now) no_key (collection_or_new (forest_of table.old (shelves_of entries.old.items)) id)) }
     ensures shelves { shelves_of entries.new.items ≡ shelves_of entries.old.items }
     ensures kept { result ≡ true → IsStored table.new (shelves_of entries.old.items) }
@@ -378,7 +391,8 @@ pub(crate) fn serve_in_place(
     let Some(at) = place_of(entries, id) else {
         return false;
     };
-    let Some((left, reserved)) = serve_effect(alloc, table, units, &entries[at], key, effect) else {
+    let Some((left, reserved)) = serve_effect(alloc, table, units, &entries[at], holds, key, effect)
+    else {
         return false;
     };
     let entry = &mut entries[at];

@@ -9,7 +9,7 @@ use crate::deciding::decide;
 use crate::marks::Marks;
 use crate::questions::some_strong_live;
 use crate::scene::Scene;
-use buffer_holds::Holds;
+use buffer_holds::{Holds, Spot};
 use sm_names::HeldBuffer;
 
 /// Whether no step is forced, and no buffer that is held is home: then a birth forces nothing, and
@@ -34,6 +34,13 @@ pub(crate) fn is_still(scene: &Scene, marks: &mut Marks, holds: &Holds) -> bool
 pub(crate) fn are_out(held: &[HeldBuffer], holds: &Holds, strong_live: bool) -> bool
     ensures { result ≡ list_all (is_out (total holds.now) strong_live) held.now }
 {
-    held.iter()
-        .all(|buffer| !holds.home(buffer.buffer, strong_live))
+    let mut near = Spot::new();
+    let mut rest = held;
+    'on: while let Some((one, more)) = rest.split_first() {
+        if holds.home_near(one.buffer, strong_live, &mut near) {
+            return false;
+        }
+        rest = more;
+    }
+    true
 }

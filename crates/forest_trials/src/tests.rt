@@ -18,6 +18,7 @@ mod ground;
 mod many;
 mod serving;
 mod waiting;
+mod weak;
 
 // The root, an attached node below it, and one below that, which head a unit each.
 const ROOT: NodeKey = NodeKey {

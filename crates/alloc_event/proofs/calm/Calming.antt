@@ -101,6 +101,15 @@ calm_rested pool handles others c h =
     (map-None (mark_of pool (pages_in c ++ others)) (decided c.nodes c.buffers (standing handles others c).strong_open)
     (sym (forced_made handles pool others c) ∙ h)))
 
+-- and its root is not lost
+pub kept_rested : (pool : ℕ) (handles : Handles) (others : List Interval) (c : Collection) →
+    forced pool (standing handles others c) ≡ None →
+    option_and_then (λ (root : Node). when (root.allocated && (not (has_strong c.nodes) && not (standing handles others c).strong_open))
+    (Loses root.key Cause.NoStrong)) (find is_root_left c.nodes) ≡ None
+kept_rested pool handles others c h =
+    (four_none _ _ _ _ (map-None (mark_of pool (pages_in c ++ others)) (decided c.nodes c.buffers (standing handles others c).strong_open)
+    (sym (forced_made handles pool others c) ∙ h))).1
+
 -- in a calm collection nothing is forced while a strong node lives
 pub rests_strong : (c : Collection) → IsCalm c → has_strong c.nodes ≡ true → (pool : ℕ) (handles : Handles) (others : List Interval) →
     forced pool (standing handles others c) ≡ None

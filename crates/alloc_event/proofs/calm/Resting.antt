@@ -11,7 +11,8 @@ use Rattle.sm_names.specs.declared.outcomes.Cause.{Cause}
 use Rattle.sm_names.specs.Forced.{forced}
 use Rattle.sm_names.specs.Members.{some_strong_live}
 use Rattle.sm_names.specs.Words.{first_some, when}
-use Rattle.sm_names.proofs.SamenessLaws.{and_left, and_right, both_ways, either_way, or_cases}
+use Rattle.sm_names.proofs.ListLaws.{In}
+use Rattle.sm_names.proofs.SamenessLaws.{and_both, and_left, and_right, both_ways, either_way, or_cases, or_left, or_right}
 use Rattle.node_table.specs.Table.{Table, node_at}
 use Rattle.alloc_event.specs.declared.decision.Decision.{Decision}
 use Rattle.alloc_event.specs.declared.decision.Decision.TheVariants.{Ends, Loses}
@@ -163,6 +164,46 @@ module _ (handles : Handles) (t : Table Node) (s : Shelf) (lives : ℕ) (filed :
   -- so no pages go back
   pub back_kept : given_back handles (collection_in t s) ≡ collection_in t s
   back_kept = λ i. record c { held = all_stay (λ (h : HeldBuffer). not (is_home_in handles c h.buffer)) s.held out_kept i }
+
+-- ---- what becomes of it
+
+-- a root has no buffers then, where its node becomes one that has them only if it had
+pub roots_stay : (t now : Table Node) (f : Node → Node) → ((key : NodeKey) → node_at now key ≡ option_map f (node_at t key)) →
+    (keys : List NodeKey) → ((n : Node) → In n (nodes_with t keys) → (is_root_left n && n.allocated) ≡ false →
+    (is_root_left (f n) && (f n).allocated) ≡ false) → has_given_root t keys ≡ false → has_given_root now keys ≡ false
+roots_stay t now f look [] stays none = refl
+roots_stay t now f look (k ∷ ks) stays none =
+    ap (λ (o : Option Node). option_map_or (λ (n : Node). is_root_left n && n.allocated) o false) (look k)
+    ∙ from (node_at t k) stays none
+  where
+    from : (o : Option Node) → ((n : Node) → In n (cons_option o (nodes_with t ks)) → (is_root_left n && n.allocated) ≡ false →
+        (is_root_left (f n) && (f n).allocated) ≡ false) → option_map_or (λ (n : Node). is_root_left n && n.allocated) o false ≡ false →
+        option_map_or (λ (n : Node). is_root_left n && n.allocated) (option_map f o) false ≡ false
+    from None stays none = refl
+    from (Some n) stays none = stays n (inl refl) none
+
+-- where no root comes to have buffers, it rests as before
+pub rests_on : (handles : Handles) (t now : Table Node) (s : Shelf) (lives : ℕ) →
+    (has_given_root t s.keys ≡ false → has_given_root now s.keys ≡ false) → is_kept_by handles t s lives ≡ true →
+    is_kept_by handles now s lives ≡ true
+rests_on handles t now s lives roots kept = elim (or_cases (nat_lt 0 lives) (is_at_rest handles t s) kept) [
+  | inl e ↦ or_left (nat_lt 0 lives) (is_at_rest handles now s) e
+  | inr e ↦ or_right (nat_lt 0 lives) (is_at_rest handles now s)
+      (and_both (not (has_given_root now s.keys && not opened)) (list_all (is_out handles false) s.held)
+      (from (has_given_root now s.keys) opened (has_given_root t s.keys) roots
+      (and_left (not (has_given_root t s.keys && not opened)) _ e))
+      (and_right (not (has_given_root t s.keys && not opened)) _ e))
+]
+  where
+    opened : Bool
+    opened = is_held_strongly handles s.id s.buffers
+
+    from : (now_given is_open given : Bool) → (given ≡ false → now_given ≡ false) → not (given && not is_open) ≡ true →
+        not (now_given && not is_open) ≡ true
+    from false is_open given on e = refl
+    from true true given on e = refl
+    from true false true on e = cc
+    from true false false on e = let no : true ≡ false = on refl in cc
 
 -- ---- the entry of a collection
 

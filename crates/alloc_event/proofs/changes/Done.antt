@@ -11,21 +11,23 @@ use Rattle.alloc_event.specs.declared.node.Node.{Node}
 use Rattle.alloc_event.specs.declared.units.Unit.{Unit}
 use Rattle.alloc_event.specs.Calm.{AreCounted, IsCalm, IsCounted, over_but, strong_count}
 use Rattle.alloc_event.specs.Counts.{AreUnits, HaveUnits}
-use Rattle.alloc_event.specs.Decisions.{has_strong}
+use Rattle.alloc_event.specs.Dropped.{has_given_root}
 use Rattle.alloc_event.specs.Forest.{Collection, beside}
 use Rattle.alloc_event.specs.InPlace.{IsDone, IsOpen}
 use Rattle.alloc_event.specs.Kept.{Finishes, IsStored, Shelf, Stores, are_filed, collection_in, forest_of, is_filed, nodes_with, place_in, put_shelf, shelf_of, shelves_of}
 use Rattle.alloc_event.specs.Reserved.{reserved_count}
+use Rattle.alloc_event.specs.Resting.{is_kept_by}
+use Rattle.alloc_event.specs.Scenes.{given_few}
 use Rattle.alloc_event.specs.Settling.{Handles, MayChange, Rests, Settles, changed, collection_or_new, given_back, no_key, put, standing}
-use Rattle.alloc_event.proofs.changes.Altering.{found_put}
-use Rattle.alloc_event.proofs.calm.Calming.{rests_strong}
+use Rattle.alloc_event.proofs.changes.Altering.{found_filed, found_put, found_whole}
+use Rattle.alloc_event.proofs.calm.Resting.{back_kept, few_found, rests_kept, rests_on}
 use Rattle.alloc_event.proofs.shelves.Counted.{counted_but, counted_put, filed_every, moved_but, set_shelves}
 use Rattle.alloc_event.proofs.shelves.Entries.{IsPlace, set_put}
 use Rattle.alloc_event.proofs.changes.Finishing.{collection-beside, collections-put, keys_in}
 use Rattle.alloc_event.proofs.shelves.Showing.{shelf_found}
-use Rattle.alloc_event.proofs.calm.Watched.{found_counted, nothing_back, strong_lives}
+use Rattle.alloc_event.proofs.calm.Watched.{found_counted}
 
--- where nodes were written, and nothing is forced while a strong one lives
+-- where nodes were written, and nothing is forced while a strong one lives, or the collection rests without
 module _ (t now : Table Node) (ss : List Shelf) (s : Shelf) (kept : IsStored t ss) (found : find (λ (x : Shelf). x.id == s.id) ss ≡ Some s)
     (change : Change) (ns : List Node) (stores : Stores t now ns) (filed : list_all (is_filed t s.id) (keys_in ns) ≡ true) where
   -- it is put among the others
@@ -37,21 +39,23 @@ module _ (t now : Table Node) (ss : List Shelf) (s : Shelf) (kept : IsStored t s
       (ap (are_filed t) placed ∙ kept.filed)
 
   -- the change leads to these nodes, and from them to those that are there now
-  pub done_led : IsStored now ss → (between : List Node) →
+  pub done_led : IsStored now ss → (has_given_root t s.keys ≡ false → has_given_root now s.keys ≡ false) → (between : List Node) →
       changed change no_key (collection_or_new (forest_of t ss) s.id) ≡ record (collection_in t s) { nodes = between } →
       ((pool : ℕ) (handles : Handles) (others : List Interval) → forced pool (standing handles others (collection_in now s)) ≡ None →
       Settles pool handles others (record (collection_in t s) { nodes = between }) (collection_in now s)) →
-      (after : List Unit) (lives : ℕ) → nat_lt 0 lives ≡ true → lives ≡ strong_count (nodes_with now s.keys) →
+      (after : List Unit) (lives : ℕ) → lives ≡ strong_count (nodes_with now s.keys) →
       IsCalm (collection_in now s) →
       AreUnits after (map (collection_in now) ss) → IsDone t now after ss s change lives
-  done_led kept_now between change_is leads after lives some count_now calm_now units_now =
-      let strong_now : has_strong (collection_in now s).nodes ≡ true = strong_lives (nodes_with now s.keys) lives some count_now in
+  done_led kept_now roots between change_is leads after lives count_now calm_now units_now =
+      let filed_now = found_filed now s.id ss s kept_now.filed found in
+      let whole_now = found_whole now s.id ss s kept_now.whole found in
       record {
         kept = kept_now;
-        finishes = λ pool handles.
-            let rests = rests_strong (collection_in now s) calm_now strong_now pool handles in
+        finishes = λ pool handles by.
+            let still : is_kept_by handles now s lives ≡ true = rests_on handles t now s lives roots by in
+            let rests = rests_kept handles now s lives filed_now whole_now calm_now count_now still pool in
             let back : given_back handles (collection_in now s) ≡ collection_in now s =
-            nothing_back handles (collection_in now s) strong_now in
+            back_kept handles now s lives filed_now whole_now calm_now count_now still in
             subst (λ (c : Collection). Finishes pool handles t ss now ss c) (sym change_is)
             (record {
               after = collection_in now s;
@@ -60,6 +64,7 @@ module _ (t now : Table Node) (ss : List Shelf) (s : Shelf) (kept : IsStored t s
               rests = ap (λ (c : Collection). forced pool (standing handles (beside (forest_of now ss) s.id) c)) back
                   ∙ rests (beside (forest_of now ss) s.id);
             });
+        roots = roots;
         calm = calm_now;
         strong = count_now;
         others = λ x differ own_filed. collection-beside t now s.id ns stores kept.named filed x differ own_filed;
@@ -67,12 +72,13 @@ module _ (t now : Table Node) (ss : List Shelf) (s : Shelf) (kept : IsStored t s
         same = stores.same;
       }
 
-  pub done_by : IsStored now ss → changed change no_key (collection_or_new (forest_of t ss) s.id) ≡ collection_in now s →
-      (after : List Unit) (lives : ℕ) → nat_lt 0 lives ≡ true → lives ≡ strong_count (nodes_with now s.keys) →
+  pub done_by : IsStored now ss → (has_given_root t s.keys ≡ false → has_given_root now s.keys ≡ false) →
+      changed change no_key (collection_or_new (forest_of t ss) s.id) ≡ collection_in now s →
+      (after : List Unit) (lives : ℕ) → lives ≡ strong_count (nodes_with now s.keys) →
       IsCalm (collection_in now s) →
       AreUnits after (map (collection_in now) ss) → IsDone t now after ss s change lives
-  done_by kept_now change_is =
-      done_led kept_now (nodes_with now s.keys) change_is (λ pool handles others rest. Rests (collection_in now s) rest)
+  done_by kept_now roots change_is =
+      done_led kept_now roots (nodes_with now s.keys) change_is (λ pool handles others rest. Rests (collection_in now s) rest)
 
 -- ---- the entry at its place
 
@@ -98,6 +104,10 @@ module _ (t : Table Node) (es : List Entry) (id at : ℕ) (old : Entry) (place :
         units = units;
       }
 
+  -- it was given few buffers
+  pub few_at : given_few old.buffers ≡ true
+  few_at = few_found t es id old kept found
+
   -- where it was tidy none of its nodes was over but the noted one
   pub tidy_at : old.tidy ≡ true → list_any (over_but old.one) (nodes_with t old.keys.items) ≡ false
   tidy_at h = (found_counted t id es old all found).tidy h
@@ -112,12 +122,13 @@ module _ (t : Table Node) (es : List Entry) (id at : ℕ) (old : Entry) (place :
     pub shelves_at : shelves_of (set es at new) ≡ shelves_of es
     shelves_at = set_shelves es at new (λ within. same ∙ ap shelf_of (is ∙ get_or_default es at old new within))
 
-    pub finishes_at : (pool : ℕ) (handles : Handles) → Finishes pool handles t (shelves_of es) now (shelves_of es)
+    pub finishes_at : (pool : ℕ) (handles : Handles) → is_kept_by handles t (shelf_of old) left ≡ true →
+        Finishes pool handles t (shelves_of es) now (shelves_of es)
         (changed change no_key (collection_or_new (forest_of t (shelves_of es)) id))
-    finishes_at pool handles =
+    finishes_at pool handles by =
         subst (λ (i : ℕ). Finishes pool handles t (shelves_of es) now (shelves_of es)
         (changed change no_key (collection_or_new (forest_of t (shelves_of es)) i)))
-        own_id (made.finishes pool handles)
+        own_id (made.finishes pool handles by)
 
     new_id : new.id ≡ id
     new_id = ap (λ (s : Shelf). s.id) same ∙ own_id

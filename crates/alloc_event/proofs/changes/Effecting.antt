@@ -1,5 +1,5 @@
 -- An effect that is made in its place, and what the count of strong live nodes becomes.
-use Rattle.std.proofs.Common.{◌≡◌, ◌≢◌, ℕ, ◌+◌, ◌==◌, nat_lt, Bool, true, false, ◌||◌, ◌&&◌, not, if◌then◌else◌, is_some, ◌<◌, ◌⊎◌, inl, inr, List, [], ◌∷◌, map, length, set, Option, Some, None, option_map, refl, sym, ap, subst, ◌∙◌, arith}
+use Rattle.std.proofs.Common.{◌≡◌, ◌≢◌, ℕ, ◌+◌, ◌==◌, nat_lt, Bool, true, false, ◌||◌, ◌&&◌, not, if◌then◌else◌, is_none, is_some, ◌<◌, ◌⊎◌, inl, inr, List, [], ◌∷◌, map, length, set, Option, Some, None, option_map, refl, sym, ap, subst, ◌∙◌, arith}
 use Rattle.std.proofs.lemmas.Bool.{eq-eqb, eqb-true, not-true}
 use Rattle.std.proofs.lemmas.List.{get_or-set_other, get_or-set_same, length-set}
 use Rattle.std.specs.List.{list_all, list_any}
@@ -21,7 +21,7 @@ use Rattle.alloc_event.specs.declared.node.Node.{Node}
 use Rattle.alloc_event.specs.declared.units.Unit.{Unit}
 use Rattle.alloc_event.specs.Calm.{IsCalm, strong_count, over_but}
 use Rattle.alloc_event.specs.Counts.{AreUnits, HasBelow, HasUnits, is_unready, lives_in, no_unit, unit_at, unit_of, waits_in}
-use Rattle.alloc_event.specs.Decisions.{has_strong}
+use Rattle.alloc_event.specs.Dropped.{has_given_root}
 use Rattle.alloc_event.specs.Due.{is_due_at, is_served_at}
 use Rattle.alloc_event.specs.Forest.{Collection, beside, with_nodes}
 use Rattle.alloc_event.specs.InPlace.{IsMade, IsOpen, bit, is_plain}
@@ -33,7 +33,8 @@ use Rattle.alloc_event.specs.Units.{is_head}
 use Rattle.alloc_event.proofs.calm.Together.{together_effect}
 use Rattle.alloc_event.proofs.tallies.Amounts.{times_changed}
 use Rattle.alloc_event.proofs.changes.Altering.{found_filed, found_put, found_whole, looked-of, same_affected}
-use Rattle.alloc_event.proofs.calm.Calming.{IsPlain, any_map, calm_map, rests_strong, times_map}
+use Rattle.alloc_event.proofs.calm.Calming.{IsPlain, any_map, calm_map, times_map}
+use Rattle.alloc_event.proofs.calm.Resting.{back_kept, rests_kept, roots_stay}
 use Rattle.alloc_event.proofs.changes.Done.{done_by}
 use Rattle.alloc_event.proofs.changes.Finishing.{collection-beside}
 use Rattle.alloc_event.proofs.tables.Hanging.{all_in, in_all, looked_there}
@@ -48,7 +49,6 @@ use Rattle.alloc_event.proofs.shelves.Showing.{collection_is, node_is}
 use Rattle.alloc_event.proofs.tallies.Slots.{Stays, all_at, but_all, but_join, but_moved, but_stays, one_shelf, one_slot, units_mapped}
 use Rattle.alloc_event.proofs.calm.Steps.{all-In}
 use Rattle.alloc_event.proofs.tables.Storing.{Stores-more, Stores-none}
-use Rattle.alloc_event.proofs.calm.Watched.{nothing_back, strong_lives}
 use Rattle.alloc_event.proofs.tables.Writing.{IsSameNode, kept-map, look-changed, parents-written}
 
 -- ---- what an effect does to a node
@@ -252,7 +252,13 @@ module _ (t now : Table Node) (us : List Unit) (key : NodeKey) (effect : Effect)
   beside_same x differ own_filed = collection-beside t now s.id (f n ∷ []) stores opens.kept.named
       (and_both (is_filed t s.id (f n).key) true filed refl) x differ own_filed
 
-  module _ (after : List Unit) (lives : ℕ) (some : nat_lt 0 lives ≡ true) (lives_is : lives ≡ strong_count (map f nodes))
+  -- a root has buffers as before
+  roots : has_given_root t s.keys ≡ false → has_given_root now s.keys ≡ false
+  roots = roots_stay t now f look s.keys (λ m there none.
+      (λ i. (is_none ((same m).parent i) && not ((remains_affected key effect m).gone i)) && (remains_affected key effect m).allocated i)
+      ∙ none)
+
+  module _ (after : List Unit) (lives : ℕ) (lives_is : lives ≡ strong_count (map f nodes))
       (calm_now : IsCalm (collection_in now s)) (units_now : AreUnits after (map (collection_in now) ss)) where
     count_now : lives ≡ strong_count (nodes_with now s.keys)
     count_now = lives_is ∙ ap strong_count (sym nodes_now)
@@ -272,7 +278,7 @@ module _ (t now : Table Node) (us : List Unit) (key : NodeKey) (effect : Effect)
     made_now = record {
       done = done_by t now ss s opens.kept opens.found (Change.Effect key effect) (f n ∷ []) stores (and_both (is_filed t s.id (f n).key)
           true filed refl)
-          kept_now change_is after lives some count_now calm_now units_now;
+          kept_now roots change_is after lives count_now calm_now units_now;
       nodes = nodes_now;
       over = λ one. ap (list_any (over_but one)) nodes_now ∙ any_map (over_but one) (over_but one) f nodes (λ m. over_same one m);
     }
@@ -299,10 +305,10 @@ module _ (t now : Table Node) (us : List Unit) (key : NodeKey) (effect : Effect)
       has))
 
   -- an effect that neither releases nor sets constraints changes no count of units
-  pub plain_made : is_plain effect ≡ true → (lives : ℕ) → nat_lt 0 lives ≡ true → lives ≡ strong_count (map f nodes) →
+  pub plain_made : is_plain effect ≡ true → (lives : ℕ) → lives ≡ strong_count (map f nodes) →
       IsMade t now us ss s (Change.Effect key effect) lives
-  plain_made is lives some lives_is =
-      made_now us lives some lives_is (subst IsCalm (sym now_is) (calm_map (collection_in t s) f (plain_affected key effect is) opens.calm))
+  plain_made is lives lives_is =
+      made_now us lives lives_is (subst IsCalm (sym now_is) (calm_map (collection_in t s) f (plain_affected key effect is) opens.calm))
       (units_join us (λ k m at differ within. (within, refl)) (units_mapped us f nodes (λ m. (same m).key) counts unit_has))
     where
       counts : (k : NodeKey) → unit_of (map f nodes) k ≡ unit_of nodes k
@@ -458,12 +464,12 @@ module _ (t now : Table Node) (us : List Unit) (key : NodeKey) (effect : Effect)
             ∙ sym (other_unit x.key e))
 
     -- something holds the unit, and where it is due it does not become ready
-    pub counted_made : (lives : ℕ) → nat_lt 0 lives ≡ true → lives ≡ strong_count (map f nodes) →
+    pub counted_made : (lives : ℕ) → lives ≡ strong_count (map f nodes) →
         (0 < next.live) ⊎ HasBelow t key n.collection →
         (is_unready n ≡ false) ⊎ ((0 < next.unready) ⊎ (is_due_at t n.head ≡ false)) →
         IsMade t now after_one ss s (Change.Effect key effect) lives
-    counted_made lives some lives_is live guard =
-        made_now after_one lives some lives_is
+    counted_made lives lives_is live guard =
+        made_now after_one lives lives_is
         (subst IsCalm (sym now_is) (calm_changed (collection_in t s) whole f same (λ m. (remains_affected key effect m).gone) (λ m.
         (remains_affected key effect m).allocated) n on alone
         (holds live) (guarded guard) opens.calm))
@@ -483,19 +489,21 @@ module _ (t now : Table Node) (us : List Unit) (key : NodeKey) (effect : Effect)
 
 -- ---- nothing of the nodes
 
-pub made_nothing : (t : Table Node) (us : List Unit) (ss : List Shelf) (s : Shelf) (strong : ℕ) → nat_lt 0 strong ≡ true →
+pub made_nothing : (t : Table Node) (us : List Unit) (ss : List Shelf) (s : Shelf) (strong : ℕ) →
     IsOpen t us ss s Change.Nothing strong → IsMade t t us ss s Change.Nothing strong
-made_nothing t us ss s strong some opens =
-    let lives : has_strong (collection_in t s).nodes ≡ true = strong_lives (nodes_with t s.keys) strong some opens.strong in
+made_nothing t us ss s strong opens =
+    let filed = found_filed t s.id ss s opens.kept.filed opens.found in
+    let whole_s = found_whole t s.id ss s opens.kept.whole opens.found in
     let is : changed Change.Nothing no_key (collection_or_new (forest_of t ss) s.id) ≡ collection_in t s =
     ap (λ (o : Option Collection). unwrap_or o (record { id = s.id; nodes = []; buffers = None; held = [] }))
     (collection_is t s.id ss ∙ ap (option_map (collection_in t)) opens.found) in
     record {
       done = record {
         kept = opens.kept;
-        finishes = λ pool handles.
-            let rests = rests_strong (collection_in t s) opens.calm lives pool handles in
-            let back : given_back handles (collection_in t s) ≡ collection_in t s = nothing_back handles (collection_in t s) lives in
+        finishes = λ pool handles by.
+            let rests = rests_kept handles t s strong filed whole_s opens.calm opens.strong by pool in
+            let back : given_back handles (collection_in t s) ≡ collection_in t s =
+            back_kept handles t s strong filed whole_s opens.calm opens.strong by in
             subst (λ (c : Collection). Finishes pool handles t ss t ss c) (sym is)
             (record {
               after = collection_in t s;
@@ -505,6 +513,7 @@ made_nothing t us ss s strong some opens =
               rests = ap (λ (c : Collection). forced pool (standing handles (beside (forest_of t ss) s.id) c)) back
                   ∙ rests (beside (forest_of t ss) s.id);
             });
+        roots = λ none. none;
         calm = opens.calm;
         strong = opens.strong;
         others = λ x differ own_filed. refl;

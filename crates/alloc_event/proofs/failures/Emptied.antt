@@ -182,7 +182,7 @@ module _ (t : Table Node) (us : List Unit) (ss : List Shelf) (s : Shelf) (fault 
   together_g = subst GoTogether (sym g_is) (together_loss members (whole_formed (collection_in t s) whole_e) fault left_e)
 
   pub ends_made : (now : Table Node) → Stores t now (map (gone_by ending) (nodes_with t keys)) →
-      (lives : ℕ) → nat_lt 0 lives ≡ true → lives + strong_count (nodes_with t keys) ≡ strong →
+      (lives : ℕ) → lives + strong_count (nodes_with t keys) ≡ strong →
       IsLost t now (untallied (nodes_with t keys) us) ss s (Change.Loss fault.origin fault.cause) lives
       (map (gone_by ending) (nodes_with t keys))
   ends_made now stores =

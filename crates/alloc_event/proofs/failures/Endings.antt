@@ -171,7 +171,7 @@ module _ (t : Table Node) (us : List Unit) (ss : List Shelf) (s : Shelf) (going 
 
       pub ended_made : changed (change_of going) no_key (collection_or_new (forest_of t ss) s.id)
           ≡ record (collection_in t s) { nodes = map g members } →
-          (lives : ℕ) → nat_lt 0 lives ≡ true → lives + strong_count (nodes_with t keys) ≡ strong →
+          (lives : ℕ) → lives + strong_count (nodes_with t keys) ≡ strong →
           IsLost t now (untallied (nodes_with t keys) us) ss s (change_of going) lives (map (gone_by going) (nodes_with t keys))
       ended_made change_is =
           made_by t us ss s going strong opens origin keys taken own head attached top inside kept_up now stores rooted_leaves

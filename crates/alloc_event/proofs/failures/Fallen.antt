@@ -1,5 +1,5 @@
 -- Nodes that went in their places, and the counts of those that are left.
-use Rattle.std.proofs.Common.{◌≡◌, ◌≢◌, ℕ, ◌+◌, ◌<◌, ◌==◌, nat_lt, refl, ap, sym, ◌∙◌, subst, Bool, true, false, not, ◌&&◌, ◌||◌, ◌⊎◌, inl, inr, if◌then◌else◌, List, [], ◌∷◌, map, reverse, length, Option, Some, None, option_map, arith}
+use Rattle.std.proofs.Common.{◌≡◌, ◌≢◌, ℕ, ◌+◌, ◌<◌, ◌==◌, nat_lt, refl, ap, sym, ◌∙◌, subst, Bool, true, false, not, ◌&&◌, ◌||◌, ◌⊎◌, inl, inr, if◌then◌else◌, is_none, List, [], ◌∷◌, map, reverse, length, Option, Some, None, option_map, arith}
 use Rattle.std.proofs.lemmas.Bool.{eqb-false, eqb-true, ltb-true}
 use Rattle.std.proofs.lemmas.Map.Views.{Contains-from_any, list_any-from_Contains}
 use Rattle.std.specs.List.{AllByRecursion, Contains, cons_option, flat_map, list_all, list_any}
@@ -21,6 +21,7 @@ use Rattle.alloc_event.specs.declared.falling.Going.{Going}
 use Rattle.alloc_event.specs.declared.node.Node.{Node}
 use Rattle.alloc_event.specs.declared.units.Unit.{Unit}
 use Rattle.alloc_event.specs.Calm.{IsCalm, strong_count}
+use Rattle.alloc_event.specs.Dropped.{has_given_root}
 use Rattle.alloc_event.specs.Counts.{AreUnits, AreUnitsBut, HasUnits, lives_in, unit_at, unit_of, waits_in}
 use Rattle.alloc_event.specs.Falling.{change_of, gone_by, IsLost, IsTaken, IsTop, is_kept_up, untallied}
 use Rattle.alloc_event.specs.Forest.{Collection, with_nodes}
@@ -32,6 +33,7 @@ use Rattle.alloc_event.specs.Ties.{are_rooted, is_blocking}
 use Rattle.alloc_event.specs.Units.{GoTogether, is_head}
 use Rattle.alloc_event.proofs.changes.Altering.{found_filed, found_whole, looked-of}
 use Rattle.alloc_event.proofs.calm.Calming.{times_map}
+use Rattle.alloc_event.proofs.calm.Resting.{roots_stay}
 use Rattle.alloc_event.proofs.failures.Crossing.{calm_fallen}
 use Rattle.alloc_event.proofs.changes.Done.{done_led}
 use Rattle.alloc_event.proofs.failures.Ties.{key_equivalence}
@@ -537,18 +539,29 @@ module _ (t : Table Node) (us : List Unit) (ss : List Shelf) (s : Shelf) (going 
           (gone_of going keys)
           (λ n out. goes_not going keys n out) guard whole_after lives opens.calm)
 
+      -- a root that has buffers had them
+      roots : has_given_root t s.keys ≡ false → has_given_root now s.keys ≡ false
+      roots = roots_stay t now f look s.keys (λ n on none.
+          (λ i. (is_none ((same n).parent i) && not (gone_of going keys n i)) && given_of going keys n i)
+          ∙ fewer (is_none n.parent) (falls n.key) n.gone n.allocated none)
+        where
+          fewer : (p x g a : Bool) → ((p && not g) && a) ≡ false → ((p && not (x || g)) && a) ≡ false
+          fewer p false g a none = none
+          fewer false true g a none = refl
+          fewer true true g a none = refl
+
       -- so the change is made, where it leads to these nodes
       pub made_by : (between : List Node) →
           changed (change_of going) no_key (collection_or_new (forest_of t ss) s.id) ≡ record (collection_in t s) { nodes = between } →
           ((pool : ℕ) (handles : Handles) (others : List Interval) → forced pool (standing handles others (collection_in now s)) ≡ None →
           Settles pool handles others (record (collection_in t s) { nodes = between }) (collection_in now s)) →
-          (lives : ℕ) → nat_lt 0 lives ≡ true → lives + strong_count fallen ≡ strong →
+          (lives : ℕ) → lives + strong_count fallen ≡ strong →
           IsLost t now new ss s (change_of going) lives (map (gone_by going) fallen)
-      made_by between change_is leads left some count =
+      made_by between change_is leads left count =
           let total = strong_is in
           let is : left ≡ strong_count (map f nodes) = omega arith in
           record {
             done = done_led t now ss s opens.kept opens.found (change_of going) (map (gone_by going) fallen) stores filed
-                kept_now between change_is leads new left some (is ∙ ap strong_count (sym nodes_now)) calm_now units_now;
+                kept_now roots between change_is leads new left (is ∙ ap strong_count (sym nodes_now)) calm_now units_now;
             over = over_now now stores;
           }

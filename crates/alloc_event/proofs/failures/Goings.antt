@@ -82,7 +82,7 @@ module _ (t : Table Node) (us : List Unit) (ss : List Shelf) (s : Shelf) (fault 
     fails_now : collection_in now s ≡ with_nodes (map fails) (collection_in t s)
     fails_now = now_is t us ss s failing strong opens fault.origin keys taken own head attached top inside kept_up now stores rooted_fails
 
-    pub fails_made : (lives : ℕ) → nat_lt 0 lives ≡ true → lives + strong_count (nodes_with t keys) ≡ strong →
+    pub fails_made : (lives : ℕ) → lives + strong_count (nodes_with t keys) ≡ strong →
         IsLost t now (untallied (nodes_with t keys) us) ss s (Change.Loss fault.origin fault.cause) lives
         (map (gone_by failing) (nodes_with t keys))
     fails_made =
@@ -161,7 +161,7 @@ module _ (t : Table Node) (us : List Unit) (ss : List Shelf) (s : Shelf) (key : 
       Effect.Released
 
   pub leaves_made : (now : Table Node) → Stores t now (map (gone_by leaving) (nodes_with t keys)) →
-      (lives : ℕ) → nat_lt 0 lives ≡ true → lives + strong_count (nodes_with t keys) ≡ strong →
+      (lives : ℕ) → lives + strong_count (nodes_with t keys) ≡ strong →
       IsLost t now (untallied (nodes_with t keys) us) ss s (Change.Effect key Effect.Released) lives
       (map (gone_by leaving) (nodes_with t keys))
   leaves_made now stores =
@@ -179,7 +179,7 @@ pub lost_made : (t : Table Node) (us : List Unit) (ss : List Shelf) (s : Shelf) 
     is_kept_up t (unit_at us head.slot) (unit_at (untallied (nodes_with t keys) us) head.slot) head attached ≡ true →
     may_go going origin attached keys (nodes_with t keys) ≡ true → IsFailing t going →
     (now : Table Node) → Stores t now (map (gone_by going) (nodes_with t keys)) →
-    (lives : ℕ) → nat_lt 0 lives ≡ true → lives + strong_count (nodes_with t keys) ≡ strong →
+    (lives : ℕ) → lives + strong_count (nodes_with t keys) ≡ strong →
     IsLost t now (untallied (nodes_with t keys) us) ss s (change_of going) lives (map (gone_by going) (nodes_with t keys))
 lost_made t us ss s (Going.Fails fault) strong opens origin keys taken own head attached top inside kept_up may falls now stores =
     fails_made t us ss s fault strong opens keys (subst (λ (k : NodeKey). IsTaken t k keys) (same_key-true origin fault.origin may) taken)

@@ -26,7 +26,7 @@ use Rattle.alloc_event.proofs.calm.Steps.{all-In}
 use Rattle.alloc_event.proofs.newborns.Members.{find-none, none-find}
 use Rattle.alloc_event.proofs.tables.Rooted.{distinct_one}
 use Rattle.alloc_event.proofs.tallies.Holding.{hangs_in}
-use Rattle.alloc_event.proofs.serves.Allocated.{deserted_same, losing, next_decided, ready_on, root_on, root_same, wait_on}
+use Rattle.alloc_event.proofs.serves.Allocated.{deserted_same, losing, next_decided, ready_on, root_on, root_same, strong_on, wait_on}
 
 none_made : (nodes : List Node) (b : Buffers) (o : Option Node) → option_map (λ (n : Node). later_step nodes b n.key) o ≡ None → o ≡ None
 none_made nodes b None h = refl
@@ -200,23 +200,27 @@ module _ (c : Collection) (sound : IsSound c) (k : NodeKey) (child : is_root_of 
         still true h = cc
         still false h = refl
 
-    kept_root : (strong_open : Bool) → has_strong nodes ≡ true → (o : Option Node) → losing nodes strong_open o ≡ None
-    kept_root strong_open strong None = refl
-    kept_root strong_open strong (Some root) = from root.allocated (has_strong nodes) strong
+    kept_before : (strong_open : Bool) (o : Option Node) → find is_root_left nodes ≡ o → losing after strong_open (option_map f o) ≡ None →
+        losing nodes strong_open o ≡ None
+    kept_before strong_open None e h = refl
+    kept_before strong_open (Some r) e h =
+        still (r.allocated && (not (has_strong nodes) && not strong_open))
+        ((λ i. when (sym (root_same c sound k child true r e) i && (not (sym (strong_on c sound k child true) i) && not strong_open))
+        (Loses (f r).key Cause.NoStrong)) ∙ h)
       where
-        from : (a s : Bool) → s ≡ true → when (a && (not s && not strong_open)) (Loses root.key Cause.NoStrong) ≡ None
-        from false s e = refl
-        from true true e = refl
-        from true false e = cc
+        still : (b : Bool) → when b (Loses (f r).key Cause.NoStrong) ≡ None → when b (Loses r.key Cause.NoStrong) ≡ None
+        still true h = cc
+        still false h = refl
 
     -- so its allocation is decided
-    pub serves : (strong_open : Bool) → has_strong nodes ≡ true → (h : Node) → In h nodes → h.key ≡ k → is_next_node nodes h ≡ true →
+    pub serves : (strong_open : Bool) → losing after strong_open (find is_root_left after) ≡ None → (h : Node) → In h nodes → h.key ≡ k → is_next_node nodes h ≡ true →
         late_failure k nodes b ≡ None → decided nodes c.buffers strong_open ≡ Some (Allocates k)
-    serves strong_open strong h on is next fits =
+    serves strong_open stays h on is next fits =
         ap (λ (o : Option Buffers). decided nodes o strong_open) has
         ∙ (next_decided nodes b strong_open h (record {
           no_end = end_before;
-          no_loss = kept_root strong_open strong (find is_root_left nodes);
+          no_loss = kept_before strong_open (find is_root_left nodes) refl
+              (sym (ap (losing after strong_open) (root_on c sound k child true)) ∙ stays);
           no_root = wait_before (find is_root_left nodes) refl
               (sym (ap (option_and_then (λ (root : Node). when (not root.allocated && list_all (is_ready_node root.key) after) root))
               (root_on c sound k child true)) ∙ then.no_root);

@@ -1,6 +1,7 @@
 -- An effect by which an attached unit becomes ready, and the unit's allocation with it, in their places.
-use Rattle.std.proofs.Common.{◌≡◌, ◌≢◌, ℕ, ◌+◌, ◌<◌, ◌==◌, nat_lt, refl, ap, sym, ◌∙◌, subst, Bool, true, false, not, ◌&&◌, if◌then◌else◌, ◌⊎◌, inl, inr, List, [], ◌∷◌, ◌++◌, map, set, Option, Some, None, option_map, arith}
+use Rattle.std.proofs.Common.{◌≡◌, ◌≢◌, ℕ, ◌+◌, ◌<◌, ◌==◌, nat_lt, refl, ap, sym, ◌∙◌, subst, Bool, true, false, not, ◌&&◌, ◌||◌, is_none, if◌then◌else◌, ◌⊎◌, inl, inr, List, [], ◌∷◌, ◌++◌, map, set, Option, Some, None, option_map, arith}
 use Rattle.std.proofs.lemmas.Bool.{eqb-false, eqb-true, le-ltb, lt-ltb, not-true}
+use Rattle.std.proofs.Math.Bool.{and-false}
 use Rattle.std.specs.List.{AllByRecursion, find, list_all, list_any, sum_by}
 use Rattle.std.specs.Option.{option_map_or}
 use Rattle.sm_names.specs.declared.keys.Interval.{Interval}
@@ -26,25 +27,27 @@ use Rattle.alloc_event.specs.declared.node.Node.{Node}
 use Rattle.alloc_event.specs.declared.units.Unit.{Unit}
 use Rattle.alloc_event.specs.Calm.{IsCalm, over_but, strong_count}
 use Rattle.alloc_event.specs.Counts.{AreUnits, HasUnits, lives_in, unit_at, waits_in, is_unready}
-use Rattle.alloc_event.specs.Decisions.{decided, has_strong, late_failure, mark_of}
+use Rattle.alloc_event.specs.Decisions.{decided, late_failure, mark_of}
+use Rattle.alloc_event.specs.Dropped.{has_given_root}
 use Rattle.alloc_event.specs.Due.{is_due_at, is_served_at}
 use Rattle.alloc_event.specs.Falling.{IsTaken}
 use Rattle.alloc_event.specs.Forest.{Collection, beside, pages_in, with_nodes}
 use Rattle.alloc_event.specs.InPlace.{IsMade, IsOpen, bit}
 use Rattle.alloc_event.specs.Kept.{AreRising, Finishes, IsStored, IsWhole, Shelf, collection_in, forest_of, is_filed, is_strong, nodes_with, written}
 use Rattle.alloc_event.specs.Nodes.{affected, after_allocation, given_buffers}
-use Rattle.alloc_event.specs.Questions.{demands_of, is_allocated_node, is_in_unit, is_live_node, is_next_node, is_ready_node, is_served}
+use Rattle.alloc_event.specs.Questions.{demands_of, is_allocated_node, is_in_unit, is_live_node, is_next_node, is_ready_node, is_root_left, is_served}
 use Rattle.alloc_event.specs.Reserved.{camped, reserved_count}
-use Rattle.alloc_event.specs.Scenes.{IsSound}
+use Rattle.alloc_event.specs.Resting.{is_kept_by}
+use Rattle.alloc_event.specs.Scenes.{IsSound, heads_itself}
 use Rattle.alloc_event.specs.Serving.{AreLess, IsDue, IsGivenAt, IsRoom, IsServed, IsServedAt, are_enough, asked_with, given_at, hangs_below_at, has_turn_at}
 use Rattle.alloc_event.specs.Settling.{Handles, Rests, Settles, changed, collection_or_new, given_back, is_root_of, is_there, no_key, put, standing}
-use Rattle.alloc_event.proofs.calm.Calming.{any_map, count_none, rests_strong, times_map}
+use Rattle.alloc_event.proofs.calm.Calming.{any_map, count_none, kept_rested, times_map}
 use Rattle.alloc_event.proofs.calm.Forcing.{forced_made}
 use Rattle.alloc_event.proofs.calm.Settlings.{step_settles}
-use Rattle.alloc_event.proofs.calm.Steps.{all-In}
+use Rattle.alloc_event.proofs.calm.Resting.{back_kept, rests_kept, rests_on, roots_stay}
+use Rattle.alloc_event.proofs.calm.Steps.{all-In, found_by_key}
 use Rattle.alloc_event.proofs.calm.Together.{together_given}
-use Rattle.alloc_event.proofs.calm.Watched.{nothing_back, strong_lives}
-use Rattle.alloc_event.proofs.changes.Altering.{Some-shelf, filed_at, found_filed, looked-of, same_affected}
+use Rattle.alloc_event.proofs.changes.Altering.{Some-shelf, filed_at, found_filed, found_whole, looked-of, same_affected}
 use Rattle.alloc_event.proofs.changes.Effecting.{alone_affected, counted_made, live_before, live_is, now_is, remains_affected, strong_before, strong_is, unready_before, unready_is}
 use Rattle.alloc_event.proofs.failures.Endings.{change_nodes}
 use Rattle.alloc_event.proofs.failures.Fallen.{each_shelf}
@@ -64,7 +67,7 @@ use Rattle.alloc_event.proofs.tallies.Amounts.{amount_of}
 use Rattle.alloc_event.proofs.tallies.Reserved.{amount_both, amount_map, camped_if, camped_sum}
 use Rattle.alloc_event.proofs.tallies.Reserved.{reserved_is as reserved_sum}
 use Rattle.alloc_event.proofs.tallies.Slots.{all_at, one_shelf, units_with}
-use Rattle.alloc_event.proofs.serves.Allocated.{strong_on}
+use Rattle.alloc_event.proofs.serves.Allocated.{losing}
 
 -- ---- lists
 
@@ -298,6 +301,25 @@ module _ (t : Table Node) (us : List Unit) (key : NodeKey) (effect : Effect) (n 
     kept_between = kept-with g same_g (λ m h. sym (kept_given (λ (x : Node). x.gone) k (λ x. refl) s.keys m) ∙ h) t between
         given.same.first given.same.nexts given.same.len given.look given.parents ss whole_between opens.kept
 
+    -- no root is of the unit
+    roots_given : has_given_root t s.keys ≡ false → has_given_root between s.keys ≡ false
+    roots_given = roots_stay t between g given.look s.keys (λ m there waits. elim (either_way (is_root_left m)) [
+      | inl e ↦
+          let root : is_none m.parent ≡ true = and_left (is_none m.parent) (not m.gone) e in
+          let mine : heads_itself m ≡ true = all-In heads_itself nodes m there whole.sound.heads in
+          let head : same_key m.head m.key ≡ true = rw root at mine in
+          let other : same_key k m.head ≡ false = false_if (same_key k m.head) (λ h.
+          let key : m.key ≡ k = sym (same_key-true k m.head h ∙ same_key-true m.head m.key head) in
+          let found : is_root_of c0 m.key ≡ is_none m.parent =
+          ap (λ (o : Option Node). option_map_or (λ (x : Node). is_none x.parent) o false)
+          (found_by_key nodes m whole.sound.distinct there) in
+          both_ways (is_root_of c0 k) (sym (ap (is_root_of c0) key) ∙ found ∙ root) child0) in
+          let bare_root : m.allocated ≡ false = rw e at waits in
+          ap (λ (x : Node). is_root_left x && x.allocated) (given_in k s.keys m (listed m there))
+          ∙ ((λ i. is_root_left m && (other i || bare_root i)) ∙ and-false (is_root_left m))
+      | inr e ↦ ap (λ (b : Bool). b && (g m).allocated) (kept_given is_root_left k (λ x. refl) s.keys m ∙ e)
+    ])
+
     unit_has : HasUnits us nodes
     unit_has = all_at (λ (c : Collection). HasUnits us c.nodes) (map (collection_in t) ss) opens.units c0
         (In-map-back (collection_in t) ss s (In-find (λ (x : Shelf). x.id == s.id) ss s opens.found).0)
@@ -390,12 +412,9 @@ module _ (t : Table Node) (us : List Unit) (key : NodeKey) (effect : Effect) (n 
           (strong_is between now us key effect n' node_between becomes' writes' ss s strong open_between
           ∙ ap (λ (m : Node). strong + bit (is_strong m)) commutes)
 
-      some : nat_lt 0 lives ≡ true
-      some = lt-ltb 0 lives less.some
-
       made_between : IsMade between now (set us k.slot next) ss s (Change.Effect key effect) lives
       made_between = counted_made between now us key effect n' node_between becomes' writes' ss s strong open_between less.inside next
-          live_next unready_next lives some lives_is (inl less.lives) (inr (inr due_between))
+          live_next unready_next lives lives_is (inl less.lives) (inr (inr due_between))
 
       -- the nodes are as the effect and then the allocation make them
       nodes_now : map f (nodes_with between s.keys) ≡ after_allocation k (map f nodes)
@@ -409,35 +428,40 @@ module _ (t : Table Node) (us : List Unit) (key : NodeKey) (effect : Effect) (n 
       ready = sym (times_map (waits_in k) (waits_in k) (given_buffers k) (map f nodes) (λ m. refl))
           ∙ (sym (ap (times (waits_in k)) nodes_now) ∙ (sym unready_next ∙ less.ready))
 
-      strong_now : has_strong (collection_in now s).nodes ≡ true
-      strong_now = strong_lives (nodes_with now s.keys) lives some made_between.done.strong
-
-      strong_then : has_strong c1.nodes ≡ true
-      strong_then = sym (strong_on c1 sound1 k child1 true) ∙ subst (λ (c : Collection). has_strong c.nodes ≡ true) allocated strong_now
-
-      told : (strong_open : Bool) → decided c1.nodes c1.buffers strong_open ≡ Some (Allocates k)
-      told strong_open = serves c1 sound1 k child1 (subst IsCalm allocated made_between.done.calm) b has strong_open strong_then h1 h1_on
+      told : (strong_open : Bool) → losing (after_allocation k c1.nodes) strong_open (find is_root_left (after_allocation k c1.nodes)) ≡ None →
+          decided c1.nodes c1.buffers strong_open ≡ Some (Allocates k)
+      told strong_open stays = serves c1 sound1 k child1 (subst IsCalm allocated made_between.done.calm) b has strong_open stays h1 h1_on
           h1_key (next1 ready) fits
 
       settles : (pool : ℕ) (handles : Handles) (others : List Interval) →
           forced pool (standing handles others (collection_in now s)) ≡ None →
           Settles pool handles others c1 (collection_in now s)
       settles pool handles others rest =
+          let opened : Bool = (standing handles others c1).strong_open in
+          let stays : losing (after_allocation k c1.nodes) opened (find is_root_left (after_allocation k c1.nodes)) ≡ None =
+          subst (λ (c : Collection). losing c.nodes opened (find is_root_left c.nodes) ≡ None) allocated
+          (kept_rested pool handles others (collection_in now s) rest) in
           step_settles pool handles others c1 (collection_in now s) (collection_in now s) (Allocated k)
           (forced_made handles pool others c1
-          ∙ ap (option_map (mark_of pool (pages_in c1 ++ others))) (told (standing handles others c1).strong_open))
+          ∙ ap (option_map (mark_of pool (pages_in c1 ++ others))) (told opened stays))
           (rw child1 allocated) (Rests (collection_in now s) rest)
 
       beside_now : (x : Shelf) → x.id ≢ s.id → list_all (is_filed t x.id) x.keys ≡ true → collection_in now x ≡ collection_in t x
       beside_now x differ filed =
           made_between.done.others x differ (filed-map g same_g t between given.look x.id x.keys ∙ filed) ∙ others_between x differ filed
 
-      finishes_now : (pool : ℕ) (handles : Handles) → Finishes pool handles t ss now ss
+      roots_now : has_given_root t s.keys ≡ false → has_given_root now s.keys ≡ false
+      roots_now none_given = made_between.done.roots (roots_given none_given)
+
+      finishes_now : (pool : ℕ) (handles : Handles) → is_kept_by handles t s lives ≡ true → Finishes pool handles t ss now ss
           (changed (Change.Effect key effect) no_key (collection_or_new (forest_of t ss) s.id))
-      finishes_now pool handles =
-          let rests = rests_strong (collection_in now s) made_between.done.calm strong_now pool handles in
+      finishes_now pool handles by =
+          let still : is_kept_by handles now s lives ≡ true = rests_on handles t now s lives roots_now by in
+          let filed_now = found_filed now s.id ss s made_between.done.kept.filed opens.found in
+          let whole_now = found_whole now s.id ss s made_between.done.kept.whole opens.found in
+          let rests = rests_kept handles now s lives filed_now whole_now made_between.done.calm made_between.done.strong still pool in
           let back : given_back handles (collection_in now s) ≡ collection_in now s =
-          nothing_back handles (collection_in now s) strong_now in
+          back_kept handles now s lives filed_now whole_now made_between.done.calm made_between.done.strong still in
           subst (λ (c : Collection). Finishes pool handles t ss now ss c)
           (sym (change_nodes t ss s opens.found (Change.Effect key effect)))
           (record {
@@ -494,6 +518,7 @@ module _ (t : Table Node) (us : List Unit) (key : NodeKey) (effect : Effect) (n 
           done = record {
             kept = made_between.done.kept;
             finishes = finishes_now;
+            roots = roots_now;
             calm = made_between.done.calm;
             strong = made_between.done.strong;
             others = beside_now;

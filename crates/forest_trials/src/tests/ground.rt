@@ -200,6 +200,16 @@ impl Ground {
         self.settle_done(Call::SetDispensable(key))
     }
 
+    /// The node is weak.
+    pub fn weaken(&mut self, key: NodeKey) -> Result<(), Fail> {
+        self.settle_done(Call::SetWeak(key))
+    }
+
+    /// The node may take weak handles.
+    pub fn allow_weak(&mut self, key: NodeKey) -> Result<(), Fail> {
+        self.settle_done(Call::SetWeakOk(key, false))
+    }
+
     /// The node fails.
     pub fn lose(&mut self, key: NodeKey) -> Result<(), Fail> {
         self.change(Change::Loss(key, Cause::Lost))?;

@@ -8,7 +8,7 @@ use std::alloc::Global;
 use std::test::Fail;
 
 // So many children of the node, whose keys are added.
-fn bear_each(
+pub(super) fn bear_each(
     ground: &mut Ground,
     keys: &mut Vec<NodeKey>,
     root: NodeKey,
@@ -44,7 +44,7 @@ pub(super) fn ask_each(ground: &mut Ground, keys: &[NodeKey]) -> Result<(), Fail
     Ok(())
 }
 
-fn release_each(ground: &mut Ground, keys: &[NodeKey]) -> Result<(), Fail> {
+pub(super) fn release_each(ground: &mut Ground, keys: &[NodeKey]) -> Result<(), Fail> {
     for key in keys {
         ground.release(*key)?;
     }
@@ -214,7 +214,7 @@ fn many_units_fail_in_turn(rt: HostRuntime) -> Result<(), Fail> {
 }
 
 // Whether the node left without a fault.
-fn left(ground: &Ground, key: NodeKey) -> bool {
+pub(super) fn left(ground: &Ground, key: NodeKey) -> bool {
     match ground.forest().node(key) {
         Some(node) => node.gone && node.fault.is_none(),
         None => false,
@@ -222,7 +222,7 @@ fn left(ground: &Ground, key: NodeKey) -> bool {
 }
 
 // Whether each of them left, or none.
-fn have_left(ground: &Ground, keys: &[NodeKey], yes: bool) -> bool {
+pub(super) fn have_left(ground: &Ground, keys: &[NodeKey], yes: bool) -> bool {
     for key in keys {
         if left(ground, *key) != yes {
             return false;
@@ -408,7 +408,7 @@ fn fall_together(ground: &mut Ground, keys: &[NodeKey]) -> Result<bool, Fail> {
     Ok(failed(ground, *root) && have_failed(ground, others))
 }
 
-fn have_failed(ground: &Ground, keys: &[NodeKey]) -> bool {
+pub(super) fn have_failed(ground: &Ground, keys: &[NodeKey]) -> bool {
     for key in keys {
         if !failed(ground, *key) {
             return false;

@@ -23,7 +23,7 @@ returns-in-Loss-clause-ok c =
 
 pub returns-clause-ok : goal.returns-clause-ok
 returns-clause-ok c =
-    IfOk-weaker c.settle_counted.result _ _ (λ made does is. does is c.args.pool.now.size (total c.args.holds.now)) c.settle_counted.ensures.ok
+    IfOk-weaker c.settle_counted.result _ _ (λ made does is. does is c.args.pool.now.size) c.settle_counted.ensures.ok
 
 pub returns-clause-kept : goal.returns-clause-kept
 returns-clause-kept c =

@@ -3,7 +3,7 @@ use Rattle.std.proofs.Common.{sym, ◌∙◌, ap, option_copied}
 use Rattle.alloc_event.proofs.calm.Resting.{few_found}
 use Rattle.alloc_event.proofs.changing.is_watched.Goals as goal
 
-pub is_at_rest-requires : goal.is_at_rest-requires
-is_at_rest-requires c =
+pub is_kept_by-requires : goal.is_kept_by-requires
+is_kept_by-requires c =
     few_found c.args.table.now c.args.entries.now c.args.id c.in-Some.entry.now c.requires.kept
     (sym c.entry_of.ensures ∙ ap option_copied c.in-Some.is)

@@ -1,6 +1,5 @@
 -- The nodes are written as they go, and the counts tell that nothing more is forced.
 use Rattle.std.proofs.Common.{◌≡◌, ◌+◌, ◌-◌, ◌<◌, ℕ, true, List, map, length, sym, ◌∙◌, ap, subst, arith}
-use Rattle.std.proofs.lemmas.Bool.{lt-ltb}
 use Rattle.alloc_event.specs.declared.node.Node.{Node}
 use Rattle.alloc_event.specs.declared.units.Unit.{Unit}
 use Rattle.alloc_event.specs.Calm.{strong_count}
@@ -23,7 +22,7 @@ returns-then-not-lower-clause-none_units c none ss s opens id =
     let units : c.lower.new.units.items ≡ untallied (nodes_with t c.args.keys.now) us =
     c.lower.ensures.units ∙ ap (λ (ns : List Node). untallied ns us) c.requires.nodes in
     subst (λ (l : List Unit). AreUnitsBut l s.id (map (collection_in t) ss)) (sym units)
-    (units_but t us ss s c.args.going.now c.args.strong opens c.args.origin c.args.keys.now c.requires.taken own)
+    (units_but t us ss s c.args.going.now c.args.entry.now.strong opens c.args.origin c.args.keys.now c.requires.taken own)
 
 pub store-requires-clause-places : goal.store-requires-clause-places
 store-requires-clause-places c =
@@ -61,16 +60,15 @@ returns-clause-some c ss s opens id =
     ∙ (sym c.may_go.ensures ∙ c.if-not-may_go.false) in
     let lost : c.count_strong-lost.result ≡ strong_count (nodes_with t keys) =
     c.count_strong-lost.ensures ∙ ap strong_count c.requires.nodes in
-    let some : 0 < c.args.strong - c.count_strong-lost.result = omega (arith, c.if-strong-lost.false) in
-    let count : (c.args.strong - c.count_strong-lost.result) + strong_count (nodes_with t keys) ≡ c.args.strong =
-    omega (arith, c.if-strong-lost.false, lost) in
+    let count : (c.args.entry.now.strong - c.count_strong-lost.result) + strong_count (nodes_with t keys) ≡ c.args.entry.now.strong =
+    omega (arith, c.if-entry-lost.false, lost) in
     subst (λ (ns : List Node). IsLost t c.store.new.table c.lower.new.units.items ss s (change_of c.args.going.now)
-    (c.args.strong - c.count_strong-lost.result) ns) (sym nodes)
-    (subst (λ (l : List Unit). IsLost t c.store.new.table l ss s (change_of c.args.going.now) (c.args.strong - c.count_strong-lost.result)
+    (c.args.entry.now.strong - c.count_strong-lost.result) ns) (sym nodes)
+    (subst (λ (l : List Unit). IsLost t c.store.new.table l ss s (change_of c.args.going.now) (c.args.entry.now.strong - c.count_strong-lost.result)
     (map (gone_by c.args.going.now) (nodes_with t keys))) (sym units)
-    (lost_made t us ss s c.args.going.now c.args.strong opens c.args.origin keys c.requires.taken own
+    (lost_made t us ss s c.args.going.now c.args.entry.now.strong opens c.args.origin keys c.requires.taken own
     c.in-Some.head c.in-Some.attached c.in-Some.ensures inside kept_up may c.requires.failing c.store.new.table stores
-    (c.args.strong - c.count_strong-lost.result) (lt-ltb 0 (c.args.strong - c.count_strong-lost.result) some) count))
+    (c.args.entry.now.strong - c.count_strong-lost.result) count))
 
 pub returns-clause-reserved : goal.returns-clause-reserved
 returns-clause-reserved c ss s opens id =
@@ -84,6 +82,6 @@ returns-clause-reserved c ss s opens id =
     c.go_each.ensures ∙ ap (map (gone_by c.args.going.now)) c.requires.nodes in
     let stores : Stores t c.store.new.table (map (gone_by c.args.going.now) (nodes_with t keys)) =
     subst (Stores t c.store.new.table) nodes c.store.ensures in
-    (λ i. reserved_count (nodes_then t us ss s c.args.going.now c.args.strong opens c.args.origin keys c.requires.taken own
+    (λ i. reserved_count (nodes_then t us ss s c.args.going.now c.args.entry.now.strong opens c.args.origin keys c.requires.taken own
     c.store.new.table stores i) + reserved_count (c.requires.nodes i))
-    ∙ reserved_is t us ss s c.args.going.now c.args.strong opens c.args.origin keys c.requires.taken own
+    ∙ reserved_is t us ss s c.args.going.now c.args.entry.now.strong opens c.args.origin keys c.requires.taken own

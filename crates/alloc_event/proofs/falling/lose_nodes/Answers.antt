@@ -2,6 +2,7 @@
 use Rattle.std.proofs.Common.{◌≡◌, ℕ, ◌+◌, true, false, inl, inr, List, Option, Some, map, get_or, set, refl, sym, ◌∙◌, ap, subst, arith}
 use Rattle.std.proofs.lemmas.List.{get_or_default}
 use Rattle.std.specs.List.{list_any}
+use Rattle.buffer_holds.specs.Counts.{total}
 use Rattle.alloc_event.specs.declared.change.Change.{Change}
 use Rattle.alloc_event.specs.declared.entry.Entry.{Entry}
 use Rattle.alloc_event.specs.declared.units.Unit.{Unit}
@@ -12,9 +13,10 @@ use Rattle.alloc_event.specs.Kept.{Finishes, Shelf, collection_in, nodes_with, p
 use Rattle.sm_names.specs.declared.keys.NodeKey.{NodeKey}
 use Rattle.alloc_event.specs.Calm.{over_but}
 use Rattle.alloc_event.specs.Reserved.{reserved_count}
+use Rattle.alloc_event.specs.Resting.{is_kept_by}
 use Rattle.alloc_event.proofs.leaving.Noted.{fewer_over}
 use Rattle.alloc_event.specs.Settling.{changed, collection_or_new, no_key}
-use Rattle.alloc_event.proofs.changes.Done.{counted_at, finishes_at, opens_at, own_id, reserved_at, shelves_at, tidy_at}
+use Rattle.alloc_event.proofs.changes.Done.{counted_at, few_at, finishes_at, opens_at, own_id, reserved_at, shelves_at, tidy_at}
 use Rattle.alloc_event.proofs.shelves.Entries.{IsPlace, place_is}
 use Rattle.alloc_event.proofs.falling.lose_nodes.Goals as goal
 
@@ -41,6 +43,14 @@ index_mut-entry-requires c =
     let told : place_in c.args.id c.args.entries.now.items ≡ Some c.in-Some.at =
     sym (rw c.deref.ensures.value at c.place_of.ensures) ∙ c.in-Some.is in
     omega (arith, (place_is c.args.id c.args.entries.now.items c.in-Some.at told).within)
+
+pub fell-requires-clause-few : goal.fell-requires-clause-few
+fell-requires-clause-few c =
+    let told : place_in c.args.id c.args.entries.now.items ≡ Some c.in-Some.at =
+    sym (rw c.deref.ensures.value at c.place_of.ensures) ∙ c.in-Some.is in
+    few_at c.args.table.now c.args.entries.now.items c.args.id c.in-Some.at c.index.result.now
+    (place_is c.args.id c.args.entries.now.items c.in-Some.at told) c.index.ensures c.requires.kept c.requires.counted
+    c.args.units.now.items c.requires.units (change_of c.args.going.now) c.requires.change
 
 pub recount-requires-clause-others : goal.recount-requires-clause-others
 recount-requires-clause-others c =
@@ -143,14 +153,17 @@ module _ (c : goal.After-entries-1) where
       loss c.requires.change
       c.fell.new.table c.fell.new.units.items c.in-Some-fell.left lost.done new (ap shelf_of again) refl tidies
 
+  rests : is_kept_by (total c.args.holds.now) c.args.table.now (shelf_of old) c.in-Some-fell.left ≡ true
+  rests = c.in-Some-fell.ensures.rests
+
 pub returns-clause-ok : goal.returns-clause-ok
-returns-clause-ok c h pool handles =
-    subst (λ (ss : List Shelf). Finishes pool handles c.args.table.now (shelves_of c.args.entries.now.items) c.fell.new.table ss
+returns-clause-ok c h pool =
+    subst (λ (ss : List Shelf). Finishes pool (total c.args.holds.now) c.args.table.now (shelves_of c.args.entries.now.items) c.fell.new.table ss
     (changed (loss c) no_key (collection_or_new (forest_of c.args.table.now (shelves_of c.args.entries.now.items)) c.args.id)))
     (sym (same_shelves c))
     (finishes_at c.args.table.now c.args.entries.now.items c.args.id c.in-Some.at (old c) (place c) (is c) c.requires.kept
     c.requires.counted (us c) c.requires.units (loss c) c.requires.change
-    c.fell.new.table c.fell.new.units.items c.in-Some-fell.left (lost c).done (new c) (ap shelf_of (again c)) refl (tidies c) pool handles)
+    c.fell.new.table c.fell.new.units.items c.in-Some-fell.left (lost c).done (new c) (ap shelf_of (again c)) refl (tidies c) pool (total c.args.holds.now) (rests c))
 
 pub returns-clause-shelves : goal.returns-clause-shelves
 returns-clause-shelves c = same_shelves c

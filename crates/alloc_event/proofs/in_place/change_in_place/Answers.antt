@@ -1,14 +1,13 @@
--- Nothing of the nodes changes, and a strong one is live.
+-- Nothing of the nodes changes, and a strong one is live, or the collection rests without one.
 use Rattle.std.proofs.Common.{sym, subst}
 use Rattle.alloc_event.specs.declared.change.Change.{Change}
 use Rattle.alloc_event.specs.InPlace.{IsMade, IsOpen}
-use Rattle.std.proofs.lemmas.Bool.{lt-ltb}
 use Rattle.alloc_event.proofs.changes.Effecting.{made_nothing}
 use Rattle.alloc_event.proofs.in_place.change_in_place.Goals as goal
 
 pub returns-in-Nothing-clause-some : goal.returns-in-Nothing-clause-some
 returns-in-Nothing-clause-some c ss s opens =
-    subst (λ (change : Change). IsMade c.args.table.now c.args.table.now c.args.units.now.items ss s change c.args.strong)
+    subst (λ (change : Change). IsMade c.args.table.now c.args.table.now c.args.units.now.items ss s change c.args.entry.now.strong)
     (sym c.in-Nothing.is)
-    (made_nothing c.args.table.now c.args.units.now.items ss s c.args.strong (lt-ltb 0 c.args.strong c.if-strong-gt0.true)
-    (subst (λ (change : Change). IsOpen c.args.table.now c.args.units.now.items ss s change c.args.strong) c.in-Nothing.is opens))
+    (made_nothing c.args.table.now c.args.units.now.items ss s c.args.entry.now.strong
+    (subst (λ (change : Change). IsOpen c.args.table.now c.args.units.now.items ss s change c.args.entry.now.strong) c.in-Nothing.is opens))

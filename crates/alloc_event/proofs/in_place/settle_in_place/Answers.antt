@@ -2,6 +2,7 @@
 use Rattle.std.proofs.Common.{◌≡◌, true, false, List, Some, map, get_or, set, refl, sym, ◌∙◌, ap, subst, arith}
 use Rattle.std.proofs.lemmas.List.{get_or_default}
 use Rattle.std.specs.List.{list_any}
+use Rattle.buffer_holds.specs.Counts.{total}
 use Rattle.alloc_event.specs.declared.change.Change.{Change}
 use Rattle.alloc_event.specs.declared.entry.Entry.{Entry}
 use Rattle.alloc_event.specs.Counts.{AreUnits}
@@ -9,9 +10,10 @@ use Rattle.alloc_event.specs.InPlace.{IsMade, IsOpen}
 use Rattle.alloc_event.specs.Kept.{Finishes, Shelf, collection_in, nodes_with, place_in, shelf_of, shelves_of, forest_of}
 use Rattle.alloc_event.specs.Calm.{over_but}
 use Rattle.alloc_event.specs.Reserved.{reserved_count}
+use Rattle.alloc_event.specs.Resting.{is_kept_by}
 use Rattle.alloc_event.specs.Settling.{changed, collection_or_new, no_key}
 use Rattle.alloc_event.proofs.changes.Altering.{tracker_room}
-use Rattle.alloc_event.proofs.changes.Done.{counted_at, finishes_at, opens_at, reserved_at, shelves_at, tidy_at}
+use Rattle.alloc_event.proofs.changes.Done.{counted_at, few_at, finishes_at, opens_at, reserved_at, shelves_at, tidy_at}
 use Rattle.alloc_event.proofs.shelves.Entries.{IsPlace, place_is}
 use Rattle.alloc_event.proofs.in_place.settle_in_place.Goals as goal
 
@@ -31,6 +33,14 @@ pub change_in_place-requires-clause-room : goal.change_in_place-requires-clause-
 change_in_place-requires-clause-room c key effect at n is found =
     tracker_room c.args.table.now (shelves_of c.args.entries.now.items) c.requires.kept key effect
     (λ m e there. c.requires.change.trackers key m (is ∙ ap (Change.Effect key) e) there) at n found
+
+pub change_in_place-requires-clause-few : goal.change_in_place-requires-clause-few
+change_in_place-requires-clause-few c =
+    let told : place_in c.args.id c.args.entries.now.items ≡ Some c.in-Some.at =
+    sym (rw c.deref.ensures.value at c.place_of.ensures) ∙ c.in-Some.is in
+    few_at c.args.table.now c.args.entries.now.items c.args.id c.in-Some.at c.index-entry.result.now
+    (place_is c.args.id c.args.entries.now.items c.in-Some.at told) c.index-entry.ensures c.requires.kept c.requires.counted
+    c.args.units.now.items c.requires.units c.args.change.now c.requires.change
 
 -- the entry that was read, and the place where it stands
 module _ (c : goal.After-entries-1) where
@@ -90,15 +100,18 @@ module _ (c : goal.After-entries-1) where
       c.change_in_place.new.table c.change_in_place.new.units.items c.in-Some-change_in_place.left made.done new (ap shelf_of again) refl
       tidies
 
+  rests : is_kept_by (total c.args.holds.now) c.args.table.now (shelf_of old) c.in-Some-change_in_place.left ≡ true
+  rests = c.in-Some-change_in_place.ensures.rests
+
 pub returns-clause-ok : goal.returns-clause-ok
-returns-clause-ok c h pool handles =
-    subst (λ (ss : List Shelf). Finishes pool handles c.args.table.now (shelves_of c.args.entries.now.items) c.change_in_place.new.table ss
+returns-clause-ok c h pool =
+    subst (λ (ss : List Shelf). Finishes pool (total c.args.holds.now) c.args.table.now (shelves_of c.args.entries.now.items) c.change_in_place.new.table ss
     (changed c.args.change.now no_key (collection_or_new (forest_of c.args.table.now (shelves_of c.args.entries.now.items)) c.args.id)))
     (sym (same_shelves c))
     (finishes_at c.args.table.now c.args.entries.now.items c.args.id c.in-Some.at (old c) (place c) (is c) c.requires.kept
     c.requires.counted c.args.units.now.items c.requires.units c.args.change.now c.requires.change
     c.change_in_place.new.table c.change_in_place.new.units.items c.in-Some-change_in_place.left (made c).done (new c)
-    (ap shelf_of (again c)) refl (tidies c) pool handles)
+    (ap shelf_of (again c)) refl (tidies c) pool (total c.args.holds.now) (rests c))
 
 pub returns-clause-shelves : goal.returns-clause-shelves
 returns-clause-shelves c = same_shelves c

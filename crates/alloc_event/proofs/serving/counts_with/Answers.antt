@@ -13,7 +13,6 @@ returns c =
       live_is = less_by _ _ _ _ _ _ _ c.less-live.ensures (ap (λ (u : Unit). u.live) unit) c.is_live.ensures c.is_live-2.ensures;
       unready_is = less_by _ _ _ _ _ _ _ c.less-unready.ensures (ap (λ (u : Unit). u.unready) unit) c.is_unready.ensures
           c.is_unready-2.ensures;
-      some = omega (arith, c.if-left-eq0.false);
       lives = omega (arith, c.if-live-eq0.false);
       ready = omega (arith, c.if-unready-gt0.false);
     }

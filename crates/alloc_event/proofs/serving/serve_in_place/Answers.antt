@@ -2,6 +2,7 @@
 use Rattle.std.proofs.Common.{◌≡◌, true, false, List, Some, map, get_or, set, refl, sym, ◌∙◌, ap, subst, arith}
 use Rattle.std.proofs.lemmas.List.{get_or_default}
 use Rattle.std.specs.List.{list_any}
+use Rattle.buffer_holds.specs.Counts.{total}
 use Rattle.alloc_event.specs.declared.change.Change.{Change}
 use Rattle.alloc_event.specs.declared.entry.Entry.{Entry}
 use Rattle.alloc_event.specs.Counts.{AreUnits}
@@ -9,10 +10,11 @@ use Rattle.alloc_event.specs.InPlace.{IsOpen}
 use Rattle.alloc_event.specs.Kept.{Finishes, Shelf, collection_in, nodes_with, place_in, shelf_of, shelves_of, forest_of}
 use Rattle.alloc_event.specs.Calm.{over_but}
 use Rattle.alloc_event.specs.Reserved.{reserved_count}
+use Rattle.alloc_event.specs.Resting.{is_kept_by}
 use Rattle.alloc_event.specs.Serving.{IsServed}
 use Rattle.alloc_event.specs.Settling.{changed, collection_or_new, no_key}
 use Rattle.alloc_event.proofs.changes.Altering.{tracker_room}
-use Rattle.alloc_event.proofs.changes.Done.{counted_at, finishes_at, opens_at, reserved_at, shelves_at, tidy_at}
+use Rattle.alloc_event.proofs.changes.Done.{counted_at, few_at, finishes_at, opens_at, reserved_at, shelves_at, tidy_at}
 use Rattle.alloc_event.proofs.shelves.Entries.{IsPlace, place_is}
 use Rattle.alloc_event.proofs.serving.serve_in_place.Goals as goal
 
@@ -32,6 +34,14 @@ pub serve_effect-requires-clause-room : goal.serve_effect-requires-clause-room
 serve_effect-requires-clause-room c at n found =
     tracker_room c.args.table.now (shelves_of c.args.entries.now.items) c.requires.kept c.args.key c.args.effect.now
     (λ m e there. c.requires.change.trackers c.args.key m (ap (Change.Effect c.args.key) e) there) at n found
+
+pub serve_effect-requires-clause-few : goal.serve_effect-requires-clause-few
+serve_effect-requires-clause-few c =
+    let told : place_in c.args.id c.args.entries.now.items ≡ Some c.in-Some.at =
+    sym (rw c.deref.ensures.value at c.place_of.ensures) ∙ c.in-Some.is in
+    few_at c.args.table.now c.args.entries.now.items c.args.id c.in-Some.at c.index.result.now
+    (place_is c.args.id c.args.entries.now.items c.in-Some.at told) c.index.ensures c.requires.kept c.requires.counted
+    c.args.units.now.items c.requires.units (Change.Effect c.args.key c.args.effect.now) c.requires.change
 
 -- the entry that was read, and the place where it stands
 module _ (c : goal.After-entries-1) where
@@ -91,16 +101,19 @@ module _ (c : goal.After-entries-1) where
       c.serve_effect.new.table c.serve_effect.new.units.items c.in-Some-serve_effect.left made.done new (ap shelf_of again) refl
       tidies
 
+  rests : is_kept_by (total c.args.holds.now) c.args.table.now (shelf_of old) c.in-Some-serve_effect.left ≡ true
+  rests = c.in-Some-serve_effect.ensures.rests
+
 pub returns-clause-ok : goal.returns-clause-ok
-returns-clause-ok c h pool handles =
-    subst (λ (ss : List Shelf). Finishes pool handles c.args.table.now (shelves_of c.args.entries.now.items) c.serve_effect.new.table ss
+returns-clause-ok c h pool =
+    subst (λ (ss : List Shelf). Finishes pool (total c.args.holds.now) c.args.table.now (shelves_of c.args.entries.now.items) c.serve_effect.new.table ss
     (changed (Change.Effect c.args.key c.args.effect.now) no_key
     (collection_or_new (forest_of c.args.table.now (shelves_of c.args.entries.now.items)) c.args.id)))
     (sym (same_shelves c))
     (finishes_at c.args.table.now c.args.entries.now.items c.args.id c.in-Some.at (old c) (place c) (is c) c.requires.kept
     c.requires.counted c.args.units.now.items c.requires.units (Change.Effect c.args.key c.args.effect.now) c.requires.change
     c.serve_effect.new.table c.serve_effect.new.units.items c.in-Some-serve_effect.left (made c).done (new c)
-    (ap shelf_of (again c)) refl (tidies c) pool handles)
+    (ap shelf_of (again c)) refl (tidies c) pool (total c.args.holds.now) (rests c))
 
 pub returns-clause-shelves : goal.returns-clause-shelves
 returns-clause-shelves c = same_shelves c
