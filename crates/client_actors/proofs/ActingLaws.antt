@@ -3,7 +3,7 @@ use Rattle.std.proofs.Common.{ℕ, zero, suc, ◌≡◌, ◌+◌, ◌-◌, ◌�
 use Rattle.std.specs.Int.{bit_at}
 use Rattle.std.specs.List.{All}
 use Rattle.std.specs.Prelude.{flat_map, reverse, set, slice_get, slice_index_or, option_map, Result, Ok, Err, MatchResult}
-use Rattle.std.proofs.lemmas.List.{length-map, map-append, map-set, reverse-append, reverse-reverse}
+use Rattle.std.proofs.lemmas.List.{length-map, map-append, map-set, reverse-reverse}
 use Rattle.std.proofs.lemmas.List.Elements.{All-append, All-cons, All-head, All-nil, All-tail}
 use Rattle.sm_names.specs.declared.keys.Strength.{Strength}
 use Rattle.sm_names.specs.declared.messages.Call.{Call}
@@ -12,14 +12,13 @@ use Rattle.sm_names.specs.declared.outcomes.StepFault.{StepFault}
 use Rattle.record_parts.specs.declared.own.Own.{Own}
 use Rattle.client_ends.specs.declared.held.End.{End}
 use Rattle.client_ends.specs.Clients.{Grip, Made, Seen, Tag, last_reply}
-use Rattle.client_parting.specs.Partings.{AreOf as AreTheirs, Holds, Thing as Part, Token, Collection, Handle, collection_in, handle_in, owner_of, sorted, token_in}
-use Rattle.client_parting.specs.Stacks.{both, kept_things, sorted_one}
-use Rattle.client_parting.proofs.ThingLaws.{both_assoc}
+use Rattle.client_parting.specs.Partings.{AreOf as AreTheirs, Thing as Part, Token, Collection, Handle, collection_in, handle_in, owner_of, sorted, token_in}
+use Rattle.client_parting.specs.Stacks.{kept_things}
 use Rattle.actor_steps.specs.declared.thing.Asked.{Asked}
 use Rattle.actor_steps.specs.declared.thing.Thing.{Thing}
 use Rattle.actor_steps.specs.Desks.{FitsThere, bound, emptied, given, handles_from, on_of, spends, thing_at}
 use Rattle.client_actors.specs.declared.brought.Brought.{Brought}
-use Rattle.client_actors.specs.Asking.{AreOf, Did, IsOf, Lent, full, handle_seen, lies, slots_for, there, things_in}
+use Rattle.client_actors.specs.Asking.{AreOf, Did, IsOf, full, handle_seen, lies, slots_for, there, things_in}
 use Rattle.client_actors.specs.Acting.{Answers, Asks, left_in, left_of, pairs_of, part_of}
 
 -- ---- one slot

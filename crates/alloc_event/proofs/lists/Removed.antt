@@ -38,13 +38,7 @@ module _ {X : Type 0} (p : X → Bool) where
     | inr e ↦ rw e (filter_removed xs at d (omega (arith, within)) fails)
   ]
 
-  -- what all pass, each passes
-  pub all_at : (xs : List X) (at : ℕ) (d : X) → at < length xs → list_all p xs ≡ true → p (get_or xs at d) ≡ true
-  all_at [] at d within all = absurd (omega (arith, within))
-  all_at (x ∷ xs) zero d within all = and_left (p x) (list_all p xs) all
-  all_at (x ∷ xs) (suc at) d within all = all_at xs at d (omega (arith, within)) (and_right (p x) (list_all p xs) all)
-
-  -- and so do the others
+  -- what all pass, those that are left pass
   pub all_removed : (xs : List X) (at : ℕ) → list_all p xs ≡ true → list_all p (remove xs at) ≡ true
   all_removed [] zero all = refl
   all_removed [] (suc at) all = refl

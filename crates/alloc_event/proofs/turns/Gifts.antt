@@ -11,7 +11,7 @@ use Rattle.sm_names.proofs.StandingLaws.{In-any, both_tests}
 use Rattle.alloc_event.specs.declared.node.Node.{Node}
 use Rattle.alloc_event.specs.Falls.{given_all}
 use Rattle.alloc_event.specs.InTurn.{IsKeyAt, is_new_in, summed}
-use Rattle.alloc_event.specs.Nodes.{after_allocation, given_buffers, is_of, node_of}
+use Rattle.alloc_event.specs.Nodes.{given_buffers, is_of, node_of}
 use Rattle.alloc_event.specs.Questions.{demands_of, is_in_unit, is_ready_node, is_served}
 use Rattle.alloc_event.specs.Scenes.{are_distinct}
 use Rattle.alloc_event.proofs.calm.Steps.{found_by_key}
@@ -109,11 +109,6 @@ given_snoc heads k n = λ i. record n { allocated = is i }
         ≡ (same_key k n.head || (list_any (same_key n.head) heads || n.allocated))
     is = ap (λ (b : Bool). b || n.allocated) (any_snoc (same_key n.head) heads k)
         ∙ swap (list_any (same_key n.head) heads) (same_key n.head k) (same_key k n.head) n.allocated (same_key-swap n.head k)
-
-pub all_snoc : (heads : List NodeKey) (k : NodeKey) (ns : List Node) →
-    map (given_all (heads ++ k ∷ [])) ns ≡ after_allocation k (map (given_all heads) ns)
-all_snoc heads k [] = refl
-all_snoc heads k (n ∷ ns) = λ i. given_snoc heads k n i ∷ all_snoc heads k ns i
 
 -- what the nodes of a unit ask for stays
 pub asks_same : (k : NodeKey) (heads : List NodeKey) (ns : List Node) →
