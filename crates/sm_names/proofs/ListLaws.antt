@@ -1,8 +1,8 @@
 -- Elements of lists, and how many pass a test.
 use Rattle.std.proofs.Common.{ℕ, ◌≡◌, ◌≤◌, ◌<◌, ◌+◌, refl, ap, sym, ◌∙◌, Bool, true, false, ◌&&◌, ◌||◌, cond, ◌⊎◌, inl, inr, List, [], ◌∷◌, ◌++◌, length, map, reverse, Option, Some, None, is_some, arith}
 use Rattle.std.proofs.lemmas.List.{reverse-append}
-use Rattle.std.specs.List.{list_any, find, filter}
-use Rattle.sm_names.proofs.SamenessLaws.{either_way, or_none_left, or_none_right}
+use Rattle.std.specs.List.{list_all, list_any, find, filter}
+use Rattle.sm_names.proofs.SamenessLaws.{and_left, and_right, either_way, none_is, or_none_left, or_none_right}
 pub use Rattle.sm_names.specs.Elements.{In}
 use Rattle.sm_names.specs.Words.{first_some, times, when}
 use mathlib.Core.List.{reverse_aux}
@@ -109,6 +109,17 @@ In-append [] ys x on = inr on
 In-append (y ∷ xs) ys x (inl is) = inl (inl is)
 In-append (y ∷ xs) ys x (inr on) = elim (In-append xs ys x on) [ inl here ↦ inl (inr here) | inr there ↦ inr there ]
 
+-- an element of the first of two lists is one of both
+pub In-front : {A : Type 0} (xs ys : List A) (x : A) → In x xs → In x (xs ++ ys)
+In-front [] ys x on = absurd on
+In-front (z ∷ zs) ys x (inl is) = inl is
+In-front (z ∷ zs) ys x (inr on) = inr (In-front zs ys x on)
+
+-- and so is one of the second
+pub In-behind : {A : Type 0} (xs ys : List A) (x : A) → In x ys → In x (xs ++ ys)
+In-behind [] ys x on = on
+In-behind (z ∷ zs) ys x on = inr (In-behind zs ys x on)
+
 -- where some pass, there is an element that does
 pub In-list_any : {A : Type 0} (test : A → Bool) (xs : List A) → list_any test xs ≡ true → (x : A) × In x xs × (test x ≡ true)
 In-list_any test [] h = cc
@@ -162,6 +173,13 @@ filter-all {A = A} test (x ∷ xs) all =
     let e : test x ≡ true = all x (inl refl) in
     rw e (ap (λ (ys : List A). x ∷ ys) (filter-all test xs (λ y on. all y (inr on))))
 
+-- told by one test of all
+pub filter-list_all : {A : Type 0} (test : A → Bool) (xs : List A) → list_all test xs ≡ true → filter test xs ≡ xs
+filter-list_all test [] all = refl
+filter-list_all {A = A} test (x ∷ xs) all =
+    rw (and_left (test x) (list_all test xs) all)
+    (ap (λ (l : List A). x ∷ l) (filter-list_all test xs (and_right (test x) (list_all test xs) all)))
+
 -- maps that agree do so at each element
 pub map-at : {A B : Type 0} (f g : A → B) (xs : List A) → map f xs ≡ map g xs → (x : A) → In x xs → f x ≡ g x
 map-at f g [] same x on = absurd on
@@ -173,6 +191,14 @@ pub is_some-find : {A : Type 0} (test : A → Bool) (xs : List A) → is_some (f
 is_some-find test [] = refl
 is_some-find test (x ∷ xs) = elim (test x) as (λ (b : Bool). is_some (cond b (Some x) (find test xs)) ≡ (b || list_any test xs))
     [ true ↦ refl | false ↦ is_some-find test xs ]
+
+-- where none passes, none is found
+pub find-none : {A : Type 0} (test : A → Bool) (xs : List A) → list_any test xs ≡ false → find test xs ≡ None
+find-none test xs none = none_is (find test xs) (is_some-find test xs ∙ none)
+
+-- and where none is found, none passes
+pub none-find : {A : Type 0} (test : A → Bool) (xs : List A) → find test xs ≡ None → list_any test xs ≡ false
+none-find test xs none = sym (is_some-find test xs) ∙ ap is_some none
 
 -- ---- how many
 
@@ -216,6 +242,11 @@ times-lt p q (x ∷ xs) y h (inr on) fails passes =
 pub times-none : {A : Type 0} (xs : List A) → times (λ x. false) xs ≡ 0
 times-none [] = refl
 times-none (x ∷ xs) = times-none xs
+
+-- where none of the elements passes, none is counted
+pub times-zero : {A : Type 0} (test : A → Bool) (xs : List A) → ((x : A) → In x xs → test x ≡ false) → times test xs ≡ 0
+times-zero test [] none = refl
+times-zero test (x ∷ xs) none = rw (none x (inl refl)) (times-zero test xs (λ y on. none y (inr on)))
 
 -- as many pass as in both parts
 pub times-append : {A : Type 0} (test : A → Bool) (xs ys : List A) → times test (xs ++ ys) ≡ times test xs + times test ys

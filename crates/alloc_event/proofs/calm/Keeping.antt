@@ -7,7 +7,7 @@ use Rattle.sm_names.specs.declared.keys.NodeKey.{NodeKey}
 use Rattle.sm_names.specs.declared.outcomes.Buffers.{Buffers}
 use Rattle.sm_names.specs.Sameness.{same_key}
 use Rattle.sm_names.specs.Words.{times, when}
-use Rattle.sm_names.proofs.ListLaws.{In, In-find, In-list_any, In-map, In-map-back}
+use Rattle.sm_names.proofs.ListLaws.{In, In-find, In-list_any, In-map, In-map-back, find-none, none-find}
 use Rattle.sm_names.proofs.SamenessLaws.{and_both, and_left, and_right, both_ways, either_way, false_if, or_left, or_right, same_key-true}
 use Rattle.sm_names.proofs.StandingLaws.{In-any}
 use Rattle.sm_names.proofs.SizeLaws.{all_on}
@@ -23,7 +23,6 @@ use Rattle.alloc_event.specs.Units.{is_head}
 use Rattle.alloc_event.proofs.calm.Together.{together_same}
 use Rattle.alloc_event.proofs.calm.Calming.{AreNone, calm_none, find_map, later, none_calm}
 use Rattle.alloc_event.proofs.tallies.Holding.{are_held, hangs_in, held_where, holds_unit, is_held, none_deserted}
-use Rattle.alloc_event.proofs.newborns.Members.{find-none, none-find}
 use Rattle.alloc_event.proofs.tables.Rooted.{distinct_one}
 use Rattle.alloc_event.proofs.calm.Steps.{all-In}
 use Rattle.alloc_event.proofs.tables.Writing.{IsSameNode, IsWhole-map}

@@ -47,12 +47,6 @@ module _ {X : Type 0} (p : X → Bool) where
       and_both (p x) (list_all p (remove xs at)) (and_left (p x) (list_all p xs) all)
       (all_removed xs at (and_right (p x) (list_all p xs) all))
 
-  -- where all pass, all stay
-  pub all_stay : (xs : List X) → list_all p xs ≡ true → filter p xs ≡ xs
-  all_stay [] all = refl
-  all_stay (x ∷ xs) all =
-      rw (and_left (p x) (list_all p xs) all) (ap (λ ys. x ∷ ys) (all_stay xs (and_right (p x) (list_all p xs) all)))
-
 -- those before it stay where they are
 pub take_removed : {X : Type 0} (xs : List X) (at : ℕ) → at < length xs → take at (remove xs at) ≡ take at xs
 take_removed [] at within = absurd (omega (arith, within))

@@ -32,7 +32,7 @@ use Rattle.alloc_event.proofs.newborns.Forest.{still_collections}
 use Rattle.alloc_event.proofs.calm.Calming.{calm_rested}
 use Rattle.alloc_event.proofs.tallies.Reserved.{reserved_append, reserved_one}
 use Rattle.alloc_event.proofs.changes.Finishing.{keys_in, looked-keys}
-use Rattle.alloc_event.proofs.newborns.Newborn.{Above, before_is, born_collection, born_fresh, born_held, born_is, born_kept, born_shown, key_is}
+use Rattle.alloc_event.proofs.newborns.Newborn.{Above, before_is, born_collection, born_fresh, born_held, born_here, born_is, born_kept, born_shown, key_is}
 use Rattle.alloc_event.proofs.shelves.Putting.{put-map}
 use Rattle.alloc_event.proofs.tables.Rooted.{left_node, left_parent}
 use Rattle.alloc_event.proofs.shelves.Showing.{collection_is, filed_found}
@@ -89,12 +89,6 @@ still_out handles c b fresh here out =
       nodes = c.nodes ++ b ∷ [];
       held = keep_all (λ (h : HeldBuffer). not (is_home_in handles (record c { nodes = c.nodes ++ b ∷ [] }) h.buffer)) c.held out' i;
     }
-
--- a node that is born is not gone
-pub born_here : (above : Option Node) (attached : Bool) (id event client : ℕ) (key : NodeKey) →
-    (born above attached id event client key).gone ≡ false
-born_here None attached id event client key = refl
-born_here (Some above) attached id event client key = refl
 
 -- ---- the birth
 
