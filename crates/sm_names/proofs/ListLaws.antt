@@ -1,8 +1,8 @@
 -- Elements of lists, and how many pass a test.
-use Rattle.std.proofs.Common.{ℕ, ◌≡◌, ◌≤◌, ◌<◌, ◌+◌, refl, ap, sym, ◌∙◌, Bool, true, false, ◌&&◌, ◌||◌, cond, ◌⊎◌, inl, inr, List, [], ◌∷◌, ◌++◌, length, map, reverse, Option, Some, None, is_some, arith}
+use Rattle.std.proofs.Common.{ℕ, zero, suc, ◌≡◌, ◌≤◌, ◌<◌, ◌+◌, refl, ap, sym, ◌∙◌, Bool, true, false, ◌&&◌, ◌||◌, cond, ◌⊎◌, inl, inr, List, [], ◌∷◌, ◌++◌, length, get_or, map, reverse, Option, Some, None, is_some, arith}
 use Rattle.std.proofs.lemmas.List.{reverse-append}
 use Rattle.std.specs.List.{list_all, list_any, find, filter}
-use Rattle.sm_names.proofs.SamenessLaws.{and_left, and_right, either_way, none_is, or_none_left, or_none_right}
+use Rattle.sm_names.proofs.SamenessLaws.{and_both, and_left, and_right, either_way, none_is, or_none_left, or_none_right}
 pub use Rattle.sm_names.specs.Elements.{In}
 use Rattle.sm_names.specs.Words.{first_some, times, when}
 use mathlib.Core.List.{reverse_aux}
@@ -32,6 +32,11 @@ In-map f (x ∷ xs) y (inr on) = let r = In-map f xs y on in (r.0, inr r.1, r.2)
 pub map-In : {A B : Type 0} (f g : A → B) (xs : List A) → ((x : A) → In x xs → f x ≡ g x) → map f xs ≡ map g xs
 map-In f g [] same = refl
 map-In f g (x ∷ xs) same = λ i. same x (inl refl) i ∷ map-In f g xs (λ y on. same y (inr on)) i
+
+-- two maps one after the other are one
+pub map-map : {A B C : Type 0} (g : B → C) (f : A → B) (xs : List A) → map g (map f xs) ≡ map (λ x. g (f x)) xs
+map-map g f [] = refl
+map-map g f (x ∷ xs) = ap (λ (l : List _). g (f x) ∷ l) (map-map g f xs)
 
 -- an element of a list that is turned round onto another is one of either
 In-reverse_aux : {A : Type 0} (xs ys : List A) (x : A) → In x (reverse_aux xs ys) → In x xs ⊎ In x ys
@@ -129,6 +134,18 @@ In-list_any test (y ∷ ys) h =
       | inr e ↦ let r = In-list_any test ys (rw e at h) in (r.0, inr r.1, r.2)
     ]
 
+-- some of a mapped list pass where some pass the same test before
+pub list_any-map : {A B : Type 0} (p : B → Bool) (q : A → Bool) (f : A → B) (xs : List A) → ((x : A) → In x xs → p (f x) ≡ q x) →
+    list_any p (map f xs) ≡ list_any q xs
+list_any-map p q f [] same = refl
+list_any-map p q f (x ∷ xs) same = λ i. same x (inl refl) i || list_any-map p q f xs (λ y on. same y (inr on)) i
+
+-- what lies at a place is an element
+pub In-get_or : {A : Type 0} (xs : List A) (i : ℕ) (d : A) → i < length xs → In (get_or xs i d) xs
+In-get_or [] i d within = absurd (omega arith)
+In-get_or (x ∷ xs) zero d within = inl refl
+In-get_or (x ∷ xs) (suc n) d within = inr (In-get_or xs n d (omega arith))
+
 -- the first value that is there is in the list
 pub In-first_some : {A : Type 0} (os : List (Option A)) (x : A) → first_some os ≡ Some x → In (Some x) os
 In-first_some [] x h = cc
@@ -144,6 +161,16 @@ when-Some false x y h = cc
 pub filter-none : {A : Type 0} (test : A → Bool) (xs : List A) → ((x : A) → In x xs → test x ≡ false) → filter test xs ≡ []
 filter-none test [] h = refl
 filter-none test (x ∷ xs) h = let e : test x ≡ false = h x (inl refl) in rw e (filter-none test xs (λ y on. h y (inr on)))
+
+-- what all pass, all that are left pass
+pub list_all-filter : {A : Type 0} (test keep : A → Bool) (xs : List A) → list_all test xs ≡ true → list_all test (filter keep xs) ≡ true
+list_all-filter test keep [] all = refl
+list_all-filter test keep (x ∷ xs) all =
+    let rest : list_all test (filter keep xs) ≡ true = list_all-filter test keep xs (and_right (test x) (list_all test xs) all) in
+    elim (either_way (keep x)) [
+      | inl e ↦ rw e (and_both (test x) (list_all test (filter keep xs)) (and_left (test x) (list_all test xs) all) rest)
+      | inr e ↦ rw e rest
+    ]
 
 -- two filters in turn give the same in either order
 pub filter-swap : {A : Type 0} (p q : A → Bool) (xs : List A) → filter p (filter q xs) ≡ filter q (filter p xs)

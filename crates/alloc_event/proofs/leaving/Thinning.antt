@@ -6,7 +6,7 @@ use Rattle.std.proofs.lemmas.Bool.{false≢true, not-true}
 use Rattle.std.proofs.lemmas.List.Elements.{filter-append}
 use Rattle.sm_names.specs.declared.keys.NodeKey.{NodeKey}
 use Rattle.sm_names.specs.Sameness.{same_key}
-use Rattle.sm_names.proofs.ListLaws.{In, filter-list_all}
+use Rattle.sm_names.proofs.ListLaws.{In, filter-list_all, list_all-filter}
 use Rattle.sm_names.proofs.SamenessLaws.{and_both, and_left, and_right, either_way, or_both, or_cases, or_left, or_none_left, or_none_right, or_right, same_key-true}
 use Rattle.node_table.specs.Table.{Table, node_at, parent_at, table_len}
 use Rattle.node_table.proofs.Keys.{same_key-equal}
@@ -37,20 +37,12 @@ module _ {A : Type 0} (p : A → Bool) where
     | false ↦ none-filter test xs (or_none_right _ _ none)
   ]
 
-  -- each element that is kept passes a test that all pass
-  pub each-filter : (test : A → Bool) (xs : List A) → list_all test xs ≡ true → list_all test (filter p xs) ≡ true
-  each-filter test [] all = refl
-  each-filter test (x ∷ xs) all = elim (p x) as (λ b. list_all test (cond b (x ∷ filter p xs) (filter p xs)) ≡ true) [
-    | true ↦ and_both _ _ (and_left _ _ all) (each-filter test xs (and_right _ _ all))
-    | false ↦ each-filter test xs (and_right _ _ all)
-  ]
-
-  -- so for those behind the first
+  -- what all behind the first pass, all that are left behind the first pass
   pub behind-filter : (test : A → Bool) (xs : List A) → list_all test (drop 1 xs) ≡ true → list_all test (drop 1 (filter p xs)) ≡ true
   behind-filter test [] all = refl
   behind-filter test (x ∷ xs) all = elim (p x) as (λ b. list_all test (drop 1 (cond b (x ∷ filter p xs) (filter p xs))) ≡ true) [
-    | true ↦ each-filter test xs all
-    | false ↦ behind_first (filter p xs) (each-filter test xs all)
+    | true ↦ list_all-filter test p xs all
+    | false ↦ behind_first (filter p xs) (list_all-filter test p xs all)
   ]
     where
       behind_first : (ys : List A) → list_all test ys ≡ true → list_all test (drop 1 ys) ≡ true
@@ -136,7 +128,7 @@ distinct-filter p (n ∷ ns) h = elim (p n) as (λ b. are_distinct (cond b (n �
 IsSound-filter : (p : Node → Bool) (c : Collection) → IsSound c → IsSound (with_nodes (filter p) c)
 IsSound-filter p c ok = record {
   distinct = distinct-filter p c.nodes ok.distinct;
-  heads = each-filter p heads_itself c.nodes ok.heads;
+  heads = list_all-filter heads_itself p c.nodes ok.heads;
   one_root = behind-filter p (λ (n : Node). is_some n.parent) c.nodes ok.one_root;
   few = ok.few;
 }

@@ -6,7 +6,7 @@ use Rattle.std.proofs.lemmas.Bool.{false≢true, eqb-true, eqb-false, ne_eqb, eq
 use Rattle.sm_names.specs.declared.keys.NodeKey.{NodeKey}
 use Rattle.sm_names.specs.Sameness.{same_key}
 use Rattle.sm_names.proofs.SamenessLaws.{and_both, and_left, and_right, or_cases, or_left, or_right, same_key-true}
-use Rattle.sm_names.proofs.ListLaws.{filter-list_all}
+use Rattle.sm_names.proofs.ListLaws.{filter-list_all, list_all-filter}
 use Rattle.node_table.specs.Table.{Table, node_at}
 use Rattle.node_table.proofs.Keys.{same_key-equal}
 use Rattle.alloc_event.specs.declared.node.Node.{Node}
@@ -14,7 +14,7 @@ use Rattle.alloc_event.specs.Forest.{is_left, tidied, without_over_in}
 use Rattle.alloc_event.specs.Forgetting.{is_bare, is_found, left_at, thin_in, thinned, unless_over, without_bare}
 use Rattle.alloc_event.specs.Kept.{Shelf, AreRising, IsStored, IsWhole, all_keys, are_apart, are_filed, collection_in, is_filed, nodes_with}
 use Rattle.alloc_event.specs.Nodes.{is_over}
-use Rattle.alloc_event.proofs.leaving.Thinning.{each-filter, filed_all}
+use Rattle.alloc_event.proofs.leaving.Thinning.{filed_all}
 
 -- a key of a collection has a node of it
 filed_there : (t : Table Node) (id : ℕ) (ks : List NodeKey) (key : NodeKey) → list_all (is_filed t id) ks ≡ true →
@@ -255,7 +255,7 @@ bare-keys id (s ∷ ss) = by (bare-keys id ss) (s.id == id && is_bare s) refl
 -- they are filed still
 bare-filed : (t : Table Node) (id : ℕ) (ss : List Shelf) → are_filed t ss ≡ true → are_filed t (without_bare id ss) ≡ true
 bare-filed t id ss filed =
-    each-filter (λ (s : Shelf). not (s.id == id && is_bare s)) (λ (s : Shelf). list_all (is_filed t s.id) s.keys) ss filed
+    list_all-filter (λ (s : Shelf). list_all (is_filed t s.id) s.keys) (λ (s : Shelf). not (s.id == id && is_bare s)) ss filed
 
 -- the collections stay whole
 bare-whole : (t : Table Node) (id : ℕ) (ss : List Shelf) → AllByRecursion (λ (s : Shelf). IsWhole (collection_in t s)) ss →

@@ -282,7 +282,8 @@ module _ (t now : Table Node) (node : Node) (bears : Bears t now node) where
 
   -- all that holds of forests holds
   pub kept-born : (new : Shelf) (ss : List Shelf) → IsStored t ss → new.keys ≡ keys_before new.id ss ++ node.key ∷ [] →
-      list_all (is_filed t new.id) (keys_before new.id ss) ≡ true → node.collection ≡ new.id → was_given now node.head ≡ true → IsWhole (collection_in now new) →
+      list_all (is_filed t new.id) (keys_before new.id ss) ≡ true → node.collection ≡ new.id → was_given now node.head ≡ true →
+      IsWhole (collection_in now new) →
       IsStored now (put_shelf new ss)
   kept-born new ss ok keys own of head whole =
       let same = keys-born new node.key ss ok.rising keys in

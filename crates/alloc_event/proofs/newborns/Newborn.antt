@@ -51,7 +51,12 @@ pub record IsBefore (t : Table Node) (ss : List Shelf) (id : ℕ) (c : Collectio
 
 -- an empty collection is whole
 whole-empty : (id : ℕ) → IsWhole (record { id = id; nodes = []; buffers = None; held = [] })
-whole-empty id = record { sound = record { distinct = refl; heads = refl; one_root = refl; few = refl }; rooted = refl; united = refl; together = together_none }
+whole-empty id = record {
+  sound = record { distinct = refl; heads = refl; one_root = refl; few = refl };
+  rooted = refl;
+  united = refl;
+  together = together_none;
+}
 
 -- by the shelf that is found
 before-by : (t : Table Node) (ss : List Shelf) → IsStored t ss → (id : ℕ) (o : Option Shelf) → find (λ (s : Shelf). s.id == id) ss ≡ o →
@@ -225,7 +230,8 @@ above_shares t ss ok id (Some _) false client event (Some _) (Child up n is own 
     ]
 
 -- a node that is born is not gone
-pub born_here : (above : Option Node) (attached : Bool) (id event client : ℕ) (key : NodeKey) → (born above attached id event client key).gone ≡ false
+pub born_here : (above : Option Node) (attached : Bool) (id event client : ℕ) (key : NodeKey) →
+    (born above attached id event client key).gone ≡ false
 born_here None attached id event client key = refl
 born_here (Some above) attached id event client key = refl
 

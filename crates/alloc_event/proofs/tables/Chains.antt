@@ -69,6 +69,7 @@ module _ (parent : NodeKey → Option NodeKey) where
       -- a node is reached exactly if the highest one is on its line
       pub reached_by_line : (node : NodeKey) (line : List NodeKey) → IsChain parent node line →
           (list_any (same_key highest) (node ∷ line) ≡ true) ↔ Reach parent blocks origin node
-      reached_by_line node line chain =
-          (descends parent blocks origin highest node line chain (climbs parent blocks origin origin above up Origin),
-          λ r. has_highest node r line chain)
+      reached_by_line node line chain = (
+        descends parent blocks origin highest node line chain (climbs parent blocks origin origin above up Origin),
+        λ r. has_highest node r line chain,
+      )

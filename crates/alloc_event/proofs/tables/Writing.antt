@@ -84,7 +84,8 @@ module _ (f : Node → Node) (same : (n : Node) → IsSameNode (f n) n) where
   }
 
   -- a key is filed where it was
-  pub filed-map : (t now : Table Node) → ((key : NodeKey) → node_at now key ≡ option_map f (node_at t key)) → (id : ℕ) (keys : List NodeKey) →
+  pub filed-map : (t now : Table Node) → ((key : NodeKey) → node_at now key ≡ option_map f (node_at t key)) → (id : ℕ)
+      (keys : List NodeKey) →
       list_all (is_filed now id) keys ≡ list_all (is_filed t id) keys
   filed-map t now each id [] = refl
   filed-map t now each id (k ∷ ks) = rw (each k, filed-map t now each id ks)

@@ -12,7 +12,7 @@ use Rattle.sm_names.specs.Losses.{top as topmost}
 use Rattle.sm_names.specs.Members.{greatest}
 use Rattle.sm_names.specs.Sameness.{same_key}
 use Rattle.sm_names.specs.Words.{first_some, when}
-use Rattle.sm_names.proofs.ListLaws.{In, In-map-back}
+use Rattle.sm_names.proofs.ListLaws.{In, In-map-back, list_any-map}
 use Rattle.sm_names.proofs.SamenessLaws.{and_both, either_way, or_left, or_none_right, same_key-refl, same_key-true}
 use Rattle.sm_names.proofs.StandingLaws.{In-any}
 use Rattle.alloc_event.specs.declared.node.Node.{Node}
@@ -28,11 +28,6 @@ use Rattle.alloc_event.proofs.turns.Trees.{unit_below}
 use Rattle.alloc_event.proofs.turns.Gifts.{given_snoc}
 
 -- ---- tests that agree
-
-any_at : {A B : Type 0} (p : B → Bool) (q : A → Bool) (f : A → B) (xs : List A) → ((x : A) → In x xs → p (f x) ≡ q x) →
-    list_any p (map f xs) ≡ list_any q xs
-any_at p q f [] same = refl
-any_at p q f (x ∷ xs) same = λ i. same x (inl refl) i || any_at p q f xs (λ y on. same y (inr on)) i
 
 all_at : {A B : Type 0} (p : B → Bool) (q : A → Bool) (f : A → B) (xs : List A) → ((x : A) → In x xs → p (f x) ≡ q x) →
     list_all p (map f xs) ≡ list_all q xs
@@ -203,13 +198,16 @@ module _ (nodes : List Node) (heads : List NodeKey) (falls : List Fault) where
         ≡ option_map_or (λ p. list_any (is_allocated_node p) (map (given_all heads) nodes)) o false
     above_same None = refl
     above_same (Some p) =
-        any_at (is_allocated_node p) (λ (n : Node). is_allocated_node p (given_all heads n)) (stands nodes heads falls) nodes (allocated_at p)
-        ∙ sym (any_at (is_allocated_node p) (λ (n : Node). is_allocated_node p (given_all heads n)) (given_all heads) nodes (λ n on. refl))
+        list_any-map (is_allocated_node p) (λ (n : Node). is_allocated_node p (given_all heads n)) (stands nodes heads falls) nodes
+        (allocated_at p)
+        ∙ sym (list_any-map (is_allocated_node p) (λ (n : Node). is_allocated_node p (given_all heads n)) (given_all heads) nodes
+        (λ n on. refl))
 
     ready_same : (k : NodeKey) → fall_of nodes falls k ≡ None →
         list_all (is_ready_node k) (stand nodes heads falls) ≡ list_all (is_ready_node k) (map (given_all heads) nodes)
     ready_same k none =
-        all_at (is_ready_node k) (λ (n : Node). is_ready_node k (given_all heads n)) (stands nodes heads falls) nodes (λ n on. ready_at k none n)
+        all_at (is_ready_node k) (λ (n : Node). is_ready_node k (given_all heads n)) (stands nodes heads falls) nodes
+        (λ n on. ready_at k none n)
         ∙ sym (all_at (is_ready_node k) (λ (n : Node). is_ready_node k (given_all heads n)) (given_all heads) nodes (λ n on. refl))
 
     -- the next ones are those that stand, and would be next if none had fallen
