@@ -68,7 +68,8 @@ fn lose_each(
     ensures no_pool { result ≡ false → pool.new ≡ pool.old }
     ensures ok { result ≡ true → Finishes pool.old.size (total holds.now) table.old (shelves_of entries.old.items)
         table.new (shelves_of entries.new.items)
-        (changed (Changed.Loss fault.origin fault.cause) no_key (collection_or_new (forest_of table.old (shelves_of entries.old.items)) id)) }
+        (changed (Changed.Loss fault.origin fault.cause) no_key
+        (collection_or_new (forest_of table.old (shelves_of entries.old.items)) id)) }
     ensures kept { result ≡ true → IsStored table.new (shelves_of entries.new.items) }
     ensures counted { result ≡ true → AreCounted table.new entries.new.items }
     ensures units { HaveUnits units.new.items table.new entries.new.items }
@@ -128,7 +129,8 @@ pub(crate) fn lose_all(
     ensures no_pool { IfOk result (λ made. made ≡ false → pool.new ≡ pool.old) }
     ensures ok { IfOk result (λ made. made ≡ true → Finishes pool.old.size (total holds.now) table.old (shelves_of entries.old.items)
         table.new (shelves_of entries.new.items)
-        (changed (Changed.Loss fault.origin fault.cause) no_key (collection_or_new (forest_of table.old (shelves_of entries.old.items)) id))) }
+        (changed (Changed.Loss fault.origin fault.cause) no_key
+        (collection_or_new (forest_of table.old (shelves_of entries.old.items)) id))) }
     ensures kept { IfOk result (λ made. made ≡ true → IsStored table.new (shelves_of entries.new.items)) }
     ensures counted { IfOk result (λ made. made ≡ true → AreCounted table.new entries.new.items) }
     ensures units { HaveUnits units.new.items table.new entries.new.items }

@@ -81,8 +81,8 @@ impl Forest {
     /// ready hangs right below it and the buffers are enough for it, it is allocated in its place,
     /// which costs a list of the keys at and below its head, some reads of each, and a write of each
     /// node of the unit; where the list is refused room, a copy as below. A loss costs what `fall`
-    /// costs and a binary search, where a node stays live of the unit above what it takes, and where
-    /// that unit does not become ready by it or has its buffers.
+    /// costs and a binary search, where a node stays live of the unit above what it takes, and
+    /// where that unit does not become ready by it or has its buffers.
     /// So does the release of the last live node at or below the head of an attached unit, which
     /// ends, where a node of the unit above stays live; and a loss that leaves no live node at or
     /// below the head of such a unit, with a logarithm for each node that goes. A loss that takes the

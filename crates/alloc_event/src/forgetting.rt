@@ -190,7 +190,8 @@ pub(crate) fn thin(
     one: Option<(NodeKey, usize)>,
 )
     requires rising { AreRising (shelves_of entries.old.items) }
-    requires one { IfSome one (λ one. AllByRecursion (λ (e : KeptEntry). e.id ≡ id → IsMissing table.now e.keys.items one.1) entries.old.items) }
+    requires one { IfSome one (λ one. AllByRecursion
+        (λ (e : KeptEntry). e.id ≡ id → IsMissing table.now e.keys.items one.1) entries.old.items) }
     ensures shelves { shelves_of entries.new.items ≡ thin_in table.now id (shelves_of entries.old.items) }
     ensures counted { AreCounted table.now entries.old.items → AreTidy table.now id entries.old.items
         → AreCounted table.now entries.new.items }

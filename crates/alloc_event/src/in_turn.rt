@@ -196,7 +196,8 @@ fn is_left(node: &Node) -> bool
 
 /// Whether the node has no buffers, the one above it has them, and its unit is ready.
 fn is_due(node: &Node, is_given: bool, above: &Node, is_above_given: bool, is_ready: bool) -> bool
-    ensures { result ≡ (not (is_given || node.now.allocated) && ((not above.now.gone && (is_above_given || above.now.allocated)) && is_ready)) }
+    ensures { result ≡ (not (is_given || node.now.allocated)
+        && ((not above.now.gone && (is_above_given || above.now.allocated)) && is_ready)) }
 {
     !(is_given || node.allocated) && !above.gone && (is_above_given || above.allocated) && is_ready
 }

@@ -10,6 +10,7 @@ use Rattle.buffer_holds.specs.declared.kinds.Hold.{Hold}
 use Rattle.buffer_holds.specs.Kinds.{same_kind, same_hold}
 use Rattle.sm_names.specs.contracts.keys.StrengthPartialEq.TheImpl as strength
 use Rattle.sm_names.proofs.HandleLaws.{same_buffer-true, same_strength-true}
+use Rattle.sm_names.proofs.TakeLaws.{same_strength-refl}
 use Rattle.buffer_holds.specs.contracts.kinds.HandleKindPartialEq.TheImpl as kind
 use Rattle.buffer_holds.specs.contracts.kinds.HoldPartialEq.TheImpl as hold
 
@@ -43,10 +44,6 @@ same_hold-one a b e =
 -- a kind is the same as itself
 pub same_kind-refl : (a : HandleKind) → same_kind a a ≡ true
 same_kind-refl a = grind (arith, common_steps, same_strength-refl a.strength)
-  where
-    same_strength-refl : (s : Strength) → same_strength s s ≡ true
-    same_strength-refl Strong = refl
-    same_strength-refl Weak = refl
 
 -- a hold is the same as itself
 pub same_hold-refl : (a : Hold) → same_hold a a ≡ true

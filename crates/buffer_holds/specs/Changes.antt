@@ -25,5 +25,6 @@ pub record Tidies (old new : Counts) (client : ℕ) (buffer : BufferName) (stren
   pub parcels : (b : BufferName) (s : Strength) → moving new b s ≡ moving old b s
   pub totals : (b : BufferName) (s : Strength) → total new b s ≡ total old b s
   pub rooms : (c : ℕ) (b : BufferName) (s : Strength)
-      → has_handle_room new c b s ≡ (if same_hold (hold_of client buffer strength) (hold_of c b s) then nat_lt 0 (of old c b s) else has_handle_room old c
+      → has_handle_room new c b s
+      ≡ (if same_hold (hold_of client buffer strength) (hold_of c b s) then nat_lt 0 (of old c b s) else has_handle_room old c
       b s)

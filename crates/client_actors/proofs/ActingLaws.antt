@@ -3,7 +3,7 @@ use Rattle.std.proofs.Common.{ℕ, zero, suc, ◌≡◌, ◌+◌, ◌-◌, ◌�
 use Rattle.std.specs.Int.{bit_at}
 use Rattle.std.specs.List.{All}
 use Rattle.std.specs.Prelude.{flat_map, reverse, set, slice_get, slice_index_or, option_map, Result, Ok, Err, MatchResult}
-use Rattle.std.proofs.lemmas.List.{length-map, map-append, map-set, reverse-append, reverse-reverse}
+use Rattle.std.proofs.lemmas.List.{length-map, map-append, map-set, reverse-reverse}
 use Rattle.std.proofs.lemmas.List.Elements.{All-append, All-cons, All-head, All-nil, All-tail}
 use Rattle.sm_names.specs.declared.keys.Strength.{Strength}
 use Rattle.sm_names.specs.declared.messages.Call.{Call}
@@ -11,15 +11,15 @@ use Rattle.sm_names.specs.declared.messages.Reply.{Reply}
 use Rattle.sm_names.specs.declared.outcomes.StepFault.{StepFault}
 use Rattle.record_parts.specs.declared.own.Own.{Own}
 use Rattle.client_ends.specs.declared.held.End.{End}
-use Rattle.client_ends.specs.Clients.{Grip, Made, Seen, Tag, last_reply}
-use Rattle.client_parting.specs.Partings.{AreOf as AreTheirs, Holds, Thing as Part, Token, Collection, Handle, collection_in, handle_in, owner_of, sorted, token_in}
-use Rattle.client_parting.specs.Stacks.{both, kept_things, sorted_one}
-use Rattle.client_parting.proofs.ThingLaws.{both_assoc}
+use Rattle.client_ends.specs.Clients.{Grip, Made, Seen, last_reply}
+use Rattle.client_parting.specs.Partings.{AreOf as AreTheirs, Token, Collection, Handle, owner_of, sorted}
+use Rattle.client_parting.specs.Stacks.{kept_things}
+use Rattle.client_parting.proofs.BackLaws.{sorted_own}
 use Rattle.actor_steps.specs.declared.thing.Asked.{Asked}
 use Rattle.actor_steps.specs.declared.thing.Thing.{Thing}
 use Rattle.actor_steps.specs.Desks.{FitsThere, bound, emptied, given, handles_from, on_of, spends, thing_at}
 use Rattle.client_actors.specs.declared.brought.Brought.{Brought}
-use Rattle.client_actors.specs.Asking.{AreOf, Did, IsOf, Lent, full, handle_seen, lies, slots_for, there, things_in}
+use Rattle.client_actors.specs.Asking.{AreOf, Did, IsOf, full, handle_seen, lies, slots_for, there, things_in}
 use Rattle.client_actors.specs.Acting.{Answers, Asks, left_in, left_of, pairs_of, part_of}
 
 -- ---- one slot
@@ -228,30 +228,7 @@ module _ (client : ℕ) where
   all_owner (x ∷ xs) of = All-append (λ p. owner_of p ≡ client) (kept_things x) (left_of xs)
       (one_owner x (All-head (IsOf client) x xs of)) (all_owner xs (All-tail (IsOf client) x xs of))
 
-  -- kind by kind
-  by_kind : {A : Type 0} (Q : A → Type 0) (f : Part → List A) → ((p : Part) → owner_of p ≡ client → All Q (f p)) → (parts : List Part) →
-      All (λ p. owner_of p ≡ client) parts → All Q (flat_map f parts)
-  by_kind Q f one [] all = All-nil Q
-  by_kind Q f one (p ∷ ps) all =
-      All-append Q (f p) (flat_map f ps) (one p (All-head (λ x. owner_of x ≡ client) p ps all)) (by_kind Q f one ps (All-tail (λ x.
-      owner_of x ≡ client) p ps all))
-
-  of_token : (p : Part) → owner_of p ≡ client → All (λ (t : Tag). t.client ≡ client) (token_in p)
-  of_token (Token t) is = All-cons (λ (t : Tag). t.client ≡ client) t [] is (All-nil (λ (t : Tag). t.client ≡ client))
-  of_token _ is = All-nil (λ (t : Tag). t.client ≡ client)
-
-  of_collection : (p : Part) → owner_of p ≡ client → All (λ (t : Tag). t.client ≡ client) (collection_in p)
-  of_collection (Collection t) is = All-cons (λ (t : Tag). t.client ≡ client) t [] is (All-nil (λ (t : Tag). t.client ≡ client))
-  of_collection _ is = All-nil (λ (t : Tag). t.client ≡ client)
-
-  of_handle : (p : Part) → owner_of p ≡ client → All (λ (h : Grip). h.client ≡ client) (handle_in p)
-  of_handle (Handle h) is = All-cons (λ (h : Grip). h.client ≡ client) h [] is (All-nil (λ (h : Grip). h.client ≡ client))
-  of_handle _ is = All-nil (λ (h : Grip). h.client ≡ client)
-
+  -- so each list of a kind is
   pub left_owned : {E S W : Type 0} (slots : List (Option (End E S W))) → All (IsOf client) slots →
       AreTheirs client (sorted (left_of slots))
-  left_owned slots of = record {
-    tokens = by_kind (λ (t : Tag). t.client ≡ client) token_in of_token (left_of slots) (all_owner slots of);
-    collections = by_kind (λ (t : Tag). t.client ≡ client) collection_in of_collection (left_of slots) (all_owner slots of);
-    handles = by_kind (λ (h : Grip). h.client ≡ client) handle_in of_handle (left_of slots) (all_owner slots of);
-  }
+  left_owned slots of = sorted_own client (left_of slots) (all_owner slots of)

@@ -100,12 +100,6 @@ module _ {E S W : Type 0} (clients : List ℕ) where
     };
   }
 
-  -- so it has played some
-  pub played_some : (steps rest left : List Step) (step : Step) (old new : Actor E S W) → HasPlayedTo clients steps rest old →
-      rest ≡ step ∷ left → HasFaltered clients step old new →
-      HasPlayedSome clients steps new.client (lies new.slots.items)
-  played_some steps rest left step old new so is one = one.plays steps so.done left (so.split ∙ ap (λ l. so.done ++ l) is) so.plays
-
   -- one more
   pub played_more : (steps rest more : List Step) (step : Step) (old new : Actor E S W) → HasPlayedTo clients steps rest old →
       rest ≡ step ∷ more → HasStepped clients step old new → HasPlayedTo clients steps more new

@@ -71,14 +71,14 @@ impl<E: Ledger, S: Ledger, W: Ledger> Handle<E, S, W> {
         self.client
     }
 
-    /// Its buffer.
+    /// The buffer that it keeps: its collection and index.
     pub fn buffer(&self) -> BufferName
         ensures { result ≡ self.now.buffer }
     {
         self.buffer
     }
 
-    /// Its strength.
+    /// Whether it is strong or weak: for good, as it was opened.
     pub fn strength(&self) -> Strength
         ensures { result ≡ self.now.strength }
     {

@@ -49,7 +49,7 @@ module _ (client : ℕ) where
       All-append Q (f t) (flat_map f ts) (one t (All-head (λ x. owner_of x ≡ client) t ts all)) (flat_own Q f one ts (All-tail (λ x.
       owner_of x ≡ client) t ts all))
 
-  sorted_own : (things : List Thing) → All (λ t. owner_of t ≡ client) things → AreOf client (sorted things)
+  pub sorted_own : (things : List Thing) → All (λ t. owner_of t ≡ client) things → AreOf client (sorted things)
   sorted_own things all = record {
     tokens = flat_own (λ (x : Tag). x.client ≡ client) token_in token_own things all;
     collections = flat_own (λ (x : Tag). x.client ≡ client) collection_in collection_own things all;

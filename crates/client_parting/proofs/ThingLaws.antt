@@ -25,13 +25,6 @@ sorted-append xs ys = λ i. record {
   handles = flat-append handle_in xs ys i;
 }
 
-pub both_assoc : (a b c : Holds) → both (both a b) c ≡ both a (both b c)
-both_assoc a b c = λ i. record {
-  tokens = append_assoc a.tokens b.tokens c.tokens i;
-  collections = append_assoc a.collections b.collections c.collections i;
-  handles = append_assoc a.handles b.handles c.handles i;
-}
-
 pub both_none : (a : Holds) → both a (sorted []) ≡ a
 both_none a = λ i. record {
   tokens = append-nil a.tokens i;

@@ -1,5 +1,5 @@
 -- Marks that are no event leave handles, parcels, ends and clients as they are.
-use Rattle.std.proofs.Common.{ℕ, ◌≡◌, refl, subst, sym, false, List, [], ◌∷◌, ◌++◌}
+use Rattle.std.proofs.Common.{ℕ, ◌≡◌, ◌∙◌, refl, subst, sym, false, List, [], ◌∷◌, ◌++◌}
 use Rattle.sm_names.specs.Answers.{IsAnswer}
 use Rattle.sm_names.specs.Bounds.{Bound}
 use Rattle.event_laws.specs.ByEvent.{SameHands, mark_of}
@@ -57,51 +57,25 @@ same_hands marks (Ended top) h =
       kinds = refl;
     }
 
--- and so do any number of them
+-- what two timelines leave one after the other, both leave
+then_same : (first mid last : Timeline) → SameHands first mid → SameHands mid last → SameHands first last
+then_same first mid last s on = record {
+  born = on.born ∙ s.born;
+  joined = on.joined ∙ s.joined;
+  shut = on.shut ∙ s.shut;
+  had = on.had ∙ s.had;
+  in_parcels = on.in_parcels ∙ s.in_parcels;
+  in_all = on.in_all ∙ s.in_all;
+  waiting = on.waiting ∙ s.waiting;
+  over = on.over ∙ s.over;
+  under_way = on.under_way ∙ s.under_way;
+  holders = on.holders ∙ s.holders;
+  kinds = on.kinds ∙ s.kinds;
+}
+
+-- so any number of such marks leave them
 still_same : (first marks : Timeline) (mark : Mark) → is_event mark ≡ false → SameHands first marks → SameHands first (mark ∷ marks)
-still_same first marks (Called client reply call) h s = cc
-still_same first marks (Loss origin cause) h s =
-    record {
-      born = s.born;
-      joined = s.joined;
-      shut = s.shut;
-      had = s.had;
-      in_parcels = s.in_parcels;
-      in_all = s.in_all;
-      waiting = s.waiting;
-      over = s.over;
-      under_way = s.under_way;
-      holders = s.holders;
-      kinds = s.kinds;
-    }
-still_same first marks (Allocated head) h s =
-    record {
-      born = s.born;
-      joined = s.joined;
-      shut = s.shut;
-      had = s.had;
-      in_parcels = s.in_parcels;
-      in_all = s.in_all;
-      waiting = s.waiting;
-      over = s.over;
-      under_way = s.under_way;
-      holders = s.holders;
-      kinds = s.kinds;
-    }
-still_same first marks (Ended top) h s =
-    record {
-      born = s.born;
-      joined = s.joined;
-      shut = s.shut;
-      had = s.had;
-      in_parcels = s.in_parcels;
-      in_all = s.in_all;
-      waiting = s.waiting;
-      over = s.over;
-      under_way = s.under_way;
-      holders = s.holders;
-      kinds = s.kinds;
-    }
+still_same first marks mark h s = then_same first marks (mark ∷ marks) s (same_hands marks mark h)
 
 -- so all marks that an event forces leave them as its own mark does
 pub same_after : (pool : ℕ) (marks : Timeline) (entry : Entry) → SameHands (mark_of entry ∷ marks) (after pool marks entry)

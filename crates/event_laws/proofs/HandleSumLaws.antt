@@ -18,7 +18,7 @@ use Rattle.sm_names.specs.Words.{times}
 use Rattle.sm_names.proofs.CountLaws.{IsCounted, counted, drops-le-opens, lands-le-lifts}
 use Rattle.sm_names.proofs.GrowthLaws.{Grows, legal_grows}
 use Rattle.sm_names.proofs.KeptLaws.{kept-after}
-use Rattle.sm_names.proofs.SamenessLaws.{either_way, and_left, and_right, and_both}
+use Rattle.sm_names.proofs.SamenessLaws.{and_both, and_left, and_right, and_swap, either_way}
 use Rattle.sm_names.proofs.SumLaws.{one, one_of, AreOnce, times-cons, sum_by-same, sum_by-add, sum_by-zero, sum_once}
 use Rattle.event_laws.specs.ByEvent.{anyone, only, mark_of}
 use Rattle.event_laws.specs.HandleSums.{ListsAllocated, all_moving, all_open, all_open_of, allocated_collections, opened_at, dropped_at, sent_at, got_at, opened, dropped, sent, got, indices_in, over_buffers}
@@ -89,12 +89,6 @@ swap_sums h (c ∷ cs) is =
       sum_by-add (λ i. h c i) (λ i. sum_by (λ k. h k i) cs) is,
     )
 
--- a test in the middle is asked first
-middle_first : (w x y : Bool) → (w && (x && y)) ≡ (x && (w && y))
-middle_first true x y = refl
-middle_first false true y = refl
-middle_first false false y = refl
-
 -- the tests of a buffer are asked one by one
 one_by_one : (w x y s : Bool) → (w && ((x && y) && s)) ≡ (w && (x && (y && s)))
 one_by_one w true y s = refl
@@ -140,7 +134,7 @@ module _ (cs is : List ℕ) where
       swap_sums (λ c i. one (w && (collection == c && g i))) cs is
       ∙ sum_by-same (λ i. sum_by (λ c. one (w && (collection == c && g i))) cs) (λ i. one (w && g i)) is
       (λ i. sum_by-same (λ c. one (w && (collection == c && g i))) (λ c. one (collection == c && (w && g i))) cs (λ c.
-      ap one (middle_first w (collection == c) (g i)))
+      ap one (and_swap w (collection == c) (g i)))
       ∙ sum_once collection (w && g i) cs once (on i))
 
   -- and what passes at one buffer alone is counted once
@@ -153,7 +147,7 @@ module _ (cs is : List ℕ) where
       ∙ (of_set w name.collection (λ i. name.index == i && s) once (λ i h.
       (on (and_both w s (and_left w _ h) (and_right (name.index == i) s (and_right w _ h)))).0)
       ∙ (sum_by-same (λ i. one (w && (name.index == i && s))) (λ i. one (name.index == i && (w && s))) is (λ i.
-      ap one (middle_first w (name.index == i) s))
+      ap one (and_swap w (name.index == i) s))
       ∙ sum_once name.index (w && s) is once_is (λ h. (on h).1)))
 
 -- ---- one mark

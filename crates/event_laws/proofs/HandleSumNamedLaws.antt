@@ -29,7 +29,7 @@ use Rattle.sm_names.proofs.GrowthLaws.{Grows, Stays, Answers, Loses, Allocates, 
 use Rattle.sm_names.proofs.HeldLaws.{given_root}
 use Rattle.sm_names.proofs.LifeLaws.{IsOrdered, ordered}
 use Rattle.sm_names.proofs.ListLaws.{times-le}
-use Rattle.sm_names.proofs.SamenessLaws.{either_way, and_right, and_both, both_ways, false_if}
+use Rattle.sm_names.proofs.SamenessLaws.{and_both, and_right, both_ways, either_way, false_if, not_none}
 use Rattle.sm_names.proofs.SettledLaws.{find_birth, Why, Initial, Logical, forced_why}
 use Rattle.sm_names.proofs.SumLaws.{one, any_one, times-cons, sum_by-same}
 use Rattle.event_laws.specs.ByEvent.{anyone, only, gains, loses, GoesBy}
@@ -118,10 +118,6 @@ module _ (pool : ℕ) (limits : Bound) where
       let is : birth_of before b.node ≡ Some b = find_birth (births before) b ord.sound on in
       let up : is_none b.parent ≡ false = not_none b.parent child in
       old c w (rw (is, up) at h)
-    where
-      not_none : (o : Option NodeKey) → is_some o ≡ true → is_none o ≡ false
-      not_none None h = cc
-      not_none (Some x) h = refl
 
   -- so none has more
   few : (marks : Timeline) → Grows pool limits [] marks → (c : ℕ) (w : Buffers) → buffers_of marks c ≡ Some w → w.count ≤ 64
@@ -198,10 +194,6 @@ module _ (pool : ℕ) (limits : Bound) where
       let is : birth_of before b.node ≡ Some b = find_birth (births before) b ord.sound on in
       let up : is_none b.parent ≡ false = not_none b.parent child in
       rw (is, up) (old c)
-    where
-      not_none : (o : Option NodeKey) → is_some o ≡ true → is_none o ≡ false
-      not_none None h = cc
-      not_none (Some x) h = refl
 
   -- so the list has a collection once if it was given any, and else not
   listed : (marks : Timeline) → Grows pool limits [] marks → (c : ℕ) →

@@ -1,5 +1,5 @@
 -- What one event does to the parcels that wait, and to the clients.
-use Rattle.std.proofs.Common.{ℕ, ◌≡◌, ◌≤◌, ◌+◌, refl, ap, sym, ◌∙◌, Bool, true, false, cond, not, ◌||◌, ◌==◌, inl, inr, List, [], ◌∷◌, ◌++◌, drop, Option, Some, None, arith}
+use Rattle.std.proofs.Common.{ℕ, ◌≡◌, ◌≤◌, ◌+◌, refl, ap, sym, ◌∙◌, Bool, true, false, not, ◌||◌, ◌==◌, inl, inr, List, [], ◌∷◌, ◌++◌, drop, Option, Some, None, arith}
 use Rattle.std.proofs.lemmas.Bool.{eqb-true}
 use Rattle.std.specs.List.{cons_option}
 use Rattle.std.specs.Option.{option_map_or}
@@ -21,38 +21,29 @@ use Rattle.sm_names.proofs.CountLaws.{AreClients, counted}
 use Rattle.sm_names.proofs.GrowthLaws.{Grows, Stays, Answers, Loses, Allocates, Ends}
 use Rattle.event_laws.proofs.HandLaws.{NextEvent, next_event}
 use Rattle.event_laws.proofs.HandleBufferLaws.{still_joined}
-use Rattle.sm_names.proofs.ListLaws.{In-list_any}
+use Rattle.sm_names.proofs.ListLaws.{In-list_any, when-Some}
 use Rattle.sm_names.proofs.ParcelLaws.{IsDrawn, parcels-given, parcels-collected, parcels-kept}
 use Rattle.sm_names.proofs.SamenessLaws.{both_ways, false_if, none_or_some}
 use Rattle.sm_names.proofs.SumLaws.{times-cons, times_push}
 use Rattle.sm_names.proofs.TakeLaws.{none_key}
+use Rattle.sm_names.proofs.RestLaws.{when-None}
 
 -- ---- what is collected
-
--- what is there under a test
-under : {A : Type 0} (b : Bool) (x y : A) → cond b (Some x) None ≡ Some y → (b ≡ true) × (x ≡ y)
-under true x y h = (refl, cc)
-under false x y h = cc
-
--- where there is none, the test fails
-under_none : {A : Type 0} (b : Bool) (x : A) → ◌≡◌ {A = Option A} (cond b (Some x) None) None → b ≡ false
-under_none true x h = cc
-under_none false x h = refl
 
 -- who gets a parcel collects, and is given none
 collected_collects : (client : ℕ) (mark : Mark) (p : Parcel) → collected_at client mark ≡ Some p → (collects client mark ≡ true) ×
     (given_at client mark ≡ None)
 collected_collects client (Called caller (Reply.Collected key kind collection) Call.Collect) p h =
-    ((under (caller == client) (Parcel.End key) p h).0, refl)
+    ((when-Some (caller == client) (Parcel.End key) p h).0, refl)
 collected_collects client (Called caller (Reply.CollectedHandle buffer strength) Call.Collect) p h =
-    ((under (caller == client) (Parcel.Handle buffer strength) p h).0, refl)
+    ((when-Some (caller == client) (Parcel.Handle buffer strength) p h).0, refl)
 collected_collects client _ p h = cc
 
 -- who gets none does not
 idle_collects : (client : ℕ) (mark : Mark) → collected_at client mark ≡ None → collects client mark ≡ false
-idle_collects client (Called caller (Reply.Collected key kind collection) Call.Collect) h = under_none (caller == client) (Parcel.End key) h
+idle_collects client (Called caller (Reply.Collected key kind collection) Call.Collect) h = when-None (caller == client) (Parcel.End key) h
 idle_collects client (Called caller (Reply.CollectedHandle buffer strength) Call.Collect) h =
-    under_none (caller == client) (Parcel.Handle buffer strength) h
+    when-None (caller == client) (Parcel.Handle buffer strength) h
 idle_collects client _ h = refl
 
 -- nor does who is given one
@@ -68,7 +59,7 @@ first_is : (limits : Bound) (marks : Timeline) (client caller : ℕ) (reply : Re
 first_is limits marks client caller (Reply.Collected key kind collection) Call.Collect answer p h =
     let t : TookEffect limits (readings marks) caller none_key Call.Collect (Reply.Collected key kind collection) =
     took_effect_all limits (readings marks) caller none_key Call.Collect (Reply.Collected key kind collection) refl refl answer.told in
-    let u = under (caller == client) (Parcel.End key) p h in
+    let u = when-Some (caller == client) (Parcel.End key) p h in
     from (parcels marks client) (t.answered ∙ ap (λ c. collected (readings marks) (parcels marks c)) (eqb-true caller client u.0))
     ∙ ap (λ q. q ∷ drop 1 (parcels marks client)) u.1
   where
@@ -85,7 +76,7 @@ first_is limits marks client caller (Reply.CollectedHandle buffer strength) Call
     let t : TookEffect limits (readings marks) caller none_key Call.Collect (Reply.CollectedHandle buffer strength) =
     took_effect_all limits (readings marks) caller none_key Call.Collect (Reply.CollectedHandle buffer strength) refl refl
     answer.told in
-    let u = under (caller == client) (Parcel.Handle buffer strength) p h in
+    let u = when-Some (caller == client) (Parcel.Handle buffer strength) p h in
     from (parcels marks client) (t.answered ∙ ap (λ c. collected (readings marks) (parcels marks c)) (eqb-true caller client u.0))
     ∙ ap (λ q. q ∷ drop 1 (parcels marks client)) u.1
   where
@@ -175,12 +166,12 @@ pub given_joined : (limits : Bound) (marks : Timeline) (caller : ℕ) (reply : R
 given_joined limits marks caller Reply.Done (Call.Give key to) answer client p h =
     let t : TookEffect limits (readings marks) caller none_key (Call.Give key to) Reply.Done =
     took_effect_all limits (readings marks) caller none_key (Call.Give key to) Reply.Done refl refl answer.told in
-    let is : to ≡ client = eqb-true to client (under (to == client) (Parcel.End key) p h).0 in
+    let is : to ≡ client = eqb-true to client (when-Some (to == client) (Parcel.End key) p h).0 in
     ap (has_joined marks) (sym is) ∙ known_receiver (has_joined marks caller) (has_joined marks to) t.known
 given_joined limits marks caller Reply.Done (Call.GiveHandle buffer strength to) answer client p h =
     let t : TookEffect limits (readings marks) caller none_key (Call.GiveHandle buffer strength to) Reply.Done =
     took_effect_all limits (readings marks) caller none_key (Call.GiveHandle buffer strength to) Reply.Done refl refl answer.told in
-    let is : to ≡ client = eqb-true to client (under (to == client) (Parcel.Handle buffer strength) p h).0 in
+    let is : to ≡ client = eqb-true to client (when-Some (to == client) (Parcel.Handle buffer strength) p h).0 in
     ap (has_joined marks) (sym is) ∙ known_receiver (has_joined marks caller) (has_joined marks to) t.known
 given_joined limits marks caller _ _ answer client p h = cc
 

@@ -5,6 +5,7 @@ use Rattle.sm_names.specs.declared.keys.NodeKey.{NodeKey}
 use Rattle.sm_names.specs.Losses.{Reach, Origin, Up}
 use Rattle.node_table.specs.Table.{Table, row_at, parent_at, next_at, table_len}
 use Rattle.node_table.specs.Forest.{IsForest, depth_at}
+use Rattle.node_table.proofs.Depths.{row-then}
 use Rattle.failure_domains.specs.Falls.{blocked_at, way_up, links_within, links_climbed}
 use Rattle.failure_domains.specs.Walks.{Climb, Start, Step}
 
@@ -17,16 +18,11 @@ count-there (first ∷ rest) (suc slot) there =
     let some : 0 < count_by is_some rest = count-there rest slot there in
     rw (sum_by-cons (λ o. cond (is_some o) 1 0) first rest) (omega arith)
 
--- what is there behind a test is there
-there_behind : {X : Type 0} (test : Bool) (o : Option X) → IsSome (cond test o None) → IsSome o
-there_behind true o there = there
-there_behind false o there = absurd (cc)
-
 -- a table with a node is not empty
 pub table_len-there : {N : Type 0} (t : Table N) (key : NodeKey) → IsSome (row_at t key) → 0 < table_len t
 table_len-there t key there =
     count-there t.rows key.slot
-    (there_behind (next_at t key.slot == key.generation + 1) (slice_index_or t.rows key.slot None) there)
+    (row-then (next_at t key.slot == key.generation + 1) (slice_index_or t.rows key.slot None) there)
 
 -- a way that leads on is open
 open_link : (blocked : Bool) (parent : Option NodeKey) (above : NodeKey) → cond blocked None parent ≡ Some above →

@@ -1,5 +1,5 @@
 -- A walk down from a top: each step appends the children of one key, and no key comes twice.
-use Rattle.std.proofs.Common.{◌≡◌, ◌≢◌, ℕ, zero, suc, ◌+◌, ◌-◌, ◌<◌, ◌≤◌, inl, inr, List, [], ◌∷◌, ◌++◌, length, get_or, take, All, Contains, Some, arith, refl, sym, ap, ◌∙◌, subst}
+use Rattle.std.proofs.Common.{◌≡◌, ◌≢◌, ℕ, ◌+◌, ◌-◌, ◌<◌, ◌≤◌, inl, inr, List, [], ◌∷◌, ◌++◌, length, get_or, take, All, Contains, Some, arith, refl, sym, ap, ◌∙◌, subst}
 use Rattle.std.specs.List.{flat_map}
 use Rattle.std.proofs.lemmas.Bool.{cases_lt}
 use Rattle.std.proofs.lemmas.List.{flat_map_more, take_more, take-append-le, take_all, length-append, get_or_append_left, get_or-append_right, get_or-take, length-take-le, get_or_default}
@@ -13,21 +13,6 @@ use Rattle.failure_domains.proofs.Lists.{AllPairs-append, Contains-cases, flat_m
 module _ {N : Type 0} (t : Table N) (top : NodeKey) where
   abbrev Walk : ℕ → List NodeKey → Type 0
   Walk taken keys = IsWalk (children_at t) (depth_at t) top taken keys
-
-  -- a walk begins with the top alone
-  pub walk_begins : Walk 0 (top ∷ [])
-  walk_begins =
-      record {
-        layers = refl;
-        within = omega arith;
-        once = λ i j d before within. absurd (omega arith);
-        low = only;
-        high = λ place d within. let here : place ≡ 0 = omega arith in rw here (omega arith);
-      }
-    where
-      only : All (λ key. depth_at t top ≤ depth_at t key) (top ∷ [])
-      only zero d within = omega arith
-      only (suc k) d within = absurd (omega arith)
 
   module _ (forest : IsForest t) where
     -- a child lies one layer below its parent

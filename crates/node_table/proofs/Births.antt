@@ -10,7 +10,7 @@ use Rattle.node_table.specs.Changes.{Births, at_parent, with_child}
 use Rattle.node_table.specs.Sound.{row_in, rows_of, run_in, first_in, last_in, prev_in, next_in, given_count, table_of, IsSound, IsRun, IsLinked, at_slot, Bumped}
 use Rattle.node_table.specs.declared.slot.Slot.{Slot}
 use Rattle.node_table.proofs.Rows.{count-gain}
-use Rattle.node_table.proofs.Keys.{eq-true, eq-false, same-fields, key_cases, same_key-true, same_key-false}
+use Rattle.node_table.proofs.Keys.{eq-true, eq-false, same-fields, key_cases, same_key-equal, same_key-apart}
 use Rattle.node_table.proofs.Parents.{map-parent, map-stranger, map-up, children-with}
 use Rattle.node_table.proofs.Links.{IsLinked-birth}
 use Rattle.node_table.proofs.Depths.{none-then}
@@ -155,8 +155,8 @@ module _ {N : Type 0} (old new : List (Option (Slot N))) (nexts nexts2 : List �
               let at : slice_index_or nexts2 k.slot first ≡ key.generation + 1 = rw (sym slots, bumped.at, next) refl in
               let low : first ≤ key.generation = rw next at (sound.rising key.slot) in
               given-between first k.generation (slice_index_or nexts2 k.slot first) (omega arith) (omega arith)
-              ∙ sym (ap (λ b. b || was_given before k) (same_key-true key k same))
-          | inr differ ↦ by_slot k differ ∙ sym (ap (λ b. b || was_given before k) (same_key-false key k differ))
+              ∙ sym (ap (λ b. b || was_given before k) (same_key-equal key k same))
+          | inr differ ↦ by_slot k differ ∙ sym (ap (λ b. b || was_given before k) (same_key-apart key k differ))
         ]
       where
         by_slot : (k : NodeKey) → key ≢ k → was_given after k ≡ was_given before k

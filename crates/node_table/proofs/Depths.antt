@@ -103,7 +103,7 @@ module _ {X : Type 0} where
       if_taken false = omega arith
 
 -- a row behind a test is a row, and the test holds
-row-then : {X : Type 0} (b : Bool) (o : Option X) → IsSome (cond b o None) → IsSome o
+pub row-then : {X : Type 0} (b : Bool) (o : Option X) → IsSome (cond b o None) → IsSome o
 row-then true o some = some
 row-then false o some = absurd (cc)
 

@@ -29,16 +29,16 @@ key_cases a b =
     ]
 
 -- the test of equal keys holds
-pub same_key-true : (a b : NodeKey) → a ≡ b → same_key a b ≡ true
-same_key-true a b same =
+pub same_key-equal : (a b : NodeKey) → a ≡ b → same_key a b ≡ true
+same_key-equal a b same =
     rw (
       eq-true a.slot b.slot (ap (λ (k : NodeKey). k.slot) same),
       eq-true a.generation b.generation (ap (λ (k : NodeKey). k.generation) same),
     ) refl
 
 -- the test of other keys fails
-pub same_key-false : (a b : NodeKey) → a ≢ b → same_key a b ≡ false
-same_key-false a b differ =
+pub same_key-apart : (a b : NodeKey) → a ≢ b → same_key a b ≡ false
+same_key-apart a b differ =
     elim (cases_eq a.slot b.slot) [
       | inl slots ↦
           rw (eq-true a.slot b.slot slots, eq-false a.generation b.generation (λ generations. differ (same-fields a b slots generations)))
@@ -46,17 +46,9 @@ same_key-false a b differ =
       | inr slots ↦ rw (eq-false a.slot b.slot slots) refl
     ]
 
--- keys that the test ties are equal
-pub true-same_key : (a b : NodeKey) → same_key a b ≡ true → a ≡ b
-true-same_key a b test =
-    elim (key_cases a b) [
-      | inl same ↦ same
-      | inr differ ↦ let none : same_key a b ≡ false = same_key-false a b differ in absurd (cc)
-    ]
-
 -- keys that the test parts differ
 pub false-same_key : (a b : NodeKey) → same_key a b ≡ false → a ≢ b
-false-same_key a b test same = let yes : same_key a b ≡ true = same_key-true a b same in absurd (cc)
+false-same_key a b test same = let yes : same_key a b ≡ true = same_key-equal a b same in absurd (cc)
 
 -- where a common slot means a common generation, the slot tells the key
 pub slot_tells_key : (a b : NodeKey) → (a.slot ≡ b.slot → a.generation ≡ b.generation) → (a.slot == b.slot) ≡ same_key a b

@@ -8,17 +8,17 @@ use Rattle.sm_names.specs.declared.keys.NodeKey.{NodeKey}
 use Rattle.node_table.specs.Table.{Table, parent_at, children_at}
 use Rattle.node_table.specs.Forest.{IsForest, first_key, next_key, siblings_at}
 use Rattle.node_table.specs.Sound.{Appends}
-use Rattle.node_table.proofs.Keys.{same_key-true, same_key-false}
+use Rattle.node_table.proofs.Keys.{same_key-equal, same_key-apart}
 use Rattle.node_table.proofs.Lists.{AllDiffer, AllDiffer-tail, Contains-head, head_differs}
 
 -- where no key stands twice, what follows a key is what was found after it
 pub next_key-after : (done : List NodeKey) (key : NodeKey) (rest : List NodeKey) → AllDiffer (done ++ key ∷ rest) →
     next_key key (done ++ key ∷ rest) ≡ first_key rest
-next_key-after [] key rest differ = ap (λ b. cond b (first_key rest) (next_key key rest)) (same_key-true key key refl)
+next_key-after [] key rest differ = ap (λ b. cond b (first_key rest) (next_key key rest)) (same_key-equal key key refl)
 next_key-after (head ∷ done) key rest differ =
     let there : Contains (done ++ key ∷ rest) key = Contains-append_right done (key ∷ rest) key (Contains-head key rest) in
     let apart : key ≢ head = λ same. head_differs head key (done ++ key ∷ rest) differ there (sym same) in
-    ap (λ b. cond b (first_key (done ++ key ∷ rest)) (next_key key (done ++ key ∷ rest))) (same_key-false key head apart)
+    ap (λ b. cond b (first_key (done ++ key ∷ rest)) (next_key key (done ++ key ∷ rest))) (same_key-apart key head apart)
     ∙ next_key-after done key rest (AllDiffer-tail head (done ++ key ∷ rest) differ)
 
 -- before the first of them

@@ -5,7 +5,7 @@ use Rattle.std.proofs.lemmas.List.Elements.{Contains-append_left, Contains-appen
 use Rattle.std.proofs.lemmas.List.Kept.{AllPairs-filter}
 use Rattle.sm_names.specs.declared.keys.NodeKey.{NodeKey}
 use Rattle.sm_names.specs.Sameness.{same_key}
-use Rattle.node_table.proofs.Keys.{key_cases, same_key-true, same_key-false}
+use Rattle.node_table.proofs.Keys.{key_cases, same_key-equal, same_key-apart}
 
 -- no key stands twice
 abbrev pub AllDiffer : List NodeKey → Type 0
@@ -88,11 +88,11 @@ AllDiffer-without key keys differ = AllPairs-filter (λ (a b : NodeKey). a ≢ b
 
 -- the key at the head falls out
 pub without-same : (key head : NodeKey) (rest : List NodeKey) → key ≡ head → without key (head ∷ rest) ≡ without key rest
-without-same key head rest same = rw (same_key-true key head same) refl
+without-same key head rest same = rw (same_key-equal key head same) refl
 
 -- another key at the head stays
 pub without-other : (key head : NodeKey) (rest : List NodeKey) → key ≢ head → without key (head ∷ rest) ≡ head ∷ without key rest
-without-other key head rest differ = rw (same_key-false key head differ) refl
+without-other key head rest differ = rw (same_key-apart key head differ) refl
 
 -- a key that is not there leaves all
 pub without_stranger : (key : NodeKey) (keys : List NodeKey) → (Contains keys key → ⊥) → without key keys ≡ keys

@@ -4,7 +4,7 @@ use Rattle.sm_names.specs.declared.keys.NodeKey.{NodeKey}
 use Rattle.sm_names.specs.Sameness.{same_key}
 use Rattle.node_table.specs.Table.{Row, parent_in, children_in}
 use Rattle.node_table.specs.Changes.{at_parent, with_child, without_child, without_parent}
-use Rattle.node_table.proofs.Keys.{key_cases, same_key-true, same_key-false}
+use Rattle.node_table.proofs.Keys.{key_cases, same_key-equal, same_key-apart}
 use Rattle.node_table.proofs.Lists.{without}
 
 -- a key is the parent or it is not
@@ -19,7 +19,7 @@ module _ {N : Type 0} where
       option_map (at_parent parent f key) o ≡ option_map f o
   map-parent None f key o same = absurd (cc)
   map-parent (Some other) f key None same = refl
-  map-parent (Some other) f key (Some row) same = let is : other ≡ key = cc in rw (same_key-true other key is) refl
+  map-parent (Some other) f key (Some row) same = let is : other ≡ key = cc in rw (same_key-equal other key is) refl
 
   -- every other row stays
   pub map-stranger : (parent : Option NodeKey) (f : Row N → Row N) (key : NodeKey) (o : Option (Row N)) → parent ≢ Some key →
@@ -27,7 +27,7 @@ module _ {N : Type 0} where
   map-stranger None f key None differ = refl
   map-stranger None f key (Some row) differ = refl
   map-stranger (Some other) f key None differ = refl
-  map-stranger (Some other) f key (Some row) differ = rw (same_key-false other key (λ same. differ (ap Some same))) refl
+  map-stranger (Some other) f key (Some row) differ = rw (same_key-apart other key (λ same. differ (ap Some same))) refl
 
   -- a change under a test keeps the parent, if the change does
   up-through : (b : Bool) (f : Row N → Row N) (row : Row N) → (f row).parent ≡ row.parent → (if b then f row else row).parent ≡ row.parent

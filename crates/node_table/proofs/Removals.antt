@@ -126,9 +126,6 @@ module _ {N : Type 0} (whole : Table N) (old new : Slab (Slot N)) (nexts : List 
     not-retired : get new key.slot ≡ None → key.generation ≡ 4294967295 → ⊥
     not-retired none last = let held : is_some (get new key.slot) ≡ true = retired last in absurd (cc (held, none))
 
-    pub some-nodes : 0 < count
-    some-nodes = let c : count ≡ count_by is_some (rows_of old.slots most) = sound.counted in omega (arith, shorter)
-
     gone : row_at after key ≡ None
     gone = none-then (next_at after key.slot == key.generation + 1) (slice_index_or (rows_of new.slots most) key.slot None) new-row
 

@@ -3,7 +3,7 @@ use Rattle.std.proofs.Common.{◌≡◌, ◌≢◌, ◌⊎◌, ℕ, zero, suc, �
 use Rattle.sm_names.specs.declared.keys.NodeKey.{NodeKey}
 use Rattle.node_table.specs.Sound.{run_from, IsRun}
 use Rattle.node_table.specs.Forest.{first_key, next_key}
-use Rattle.node_table.proofs.Keys.{key_cases, same_key-true, same_key-false}
+use Rattle.node_table.proofs.Keys.{key_cases, same_key-equal, same_key-apart}
 use Rattle.node_table.proofs.Lists.{AllDiffer, AllDiffer-tail, without, without-same, without-other, without_stranger, Contains-head, Contains-tail, Contains-cons_cases, head_differs}
 
 -- nothing runs from no key
@@ -54,12 +54,12 @@ module _ (next prev : ℕ → Option NodeKey) where
       elim (key_cases key other) [
         | inl same ↦
             ap (λ (k : NodeKey). next k.slot) same ∙ run-first (Some other) (next other.slot) rest last run.1.1
-            ∙ sym (ap (λ b. cond b (first_key rest) (next_key key rest)) (same_key-true key other same))
+            ∙ sym (ap (λ b. cond b (first_key rest) (next_key key rest)) (same_key-equal key other same))
         | inr differ ↦ elim (Contains-cons_cases other key rest there) [
           | inl same ↦ absurd (differ (sym same))
           | inr later ↦
               run-next key (Some other) (next other.slot) rest last run.1.1 later
-              ∙ sym (ap (λ b. cond b (first_key rest) (next_key key rest)) (same_key-false key other differ))
+              ∙ sym (ap (λ b. cond b (first_key rest) (next_key key rest)) (same_key-apart key other differ))
         ]
       ]
 

@@ -6,7 +6,7 @@ use Rattle.sm_names.specs.declared.keys.NodeKey.{NodeKey}
 use Rattle.node_table.specs.Table.{Row, Table, row_at, node_at, parent_in, children_in, next_at}
 use Rattle.node_table.specs.Changes.{Writes, at_parent, with_node}
 use Rattle.node_table.specs.Lending.{table_with_node}
-use Rattle.node_table.specs.Sound.{row_in, rows_of, run_from, run_in, first_in, last_in, prev_in, next_in, link_in, given_count, IsRun, table_of, IsSound, EditsRows, Edits, at_slot}
+use Rattle.node_table.specs.Sound.{row_in, rows_of, run_in, first_in, last_in, prev_in, next_in, link_in, given_count, IsRun, table_of, IsSound, EditsRows, Edits, at_slot}
 use Rattle.node_table.specs.declared.slot.Entry.{Entry}
 use Rattle.node_table.specs.declared.slot.Slot.{Slot}
 use Rattle.node_table.specs.declared.slot.Slot.TheVariants.{Taken}
@@ -53,10 +53,6 @@ module _ {N : Type 0} (slots : Slab (Slot N)) (nexts : List ℕ) (first count li
     -- all links are as they were
     same-nexts : next_in written.slots ≡ next_in slots.slots
     same-nexts = λ i slot. nexts_kept slot i
-
-    same-runs : (i : ℕ) → run_in written.slots most i ≡ run_in slots.slots most i
-    same-runs i = ap (λ next. run_from next most (first_in written.slots i)) same-nexts
-        ∙ ap (run_from (next_in slots.slots) most) (firsts_kept i)
 
     -- so the row is the written one
     rows-written : rows_of written.slots most ≡ slice_set (rows_of slots.slots most) key.slot

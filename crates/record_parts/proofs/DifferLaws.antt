@@ -9,10 +9,6 @@ pub record Alike (own part left rest : List Own) : Type 0 where
   pub own_is : own ≡ same ++ left
   pub part_is : part ≡ same ++ rest
 
--- at first
-pub alike : (own part rest : List Own) → rest ≡ part → Alike own part own rest
-alike own part rest is = record { same = []; own_is = refl; part_is = sym is }
-
 -- once one more is the same
 pub alike_more : (own part left rest more later : List Own) (mine told : Own) → Alike own part left rest → left ≡ mine ∷ more →
     rest ≡ told ∷ later → mine ≡ told →

@@ -1,7 +1,7 @@
 -- Chained events.
-use Rattle.std.proofs.Common.{ℕ, ◌+◌, ◌-◌, ◌<◌, ◌≤◌, ◌≢◌, ◌≡◌, ◌==◌, ◌&&◌, ◌∙◌, refl, sym, ap, subst, Bool, true, false, List, [], ◌∷◌, length, drop, get_or, set, arith}
-use Rattle.std.proofs.lemmas.Bool.{eq-eqb, eqb-true, eqb-false, ne_eqb, lt-ltb, le-ltb, ltb-false, ltb-true}
-use Rattle.std.proofs.lemmas.List.{drop_more, drop_all, get_or_default, get_or_read, drop-drop, get_or-set_same, get_or-set_other, length-set}
+use Rattle.std.proofs.Common.{ℕ, ◌+◌, ◌-◌, ◌<◌, ◌≤◌, ◌≡◌, ◌==◌, ◌&&◌, ◌∙◌, refl, sym, ap, subst, Bool, true, false, List, [], ◌∷◌, length, drop, get_or, arith}
+use Rattle.std.proofs.lemmas.Bool.{eqb-true, ne_eqb, le-ltb, ltb-false, ltb-true}
+use Rattle.std.proofs.lemmas.List.{drop_more, drop_all, get_or_read, drop-drop}
 use Rattle.std.specs.Prelude.{nat_lt}
 use Rattle.sm_names.specs.Marks.{Entry}
 use Rattle.record_parts.specs.Links.{Links, Stands, first_from, rest_at}
@@ -9,112 +9,13 @@ use Rattle.record_parts.specs.Parts.{is_own, own_entry, part, part_from}
 
 -- ---- whose an event is
 
--- who made the event after its Join owns it
-pub own_yes : (client event : ℕ) (e : Entry) → e.0 ≡ client → client < event → is_own client event e ≡ true
-own_yes client event e is after = rw (eq-eqb e.0 client is, lt-ltb client event after) refl
-
--- nobody else does
-pub own_not : (client event : ℕ) (e : Entry) → e.0 ≢ client → is_own client event e ≡ false
-own_not client event e other = rw (ne_eqb e.0 client other) refl
-
--- nor who joined later
+-- who joined no sooner than the event did not make it
 pub own_not_yet : (client event : ℕ) (e : Entry) → event ≤ client → is_own client event e ≡ false
 own_not_yet client event e before = either (e.0 == client)
   where
     either : (b : Bool) → (b && nat_lt client event) ≡ false
     either true = le-ltb client event before
     either false = refl
-
-no_both : (b : Bool) → b ≡ true → b ≡ false → ⊥
-no_both b is is_not = cc
-
--- ---- chains
-
-module _ (history : List Entry) (passed : ℕ) (e : Entry) (within : passed < length history) (is : e ≡ get_or history passed e) where
-  -- the record goes on with the event
-  abbrev rest : List Entry
-  rest = drop (passed + 1) history
-
-  goes_on : drop passed history ≡ e ∷ rest
-  goes_on = drop_more history passed e within ∙ ap (λ x. x ∷ rest) (sym is)
-
-  -- what is there is that event
-  here : (k : ℕ) (x : Entry) → x ≡ get_or history k x → k ≡ passed → x ≡ e
-  here k x at same =
-      at ∙ (ap (λ i. get_or history i x) same ∙ (sym (get_or_default history passed e x within) ∙ sym is))
-
-  -- an event that nobody owns has no link
-  pub links_same : (first next : List ℕ) → passed < e.0 → Links (passed + 1) first next history → Links passed first next history
-  links_same first next later links = record {
-    all_first = links.all_first;
-    all_next = links.all_next;
-    firsts = λ client below. links.firsts client below ∙ sym (ap (first_from client (passed + 1)) goes_on
-        ∙ skips client (e.0 == client) refl);
-    nexts = λ k x from below at own. onward k x from below at own (k == passed) refl;
-  }
-    where
-      skips : (client : ℕ) (b : Bool) → (e.0 == client) ≡ b →
-          first_from client (passed + 1) (e ∷ rest) ≡ first_from client (passed + 1 + 1) rest
-      skips client true same =
-          let one : e.0 ≡ client = eqb-true e.0 client same in
-          rw (own_not_yet client (passed + 1) e (omega (arith, one))) refl
-      skips client false other = rw (own_not client (passed + 1) e (eqb-false e.0 client other)) refl
-
-      onward : (k : ℕ) (x : Entry) → passed ≤ k → k < length history → x ≡ get_or history k x → is_own x.0 (k + 1) x ≡ true → (b : Bool) →
-          (k == passed) ≡ b →
-          get_or next k 0 ≡ first_from x.0 (k + 1 + 1) (drop (k + 1) history)
-      onward k x from below at own true same =
-          let one : x ≡ e = here k x at (eqb-true k passed same) in
-          let late : k + 1 ≤ x.0 = omega (arith, later, eqb-true k passed same, ap (λ (y : Entry). y.0) one) in
-          absurd (no_both (is_own x.0 (k + 1) x) own (own_not_yet x.0 (k + 1) x late))
-      onward k x from below at own false other =
-          let no : k ≢ passed = eqb-false k passed other in
-          links.nexts k x (omega (arith, no)) below at own
-
-  -- an event of its owner's is linked before the next one
-  pub links_more : (first next : List ℕ) → e.0 ≤ passed → Links (passed + 1) first next history →
-      Links passed (set first e.0 (passed + 1)) (set next passed (get_or first e.0 0)) history
-  links_more first next joined links = record {
-    all_first = length-set first e.0 (passed + 1) ∙ links.all_first;
-    all_next = length-set next passed (get_or first e.0 0) ∙ links.all_next;
-    firsts = λ client below. firsts client below (e.0 == client) refl;
-    nexts = λ k x from below at own. nexts k x from below at own (k == passed) refl;
-  }
-    where
-      firsts : (client : ℕ) → client < length history → (b : Bool) → (e.0 == client) ≡ b →
-          get_or (set first e.0 (passed + 1)) client 0 ≡ first_from client (passed + 1) (drop passed history)
-      firsts client below true same =
-          let one : e.0 ≡ client = eqb-true e.0 client same in
-          let fits : client < length first = omega (arith, links.all_first) in
-          let read : get_or (set first client (passed + 1)) client 0 ≡ passed + 1 = get_or-set_same first client (passed + 1) 0 fits in
-          let begun : first_from client (passed + 1) (e ∷ rest) ≡ passed + 1 =
-          rw (own_yes client (passed + 1) e one (omega (arith, one))) refl in
-          ap (λ c. get_or (set first c (passed + 1)) client 0) one
-          ∙ (read ∙ (sym begun ∙ sym (ap (first_from client (passed + 1)) goes_on)))
-      firsts client below false other =
-          let no : e.0 ≢ client = eqb-false e.0 client other in
-          let skipped : first_from client (passed + 1) (e ∷ rest) ≡ first_from client (passed + 1 + 1) rest =
-          rw (own_not client (passed + 1) e no) refl in
-          get_or-set_other first e.0 client (passed + 1) 0 (λ s. no (sym s))
-          ∙ (links.firsts client below ∙ (sym skipped ∙ sym (ap (first_from client (passed + 1)) goes_on)))
-
-      nexts : (k : ℕ) (x : Entry) → passed ≤ k → k < length history → x ≡ get_or history k x → is_own x.0 (k + 1) x ≡ true → (b : Bool) →
-          (k == passed) ≡ b →
-          get_or (set next passed (get_or first e.0 0)) k 0 ≡ first_from x.0 (k + 1 + 1) (drop (k + 1) history)
-      nexts k x from below at own true same =
-          let k_is : k ≡ passed = eqb-true k passed same in
-          let one : x ≡ e = here k x at k_is in
-          let fits : passed < length next = omega (arith, links.all_next) in
-          let known : e.0 < length history = omega arith in
-          let read : get_or (set next passed (get_or first e.0 0)) passed 0 ≡ get_or first e.0 0 =
-          get_or-set_same next passed (get_or first e.0 0) 0 fits in
-          ap (λ i. get_or (set next passed (get_or first e.0 0)) i 0) k_is
-          ∙ (read ∙ (links.firsts e.0 known
-          ∙ (ap (λ (y : Entry). first_from y.0 (passed + 1 + 1) rest) (sym one)
-          ∙ ap (λ i. first_from x.0 (i + 1 + 1) (drop (i + 1) history)) (sym k_is))))
-      nexts k x from below at own false other =
-          let no : k ≢ passed = eqb-false k passed other in
-          get_or-set_other next passed k (get_or first e.0 0) 0 no ∙ links.nexts k x (omega (arith, no)) below at own
 
 -- ---- walks
 

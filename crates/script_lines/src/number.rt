@@ -7,7 +7,7 @@ ghost use Rattle.script_lines.specs.Numbers.{is_numeral as is_numeral_word, numb
 use crate::label::is_digit;
 
 /// The number that is spelled so: `0`, or a digit from 1 to 9 followed by digits, at most
-/// 4,294,967,295.
+/// 4,294,967,295. `None` for any other word. Costs two looks at each byte at most, and no memory.
 pub fn number(word: &[u8]) -> Option<u32>
     ensures { result ≡ number_of word.now }
 {

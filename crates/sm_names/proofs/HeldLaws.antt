@@ -30,7 +30,7 @@ use Rattle.sm_names.proofs.HandleLaws.{same_buffer-true}
 use Rattle.sm_names.proofs.LifeLaws.{IsOrdered, ordered, In_new}
 use Rattle.sm_names.proofs.ListLaws.{In, times-append}
 use Rattle.sm_names.proofs.PageLaws.{ArePlaced, placed_apart, sum-le-pool}
-use Rattle.sm_names.proofs.SamenessLaws.{either_way, and_left, and_right, or_left, or_right, or_parts, or_both, and_both, both_ways, same_key-refl}
+use Rattle.sm_names.proofs.SamenessLaws.{and_both, and_left, and_right, both_ways, either_way, not_none, or_both, or_left, or_parts, or_right, same_key-refl}
 use Rattle.sm_names.proofs.SettledLaws.{In-was_born, find_birth, head_itself, none_if, Why, Initial, Logical, forced_why}
 use Rattle.sm_names.proofs.SumLaws.{one, any_one, times-filter}
 use Rattle.sm_names.specs.Words.{first_some, times, when}
@@ -227,10 +227,6 @@ module _ (pool : ℕ) (limits : Bound) (before : Timeline) (collection : ℕ) (g
       let is : birth_of before b.node ≡ Some b = find_birth (births before) b ord.sound on in
       let up : is_none b.parent ≡ false = not_none b.parent child in
       Nothing_new (rw (is, up) refl) (λ k. rw (is, up) refl)
-    where
-      not_none : (o : Option NodeKey) → is_some o ≡ true → is_none o ≡ false
-      not_none None h = cc
-      not_none (Some x) h = refl
 
   -- what an allocation lays out
   pub allocation_lays : (head : NodeKey) → Why pool collection before (Allocated head) → Lays pool before (Allocated head)

@@ -1,8 +1,8 @@
 -- Elements of lists, and how many pass a test.
-use Rattle.std.proofs.Common.{ℕ, ◌≡◌, ◌≤◌, ◌<◌, ◌+◌, refl, ap, sym, ◌∙◌, Bool, true, false, ◌&&◌, ◌||◌, cond, ◌⊎◌, inl, inr, List, [], ◌∷◌, ◌++◌, length, map, reverse, Option, Some, None, is_some, arith}
+use Rattle.std.proofs.Common.{ℕ, zero, suc, ◌≡◌, ◌≤◌, ◌<◌, ◌+◌, refl, ap, sym, ◌∙◌, Bool, true, false, ◌&&◌, ◌||◌, cond, ◌⊎◌, inl, inr, List, [], ◌∷◌, ◌++◌, length, get_or, map, reverse, Option, Some, None, is_some, arith}
 use Rattle.std.proofs.lemmas.List.{reverse-append}
-use Rattle.std.specs.List.{list_any, find, filter}
-use Rattle.sm_names.proofs.SamenessLaws.{either_way, or_none_left, or_none_right}
+use Rattle.std.specs.List.{list_all, list_any, find, filter}
+use Rattle.sm_names.proofs.SamenessLaws.{and_both, and_left, and_right, either_way, none_is, or_none_left, or_none_right}
 pub use Rattle.sm_names.specs.Elements.{In}
 use Rattle.sm_names.specs.Words.{first_some, times, when}
 use mathlib.Core.List.{reverse_aux}
@@ -32,6 +32,11 @@ In-map f (x ∷ xs) y (inr on) = let r = In-map f xs y on in (r.0, inr r.1, r.2)
 pub map-In : {A B : Type 0} (f g : A → B) (xs : List A) → ((x : A) → In x xs → f x ≡ g x) → map f xs ≡ map g xs
 map-In f g [] same = refl
 map-In f g (x ∷ xs) same = λ i. same x (inl refl) i ∷ map-In f g xs (λ y on. same y (inr on)) i
+
+-- two maps one after the other are one
+pub map-map : {A B C : Type 0} (g : B → C) (f : A → B) (xs : List A) → map g (map f xs) ≡ map (λ x. g (f x)) xs
+map-map g f [] = refl
+map-map g f (x ∷ xs) = ap (λ (l : List _). g (f x) ∷ l) (map-map g f xs)
 
 -- an element of a list that is turned round onto another is one of either
 In-reverse_aux : {A : Type 0} (xs ys : List A) (x : A) → In x (reverse_aux xs ys) → In x xs ⊎ In x ys
@@ -109,6 +114,17 @@ In-append [] ys x on = inr on
 In-append (y ∷ xs) ys x (inl is) = inl (inl is)
 In-append (y ∷ xs) ys x (inr on) = elim (In-append xs ys x on) [ inl here ↦ inl (inr here) | inr there ↦ inr there ]
 
+-- an element of the first of two lists is one of both
+pub In-front : {A : Type 0} (xs ys : List A) (x : A) → In x xs → In x (xs ++ ys)
+In-front [] ys x on = absurd on
+In-front (z ∷ zs) ys x (inl is) = inl is
+In-front (z ∷ zs) ys x (inr on) = inr (In-front zs ys x on)
+
+-- and so is one of the second
+pub In-behind : {A : Type 0} (xs ys : List A) (x : A) → In x ys → In x (xs ++ ys)
+In-behind [] ys x on = on
+In-behind (z ∷ zs) ys x on = inr (In-behind zs ys x on)
+
 -- where some pass, there is an element that does
 pub In-list_any : {A : Type 0} (test : A → Bool) (xs : List A) → list_any test xs ≡ true → (x : A) × In x xs × (test x ≡ true)
 In-list_any test [] h = cc
@@ -117,6 +133,18 @@ In-list_any test (y ∷ ys) h =
       | inl e ↦ (y, inl refl, e)
       | inr e ↦ let r = In-list_any test ys (rw e at h) in (r.0, inr r.1, r.2)
     ]
+
+-- some of a mapped list pass where some pass the same test before
+pub list_any-map : {A B : Type 0} (p : B → Bool) (q : A → Bool) (f : A → B) (xs : List A) → ((x : A) → In x xs → p (f x) ≡ q x) →
+    list_any p (map f xs) ≡ list_any q xs
+list_any-map p q f [] same = refl
+list_any-map p q f (x ∷ xs) same = λ i. same x (inl refl) i || list_any-map p q f xs (λ y on. same y (inr on)) i
+
+-- what lies at a place is an element
+pub In-get_or : {A : Type 0} (xs : List A) (i : ℕ) (d : A) → i < length xs → In (get_or xs i d) xs
+In-get_or [] i d within = absurd (omega arith)
+In-get_or (x ∷ xs) zero d within = inl refl
+In-get_or (x ∷ xs) (suc n) d within = inr (In-get_or xs n d (omega arith))
 
 -- the first value that is there is in the list
 pub In-first_some : {A : Type 0} (os : List (Option A)) (x : A) → first_some os ≡ Some x → In (Some x) os
@@ -133,6 +161,16 @@ when-Some false x y h = cc
 pub filter-none : {A : Type 0} (test : A → Bool) (xs : List A) → ((x : A) → In x xs → test x ≡ false) → filter test xs ≡ []
 filter-none test [] h = refl
 filter-none test (x ∷ xs) h = let e : test x ≡ false = h x (inl refl) in rw e (filter-none test xs (λ y on. h y (inr on)))
+
+-- what all pass, all that are left pass
+pub list_all-filter : {A : Type 0} (test keep : A → Bool) (xs : List A) → list_all test xs ≡ true → list_all test (filter keep xs) ≡ true
+list_all-filter test keep [] all = refl
+list_all-filter test keep (x ∷ xs) all =
+    let rest : list_all test (filter keep xs) ≡ true = list_all-filter test keep xs (and_right (test x) (list_all test xs) all) in
+    elim (either_way (keep x)) [
+      | inl e ↦ rw e (and_both (test x) (list_all test (filter keep xs)) (and_left (test x) (list_all test xs) all) rest)
+      | inr e ↦ rw e rest
+    ]
 
 -- two filters in turn give the same in either order
 pub filter-swap : {A : Type 0} (p q : A → Bool) (xs : List A) → filter p (filter q xs) ≡ filter q (filter p xs)
@@ -162,6 +200,13 @@ filter-all {A = A} test (x ∷ xs) all =
     let e : test x ≡ true = all x (inl refl) in
     rw e (ap (λ (ys : List A). x ∷ ys) (filter-all test xs (λ y on. all y (inr on))))
 
+-- told by one test of all
+pub filter-list_all : {A : Type 0} (test : A → Bool) (xs : List A) → list_all test xs ≡ true → filter test xs ≡ xs
+filter-list_all test [] all = refl
+filter-list_all {A = A} test (x ∷ xs) all =
+    rw (and_left (test x) (list_all test xs) all)
+    (ap (λ (l : List A). x ∷ l) (filter-list_all test xs (and_right (test x) (list_all test xs) all)))
+
 -- maps that agree do so at each element
 pub map-at : {A B : Type 0} (f g : A → B) (xs : List A) → map f xs ≡ map g xs → (x : A) → In x xs → f x ≡ g x
 map-at f g [] same x on = absurd on
@@ -173,6 +218,14 @@ pub is_some-find : {A : Type 0} (test : A → Bool) (xs : List A) → is_some (f
 is_some-find test [] = refl
 is_some-find test (x ∷ xs) = elim (test x) as (λ (b : Bool). is_some (cond b (Some x) (find test xs)) ≡ (b || list_any test xs))
     [ true ↦ refl | false ↦ is_some-find test xs ]
+
+-- where none passes, none is found
+pub find-none : {A : Type 0} (test : A → Bool) (xs : List A) → list_any test xs ≡ false → find test xs ≡ None
+find-none test xs none = none_is (find test xs) (is_some-find test xs ∙ none)
+
+-- and where none is found, none passes
+pub none-find : {A : Type 0} (test : A → Bool) (xs : List A) → find test xs ≡ None → list_any test xs ≡ false
+none-find test xs none = sym (is_some-find test xs) ∙ ap is_some none
 
 -- ---- how many
 
@@ -216,6 +269,11 @@ times-lt p q (x ∷ xs) y h (inr on) fails passes =
 pub times-none : {A : Type 0} (xs : List A) → times (λ x. false) xs ≡ 0
 times-none [] = refl
 times-none (x ∷ xs) = times-none xs
+
+-- where none of the elements passes, none is counted
+pub times-zero : {A : Type 0} (test : A → Bool) (xs : List A) → ((x : A) → In x xs → test x ≡ false) → times test xs ≡ 0
+times-zero test [] none = refl
+times-zero test (x ∷ xs) none = rw (none x (inl refl)) (times-zero test xs (λ y on. none y (inr on)))
 
 -- as many pass as in both parts
 pub times-append : {A : Type 0} (test : A → Bool) (xs ys : List A) → times test (xs ++ ys) ≡ times test xs + times test ys

@@ -41,7 +41,7 @@ first_none None (Some m) c d h = cc
 first_none (Some m) b c d h = cc
 
 -- what is not there failed its test
-when-None : {A : Type 0} (b : Bool) (x : A) → when b x ≡ None → b ≡ false
+pub when-None : {A : Type 0} (b : Bool) (x : A) → when b x ≡ None → b ≡ false
 when-None true x h = cc
 when-None false x h = refl
 

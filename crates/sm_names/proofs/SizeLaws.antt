@@ -13,7 +13,7 @@ use Rattle.sm_names.specs.declared.keys.HeldBuffer.{HeldBuffer}
 use Rattle.sm_names.specs.Timelines.{laid_out, placed, held}
 use Rattle.sm_names.proofs.GrowthLaws.{Grows, Stays, Answers, Loses, Allocates, Ends}
 use Rattle.sm_names.proofs.HeldLaws.{Lays, Nothing_new, New, allocation_lays}
-use Rattle.sm_names.proofs.ListLaws.{In, In-filter, In-map}
+use Rattle.sm_names.proofs.ListLaws.{In, In-append, In-filter, In-map}
 use Rattle.sm_names.proofs.SamenessLaws.{either_way}
 use Rattle.sm_names.proofs.SettledLaws.{forced_why}
 
@@ -24,12 +24,6 @@ IsSized marks h = (b : Buffers) × (buffers_of marks h.buffer.collection ≡ Som
 -- so it is of each buffer that was ever given pages
 abbrev AreSized : ℕ → Timeline → Type 0
 AreSized pool marks = (h : HeldBuffer) → In h (placed pool marks) → IsSized marks h
-
--- an element of two lists is one of either
-In-append : {A : Type 0} (xs ys : List A) (x : A) → In x (xs ++ ys) → In x xs ⊎ In x ys
-In-append [] ys x on = inr on
-In-append (y ∷ xs) ys x (inl is) = inl (inl is)
-In-append (y ∷ xs) ys x (inr on) = elim (In-append xs ys x on) [ inl there ↦ inl (inr there) | inr there ↦ inr there ]
 
 -- what is laid out is one of the buffers, with so many pages
 laid_out-In : (pages : ℕ) (bs : List BufferName) (starts : List ℕ) (h : HeldBuffer) → In h (laid_out pages bs starts) →

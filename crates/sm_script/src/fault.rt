@@ -21,7 +21,8 @@ pub enum ScriptFault {
 }
 
 impl ScriptFault {
-    /// The status that a program ends with on this fault.
+    /// The status that a program ends with on this fault: 1 where reading or writing failed, 3 for a
+    /// bad line, 4 where the history is full or memory was refused.
     pub fn status(self) -> u8
         ensures { result ≡ fault_status self }
     {

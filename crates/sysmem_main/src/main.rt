@@ -58,6 +58,14 @@ fn unread(rt: &impl Eprint, error: &io::Error) -> ExitCode {
     ExitCode::from(2)
 }
 
+// How labels are hashed: from random bytes. Where there are none, all runs hash alike, as they
+// answer alike.
+fn label_hash(rt: &impl RandomSource) -> LabelHash {
+    let mut seed = [0; 16];
+    let _ = rt.fill_bytes(&mut seed);
+    LabelHash::new(seed)
+}
+
 fn main(rt: HostRuntime) -> ExitCode {
     let alloc = rt.alloc();
     let words: Vec<String> = match env::args(&rt) {
@@ -79,10 +87,7 @@ fn main(rt: HostRuntime) -> ExitCode {
         let _ = rt.eprintln("the pool has from 1 to 1048576 pages");
         return ExitCode::from(2);
     };
-    // Where there are no random bytes, all runs hash alike, as they answer alike.
-    let mut seed = [0; 16];
-    let _ = rt.fill_bytes(&mut seed);
-    let labels = LabelHash::new(seed);
+    let labels = label_hash(&rt);
     if asks_for_threads(&matches) {
         return run_threads_to_exit(
             &rt,

@@ -1,5 +1,5 @@
 -- Ends of actors, and what is left of them.
-use Rattle.std.proofs.Common.{◌≡◌, ℕ, List, [], ◌∷◌, ◌++◌, Option, Some, None, refl, sym, ap, ◌∙◌, subst, append_assoc, append-nil, reverse, map}
+use Rattle.std.proofs.Common.{◌≡◌, ℕ, List, [], ◌∷◌, ◌++◌, Option, Some, None, refl, sym, ap, ◌∙◌, subst, append_assoc, reverse, map}
 use Rattle.std.proofs.lemmas.List.{reverse-append, reverse-reverse}
 use Rattle.std.specs.List.{AllZip}
 use Rattle.std.specs.Option.{option_or}
@@ -72,25 +72,6 @@ module _ {E S W : Type 0} where
         or ∙ ap (λ (f : Option ThreadsFault). option_or f its) so.first
         ∙ ap (option_or (first_fault so.done)) told ∙ sym (first_fault-more so.done end);
   }
-
-  -- all are
-  parted-done : (all : List (ActorEnd E S W)) (parts : List (Holding E S W)) (found : Option ThreadsFault)
-      (so : PartedTo all [] parts found) → all ≡ so.done
-  parted-done all parts found so = so.split ∙ append-nil so.done
-
-  pub parted-left : (all rest : List (ActorEnd E S W)) (parts : List (Holding E S W)) (found : Option ThreadsFault) →
-      PartedTo all rest parts found → rest ≡ [] →
-      AllZip IsLeft all parts
-  parted-left all rest parts found so none =
-      let is : PartedTo all [] parts found = subst (λ (r : List (ActorEnd E S W)). PartedTo all r parts found) none so in
-      subst (λ (ends : List (ActorEnd E S W)). AllZip IsLeft ends parts) (sym (parted-done all parts found is)) is.left
-
-  pub parted-first : (all rest : List (ActorEnd E S W)) (parts : List (Holding E S W)) (found : Option ThreadsFault) →
-      PartedTo all rest parts found → rest ≡ [] →
-      found ≡ first_fault all
-  parted-first all rest parts found so none =
-      let is : PartedTo all [] parts found = subst (λ (r : List (ActorEnd E S W)). PartedTo all r parts found) none so in
-      is.first ∙ ap first_fault (sym (parted-done all parts found is))
 
   -- the fault of an actor is one of a run whose script was read
   pub late-first : (ends : List (ActorEnd E S W)) (told : ThreadsFault) → first_fault ends ≡ Some told → IsLate told

@@ -27,7 +27,9 @@ pub enum ThreadsFault {
 }
 
 impl ThreadsFault {
-    /// The status that a program ends with on this fault.
+    /// The status that a program ends with on this fault: 1 where reading or writing failed, 3 for a
+    /// bad line, 4 where the history is full, memory was refused or there was no thread, 5 where what
+    /// was gathered is not the record's.
     pub fn status(self) -> u8
         ensures { result ≡ fault_status self }
     {

@@ -163,10 +163,6 @@ module _ (w : World) (e : ℕ) (start : List TrackerRow) (had : List Fired) wher
       ∙ ap (λ l. filter_map (fires w e) walked.done ++ l) (none_due _ walked.todo walked.reach).1
       ∙ append-nil (filter_map (fires w e) walked.done)))
 
-  -- the start of the walk
-  pub walk_start : (due : List ℕ) → Reach w 0 start due → Walked start had due
-  walk_start due reach = record { done = []; todo = start; whole = refl; now = refl; grown = sym (append-nil had); reach = reach }
-
 -- the firings of a row and its change balance
 balance_at : (w : World) (e id cell : ℕ) (stage : Stage) (has : Bool) (row : TrackerRow) →
     row ≡ record { id = id; cell = cell; stage = stage; has_reader = has } →

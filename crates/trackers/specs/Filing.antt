@@ -1,4 +1,5 @@
--- How the rows that wait are filed, by collection and then by the node or the buffer that they wait for. No public clause cites this module.
+-- How the rows that wait are filed, by collection and then by the node or the buffer that they wait for.
+-- No public clause cites this module.
 use Rattle.std.specs.Prelude.{◌≡◌, ℕ, ◌+◌, ◌*◌, Bool, true, not, nat_eq, ◌==◌, if◌then◌else◌, List, [], ◌∷◌, ◌++◌, map, Vec}
 use Rattle.std.specs.BinaryHeap.{heap_items, heap_len}
 use Rattle.std.specs.List.{filter}

@@ -2,7 +2,6 @@
 use Rattle.std.specs.Prelude.{◌≡◌, ◌≢◌, ℕ, suc, ◌+◌, ◌<◌, ◌≤◌, Bool, true, false, ◌==◌, ⊤, if◌then◌else◌, List, [], ◌∷◌, map, length, Option, Some, None, MatchOption}
 use Rattle.std.specs.List.{filter_map, cons_option, AllByRecursion, count_by}
 use Rattle.std.specs.Option.{option_map_or}
-use Rattle.sm_names.specs.declared.tracking.Condition.{Condition}
 use Rattle.sm_names.specs.declared.tracking.Fired.{Fired}
 use Rattle.sm_names.specs.Trackers.{World}
 use Rattle.trackers.specs.declared.waiting.Waiting.{Waiting}

@@ -64,7 +64,7 @@ impl Tracker {
         }
     }
 
-    /// The number of the event that attached the tracker.
+    /// The number of the event that attached the tracker. It never changes, and no cell is read.
     pub fn id(&self) -> TrackerId
         ensures { result ≡ self.now.tracker }
     {

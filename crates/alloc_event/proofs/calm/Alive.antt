@@ -1,10 +1,9 @@
 -- A live node is at or below itself.
-use Rattle.std.proofs.Common.{◌≡◌, ◌<◌, ℕ, zero, suc, get_or, length, arith, refl, Bool, true, false, ◌&&◌, ◌||◌, List, [], ◌∷◌, reverse, inl, inr}
+use Rattle.std.proofs.Common.{◌≡◌, refl, Bool, true, false, ◌&&◌, ◌||◌, List, [], ◌∷◌, reverse, inl, inr}
 use Rattle.std.specs.List.{list_any}
 use Rattle.sm_names.specs.declared.keys.NodeKey.{NodeKey}
 use Rattle.sm_names.specs.Sameness.{same_key}
 use Rattle.sm_names.proofs.SamenessLaws.{either_way, or_cases, or_right}
-use Rattle.sm_names.proofs.ListLaws.{In}
 use Rattle.alloc_event.specs.declared.node.Node.{Node}
 use Rattle.alloc_event.specs.Nodes.{above_among}
 use Rattle.alloc_event.specs.Questions.{is_live_node, is_live_at, lives_below}
@@ -45,9 +44,3 @@ pub live_besides : (nodes : List Node) (top : NodeKey) →
     (is_live_at nodes top || list_any (lives_below nodes top) nodes) ≡ list_any (lives_below nodes top) nodes
 live_besides nodes top =
     any_besides (λ (n : Node). same_key top n.key && is_live_node n) (lives_below nodes top) (lives_at_top nodes top) nodes
-
--- what stands at a place is one of the list
-pub at_place : {A : Type 0} (xs : List A) (i : ℕ) (d : A) → i < length xs → In (get_or xs i d) xs
-at_place [] i d within = absurd (omega arith)
-at_place (x ∷ xs) zero d within = inl refl
-at_place (x ∷ xs) (suc n) d within = inr (at_place xs n d (omega arith))

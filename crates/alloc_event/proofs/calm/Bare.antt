@@ -7,7 +7,7 @@ use Rattle.sm_names.specs.declared.keys.Interval.{Interval}
 use Rattle.sm_names.specs.declared.keys.NodeKey.{NodeKey}
 use Rattle.sm_names.specs.Forced.{forced}
 use Rattle.sm_names.specs.Marks.{Ended}
-use Rattle.sm_names.proofs.ListLaws.{In, In-find, In-list_any, map-In}
+use Rattle.sm_names.proofs.ListLaws.{In, In-find, In-list_any, map-In, none-find}
 use Rattle.sm_names.proofs.SamenessLaws.{and_both, and_left, and_right, both_ways, either_way, false_if, or_left}
 use Rattle.sm_names.proofs.StandingLaws.{In-any}
 use Rattle.alloc_event.specs.declared.decision.Decision.TheVariants.{Ends}
@@ -22,7 +22,6 @@ use Rattle.alloc_event.specs.Settling.{Forces, Handles, Settles, standing}
 use Rattle.alloc_event.proofs.calm.Forcing.{forced_made}
 use Rattle.alloc_event.proofs.tallies.Holding.{below_parent, below_self, line, step}
 use Rattle.alloc_event.proofs.tables.Links.{map-kept}
-use Rattle.alloc_event.proofs.newborns.Members.{none-find}
 use Rattle.alloc_event.proofs.tables.Rooted.{left_node, left_parent}
 use Rattle.alloc_event.proofs.calm.Steps.{all-In}
 use Rattle.alloc_event.proofs.calm.Topmost.{find_top}

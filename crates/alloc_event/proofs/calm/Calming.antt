@@ -13,7 +13,7 @@ use Rattle.sm_names.specs.Members.{Member, is_ready, root_left}
 use Rattle.sm_names.specs.Sameness.{same_key}
 use Rattle.sm_names.specs.Words.{first_some, when, times}
 use Rattle.sm_names.proofs.ListLaws.{In, In-filter, In-filter-back, filter-swap, map-In, filter-all}
-use Rattle.sm_names.proofs.SamenessLaws.{either_way, both_ways, or_left}
+use Rattle.sm_names.proofs.SamenessLaws.{both_ways, either_way, none_is, or_left}
 use Rattle.sm_names.proofs.PlaceLaws.{map-None}
 use Rattle.alloc_event.specs.declared.decision.Decision.{Decision}
 use Rattle.alloc_event.specs.declared.decision.Decision.TheVariants.{Ends, Loses}
@@ -159,11 +159,6 @@ wait_tie nodes =
     from (Some root) =
         ap (λ (b : Bool). not root.allocated && b) (ready_tie nodes root.key)
         ∙ told (not root.allocated && list_all (is_ready_node root.key) nodes) root
-
--- what is not there
-none_is : {A : Type 0} (o : Option A) → is_some o ≡ false → o ≡ None
-none_is None h = refl
-none_is (Some x) h = cc
 
 -- nodes with the same members are as calm
 pub none_same : (old new : List Node) (buffers : Option Buffers) → members_of new ≡ members_of old → AreNone old buffers →

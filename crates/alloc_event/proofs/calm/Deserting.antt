@@ -8,7 +8,7 @@ use Rattle.sm_names.specs.declared.keys.NodeKey.{NodeKey}
 use Rattle.sm_names.specs.Forced.{forced}
 use Rattle.sm_names.specs.Marks.{Ended}
 use Rattle.sm_names.specs.Sameness.{same_key}
-use Rattle.sm_names.proofs.ListLaws.{In, In-list_any, In-map, In-map-back, map-In}
+use Rattle.sm_names.proofs.ListLaws.{In, In-list_any, In-map, In-map-back, map-In, map-map}
 use Rattle.sm_names.proofs.ReachLaws.{IsChain}
 use Rattle.sm_names.proofs.SamenessLaws.{and_both, and_left, and_right, both_ways, either_way, false_if, or_cases, or_right, same_key-true}
 use Rattle.sm_names.proofs.StandingLaws.{In-any}
@@ -27,11 +27,6 @@ use Rattle.alloc_event.proofs.tables.Links.{below_by_links, link_of}
 use Rattle.alloc_event.proofs.tables.Rooted.{left_in}
 use Rattle.alloc_event.proofs.calm.Topmost.{find_top}
 use Rattle.alloc_event.proofs.tables.Writing.{IsSameNode}
-
--- so many maps are one
-maps : {A : Type 0} (f g : A → A) (xs : List A) → map f (map g xs) ≡ map (λ x. f (g x)) xs
-maps f g [] = refl
-maps f g (x ∷ xs) = ap (λ (ys : List _). f (g x) ∷ ys) (maps f g xs)
 
 -- the nodes at and below the highest one leave, and the unit above it has a live node that stays
 module _ (c : Collection) (whole : IsWhole c) (falls : NodeKey → Bool) (top above : Node)
@@ -192,7 +187,7 @@ module _ (c : Collection) (whole : IsWhole c) (falls : NodeKey → Bool) (top ab
   leaves n = if falls n.key then record (g n) { gone = true } else n
 
   pub after_is : after_end top.key now ≡ map leaves nodes
-  after_is = maps (ended now top.key) g nodes ∙ map-In (λ (n : Node). ended now top.key (g n)) leaves nodes (λ n on.
+  after_is = map-map (ended now top.key) g nodes ∙ map-In (λ (n : Node). ended now top.key (g n)) leaves nodes (λ n on.
       one n on (either_way (falls n.key)) (either_way n.gone))
     where
       under : (n : Node) → is_below now top.key (g n).key ≡ is_below nodes top.key n.key

@@ -7,7 +7,7 @@ use Rattle.sm_names.specs.declared.keys.NodeKey.{NodeKey}
 use Rattle.sm_names.specs.declared.outcomes.Buffers.{Buffers}
 use Rattle.sm_names.specs.Sameness.{same_key}
 use Rattle.sm_names.specs.Words.{times, when}
-use Rattle.sm_names.proofs.ListLaws.{In, In-find, In-list_any, In-map, In-map-back}
+use Rattle.sm_names.proofs.ListLaws.{In, In-find, In-list_any, In-map, In-map-back, find-none, list_any-map, none-find}
 use Rattle.sm_names.proofs.SamenessLaws.{and_both, and_left, and_right, both_ways, either_way, false_if, or_left, or_right, same_key-true}
 use Rattle.sm_names.proofs.StandingLaws.{In-any}
 use Rattle.sm_names.proofs.SizeLaws.{all_on}
@@ -23,18 +23,9 @@ use Rattle.alloc_event.specs.Units.{is_head}
 use Rattle.alloc_event.proofs.calm.Together.{together_same}
 use Rattle.alloc_event.proofs.calm.Calming.{AreNone, calm_none, find_map, later, none_calm}
 use Rattle.alloc_event.proofs.tallies.Holding.{are_held, hangs_in, held_where, holds_unit, is_held, none_deserted}
-use Rattle.alloc_event.proofs.newborns.Members.{find-none, none-find}
 use Rattle.alloc_event.proofs.tables.Rooted.{distinct_one}
 use Rattle.alloc_event.proofs.calm.Steps.{all-In}
 use Rattle.alloc_event.proofs.tables.Writing.{IsSameNode, IsWhole-map}
-
--- some pass where one does
-pub any-In : {A : Type 0} (p q : A → Bool) (f : A → A) (xs : List A) → ((x : A) → In x xs → p (f x) ≡ q x) →
-    list_any p (map f xs) ≡ list_any q xs
-any-In p q f [] same = refl
-any-In p q f (x ∷ xs) same =
-    let rest = any-In p q f xs (λ y on. same y (inr on)) in
-    rw (same x (inl refl), rest) refl
 
 -- some pass where the count is not 0
 pub some_pass : (test : Node → Bool) (ns : List Node) → 0 < times test ns → list_any test ns ≡ true
@@ -58,7 +49,8 @@ module _ (nodes : List Node) (f : Node → Node) (same : (n : Node) → IsSameNo
   -- a node is in a unit as it was
   unit_same : (p head : NodeKey) → list_any (λ (q : Node). is_of p q && same_key q.head head) now ≡ list_any (λ (q : Node).
       is_of p q && same_key q.head head) nodes
-  unit_same p head = any-In (λ (q : Node). is_of p q && same_key q.head head) (λ (q : Node). is_of p q && same_key q.head head) f nodes
+  unit_same p head = list_any-map (λ (q : Node). is_of p q && same_key q.head head)
+      (λ (q : Node). is_of p q && same_key q.head head) f nodes
       (λ q there. λ i. same_key ((same q).key i) p && same_key ((same q).head i) head)
 
   hangs_same : (head : NodeKey) (n : Node) → hangs_in now head (f n) ≡ hangs_in nodes head n
@@ -100,7 +92,7 @@ module _ (nodes : List Node) (f : Node → Node) (same : (n : Node) → IsSameNo
             first (Some p) h = cc
 
     allocated_same : (p : NodeKey) → list_any (is_allocated_node p) now ≡ list_any (is_allocated_node p) nodes
-    allocated_same p = any-In (is_allocated_node p) (is_allocated_node p) f nodes (λ n there. λ i.
+    allocated_same p = list_any-map (is_allocated_node p) (is_allocated_node p) f nodes (λ n there. λ i.
         not (gone n i) && (alloc n i && same_key ((same n).key i) p))
 
     turn_before : (o : Option NodeKey) → option_map_or (λ parent. list_any (is_allocated_node parent) nodes) o false ≡ true →
@@ -211,7 +203,7 @@ module _ (nodes : List Node) (f : Node → Node) (same : (n : Node) → IsSameNo
             list_any (holds_unit nodes m.key) nodes ≡ true → list_any (holds_unit now m.key) now ≡ true
         holds m there (inl e) was =
             subst (λ (k : NodeKey). list_any (holds_unit now k) now ≡ true) (same_key-true n.head m.key e) some
-        holds m there (inr e) was = any-In (holds_unit now m.key) (holds_unit nodes m.key) f nodes (same_for m.key e) ∙ was
+        holds m there (inr e) was = list_any-map (holds_unit now m.key) (holds_unit nodes m.key) f nodes (same_for m.key e) ∙ was
 
         still : (m : Node) → In m nodes → is_held now (f m) ≡ true
         still m there =

@@ -177,7 +177,8 @@ module _ (pool : ℕ) (others : List Interval) (c : Collection) (formed : AreFor
   formed_made : (handles : Handles) (mark : Mark) → forced pool (standing handles others c) ≡ Some mark →
       AreFormed (made pool others mark c).nodes
   formed_made handles mark forces =
-      by (decided c.nodes c.buffers (standing handles others c).strong_open) (based c.nodes c.buffers (standing handles others c).strong_open)
+      by (decided c.nodes c.buffers (standing handles others c).strong_open)
+      (based c.nodes c.buffers (standing handles others c).strong_open)
       (sym (forced_made handles pool others c) ∙ forces)
     where
       by : (o : Option Decision) → IfSome o (IsBased c.nodes) → option_map (mark_of pool (pages_in c ++ others)) o ≡ Some mark →

@@ -279,7 +279,8 @@ module _ (nodes : List Node) (formed : AreFormed nodes) where
             let top : highest_of nodes origin ≡ n.key = same_key-true (highest_of nodes origin) n.key own in
             elim (stops (up nodes formed.distinct formed.heads formed.rooted formed.united) (λ k. list_any (blocks_here k) nodes) origin
             (line_at origin) (chain_at origin left)) [
-              | inl blocked ↦ absurd (not_blocked n on loose bare (ap (λ (k : NodeKey). list_any (blocks_here k) nodes) (sym top) ∙ blocked))
+              | inl blocked ↦ absurd (not_blocked n on loose bare
+                  (ap (λ (k : NodeKey). list_any (blocks_here k) nodes) (sym top) ∙ blocked))
               | inr none ↦
                   let no : Some p ≡ None =
                   sym (goes_to n on here p is)

@@ -4,7 +4,7 @@ use Rattle.std.proofs.lemmas.List.{reverse-append}
 use Rattle.std.specs.List.{filter, list_all}
 use Rattle.std.specs.Option.{option_map_or}
 use Rattle.sm_names.specs.Sameness.{same_key}
-use Rattle.sm_names.proofs.ListLaws.{In, In-reverse}
+use Rattle.sm_names.proofs.ListLaws.{In, In-reverse, list_all-filter}
 use Rattle.sm_names.proofs.SamenessLaws.{and_both, and_left, and_right, either_way}
 use Rattle.sm_names.proofs.SizeLaws.{all_on}
 use Rattle.alloc_event.specs.declared.node.Node.{Node}
@@ -46,22 +46,14 @@ united_frames new old same united =
 
 -- ---- some of the nodes
 
-all_filter : {A : Type 0} (test p : A → Bool) (xs : List A) → list_all test xs ≡ true → list_all test (filter p xs) ≡ true
-all_filter test p [] all = refl
-all_filter test p (x ∷ xs) all =
-    let rest : list_all test (filter p xs) ≡ true = all_filter test p xs (and_right (test x) (list_all test xs) all) in
-    elim (either_way (p x)) [
-      | inl e ↦ rw e (and_both (test x) (list_all test (filter p xs)) (and_left (test x) (list_all test xs) all) rest)
-      | inr e ↦ rw e rest
-    ]
-
 united_some : (p : Node → Bool) (ns : List Node) → are_united ns ≡ true → are_united (filter p ns) ≡ true
 united_some p [] united = refl
 united_some p (n ∷ ns) united =
     let here : list_all (shares_unit n) ns ≡ true = and_left (list_all (shares_unit n) ns) (are_united ns) united in
     let rest : are_united (filter p ns) ≡ true = united_some p ns (and_right (list_all (shares_unit n) ns) (are_united ns) united) in
     elim (either_way (p n)) [
-      | inl e ↦ rw e (and_both (list_all (shares_unit n) (filter p ns)) (are_united (filter p ns)) (all_filter (shares_unit n) p ns here)
+      | inl e ↦ rw e (and_both (list_all (shares_unit n) (filter p ns)) (are_united (filter p ns))
+          (list_all-filter (shares_unit n) p ns here)
           rest)
       | inr e ↦ rw e rest
     ]

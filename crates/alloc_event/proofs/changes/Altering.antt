@@ -6,9 +6,8 @@ use Rattle.std.proofs.lemmas.Bool.{eqb-true, eq-eqb, ne_eqb, ltb-true, lt-ltb, f
 use Rattle.std.proofs.lemmas.List.Folds.{list_any-append}
 use Rattle.sm_names.specs.declared.keys.NodeKey.{NodeKey}
 use Rattle.sm_names.specs.Sameness.{same_key}
-use Rattle.sm_names.proofs.SamenessLaws.{and_left, and_right, or_cases}
+use Rattle.sm_names.proofs.SamenessLaws.{and_left, and_right, or_cases, same_key-true}
 use Rattle.node_table.specs.Table.{Table, node_at, was_given}
-use Rattle.node_table.proofs.Keys.{true-same_key}
 use Rattle.alloc_event.specs.declared.change.Change.{Change}
 use Rattle.alloc_event.specs.declared.change.Effect.{Effect}
 use Rattle.alloc_event.specs.declared.node.Node.{Node}
@@ -133,7 +132,7 @@ pub filed_at : (t : Table Node) (id : ℕ) (keys : List NodeKey) (key : NodeKey)
 filed_at t id [] key n filed is there = absurd (false≢true there)
 filed_at t id (k ∷ ks) key n filed is there = elim (or_cases (same_key key k) (list_any (same_key key) ks) there) [
   | inl here ↦
-      let found : node_at t k ≡ Some n = ap (node_at t) (sym (true-same_key key k here)) ∙ is in
+      let found : node_at t k ≡ Some n = ap (node_at t) (sym (same_key-true key k here)) ∙ is in
       let own : is_filed t id k ≡ true = and_left _ _ filed in
       rw found at own
   | inr behind ↦ filed_at t id ks key n (and_right _ _ filed) is behind
@@ -204,7 +203,7 @@ looked-all t test each (k ∷ ks) = looked-all-by test (node_at t k) (nodes_with
 -- by whether it is that node
 tracker_room-by : (key : NodeKey) (n : Node) (same : Bool) → same_key key n.key ≡ same → (key ≡ n.key → n.trackers < 64) →
     (not same || nat_lt n.trackers 64) ≡ true
-tracker_room-by key n true same few = lt-ltb n.trackers 64 (few (true-same_key key n.key same))
+tracker_room-by key n true same few = lt-ltb n.trackers 64 (few (same_key-true key n.key same))
 tracker_room-by key n false same few = refl
 
 -- the node of a tracker has room for it

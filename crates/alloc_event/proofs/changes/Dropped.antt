@@ -14,6 +14,7 @@ use Rattle.sm_names.specs.declared.keys.HeldBuffer.{HeldBuffer}
 use Rattle.sm_names.specs.Words.{sorted_by}
 use Rattle.sm_names.proofs.HandleLaws.{same_buffer-true}
 use Rattle.sm_names.proofs.SamenessLaws.{and_both, and_left, and_right, either_way}
+use Rattle.sm_names.proofs.ListLaws.{filter-list_all}
 use Rattle.node_table.specs.Table.{Table, node_at}
 use Rattle.alloc_event.specs.declared.entry.Entry.{Entry}
 use Rattle.alloc_event.specs.declared.node.Node.{Node}
@@ -36,7 +37,6 @@ use Rattle.alloc_event.proofs.calm.Watched.{found_counted, strong_lives, strong_
 use Rattle.alloc_event.proofs.changes.Altering.{found_filed, found_put, found_whole}
 use Rattle.alloc_event.proofs.changes.Finishing.{kept-put, whole-map, whole-put, whole-unmap}
 use Rattle.alloc_event.proofs.intervals.Pools.{pool_back, pool_beside}
-use Rattle.alloc_event.proofs.lists.Removed.{all_stay}
 use Rattle.alloc_event.proofs.lists.SameIntervals.{start_of}
 use Rattle.alloc_event.proofs.shelves.Counted.{shelves_put}
 use Rattle.alloc_event.proofs.shelves.Entries.{IsPlace, place_is, set_put}
@@ -58,7 +58,7 @@ strong_keeps strong weak live is = rw is (from (strong == 0) (weak == 0))
 pub none_goes : (handles : Handles) (buffer : BufferName) (live : Bool) (held : List HeldBuffer) →
     is_home (handles buffer Strength.Strong) (handles buffer Strength.Weak) live ≡ false → are_rest_out handles buffer live held ≡ true →
     filter (is_out handles live) held ≡ held
-none_goes handles buffer live held stays rest = all_stay (is_out handles live) held (each held rest)
+none_goes handles buffer live held stays rest = filter-list_all (is_out handles live) held (each held rest)
   where
     each : (hs : List HeldBuffer) → are_rest_out handles buffer live hs ≡ true → list_all (is_out handles live) hs ≡ true
     each [] all = refl

@@ -4,6 +4,7 @@ use Rattle.std.proofs.lemmas.Bool.{eq-eqb, eqb-true, not-true}
 use Rattle.std.proofs.lemmas.List.{get_or-set_other, get_or-set_same, length-set}
 use Rattle.std.specs.List.{list_all, list_any}
 use Rattle.std.specs.Option.{option_map_or, unwrap_or}
+use Rattle.std.proofs.Math.Bool.{and-false}
 use Rattle.sm_names.specs.declared.keys.NodeKey.{NodeKey}
 use Rattle.sm_names.specs.declared.outcomes.Cause.{Cause}
 use Rattle.sm_names.specs.Forced.{forced}
@@ -75,11 +76,7 @@ pub alone_affected : (key : NodeKey) (effect : Effect) (m : Node) → same_key k
 alone_affected key Effect.Bound m other = rw other refl
 alone_affected key Effect.Dispensable m other = rw other refl
 alone_affected key Effect.Weak m other = rw other refl
-alone_affected key (Effect.WeakOk children) m other = rw other (λ i. record m { covers = both_false children i || m.covers })
-  where
-    both_false : (b : Bool) → (b && false) ≡ false
-    both_false true = refl
-    both_false false = refl
+alone_affected key (Effect.WeakOk children) m other = rw other (λ i. record m { covers = and-false children i || m.covers })
 alone_affected key (Effect.Constrained demand) m other = rw other refl
 alone_affected key Effect.Taken m other = rw other refl
 alone_affected key Effect.Released m other = rw other refl

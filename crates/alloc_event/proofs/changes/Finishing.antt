@@ -6,10 +6,10 @@ use Rattle.std.proofs.lemmas.Bool.{eqb-true, eqb-false, cases_eq, false≢true, 
 use Rattle.sm_names.specs.declared.keys.NodeKey.{NodeKey}
 use Rattle.sm_names.specs.Sameness.{same_key}
 use Rattle.sm_names.proofs.ListLaws.{In}
-use Rattle.sm_names.proofs.SamenessLaws.{and_left, and_right, or_none_left, or_none_right}
+use Rattle.sm_names.proofs.SamenessLaws.{and_left, and_right, or_none_left, or_none_right, same_key-true}
 use Rattle.sm_names.proofs.StandingLaws.{and_both}
 use Rattle.node_table.specs.Table.{Table, node_at, parent_at, was_given}
-use Rattle.node_table.proofs.Keys.{true-same_key, same_key-true}
+use Rattle.node_table.proofs.Keys.{same_key-equal}
 use Rattle.alloc_event.specs.declared.node.Node.{Node}
 use Rattle.alloc_event.specs.Forest.{Collection}
 use Rattle.alloc_event.specs.Nodes.{is_of}
@@ -65,7 +65,7 @@ stored-all (n ∷ ns) (o ∷ os) same distinct =
     let on : keys_in os ≡ keys_in ns = cc in
     let none : list_any (is_of n.key) ns ≡ false = not-true _ (and_left _ _ distinct) in
     let rest : map (stored ns) os ≡ ns = stored-all ns os on (and_right _ _ distinct) in
-    rw (same_key-true n.key o.key first, stored-lacks ns n none, stored-others n ns os (any-keys n.key os ns on ∙ none), rest) refl
+    rw (same_key-equal n.key o.key first, stored-lacks ns n none, stored-others n ns os (any-keys n.key os ns on ∙ none), rest) refl
 
 -- the first of them
 looked-key : (id : ℕ) (key : NodeKey) (o : Option Node) (ns : List Node) (keys : List NodeKey) → ((n : Node) → o ≡ Some n → n.key ≡ key) →
@@ -116,7 +116,7 @@ stored-of id (m ∷ ms) n all own =
 unwritten : (t : Table Node) (id : ℕ) (m n : Node) (same : Bool) → same_key m.key n.key ≡ same → is_filed t id m.key ≡ true →
     node_at t n.key ≡ Some n → n.collection ≢ id → cond same m n ≡ n
 unwritten t id m n true same filed found other =
-    let there : node_at t m.key ≡ Some n = ap (node_at t) (true-same_key m.key n.key same) ∙ found in
+    let there : node_at t m.key ≡ Some n = ap (node_at t) (same_key-true m.key n.key same) ∙ found in
     let own : (n.collection == id) ≡ true = rw there at filed in
     absurd (other (eqb-true _ _ own))
 unwritten t id m n false same filed found other = refl

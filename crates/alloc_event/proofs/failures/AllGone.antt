@@ -1,8 +1,9 @@
 -- A loss that takes the root takes all that is left of a collection, and nothing is forced in one that is gone.
-use Rattle.std.proofs.Common.{◌≡◌, ℕ, refl, ap, sym, ◌∙◌, subst, Bool, true, false, ◌||◌, ◌&&◌, inl, inr, List, [], ◌∷◌, map, reverse, drop, Option, Some, None, is_none, is_some, arith}
+use Rattle.std.proofs.Common.{◌≡◌, ℕ, refl, ap, sym, ◌∙◌, subst, Bool, true, false, ◌||◌, inl, inr, List, [], ◌∷◌, map, reverse, drop, Option, Some, None, is_none, is_some, arith}
 use Rattle.std.proofs.lemmas.Map.Views.{Contains-from_any, list_any-from_Contains}
 use Rattle.std.specs.List.{find, list_all, list_any}
 use Rattle.std.specs.Option.{option_map_or}
+use Rattle.std.proofs.Math.Bool.{and-false}
 use Rattle.sm_names.specs.declared.keys.NodeKey.{NodeKey}
 use Rattle.sm_names.specs.declared.outcomes.Buffers.{Buffers}
 use Rattle.sm_names.specs.declared.outcomes.Fault.{Fault}
@@ -27,7 +28,7 @@ use Rattle.alloc_event.specs.Ties.{are_rooted, hangs_on, is_blocking}
 use Rattle.alloc_event.proofs.calm.Calming.{later}
 use Rattle.alloc_event.proofs.calm.Steps.{all-In}
 use Rattle.alloc_event.proofs.calm.Resting.{still_decided}
-use Rattle.alloc_event.proofs.failures.Fallen.{f, gone_of, in_looked, linked, whole, within}
+use Rattle.alloc_event.proofs.failures.Fallen.{f, gone_of, in_looked, linked, strong_gone, whole, within}
 use Rattle.alloc_event.proofs.failures.Ties.{key_equivalence}
 use Rattle.alloc_event.proofs.tables.Rooted.{left_node}
 use Rattle.alloc_event.proofs.tallies.Amounts.{amount_of}
@@ -51,16 +52,12 @@ none_passes test fails [] gone = refl
 none_passes test fails (n ∷ ns) gone =
     rw (fails n (gone n (inl refl))) (none_passes test fails ns (λ m on. gone m (inr on)))
 
--- none is live and strong
-strong_fails : (n : Node) → n.gone ≡ true → is_strong n ≡ false
-strong_fails n e = rw e refl
-
 pub no_strong : (ns : List Node) → AreGone ns → list_any is_strong ns ≡ false
-no_strong = none_passes is_strong strong_fails
+no_strong = none_passes is_strong strong_gone
 
 pub none_strong : (ns : List Node) → AreGone ns → strong_count ns ≡ 0
 none_strong [] gone = refl
-none_strong (n ∷ ns) gone = rw (strong_fails n (gone n (inl refl))) (none_strong ns (λ m on. gone m (inr on)))
+none_strong (n ∷ ns) gone = rw (strong_gone n (gone n (inl refl))) (none_strong ns (λ m on. gone m (inr on)))
 
 -- nothing is reserved
 none_camps : (ns : List Node) → AreGone ns → amount_of camped ns ≡ 0
@@ -78,21 +75,17 @@ pub none_decides : (ns : List Node) (buffers : Option Buffers) (strong_open : Bo
 none_decides ns buffers strong_open gone =
     still_decided ns buffers strong_open
     (record {
-      no_end = none_found (is_deserted_node ns) (λ n e. rw e (and_false (is_none n.parent || n.attached))) ns gone;
+      no_end = none_found (is_deserted_node ns) (λ n e. rw e (and-false (is_none n.parent || n.attached))) ns gone;
       no_root = rw no_root refl;
       no_head = no_later buffers;
     })
     (inr (rw no_root refl))
   where
-    and_false : (b : Bool) → (b && false) ≡ false
-    and_false true = refl
-    and_false false = refl
-
     no_root : find is_root_left ns ≡ None
-    no_root = none_found is_root_left (λ n e. rw e (and_false (is_none n.parent))) ns gone
+    no_root = none_found is_root_left (λ n e. rw e (and-false (is_none n.parent))) ns gone
 
     no_next : find (is_next_node ns) ns ≡ None
-    no_next = none_found (is_next_node ns) (λ n e. rw e (and_false n.attached)) ns gone
+    no_next = none_found (is_next_node ns) (λ n e. rw e (and-false n.attached)) ns gone
 
     no_later : (o : Option Buffers) → later ns o ≡ None
     no_later None = refl

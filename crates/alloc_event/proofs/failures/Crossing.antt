@@ -8,7 +8,7 @@ use Rattle.sm_names.specs.declared.keys.NodeKey.{NodeKey}
 use Rattle.sm_names.specs.declared.outcomes.Buffers.{Buffers}
 use Rattle.sm_names.specs.Sameness.{same_key}
 use Rattle.sm_names.specs.Words.{times, when}
-use Rattle.sm_names.proofs.ListLaws.{In, In-find, In-list_any, In-map, In-map-back}
+use Rattle.sm_names.proofs.ListLaws.{In, In-find, In-list_any, In-map, In-map-back, find-none, list_any-map, none-find}
 use Rattle.sm_names.proofs.SamenessLaws.{and_both, and_left, and_right, both_ways, either_way, false_if, or_cases, same_key-true, or_none_right, or_none_left, some-injective}
 use Rattle.sm_names.proofs.StandingLaws.{In-any}
 use Rattle.sm_names.proofs.SizeLaws.{all_on}
@@ -24,8 +24,7 @@ use Rattle.alloc_event.specs.Scenes.{are_distinct, heads_itself}
 use Rattle.alloc_event.specs.Units.{is_head}
 use Rattle.alloc_event.proofs.calm.Calming.{AreNone, calm_none, count_none, later, none_calm}
 use Rattle.alloc_event.proofs.tallies.Holding.{are_held, hangs_in, held_where, holds_unit, is_held, line, none_deserted, own_head, shared, step, still_here}
-use Rattle.alloc_event.proofs.calm.Keeping.{any-In, lives_held, some_pass}
-use Rattle.alloc_event.proofs.newborns.Members.{find-none, none-find}
+use Rattle.alloc_event.proofs.calm.Keeping.{lives_held, some_pass}
 use Rattle.alloc_event.proofs.tables.Rooted.{left_parent}
 use Rattle.alloc_event.proofs.calm.Steps.{all-In}
 use Rattle.alloc_event.proofs.tables.Writing.{IsSameNode}
@@ -127,7 +126,8 @@ module _ (c : Collection) (whole : IsWhole c) (falls : NodeKey → Bool) (top ab
 
     unit_same : (p head : NodeKey) → list_any (λ (q : Node). is_of p q && same_key q.head head) now ≡ list_any (λ (q : Node).
         is_of p q && same_key q.head head) nodes
-    unit_same p head = any-In (λ (q : Node). is_of p q && same_key q.head head) (λ (q : Node). is_of p q && same_key q.head head) f nodes
+    unit_same p head = list_any-map (λ (q : Node). is_of p q && same_key q.head head)
+        (λ (q : Node). is_of p q && same_key q.head head) f nodes
         (λ q there. λ i. same_key ((same q).key i) p && same_key ((same q).head i) head)
 
     hangs_same : (head : NodeKey) (n : Node) → hangs_in now head n ≡ hangs_in nodes head n

@@ -6,7 +6,7 @@ use Rattle.std.specs.Option.{option_map_or, unwrap_or}
 use Rattle.sm_names.specs.declared.keys.NodeKey.{NodeKey}
 use Rattle.sm_names.specs.Sameness.{same_key}
 use Rattle.sm_names.specs.Words.{times}
-use Rattle.sm_names.proofs.ListLaws.{In, In-list_any, In-map, map-In}
+use Rattle.sm_names.proofs.ListLaws.{In, In-list_any, In-map, map-In, none-find}
 use Rattle.sm_names.proofs.SamenessLaws.{and_left, and_right, both_ways, either_way, same_key-true}
 use Rattle.node_table.specs.Table.{Table, node_at}
 use Rattle.failure_domains.specs.Falls.{blocked_at}
@@ -32,7 +32,6 @@ use Rattle.alloc_event.proofs.calm.Keeping.{some_pass}
 use Rattle.alloc_event.proofs.calm.United.{united_mapped}
 use Rattle.alloc_event.proofs.failures.Fallen.{above_left, f, goes_in, goes_not, gone_is, key_top, lives, made_by, now_is, top_on, top_up, whole}
 use Rattle.alloc_event.proofs.failures.Ties.{fall_below}
-use Rattle.alloc_event.proofs.newborns.Members.{none-find}
 use Rattle.alloc_event.proofs.shelves.Showing.{collection_is}
 use Rattle.alloc_event.proofs.tables.Hanging.{looked_hung, looked_tied}
 use Rattle.alloc_event.proofs.tables.KeptRoots.{rooted_end}

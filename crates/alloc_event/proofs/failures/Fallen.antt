@@ -111,7 +111,7 @@ but_is test none going keys n = elim (either_way (list_any (same_key n.key) keys
   | inr e ↦ ap test (goes_not going keys n e) ∙ sym (ap (λ (b : Bool). test n && not b) e ∙ and-true (test n))
 ]
 
-strong_gone : (m : Node) → m.gone ≡ true → is_strong m ≡ false
+pub strong_gone : (m : Node) → m.gone ≡ true → is_strong m ≡ false
 strong_gone m e = rw e refl
 
 strong_but : (keys : List NodeKey) (going : Going) (n : Node) → is_strong (goes_of going keys n) ≡ but is_strong keys n

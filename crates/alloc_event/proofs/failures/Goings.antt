@@ -166,7 +166,8 @@ module _ (t : Table Node) (us : List Unit) (ss : List Shelf) (s : Shelf) (key : 
       (map (gone_by leaving) (nodes_with t keys))
   leaves_made now stores =
       ended_made t us ss s leaving strong opens origin keys taken own head attached top inside kept_up is_attached stands_first
-      g (λ n. same_affected key Effect.Released n) (λ n gone. gone) top.here alone dead rooted_g (together_effect key Effect.Released members whole_r.together)
+      g (λ n. same_affected key Effect.Released n) (λ n gone. gone) top.here alone dead rooted_g
+      (together_effect key Effect.Released members whole_r.together)
       (λ n e. refl) now stores
       (change_nodes t ss s opens.found (Change.Effect key Effect.Released))
 

@@ -7,7 +7,7 @@ use Rattle.std.specs.List.{list_all, filter}
 use Rattle.sm_names.specs.declared.keys.Interval.{Interval}
 use Rattle.sm_names.specs.Words.{times}
 use Rattle.sm_names.proofs.ListLaws.{In, times-append}
-use Rattle.sm_names.proofs.SamenessLaws.{either_way, and_left, and_right, and_both}
+use Rattle.sm_names.proofs.SamenessLaws.{and_both, and_left, and_right, and_swap, either_way}
 use Rattle.buffer_pool.specs.Holdings.{Holdings, IsSound, in_order, without}
 use Rattle.buffer_pool.specs.Holes.{end_of}
 use Rattle.failure_domains.proofs.Lists.{Contains-head, Contains-tail}
@@ -32,14 +32,9 @@ all_put : (test : Interval → Bool) (new : Interval) (is : List Interval) →
 all_put test new [] = refl
 all_put test new (i ∷ is) = elim (either_way (nat_lt i.start new.start)) [
   | inl e ↦ ap (list_all test) (behind new i is e)
-      ∙ (ap (λ (b : Bool). test i && b) (all_put test new is) ∙ swap (test i) (test new) (list_all test is))
+      ∙ (ap (λ (b : Bool). test i && b) (all_put test new is) ∙ and_swap (test i) (test new) (list_all test is))
   | inr e ↦ ap (list_all test) (front new i is e)
 ]
-  where
-    swap : (a b c : Bool) → (a && (b && c)) ≡ (b && (a && c))
-    swap true b c = refl
-    swap false true c = refl
-    swap false false c = refl
 
 -- what begins after a page begins after an earlier one
 all_from_less : (low less : ℕ) (is : List Interval) → less ≤ low → all_from low is ≡ true → all_from less is ≡ true

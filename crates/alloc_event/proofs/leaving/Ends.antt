@@ -4,7 +4,7 @@ use Rattle.sm_names.specs.declared.keys.NodeKey.{NodeKey}
 use Rattle.node_table.specs.Table.{Table, node_at}
 use Rattle.node_table.specs.Changes.{Writes}
 use Rattle.node_table.specs.Lending.{table_with_node}
-use Rattle.node_table.proofs.Keys.{same_key-true, same_key-false}
+use Rattle.node_table.proofs.Keys.{same_key-equal, same_key-apart}
 use Rattle.alloc_event.specs.declared.node.End.{End}
 use Rattle.alloc_event.specs.declared.node.Node.{Node}
 use Rattle.alloc_event.specs.Forest.{with_nodes, on_collections}
@@ -20,11 +20,11 @@ module _ (key : NodeKey) (end : End) where
 
   -- the node of the key has the end
   ends-own : (n : Node) → n.key ≡ key → with_end key end n ≡ record n { end = end }
-  ends-own n own = rw (same_key-true key n.key (sym own)) refl
+  ends-own n own = rw (same_key-equal key n.key (sym own)) refl
 
   -- and no other
   ends-others : (n : Node) → n.key ≢ key → with_end key end n ≡ n
-  ends-others n other = rw (same_key-false key n.key (λ same. other (sym same))) refl
+  ends-others n other = rw (same_key-apart key n.key (λ same. other (sym same))) refl
 
   module _ (t now : Table Node) (n : Node) (was : node_at t key ≡ Some n) (named : n.key ≡ key)
       (w : Writes t now n.key (record n { end = end })) where

@@ -6,9 +6,9 @@ use Rattle.std.proofs.lemmas.Bool.{eqb-true, eqb-false, false≢true}
 use Rattle.std.proofs.lemmas.List.Elements.{filter-append}
 use Rattle.sm_names.specs.declared.keys.NodeKey.{NodeKey}
 use Rattle.sm_names.specs.Sameness.{same_key}
-use Rattle.sm_names.proofs.SamenessLaws.{and_left, and_right, either_way, some-injective}
+use Rattle.sm_names.proofs.SamenessLaws.{and_left, and_right, either_way, same_key-true, some-injective}
 use Rattle.node_table.specs.Table.{Table, node_at, parent_at}
-use Rattle.node_table.proofs.Keys.{true-same_key, same_key-true}
+use Rattle.node_table.proofs.Keys.{same_key-equal}
 use Rattle.alloc_event.specs.declared.entry.Entry.{Entry}
 use Rattle.alloc_event.specs.declared.node.Node.{Node}
 use Rattle.alloc_event.specs.Forest.{with_nodes}
@@ -58,7 +58,7 @@ module _ (t now : Table Node) (key : NodeKey) (node : Node) (out : TakesOut t no
       map (collection_in now) (map (shelf_without key) ss) ≡ map (with_nodes (filter (λ n. not (is_of key n)))) (map (collection_in t) ss)
   collections-without named [] = refl
   collections-without named (s ∷ ss) =
-      let none : node_at now key ≡ None = out.look key ∙ rw (same_key-true key key refl) refl in
+      let none : node_at now key ≡ None = out.look key ∙ rw (same_key-equal key key refl) refl in
       let nodes = looked-kept key (node_at now) none s.keys ∙ looked-without key (node_at t) (node_at now) named out.look s.keys in
       λ i. record { id = s.id; nodes = nodes i; buffers = s.buffers; held = s.held } ∷ collections-without named ss i
 
@@ -92,7 +92,7 @@ module _ (t now : Table Node) (key : NodeKey) (node : Node) (out : TakesOut t no
       AllByRecursion (λ (s : Shelf). IsWhole (collection_in now s)) (map (shelf_without key) ss)
   whole-without gone named [] all = tt
   whole-without gone named (s ∷ ss) all =
-      let none : node_at now key ≡ None = out.look key ∙ rw (same_key-true key key refl) refl in
+      let none : node_at now key ≡ None = out.look key ∙ rw (same_key-equal key key refl) refl in
       let nodes = looked-kept key (node_at now) none s.keys ∙ looked-without key (node_at t) (node_at now) named out.look s.keys in (
         subst (λ (ns : List Node). IsWhole (record { id = s.id; nodes = ns; buffers = s.buffers; held = s.held })) (sym nodes)
             (IsWhole-filter (λ n. not (is_of key n)) (collection_in t s) (looked_gone t named key (goes gone) s.keys) all.0),
@@ -115,8 +115,8 @@ module _ (t now : Table Node) (key : NodeKey) (node : Node) (out : TakesOut t no
       (list_any (same_key k) xs ≡ true → list_any (same_key k) (filter (is_other key) xs) ≡ true) →
       list_any (same_key k) (cond (not gone) (x ∷ filter (is_other key) xs) (filter (is_other key) xs)) ≡ true
   any-other-by k n is x xs true gone true same there on =
-      let one : key ≡ k = true-same_key key x gone ∙ sym (true-same_key k x same) in
-      absurd (false≢true (sym (found-by k n (same_key key k) refl is).0 ∙ same_key-true key k one))
+      let one : key ≡ k = same_key-true key x gone ∙ sym (same_key-true k x same) in
+      absurd (false≢true (sym (found-by k n (same_key key k) refl is).0 ∙ same_key-equal key k one))
   any-other-by k n is x xs true gone false same there on = on there
   any-other-by k n is x xs false gone true same there on = rw same refl
   any-other-by k n is x xs false gone false same there on = rw same (on there)
@@ -133,7 +133,7 @@ module _ (t now : Table Node) (key : NodeKey) (node : Node) (out : TakesOut t no
       parent_at now k ≡ n.parent
   linked-without gone ss ok k n is here =
       let was = found-by k n (same_key key k) refl is in
-      out.parents k (λ same. false≢true (sym was.0 ∙ same_key-true key k (sym same))) (childless t ss ok key (goes gone) k n was.1 here)
+      out.parents k (λ same. false≢true (sym was.0 ∙ same_key-equal key k (sym same))) (childless t ss ok key (goes gone) k n was.1 here)
       ∙ ok.linked k n was.1 here
 
   -- all that holds of forests holds

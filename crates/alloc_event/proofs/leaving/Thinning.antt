@@ -6,10 +6,10 @@ use Rattle.std.proofs.lemmas.Bool.{false≢true, not-true}
 use Rattle.std.proofs.lemmas.List.Elements.{filter-append}
 use Rattle.sm_names.specs.declared.keys.NodeKey.{NodeKey}
 use Rattle.sm_names.specs.Sameness.{same_key}
-use Rattle.sm_names.proofs.ListLaws.{In}
-use Rattle.sm_names.proofs.SamenessLaws.{and_left, and_right, and_both, or_both, or_cases, or_left, or_none_left, or_none_right, or_right, either_way}
+use Rattle.sm_names.proofs.ListLaws.{In, filter-list_all, list_all-filter}
+use Rattle.sm_names.proofs.SamenessLaws.{and_both, and_left, and_right, either_way, or_both, or_cases, or_left, or_none_left, or_none_right, or_right, same_key-true}
 use Rattle.node_table.specs.Table.{Table, node_at, parent_at, table_len}
-use Rattle.node_table.proofs.Keys.{same_key-true, true-same_key}
+use Rattle.node_table.proofs.Keys.{same_key-equal}
 use Rattle.alloc_event.specs.declared.node.Node.{Node}
 use Rattle.alloc_event.specs.Forest.{Collection, with_nodes}
 use Rattle.alloc_event.specs.Forgetting.{TakesOut, is_found, thinned}
@@ -37,30 +37,17 @@ module _ {A : Type 0} (p : A → Bool) where
     | false ↦ none-filter test xs (or_none_right _ _ none)
   ]
 
-  -- each element that is kept passes a test that all pass
-  pub each-filter : (test : A → Bool) (xs : List A) → list_all test xs ≡ true → list_all test (filter p xs) ≡ true
-  each-filter test [] all = refl
-  each-filter test (x ∷ xs) all = elim (p x) as (λ b. list_all test (cond b (x ∷ filter p xs) (filter p xs)) ≡ true) [
-    | true ↦ and_both _ _ (and_left _ _ all) (each-filter test xs (and_right _ _ all))
-    | false ↦ each-filter test xs (and_right _ _ all)
-  ]
-
-  -- so for those behind the first
+  -- what all behind the first pass, all that are left behind the first pass
   pub behind-filter : (test : A → Bool) (xs : List A) → list_all test (drop 1 xs) ≡ true → list_all test (drop 1 (filter p xs)) ≡ true
   behind-filter test [] all = refl
   behind-filter test (x ∷ xs) all = elim (p x) as (λ b. list_all test (drop 1 (cond b (x ∷ filter p xs) (filter p xs))) ≡ true) [
-    | true ↦ each-filter test xs all
-    | false ↦ behind_first (filter p xs) (each-filter test xs all)
+    | true ↦ list_all-filter test p xs all
+    | false ↦ behind_first (filter p xs) (list_all-filter test p xs all)
   ]
     where
       behind_first : (ys : List A) → list_all test ys ≡ true → list_all test (drop 1 ys) ≡ true
       behind_first [] all = refl
       behind_first (y ∷ ys) all = and_right _ _ all
-
-  -- all are kept where all pass
-  pub all-filter : (xs : List A) → list_all p xs ≡ true → filter p xs ≡ xs
-  all-filter [] all = refl
-  all-filter (x ∷ xs) all = rw (and_left (p x) (list_all p xs) all) (ap (λ l. x ∷ l) (all-filter xs (and_right _ _ all)))
 
   -- what is kept twice
   pub filter-twice : (q : A → Bool) → ((x : A) → p x ≡ true → q x ≡ true) → (xs : List A) → filter p (filter q xs) ≡ filter p xs
@@ -91,7 +78,7 @@ pub there-filter : (p : NodeKey → Bool) (key : NodeKey) (ks : List NodeKey) �
 there-filter p key [] passes there = there
 there-filter p key (k ∷ ks) passes there = elim (or_cases (same_key key k) (list_any (same_key key) ks) there) [
   | inl here ↦
-      let own : p k ≡ true = ap p (sym (true-same_key key k here)) ∙ passes in
+      let own : p k ≡ true = ap p (sym (same_key-true key k here)) ∙ passes in
       rw own (or_left _ _ here)
   | inr behind ↦ elim (p k) as (λ b. list_any (same_key key) (cond b (k ∷ filter p ks) (filter p ks)) ≡ true) [
     | true ↦ or_right _ _ (there-filter p key ks passes behind)
@@ -113,7 +100,7 @@ one_less-by : (key k : NodeKey) (ks : List NodeKey) (same : Bool) → same_key k
     (length ks)
 one_less-by key k ks true is lone there on =
     let none : list_any (same_key key) ks ≡ false =
-    subst (λ (x : NodeKey). list_any (same_key x) ks ≡ false) (sym (true-same_key key k is)) lone in
+    subst (λ (x : NodeKey). list_any (same_key x) ks ≡ false) (sym (same_key-true key k is)) lone in
     let left = ap length (lacks-filter key ks none) in
     omega (arith, left)
 one_less-by key k ks false is lone there on = let less = on there in omega (arith, less)
@@ -141,7 +128,7 @@ distinct-filter p (n ∷ ns) h = elim (p n) as (λ b. are_distinct (cond b (n �
 IsSound-filter : (p : Node → Bool) (c : Collection) → IsSound c → IsSound (with_nodes (filter p) c)
 IsSound-filter p c ok = record {
   distinct = distinct-filter p c.nodes ok.distinct;
-  heads = each-filter p heads_itself c.nodes ok.heads;
+  heads = list_all-filter heads_itself p c.nodes ok.heads;
   one_root = behind-filter p (λ (n : Node). is_some n.parent) c.nodes ok.one_root;
   few = ok.few;
 }
@@ -182,7 +169,7 @@ filed_all t id (k ∷ ks) h = and_both _ _ (place-filed id (node_at t k) (and_le
 
 -- a shelf whose keys are filed has only keys that the table has
 pub thinned-same : (t : Table Node) (s : Shelf) → list_all (is_filed t s.id) s.keys ≡ true → thinned t s ≡ s
-thinned-same t s filed = λ i. record s { keys = all-filter (is_found t) s.keys (filed_all t s.id s.keys filed) i }
+thinned-same t s filed = λ i. record s { keys = filter-list_all (is_found t) s.keys (filed_all t s.id s.keys filed) i }
 
 -- so have all shelves
 pub all_thinned-same : (t : Table Node) (ss : List Shelf) → are_filed t ss ≡ true → map (thinned t) ss ≡ ss
@@ -288,7 +275,7 @@ module _ (t now : Table Node) (key : NodeKey) (out : TakesOut t now key) where
       node_at now k ≡ Some n → n.gone ≡ false → parent_at now k ≡ n.parent
   linked-kept goes ss ok k n is here =
       let was = still k n is in
-      out.parents k (λ same. false≢true (sym was.0 ∙ same_key-true key k (sym same))) (childless t ss ok key goes k n was.1 here)
+      out.parents k (λ same. false≢true (sym was.0 ∙ same_key-equal key k (sym same))) (childless t ss ok key goes k n was.1 here)
       ∙ ok.linked k n was.1 here
 
   -- by the node that is gone

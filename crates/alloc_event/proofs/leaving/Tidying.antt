@@ -5,22 +5,23 @@ use Rattle.std.specs.Option.{option_map_or}
 use Rattle.std.proofs.lemmas.Bool.{false≢true, eqb-true, eqb-false, ne_eqb, eq-eqb, false_from_ne_true}
 use Rattle.sm_names.specs.declared.keys.NodeKey.{NodeKey}
 use Rattle.sm_names.specs.Sameness.{same_key}
-use Rattle.sm_names.proofs.SamenessLaws.{and_both, and_left, and_right, or_cases, or_left, or_right}
+use Rattle.sm_names.proofs.SamenessLaws.{and_both, and_left, and_right, or_cases, or_left, or_right, same_key-true}
+use Rattle.sm_names.proofs.ListLaws.{filter-list_all, list_all-filter}
 use Rattle.node_table.specs.Table.{Table, node_at}
-use Rattle.node_table.proofs.Keys.{same_key-true, true-same_key}
+use Rattle.node_table.proofs.Keys.{same_key-equal}
 use Rattle.alloc_event.specs.declared.node.Node.{Node}
 use Rattle.alloc_event.specs.Forest.{is_left, tidied, without_over_in}
 use Rattle.alloc_event.specs.Forgetting.{is_bare, is_found, left_at, thin_in, thinned, unless_over, without_bare}
 use Rattle.alloc_event.specs.Kept.{Shelf, AreRising, IsStored, IsWhole, all_keys, are_apart, are_filed, collection_in, is_filed, nodes_with}
 use Rattle.alloc_event.specs.Nodes.{is_over}
-use Rattle.alloc_event.proofs.leaving.Thinning.{all-filter, each-filter, filed_all}
+use Rattle.alloc_event.proofs.leaving.Thinning.{filed_all}
 
 -- a key of a collection has a node of it
 filed_there : (t : Table Node) (id : ℕ) (ks : List NodeKey) (key : NodeKey) → list_all (is_filed t id) ks ≡ true →
     list_any (same_key key) ks ≡ true → is_filed t id key ≡ true
 filed_there t id [] key filed there = absurd (false≢true there)
 filed_there t id (k ∷ ks) key filed there = elim (or_cases (same_key key k) (list_any (same_key key) ks) there) [
-  | inl same ↦ ap (is_filed t id) (true-same_key key k same) ∙ and_left _ _ filed
+  | inl same ↦ ap (is_filed t id) (same_key-true key k same) ∙ and_left _ _ filed
   | inr behind ↦ filed_there t id ks key (and_right _ _ filed) behind
 ]
 
@@ -70,7 +71,7 @@ module _ (t now : Table Node) (s : Shelf) (filed : list_all (is_filed t s.id) s.
 
   -- so its shelf stays
   pub other_thinned : (x : Shelf) → (x.id == s.id) ≡ false → list_all (is_filed t x.id) x.keys ≡ true → thinned now x ≡ x
-  other_thinned x other own = λ i. record x { keys = all-filter (is_found now) x.keys (other_found x.id x.keys other own) i }
+  other_thinned x other own = λ i. record x { keys = filter-list_all (is_found now) x.keys (other_found x.id x.keys other own) i }
 
   -- the nodes of some of its keys are those that are not over
   own_nodes : (ks : List NodeKey) → ((k : NodeKey) → list_any (same_key k) ks ≡ true → list_any (same_key k) s.keys ≡ true) →
@@ -78,7 +79,7 @@ module _ (t now : Table Node) (s : Shelf) (filed : list_all (is_filed t s.id) s.
   own_nodes [] within = refl
   own_nodes (k ∷ ks) within =
       let here : node_at now k ≡ unless_over (node_at t k) =
-      look k ∙ (rw (within k (or_left _ _ (same_key-true k k refl))) refl) in
+      look k ∙ (rw (within k (or_left _ _ (same_key-equal k k refl))) refl) in
       by (node_at now k) refl ∙ (rw here (ap (cons_option (unless_over (node_at t k))) (own_nodes ks (λ x there.
       within x (or_right _ _ there)))))
       ∙ unless_first (node_at t k) (nodes_with t ks)
@@ -254,7 +255,7 @@ bare-keys id (s ∷ ss) = by (bare-keys id ss) (s.id == id && is_bare s) refl
 -- they are filed still
 bare-filed : (t : Table Node) (id : ℕ) (ss : List Shelf) → are_filed t ss ≡ true → are_filed t (without_bare id ss) ≡ true
 bare-filed t id ss filed =
-    each-filter (λ (s : Shelf). not (s.id == id && is_bare s)) (λ (s : Shelf). list_all (is_filed t s.id) s.keys) ss filed
+    list_all-filter (λ (s : Shelf). list_all (is_filed t s.id) s.keys) (λ (s : Shelf). not (s.id == id && is_bare s)) ss filed
 
 -- the collections stay whole
 bare-whole : (t : Table Node) (id : ℕ) (ss : List Shelf) → AllByRecursion (λ (s : Shelf). IsWhole (collection_in t s)) ss →

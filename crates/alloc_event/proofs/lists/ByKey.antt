@@ -1,5 +1,5 @@
 -- A binary search of keys in order finds each key that is there.
-use Rattle.std.proofs.Common.{◌≡◌, ℕ, zero, suc, ◌<◌, inl, inr, refl, ap, sym, ◌∙◌, subst, List, [], ◌∷◌, length, get_or, Result, Ok, Err, is_ok, arith}
+use Rattle.std.proofs.Common.{◌≡◌, ℕ, suc, ◌<◌, inl, inr, refl, ap, sym, ◌∙◌, subst, List, [], ◌∷◌, length, get_or, Result, Ok, Err, is_ok, arith}
 use Rattle.std.specs.List.{list_any}
 use Rattle.std.specs.List.Sorted.{IsBinarySearchResult, IsSearchInRange, IsSorted}
 use Rattle.std.specs.Ordering.{MatchOrdering, nat_cmp, ordering_then}
@@ -12,7 +12,7 @@ use Rattle.std.proofs.lemmas.List.Sorted.{searchable_from_sorted}
 use Rattle.sm_names.specs.contracts.keys.NodeKeyOrd.TheImpl.Laws.{total-law}
 use Rattle.sm_names.specs.declared.keys.NodeKey.{NodeKey}
 use Rattle.sm_names.specs.Sameness.{same_key}
-use Rattle.sm_names.proofs.ListLaws.{In, In-list_any}
+use Rattle.sm_names.proofs.ListLaws.{In, In-get_or, In-list_any}
 use Rattle.sm_names.proofs.SamenessLaws.{false_if, same_key-refl, same_key-true}
 use Rattle.sm_names.proofs.StandingLaws.{In-any}
 use Rattle.alloc_event.specs.Falling.{key_order}
@@ -42,11 +42,6 @@ place_of x [] on = absurd on
 place_of x (y ∷ ys) (inl is) = (0, omega arith, sym is)
 place_of x (y ∷ ys) (inr on) = let p = place_of x ys on in (suc p.0, omega (arith, p.1), p.2)
 
-in_place : {A : Type 0} (x : A) (xs : List A) (k : ℕ) → k < length xs → In (get_or xs k x) xs
-in_place x [] k within = absurd (omega arith)
-in_place x (y ∷ ys) zero within = inl refl
-in_place x (y ∷ ys) (suc k) within = inr (in_place x ys k (omega arith))
-
 not_less : Less ≡ Equal → ⊥
 not_less h = cc
 
@@ -57,7 +52,7 @@ pub found : (keys : List NodeKey) (key : NodeKey) (r : Result ℕ ℕ) → IsSor
     IsBinarySearchResult (λ y. key_order y key) keys r → list_any (same_key key) keys ≡ is_ok r
 found keys key (Ok i) up within at =
     let is : get_or keys i key ≡ key = tied (get_or keys i key) key (at key) in
-    In-any (same_key key) keys (get_or keys i key) (in_place key keys i within) (ap (same_key key) is ∙ same_key-refl key)
+    In-any (same_key key) keys (get_or keys i key) (In-get_or keys i key within) (ap (same_key key) is ∙ same_key-refl key)
 found keys key (Err i) up within at =
     let parted = at (searchable_from_sorted total-law (λ (k : NodeKey). k) keys key up) in
     false_if (list_any (same_key key) keys) (λ e.

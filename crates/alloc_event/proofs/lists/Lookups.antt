@@ -3,7 +3,8 @@ use Rattle.std.proofs.Common.{◌≡◌, Bool, true, false, ◌||◌, not, List,
 use Rattle.std.specs.List.{filter, filter_map, list_any, cons_option}
 use Rattle.sm_names.specs.declared.keys.NodeKey.{NodeKey}
 use Rattle.sm_names.specs.Sameness.{same_key}
-use Rattle.node_table.proofs.Keys.{same_key-true, true-same_key, same_key-false, false-same_key}
+use Rattle.sm_names.proofs.SamenessLaws.{same_key-true}
+use Rattle.node_table.proofs.Keys.{same_key-equal, same_key-apart, false-same_key}
 use Rattle.alloc_event.specs.declared.node.Node.{Node}
 use Rattle.alloc_event.specs.Nodes.{is_of, node_of}
 
@@ -17,8 +18,8 @@ Knows look = (key : NodeKey) (n : Node) → look key ≡ Some n → n.key ≡ ke
 
 -- by whether they are one
 same_key-swap-by : (a b : NodeKey) (s : Bool) → same_key a b ≡ s → same_key a b ≡ same_key b a
-same_key-swap-by a b true e = e ∙ sym (same_key-true b a (sym (true-same_key a b e)))
-same_key-swap-by a b false e = e ∙ sym (same_key-false b a (λ same. false-same_key a b e (sym same)))
+same_key-swap-by a b true e = e ∙ sym (same_key-equal b a (sym (same_key-true a b e)))
+same_key-swap-by a b false e = e ∙ sym (same_key-apart b a (λ same. false-same_key a b e (sym same)))
 
 -- the test of keys takes them in either order
 pub same_key-swap : (a b : NodeKey) → same_key a b ≡ same_key b a
@@ -34,12 +35,12 @@ node_of-first : (look : Look) → Knows look → (key k : NodeKey) (ns : List No
     (same : Bool) → same_key key k ≡ same → node_of ns key ≡ cond there (look key) None →
     node_of (cons_option o ns) key ≡ cond (same || there) (look key) None
 node_of-first look knows key k ns there None is true same on =
-    let here : look key ≡ None = ap look (true-same_key key k same) ∙ is in
+    let here : look key ≡ None = ap look (same_key-true key k same) ∙ is in
     on ∙ (rw here (nothing there))
 node_of-first look knows key k ns there None is false same on = on
 node_of-first look knows key k ns there (Some n) is true same on =
-    let one : same_key n.key key ≡ true = same_key-true _ _ (knows k n is ∙ sym (true-same_key key k same)) in
-    rw one (sym (ap look (true-same_key key k same) ∙ is))
+    let one : same_key n.key key ≡ true = same_key-equal _ _ (knows k n is ∙ sym (same_key-true key k same)) in
+    rw one (sym (ap look (same_key-true key k same) ∙ is))
 node_of-first look knows key k ns there (Some n) is false same on =
     let other : same_key n.key key ≡ false = rw (knows k n is, same_key-swap k key) same in
     rw other on
@@ -68,7 +69,7 @@ looked-without-first : (look now : Look) → Knows look → (key k : NodeKey) (n
 looked-without-first look now knows key k ns None is true same = refl
 looked-without-first look now knows key k ns None is false same = refl
 looked-without-first look now knows key k ns (Some n) is true same =
-    let one : same_key n.key key ≡ true = same_key-true _ _ (knows k n is ∙ sym (true-same_key key k same)) in
+    let one : same_key n.key key ≡ true = same_key-equal _ _ (knows k n is ∙ sym (same_key-true key k same)) in
     rw one refl
 looked-without-first look now knows key k ns (Some n) is false same =
     let other : same_key n.key key ≡ false = rw (knows k n is, same_key-swap k key) same in
@@ -86,7 +87,7 @@ looked-without key look now knows each (k ∷ ks) =
 looked-kept-by : (key : NodeKey) (now : Look) → now key ≡ None → (k : NodeKey) (ks : List NodeKey) (ns : List Node) →
     filter_map now ks ≡ ns → (same : Bool) → same_key key k ≡ same → filter_map now (cond (not same) (k ∷ ks) ks) ≡ cons_option (now k) ns
 looked-kept-by key now none k ks ns on true same =
-    let here : now k ≡ None = sym (ap now (true-same_key key k same)) ∙ none in
+    let here : now k ≡ None = sym (ap now (same_key-true key k same)) ∙ none in
     rw here on
 looked-kept-by key now none k ks ns on false same = ap (cons_option (now k)) on
 

@@ -38,13 +38,7 @@ module _ {X : Type 0} (p : X → Bool) where
     | inr e ↦ rw e (filter_removed xs at d (omega (arith, within)) fails)
   ]
 
-  -- what all pass, each passes
-  pub all_at : (xs : List X) (at : ℕ) (d : X) → at < length xs → list_all p xs ≡ true → p (get_or xs at d) ≡ true
-  all_at [] at d within all = absurd (omega (arith, within))
-  all_at (x ∷ xs) zero d within all = and_left (p x) (list_all p xs) all
-  all_at (x ∷ xs) (suc at) d within all = all_at xs at d (omega (arith, within)) (and_right (p x) (list_all p xs) all)
-
-  -- and so do the others
+  -- what all pass, those that are left pass
   pub all_removed : (xs : List X) (at : ℕ) → list_all p xs ≡ true → list_all p (remove xs at) ≡ true
   all_removed [] zero all = refl
   all_removed [] (suc at) all = refl
@@ -52,12 +46,6 @@ module _ {X : Type 0} (p : X → Bool) where
   all_removed (x ∷ xs) (suc at) all =
       and_both (p x) (list_all p (remove xs at)) (and_left (p x) (list_all p xs) all)
       (all_removed xs at (and_right (p x) (list_all p xs) all))
-
-  -- where all pass, all stay
-  pub all_stay : (xs : List X) → list_all p xs ≡ true → filter p xs ≡ xs
-  all_stay [] all = refl
-  all_stay (x ∷ xs) all =
-      rw (and_left (p x) (list_all p xs) all) (ap (λ ys. x ∷ ys) (all_stay xs (and_right (p x) (list_all p xs) all)))
 
 -- those before it stay where they are
 pub take_removed : {X : Type 0} (xs : List X) (at : ℕ) → at < length xs → take at (remove xs at) ≡ take at xs

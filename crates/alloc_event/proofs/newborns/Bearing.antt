@@ -8,7 +8,7 @@ use Rattle.sm_names.specs.Sameness.{same_key}
 use Rattle.node_table.specs.Table.{Row, Table, row_at, node_at, parent_at, parent_in, next_at, was_given}
 use Rattle.node_table.specs.Changes.{Births, Writes, at_parent, with_child}
 use Rattle.node_table.specs.Lending.{table_with_node}
-use Rattle.node_table.proofs.Keys.{key_cases, same_key-true, same_key-false}
+use Rattle.node_table.proofs.Keys.{key_cases, same_key-equal, same_key-apart}
 use Rattle.alloc_event.specs.declared.node.Node.{Node}
 use Rattle.alloc_event.specs.Kept.{Bears, born, named}
 use Rattle.alloc_event.proofs.tables.Writing.{look-written, parents-written}
@@ -48,9 +48,9 @@ pub born_look : (t u now : Table Node) (parent : Option NodeKey) (draft node : N
 born_look t u now parent draft node b w k = look-written u now node.key node w k ∙ (elim (key_cases node.key k) [
   | inl same ↦
       let there : node_at u k ≡ Some draft = ap (node_at u) (sym same) ∙ ap (option_map (λ (row : Row Node). row.node)) b.born in
-      rw (same_key-true node.key k same, there) refl
+      rw (same_key-equal node.key k same, there) refl
   | inr differ ↦
-      rw (same_key-false node.key k differ) (ap (option_map (λ (row : Row Node). row.node)) (b.others k (λ same. differ (sym same)))
+      rw (same_key-apart node.key k differ) (ap (option_map (λ (row : Row Node). row.node)) (b.others k (λ same. differ (sym same)))
       ∙ still_node parent node.key k (row_at t k))
 ])
 
@@ -68,8 +68,8 @@ born_parents : (t u now : Table Node) (parent : Option NodeKey) (draft node : No
     Births t u parent draft node.key → Writes u now node.key node → (k : NodeKey) →
     parent_at now k ≡ (if same_key node.key k then node.parent else parent_at t k)
 born_parents t u now parent draft node up b w k = parents-written u now node.key node w k ∙ (elim (key_cases node.key k) [
-  | inl same ↦ rw (same_key-true node.key k same) (ap (parent_at u) (sym same) ∙ ap parent_in b.born ∙ sym up)
-  | inr differ ↦ rw (same_key-false node.key k differ) (ap parent_in (b.others k (λ same. differ (sym same)))
+  | inl same ↦ rw (same_key-equal node.key k same) (ap (parent_at u) (sym same) ∙ ap parent_in b.born ∙ sym up)
+  | inr differ ↦ rw (same_key-apart node.key k differ) (ap parent_in (b.others k (λ same. differ (sym same)))
       ∙ still_parent parent node.key k (row_at t k))
 ])
 

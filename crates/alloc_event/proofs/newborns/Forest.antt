@@ -8,9 +8,9 @@ use Rattle.std.proofs.lemmas.List.Folds.{list_any-append}
 use Rattle.sm_names.specs.declared.keys.NodeKey.{NodeKey}
 use Rattle.sm_names.specs.Sameness.{same_key}
 use Rattle.sm_names.specs.declared.keys.HeldBuffer.{HeldBuffer}
-use Rattle.sm_names.proofs.SamenessLaws.{and_left, and_right, or_right}
+use Rattle.sm_names.proofs.SamenessLaws.{and_left, and_right, or_right, same_key-true}
 use Rattle.node_table.specs.Table.{Table, node_at, parent_at, was_given}
-use Rattle.node_table.proofs.Keys.{key_cases, true-same_key, same_key-true, same_key-false}
+use Rattle.node_table.proofs.Keys.{key_cases, same_key-equal, same_key-apart}
 use Rattle.alloc_event.specs.declared.node.Node.{Node}
 use Rattle.alloc_event.specs.Forest.{Collection, all_held}
 use Rattle.alloc_event.specs.Kept.{Shelf, AreRising, IsStored, IsWhole, Bears, put_shelf, collection_in, nodes_with, forest_of, all_keys, are_apart, are_filed, is_filed}
@@ -142,12 +142,12 @@ module _ (t now : Table Node) (node : Node) (bears : Bears t now node) where
   still_at : (key : NodeKey) (n : Node) → node_at t key ≡ Some n → node_at now key ≡ Some n
   still_at key n is = elim (key_cases node.key key) [
     | inl same ↦ absurd (let none = ap (node_at t) (sym same) ∙ bears.none in cc)
-    | inr differ ↦ bears.look key ∙ rw (same_key-false node.key key differ) is
+    | inr differ ↦ bears.look key ∙ rw (same_key-apart node.key key differ) is
   ]
 
   -- the node has its key
   pub born_at : node_at now node.key ≡ Some node
-  born_at = bears.look node.key ∙ rw (same_key-true node.key node.key refl) refl
+  born_at = bears.look node.key ∙ rw (same_key-equal node.key node.key refl) refl
 
   -- by what was there
   still_filed-by : (id : ℕ) (key : NodeKey) (o : Option Node) → node_at t key ≡ o →
@@ -204,7 +204,7 @@ module _ (t now : Table Node) (node : Node) (bears : Bears t now node) where
   -- a filed key is not the new one
   not_this : (id : ℕ) (key : NodeKey) (same : Bool) → same_key node.key key ≡ same → is_filed t id key ≡ true → same ≡ false
   not_this id key true same filed =
-      let none : node_at t key ≡ None = ap (node_at t) (sym (true-same_key node.key key same)) ∙ bears.none in
+      let none : node_at t key ≡ None = ap (node_at t) (sym (same_key-true node.key key same)) ∙ bears.none in
       absurd (false≢true (rw none at filed))
   not_this id key false same filed = refl
 
@@ -218,11 +218,11 @@ module _ (t now : Table Node) (node : Node) (bears : Bears t now node) where
   named_more : {ss : List Shelf} → IsStored t ss → (key : NodeKey) (n : Node) → node_at now key ≡ Some n → n.key ≡ key
   named_more ok key n is = elim (key_cases node.key key) [
     | inl same ↦
-        let one : Some node ≡ Some n = sym (bears.look key ∙ rw (same_key-true node.key key same) refl) ∙ is in
+        let one : Some node ≡ Some n = sym (bears.look key ∙ rw (same_key-equal node.key key same) refl) ∙ is in
         let node_is : node ≡ n = cc in
         ap (λ (m : Node). m.key) (sym node_is) ∙ same
     | inr differ ↦
-        let was : node_at t key ≡ Some n = sym (bears.look key ∙ rw (same_key-false node.key key differ) refl) ∙ is in
+        let was : node_at t key ≡ Some n = sym (bears.look key ∙ rw (same_key-apart node.key key differ) refl) ∙ is in
         ok.named key n was
   ]
 
@@ -230,9 +230,9 @@ module _ (t now : Table Node) (node : Node) (bears : Bears t now node) where
   there_more : {ss : List Shelf} → IsStored t ss → (key : NodeKey) (n : Node) → node_at now key ≡ Some n →
       list_any (same_key key) (node.key ∷ all_keys ss) ≡ true
   there_more ok key n is = elim (key_cases node.key key) [
-    | inl same ↦ rw (same_key-true key node.key (sym same)) refl
+    | inl same ↦ rw (same_key-equal key node.key (sym same)) refl
     | inr differ ↦
-        let was : node_at t key ≡ Some n = sym (bears.look key ∙ rw (same_key-false node.key key differ) refl) ∙ is in
+        let was : node_at t key ≡ Some n = sym (bears.look key ∙ rw (same_key-apart node.key key differ) refl) ∙ is in
         or_right _ _ (ok.there key n was)
   ]
 
@@ -241,12 +241,12 @@ module _ (t now : Table Node) (node : Node) (bears : Bears t now node) where
       parent_at now key ≡ n.parent
   linked_more ok key n is here = bears.parents key ∙ (elim (key_cases node.key key) [
     | inl same ↦
-        let one : Some node ≡ Some n = sym (bears.look key ∙ rw (same_key-true node.key key same) refl) ∙ is in
+        let one : Some node ≡ Some n = sym (bears.look key ∙ rw (same_key-equal node.key key same) refl) ∙ is in
         let node_is : node ≡ n = cc in
-        rw (same_key-true node.key key same) (ap (λ (m : Node). m.parent) node_is)
+        rw (same_key-equal node.key key same) (ap (λ (m : Node). m.parent) node_is)
     | inr differ ↦
-        let was : node_at t key ≡ Some n = sym (bears.look key ∙ rw (same_key-false node.key key differ) refl) ∙ is in
-        rw (same_key-false node.key key differ) (ok.linked key n was here)
+        let was : node_at t key ≡ Some n = sym (bears.look key ∙ rw (same_key-apart node.key key differ) refl) ∙ is in
+        rw (same_key-apart node.key key differ) (ok.linked key n was here)
   ])
 
   -- the head of each node was given
@@ -254,11 +254,11 @@ module _ (t now : Table Node) (node : Node) (bears : Bears t now node) where
       was_given now n.head ≡ true
   heads_more ok head key n is = elim (key_cases node.key key) [
     | inl same ↦
-        let one : Some node ≡ Some n = sym (bears.look key ∙ rw (same_key-true node.key key same) refl) ∙ is in
+        let one : Some node ≡ Some n = sym (bears.look key ∙ rw (same_key-equal node.key key same) refl) ∙ is in
         let node_is : node ≡ n = cc in
         ap (λ (m : Node). was_given now m.head) (sym node_is) ∙ head
     | inr differ ↦
-        let was : node_at t key ≡ Some n = sym (bears.look key ∙ rw (same_key-false node.key key differ) refl) ∙ is in
+        let was : node_at t key ≡ Some n = sym (bears.look key ∙ rw (same_key-apart node.key key differ) refl) ∙ is in
         bears.gives.given n.head ∙ or_right (same_key node.key n.head) (was_given t n.head) (ok.heads key n was)
   ]
 
@@ -282,7 +282,8 @@ module _ (t now : Table Node) (node : Node) (bears : Bears t now node) where
 
   -- all that holds of forests holds
   pub kept-born : (new : Shelf) (ss : List Shelf) → IsStored t ss → new.keys ≡ keys_before new.id ss ++ node.key ∷ [] →
-      list_all (is_filed t new.id) (keys_before new.id ss) ≡ true → node.collection ≡ new.id → was_given now node.head ≡ true → IsWhole (collection_in now new) →
+      list_all (is_filed t new.id) (keys_before new.id ss) ≡ true → node.collection ≡ new.id → was_given now node.head ≡ true →
+      IsWhole (collection_in now new) →
       IsStored now (put_shelf new ss)
   kept-born new ss ok keys own of head whole =
       let same = keys-born new node.key ss ok.rising keys in

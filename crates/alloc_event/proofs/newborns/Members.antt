@@ -13,24 +13,12 @@ use Rattle.sm_names.specs.Marks.{Mark, Loss, Ended}
 use Rattle.sm_names.specs.Members.{Member, is_live, is_ready, is_root, is_settled, is_under, root_left, some_live, some_strong_live, subtree, unit, demands, reserved}
 use Rattle.sm_names.specs.Sameness.{same_key}
 use Rattle.sm_names.specs.Words.{when}
-use Rattle.sm_names.proofs.ListLaws.{In, is_some-find}
+use Rattle.sm_names.proofs.ListLaws.{In, find-none, none-find}
 use Rattle.sm_names.proofs.RestLaws.{AtRest}
 use Rattle.sm_names.proofs.SamenessLaws.{and_left, both_ways, either_way, or_both, or_left, or_parts, or_right, same_key-refl, same_key-true}
 use Rattle.sm_names.proofs.PlaceLaws.{map-None}
 
 -- ---- lists
-
--- where none passes, none is found
-pub find-none : {A : Type 0} (p : A → Bool) (xs : List A) → list_any p xs ≡ false → find p xs ≡ None
-find-none {A = A} p xs h = from (find p xs) (is_some-find p xs ∙ h)
-  where
-    from : (o : Option A) → is_some o ≡ false → o ≡ None
-    from None e = refl
-    from (Some x) e = cc
-
--- and where none is found, none passes
-pub none-find : {A : Type 0} (p : A → Bool) (xs : List A) → find p xs ≡ None → list_any p xs ≡ false
-none-find p xs h = sym (is_some-find p xs) ∙ ap is_some h
 
 -- where none passes a test, none passes one that asks more
 any-less : {A : Type 0} (p q : A → Bool) (xs : List A) → ((x : A) → In x xs → p x ≡ true → q x ≡ true) →

@@ -10,10 +10,10 @@ use Rattle.sm_names.specs.declared.outcomes.Buffers.{Buffers}
 use Rattle.sm_names.specs.Sameness.{same_key}
 use Rattle.sm_names.specs.declared.keys.HeldBuffer.{HeldBuffer}
 use Rattle.sm_names.proofs.ListLaws.{In, In-find}
-use Rattle.sm_names.proofs.SamenessLaws.{and_left, and_right, both_ways, either_way, or_cases, or_left, or_none_left, or_right, same_key-refl, or_none_right}
+use Rattle.sm_names.proofs.SamenessLaws.{and_left, and_right, both_ways, either_way, or_cases, or_left, or_none_left, or_none_right, or_right, same_key-refl, same_key-true}
 use Rattle.sm_names.proofs.StandingLaws.{In-any}
 use Rattle.node_table.specs.Table.{Table, node_at, row_at, was_given}
-use Rattle.node_table.proofs.Keys.{same_key-true, true-same_key}
+use Rattle.node_table.proofs.Keys.{same_key-equal}
 use Rattle.alloc_event.specs.declared.change.Change.{Change}
 use Rattle.alloc_event.specs.declared.node.Node.{Node}
 use Rattle.alloc_event.specs.Decisions.{is_left_of}
@@ -51,7 +51,12 @@ pub record IsBefore (t : Table Node) (ss : List Shelf) (id : ℕ) (c : Collectio
 
 -- an empty collection is whole
 whole-empty : (id : ℕ) → IsWhole (record { id = id; nodes = []; buffers = None; held = [] })
-whole-empty id = record { sound = record { distinct = refl; heads = refl; one_root = refl; few = refl }; rooted = refl; united = refl; together = together_none }
+whole-empty id = record {
+  sound = record { distinct = refl; heads = refl; one_root = refl; few = refl };
+  rooted = refl;
+  united = refl;
+  together = together_none;
+}
 
 -- by the shelf that is found
 before-by : (t : Table Node) (ss : List Shelf) → IsStored t ss → (id : ℕ) (o : Option Shelf) → find (λ (s : Shelf). s.id == id) ss ≡ o →
@@ -137,8 +142,8 @@ sound-more c node ok none head kind = record {
 -- a node that is born heads its unit itself where it has to
 born_heads : (above : Option Node) (attached : Bool) (id event client : ℕ) (key : NodeKey) →
     heads_itself (born above attached id event client key) ≡ true
-born_heads None attached id event client key = same_key-true key key refl
-born_heads (Some above) true id event client key = same_key-true key key refl
+born_heads None attached id event client key = same_key-equal key key refl
+born_heads (Some above) true id event client key = same_key-equal key key refl
 born_heads (Some above) false id event client key = refl
 
 -- ---- a birth
@@ -218,14 +223,15 @@ above_shares t ss ok id (Some _) false client event (Some _) (Child up n is own 
       | inl e ↦
           let found = found_above t ss ok c up n is (before.nodes ∙ ap (λ (i : ℕ). nodes_with t (keys_before i ss)) (sym own)) in
           let same : q ≡ n = distinct_one c.nodes before.whole.sound.distinct q n on (In-find (is_of up) c.nodes n found).0
-          (true-same_key q.key n.key e) in
+          (same_key-true q.key n.key e) in
           or_right (not (same_key q.key n.key)) (same_key q.head n.head) (ap (λ (x : Node). same_key x.head n.head) same
           ∙ same_key-refl n.head)
       | inr e ↦ rw e refl
     ]
 
 -- a node that is born is not gone
-born_here : (above : Option Node) (attached : Bool) (id event client : ℕ) (key : NodeKey) → (born above attached id event client key).gone ≡ false
+pub born_here : (above : Option Node) (attached : Bool) (id event client : ℕ) (key : NodeKey) →
+    (born above attached id event client key).gone ≡ false
 born_here None attached id event client key = refl
 born_here (Some above) attached id event client key = refl
 
@@ -325,7 +331,7 @@ module _ (t now : Table Node) (ss : List Shelf) (ok : IsStored t ss) (id : ℕ) 
   key_apart : (n : Node) → In n c0.nodes → n.key ≡ node.key → ⊥
   key_apart n on same =
       both_ways (list_any (is_of node.key) c0.nodes)
-      (In-any (is_of node.key) c0.nodes n on (same_key-true n.key node.key same)) born_fresh
+      (In-any (is_of node.key) c0.nodes n on (same_key-equal n.key node.key same)) born_fresh
 
   -- its units go together
   pub born_together : GoTogether born_collection.nodes

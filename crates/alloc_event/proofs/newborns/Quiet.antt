@@ -1,6 +1,6 @@
 -- A birth in a collection where nothing else changes with it.
 use Rattle.std.proofs.Common.{◌≡◌, ℕ, ◌+◌, Bool, true, false, ◌||◌, ◌&&◌, ◌==◌, not, if◌then◌else◌, List, [], ◌∷◌, ◌++◌, map, reverse, Option, Some, None, option_map, refl, sym, ap, subst, ◌∙◌, inl, inr, arith}
-use Rattle.std.specs.List.{filter, find, list_all, list_any}
+use Rattle.std.specs.List.{find, list_all, list_any}
 use Rattle.std.specs.Option.{option_map_or, unwrap_or}
 use Rattle.std.proofs.lemmas.List.{map-append}
 use Rattle.std.proofs.lemmas.List.Folds.{list_any-append}
@@ -11,7 +11,7 @@ use Rattle.sm_names.specs.Handles.{is_home}
 use Rattle.sm_names.specs.Members.{is_live, some_strong_live, Member}
 use Rattle.sm_names.specs.declared.keys.HeldBuffer.{HeldBuffer}
 use Rattle.sm_names.specs.Sameness.{same_key}
-use Rattle.sm_names.proofs.ListLaws.{times-append}
+use Rattle.sm_names.proofs.ListLaws.{filter-list_all, times-append}
 use Rattle.sm_names.proofs.SamenessLaws.{and_left, and_right, both_ways, either_way, or_both, same_key-refl}
 use Rattle.sm_names.proofs.StandingLaws.{In-any}
 use Rattle.node_table.specs.Table.{Table}
@@ -32,7 +32,7 @@ use Rattle.alloc_event.proofs.newborns.Forest.{still_collections}
 use Rattle.alloc_event.proofs.calm.Calming.{calm_rested}
 use Rattle.alloc_event.proofs.tallies.Reserved.{reserved_append, reserved_one}
 use Rattle.alloc_event.proofs.changes.Finishing.{keys_in, looked-keys}
-use Rattle.alloc_event.proofs.newborns.Newborn.{Above, before_is, born_collection, born_fresh, born_held, born_is, born_kept, born_shown, key_is}
+use Rattle.alloc_event.proofs.newborns.Newborn.{Above, before_is, born_collection, born_fresh, born_held, born_here, born_is, born_kept, born_shown, key_is}
 use Rattle.alloc_event.proofs.shelves.Putting.{put-map}
 use Rattle.alloc_event.proofs.tables.Rooted.{left_node, left_parent}
 use Rattle.alloc_event.proofs.shelves.Showing.{collection_is, filed_found}
@@ -58,12 +58,6 @@ out_more strong weak false true out = elim (either_way (strong == 0)) [
   | inr e ↦ rw e refl
 ]
 
--- all stay, where all are kept
-keep_all : {A : Type 0} (keep : A → Bool) (xs : List A) → list_all keep xs ≡ true → filter keep xs ≡ xs
-keep_all keep [] all = refl
-keep_all keep (x ∷ xs) all =
-    rw (and_left (keep x) (list_all keep xs) all) (ap (λ ys. x ∷ ys) (keep_all keep xs (and_right (keep x) (list_all keep xs) all)))
-
 -- a weaker test
 all_weaker : {A : Type 0} (p q : A → Bool) (xs : List A) → ((x : A) → p x ≡ true → q x ≡ true) → list_all p xs ≡ true → list_all q xs ≡ true
 all_weaker p q [] weaker all = refl
@@ -87,14 +81,8 @@ still_out handles c b fresh here out =
     (some_strong_live (member_of (c.nodes ++ b ∷ []) b ∷ [])) e) out in
     λ i. record c {
       nodes = c.nodes ++ b ∷ [];
-      held = keep_all (λ (h : HeldBuffer). not (is_home_in handles (record c { nodes = c.nodes ++ b ∷ [] }) h.buffer)) c.held out' i;
+      held = filter-list_all (λ (h : HeldBuffer). not (is_home_in handles (record c { nodes = c.nodes ++ b ∷ [] }) h.buffer)) c.held out' i;
     }
-
--- a node that is born is not gone
-pub born_here : (above : Option Node) (attached : Bool) (id event client : ℕ) (key : NodeKey) →
-    (born above attached id event client key).gone ≡ false
-born_here None attached id event client key = refl
-born_here (Some above) attached id event client key = refl
 
 -- ---- the birth
 

@@ -7,7 +7,7 @@ use Rattle.std.specs.Option.{unwrap_or}
 use Rattle.sm_names.specs.declared.keys.NodeKey.{NodeKey}
 use Rattle.sm_names.specs.Sameness.{same_key}
 use Rattle.sm_names.specs.Words.{times}
-use Rattle.sm_names.proofs.ListLaws.{In, In-append, In-find, times-append, times-le-length}
+use Rattle.sm_names.proofs.ListLaws.{In, In-append, In-find, times-append, times-le-length, times-zero}
 use Rattle.sm_names.proofs.SamenessLaws.{both_ways, either_way, same_key-refl}
 use Rattle.sm_names.proofs.StandingLaws.{In-any}
 use Rattle.node_table.specs.Table.{Table, node_at, table_len}
@@ -22,16 +22,12 @@ use Rattle.alloc_event.specs.Still.{IsStill, shelf_before, shelf_with}
 use Rattle.alloc_event.proofs.changes.Altering.{looked-of, shelf_by}
 use Rattle.alloc_event.proofs.tables.Hanging.{all_in, in_all, looked_there}
 use Rattle.alloc_event.proofs.tallies.Holding.{head_there}
-use Rattle.alloc_event.proofs.newborns.Newborn.{Above, IsBefore, before_is, born_collection, born_fresh, born_shown, key_is}
-use Rattle.alloc_event.proofs.newborns.Quiet.{behind_is, behind_shown, born_here, quiet_kept}
+use Rattle.alloc_event.proofs.newborns.Newborn.{Above, IsBefore, before_is, born_collection, born_fresh, born_here, born_shown, key_is}
+use Rattle.alloc_event.proofs.newborns.Quiet.{behind_is, behind_shown, quiet_kept}
 use Rattle.alloc_event.proofs.tallies.Reckoning.{lives_gone, lives_other, started_other, started_own, tallied_adds, tallied_long, tallied_other, waits_gone, waits_other}
 use Rattle.alloc_event.proofs.shelves.Showing.{filed-length}
 use Rattle.alloc_event.proofs.tallies.Slots.{Stays, all_at, but_put, one_slot, units_own}
 use Rattle.alloc_event.proofs.calm.Steps.{all-In}
-
-times_zero : (test : Node → Bool) (ns : List Node) → ((n : Node) → In n ns → test n ≡ false) → times test ns ≡ 0
-times_zero test [] none = refl
-times_zero test (n ∷ ns) none = rw (none n (inl refl)) (times_zero test ns (λ m on. none m (inr on)))
 
 -- the table has the old nodes of the collection and the one that was born, and the others have their counts
 module _ (t : Table Node) (ss : List Shelf) (kept : IsStored t ss) (id : ℕ) (s : Shelf) (on : In s ss) (own : s.id ≡ id) (old : List Node)
@@ -113,8 +109,8 @@ module _ (t : Table Node) (ss : List Shelf) (kept : IsStored t ss) (id : ℕ) (s
       last : In n (node ∷ []) → unit_at us1 n.key.slot ≡ unit_of old n.key
       last (inl is) =
           let within : node.key.slot < length us1 = subst (λ (m : Node). m.key.slot < length us1) is inside in
-          let l : times (lives_in node.key) old ≡ 0 = times_zero (lives_in node.key) old (λ m o. (none_counted m o).0) in
-          let w : times (waits_in node.key) old ≡ 0 = times_zero (waits_in node.key) old (λ m o. (none_counted m o).1) in
+          let l : times (lives_in node.key) old ≡ 0 = times-zero (lives_in node.key) old (λ m o. (none_counted m o).0) in
+          let w : times (waits_in node.key) old ≡ 0 = times-zero (waits_in node.key) old (λ m o. (none_counted m o).1) in
           subst (λ (m : Node). unit_at us1 m.key.slot ≡ unit_of old m.key) (sym is)
           (started_own node.key.slot us within ∙ (λ i. record { live = sym l i; unready = sym w i }))
       last (inr none) = absurd none

@@ -5,8 +5,7 @@ use Rattle.std.specs.List.{cons_option, find, list_all, list_any}
 use Rattle.std.specs.Option.{option_map_or}
 use Rattle.sm_names.specs.declared.keys.NodeKey.{NodeKey}
 use Rattle.sm_names.specs.Sameness.{same_key}
-use Rattle.sm_names.specs.Words.{times}
-use Rattle.sm_names.proofs.ListLaws.{In, In-list_any}
+use Rattle.sm_names.proofs.ListLaws.{In, In-list_any, times-zero}
 use Rattle.sm_names.proofs.SamenessLaws.{and_both, and_left, and_right, both_ways, either_way, false_if, or_left, or_right, same_key-refl, same_key-true}
 use Rattle.node_table.specs.Table.{Table, node_at, parent_at}
 use Rattle.alloc_event.specs.declared.node.Node.{Node}
@@ -51,13 +50,6 @@ key_listed t named (k ∷ ks) n on = by (λ there. key_listed t named ks n there
         or_left (same_key n.key k) (list_any (same_key n.key) ks)
         (subst (λ (j : NodeKey). same_key n.key j ≡ true) (ap (λ (x : Node). x.key) is ∙ named k m at) (same_key-refl n.key))
     by rest (Some m) at (inr there) = or_right (same_key n.key k) (list_any (same_key n.key) ks) (rest there)
-
--- where none passes the count is 0
-none_counted : (test : Node → Bool) (ns : List Node) → ((n : Node) → In n ns → test n ≡ false) → times test ns ≡ 0
-none_counted test [] none = refl
-none_counted test (n ∷ ns) none =
-    let here : test n ≡ false = none n (inl refl) in
-    rw here (none_counted test ns (λ m on. none m (inr on)))
 
 -- beyond the end
 get_or_beyond : (us : List Unit) (i : ℕ) (d : Unit) → length us ≤ i → get_or us i d ≡ d
@@ -125,7 +117,7 @@ module _ (t : Table Node) (ss : List Shelf) (kept : IsStored t ss) (s : Shelf) (
         let is : unit_at us m.key.slot ≡ unit_of nodes m.key =
         in_all (λ (x : Node). x.key.slot < length us → unit_at us x.key.slot ≡ unit_of nodes x.key) nodes counts m on
         (ltb-true m.key.slot (length us) e) in
-        ap (λ (u : Unit). u.unready) is ∙ none_counted (waits_in m.key) nodes (λ x there.
+        ap (λ (u : Unit). u.unready) is ∙ times-zero (waits_in m.key) nodes (λ x there.
         ap not (all-In (is_ready_node m.key) nodes x there ready))
     | inr e ↦ ap (λ (u : Unit). u.unready) (get_or_beyond us m.key.slot no_unit (ltb-false m.key.slot (length us) e))
   ]

@@ -175,7 +175,8 @@ module _ (t : Table Node) (ss : List Shelf) (kept : IsStored t ss) (s : Shelf) (
       all_ask = asked_is t s.keys k after
 
       -- those below camp on all that is camped on
-      pub sum_below : sum_by (λ (d : Demand). d.camping) (asked_with t ks k after) ≡ sum_by (λ (d : Demand). d.camping) (asked_with t s.keys k after)
+      pub sum_below : sum_by (λ (d : Demand). d.camping) (asked_with t ks k after)
+          ≡ sum_by (λ (d : Demand). d.camping) (asked_with t s.keys k after)
       sum_below =
           ap (sum_by (λ (d : Demand). d.camping)) below_asks
           ∙ (camped_sum (is_in_unit k) (map (written after) (nodes_with t ks))

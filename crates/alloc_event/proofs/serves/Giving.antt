@@ -46,14 +46,6 @@ each_still : (f : Node → Node) (o : Option Node) → ((n : Node) → o ≡ Som
 each_still f None same = refl
 each_still f (Some n) same = ap Some (sym (same n refl))
 
--- no node is
-pub given_none : (t : Table Node) (head : NodeKey) → IsGivenAt t t head []
-given_none t head = record {
-  look = λ key. each_still (given_at head []) (node_at t key) (λ n is. refl);
-  parents = λ key. refl;
-  same = record { first = refl; nexts = refl; limit = refl; len = refl };
-}
-
 -- once more makes no difference
 or_twice : (a b : Bool) → (a || (a || b)) ≡ (a || b)
 or_twice true b = refl

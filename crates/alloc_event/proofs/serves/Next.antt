@@ -8,7 +8,7 @@ use Rattle.sm_names.specs.declared.outcomes.Buffers.{Buffers}
 use Rattle.sm_names.specs.declared.outcomes.Cause.{Cause}
 use Rattle.sm_names.specs.Sameness.{same_key}
 use Rattle.sm_names.specs.Words.{when}
-use Rattle.sm_names.proofs.ListLaws.{In, In-find, In-list_any, In-map, In-map-back}
+use Rattle.sm_names.proofs.ListLaws.{In, In-find, In-list_any, In-map, In-map-back, find-none, none-find}
 use Rattle.sm_names.proofs.SamenessLaws.{and_both, and_left, and_right, both_ways, either_way, false_if, or_none_left, or_none_right, or_right, same_key-comm, same_key-true}
 use Rattle.sm_names.proofs.StandingLaws.{In-any}
 use Rattle.alloc_event.specs.declared.decision.Decision.TheVariants.{Allocates, Loses}
@@ -23,7 +23,6 @@ use Rattle.alloc_event.specs.Scenes.{IsSound, heads_itself}
 use Rattle.alloc_event.specs.Settling.{is_root_of}
 use Rattle.alloc_event.proofs.calm.Calming.{AreNone, calm_none, find_map, later, none_calm}
 use Rattle.alloc_event.proofs.calm.Steps.{all-In}
-use Rattle.alloc_event.proofs.newborns.Members.{find-none, none-find}
 use Rattle.alloc_event.proofs.tables.Rooted.{distinct_one}
 use Rattle.alloc_event.proofs.tallies.Holding.{hangs_in}
 use Rattle.alloc_event.proofs.serves.Allocated.{deserted_same, losing, next_decided, ready_on, root_on, root_same, strong_on, wait_on}

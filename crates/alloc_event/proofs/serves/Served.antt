@@ -512,7 +512,8 @@ module _ (t : Table Node) (us : List Unit) (key : NodeKey) (effect : Effect) (n 
             ap (sum_by (λ (d : Demand). d.camping)) asks_are ∙ camped_sum (is_in_unit k) (map f nodes) in
             omega arith
 
-        pub served_made : (camping : ℕ) → camping ≡ reserved_count nodes + sum_by (λ (d : Demand). d.camping) (asked_with t s.keys k (f n)) →
+        pub served_made : (camping : ℕ) → camping ≡ reserved_count nodes + sum_by (λ (d : Demand). d.camping)
+            (asked_with t s.keys k (f n)) →
             IsServed t now (set us k.slot next) ss s (Change.Effect key effect) lives camping
         served_made camping told = record {
           done = record {

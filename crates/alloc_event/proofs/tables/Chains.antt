@@ -1,10 +1,10 @@
 -- What a failure reaches, of the nodes whose lines up to a root are known.
-use Rattle.std.proofs.Common.{◌≡◌, refl, ap, sym, ◌∙◌, subst, Bool, true, false, cond, ◌⊎◌, inl, inr, List, [], ◌∷◌, Option, Some, None, ◌↔◌}
+use Rattle.std.proofs.Common.{◌≡◌, refl, ap, sym, ◌∙◌, subst, Bool, true, false, ◌⊎◌, inl, inr, List, [], ◌∷◌, Option, Some, None, ◌↔◌}
 use Rattle.std.specs.List.{list_any}
 use Rattle.sm_names.specs.declared.keys.NodeKey.{NodeKey}
 use Rattle.sm_names.specs.Losses.{Reach, Origin, Up, Down, top}
 use Rattle.sm_names.specs.Sameness.{same_key}
-use Rattle.sm_names.proofs.ReachLaws.{IsChain, top_on}
+use Rattle.sm_names.proofs.ReachLaws.{IsChain, climbs, descends, top_on}
 use Rattle.sm_names.proofs.SamenessLaws.{both_ways, either_way, or_right, same_key-true}
 
 module _ (parent : NodeKey → Option NodeKey) where
@@ -20,30 +20,6 @@ module _ (parent : NodeKey → Option NodeKey) where
       λ i. same i ∷ rest i
 
   module _ (blocks : NodeKey → Bool) (origin : NodeKey) where
-    -- the top of a line that is reached is reached
-    climbs : (node : NodeKey) (line : List NodeKey) → IsChain parent node line → Reach parent blocks origin node →
-        Reach parent blocks origin (top blocks node line)
-    climbs node [] chain r = r
-    climbs node (p ∷ line) chain r =
-        (elim (blocks node) as (λ (b : Bool). blocks node ≡ b → Reach parent blocks origin (cond b node (top blocks p line))) [
-          | true ↦ λ e. r
-          | false ↦ λ e. climbs p line chain.1 (Up node p r e chain.0)
-        ]) refl
-
-    -- and what has it on its line is reached
-    descends : (highest node : NodeKey) (line : List NodeKey) → IsChain parent node line → Reach parent blocks origin highest →
-        list_any (same_key highest) (node ∷ line) ≡ true → Reach parent blocks origin node
-    descends highest node [] chain r h =
-        elim (either_way (same_key highest node)) [
-          | inl e ↦ subst (λ (k : NodeKey). Reach parent blocks origin k) (same_key-true highest node e) r
-          | inr e ↦ let no : false ≡ true = rw e at h in cc
-        ]
-    descends highest node (p ∷ line) chain r h =
-        elim (either_way (same_key highest node)) [
-          | inl e ↦ subst (λ (k : NodeKey). Reach parent blocks origin k) (same_key-true highest node e) r
-          | inr e ↦ Down p node (descends highest p line chain.1 r (rw e at h)) chain.0
-        ]
-
     -- the failure of the top goes no further
     stops : (node : NodeKey) (line : List NodeKey) → IsChain parent node line →
         (blocks (top blocks node line) ≡ true) ⊎ (parent (top blocks node line) ≡ None)
@@ -93,5 +69,7 @@ module _ (parent : NodeKey → Option NodeKey) where
       -- a node is reached exactly if the highest one is on its line
       pub reached_by_line : (node : NodeKey) (line : List NodeKey) → IsChain parent node line →
           (list_any (same_key highest) (node ∷ line) ≡ true) ↔ Reach parent blocks origin node
-      reached_by_line node line chain =
-          (descends highest node line chain (climbs origin above up Origin), λ r. has_highest node r line chain)
+      reached_by_line node line chain = (
+        descends parent blocks origin highest node line chain (climbs parent blocks origin origin above up Origin),
+        λ r. has_highest node r line chain,
+      )

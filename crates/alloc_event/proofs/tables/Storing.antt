@@ -4,11 +4,10 @@ use Rattle.std.proofs.lemmas.Bool.{false≢true}
 use Rattle.sm_names.specs.declared.keys.NodeKey.{NodeKey}
 use Rattle.sm_names.specs.Sameness.{same_key}
 use Rattle.sm_names.proofs.ListLaws.{In}
-use Rattle.sm_names.proofs.SamenessLaws.{and_left, and_right, either_way}
+use Rattle.sm_names.proofs.SamenessLaws.{and_left, and_right, either_way, same_key-true}
 use Rattle.node_table.specs.Table.{Row, Table, row_at, node_at}
 use Rattle.node_table.specs.Changes.{Writes}
 use Rattle.node_table.specs.Lending.{table_with_node}
-use Rattle.node_table.proofs.Keys.{true-same_key}
 use Rattle.alloc_event.specs.declared.node.Node.{Node}
 use Rattle.alloc_event.specs.Kept.{written, stored, Stores, have_places}
 use Rattle.alloc_event.proofs.lists.Lookups.{nothing}
@@ -16,7 +15,7 @@ use Rattle.alloc_event.proofs.tables.Writing.{look-written, parents-written}
 
 -- by whether they have one key
 written-key-by : (m n : Node) (same : Bool) → same_key m.key n.key ≡ same → (cond same m n).key ≡ n.key
-written-key-by m n true same = true-same_key m.key n.key same
+written-key-by m n true same = same_key-true m.key n.key same
 written-key-by m n false same = refl
 
 -- a node that is written has the key of the other

@@ -8,7 +8,7 @@ use Rattle.sm_names.proofs.SamenessLaws.{some-injective}
 use Rattle.node_table.specs.Table.{Row, Table, row_at, node_at, parent_at, parent_in, children_at, children_in, table_len}
 use Rattle.node_table.specs.Changes.{Cuts, Removes, SameKeys, at_parent, without_child, without_parent}
 use Rattle.node_table.specs.Forest.{IsForest, first_key}
-use Rattle.node_table.proofs.Keys.{key_cases, same_key-true, same_key-false}
+use Rattle.node_table.proofs.Keys.{key_cases, same_key-equal, same_key-apart}
 use Rattle.node_table.proofs.Lists.{without, without_lacks, Contains-head}
 use Rattle.node_table.proofs.Runs.{without-short}
 use Rattle.alloc_event.specs.declared.node.Node.{Node}
@@ -98,7 +98,7 @@ first_child_is t key forest o told = by_list (children_at t key) refl o told
 fewer : (key child : NodeKey) (o : Option (Row Node)) →
     children_in (option_map (at_parent (Some key) (without_child child) key) o) ≡ without child (children_in o)
 fewer key child None = refl
-fewer key child (Some row) = rw (same_key-true key key refl) refl
+fewer key child (Some row) = rw (same_key-equal key key refl) refl
 
 -- by whether the first is the key
 without-fewer-by : (key k : NodeKey) (ks : List NodeKey) (same : Bool) → same_key key k ≡ same →
@@ -151,8 +151,8 @@ CutsOff-more t u now key child off is cuts = record {
 removed_look : (t now : Table Node) (key : NodeKey) (n : Node) → Removes t now key n → (k : NodeKey) →
     node_at now k ≡ (if same_key key k then None else node_at t k)
 removed_look t now key n removes k = elim (key_cases k key) [
-  | inl same ↦ rw (same_key-true key k (sym same)) (ap node_in (ap (row_at now) same ∙ removes.gone))
-  | inr other ↦ rw (same_key-false key k (λ same. other (sym same)))
+  | inl same ↦ rw (same_key-equal key k (sym same)) (ap node_in (ap (row_at now) same ∙ removes.gone))
+  | inr other ↦ rw (same_key-apart key k (λ same. other (sym same)))
       (ap node_in (removes.others k other) ∙ still_node (parent_at t key) key k (row_at t k))
 ]
 

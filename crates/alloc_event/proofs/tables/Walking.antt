@@ -8,7 +8,7 @@ use Rattle.sm_names.specs.Sameness.{same_key}
 use Rattle.sm_names.proofs.SamenessLaws.{and_left, or_false, or_right}
 use Rattle.node_table.specs.Table.{Table, node_at}
 use Rattle.node_table.specs.Changes.{SameKeys}
-use Rattle.node_table.proofs.Keys.{key_cases, same_key-true, same_key-false}
+use Rattle.node_table.proofs.Keys.{key_cases, same_key-equal, same_key-apart}
 use Rattle.alloc_event.specs.declared.node.Node.{Node}
 use Rattle.alloc_event.specs.Forgetting.{TakesOut, left_at, thinned, unless_over}
 use Rattle.alloc_event.specs.Kept.{Shelf, IsStored}
@@ -38,7 +38,7 @@ either_same false o = refl
 -- a key that is not the last one
 left_before : (t : Table Node) (older : List NodeKey) (key k : NodeKey) → key ≢ k → left_at t older k ≡ left_at t (older ++ key ∷ []) k
 left_before t older key k differ =
-    let other : same_key k key ≡ false = same_key-false k key (λ same. differ (sym same)) in
+    let other : same_key k key ≡ false = same_key-apart k key (λ same. differ (sym same)) in
     let any : list_any (same_key k) (older ++ key ∷ []) ≡ list_any (same_key k) older =
     list_any-append (same_key k) older (key ∷ []) ∙ (rw other (or_false (list_any (same_key k) older))) in
     rw any refl
@@ -47,7 +47,7 @@ left_before t older key k differ =
 left_last : (t : Table Node) (older : List NodeKey) (key k : NodeKey) → key ≡ k →
     left_at t (older ++ key ∷ []) k ≡ unless_over (node_at t k)
 left_last t older key k same =
-    let one : same_key k key ≡ true = same_key-true k key (sym same) in
+    let one : same_key k key ≡ true = same_key-equal k key (sym same) in
     let any : list_any (same_key k) (older ++ key ∷ []) ≡ true =
     list_any-append (same_key k) older (key ∷ []) ∙ or_right (list_any (same_key k) older) _ (rw one refl) in
     rw any refl
@@ -75,12 +75,12 @@ goes_look : (t now : Table Node) (older : List NodeKey) (key : NodeKey) → Take
     option_map_or is_over (node_at t key) false ≡ true → (k : NodeKey) → left_at now older k ≡ left_at t (older ++ key ∷ []) k
 goes_look t now older key out over k = elim (key_cases key k) [
   | inl same ↦
-      let gone : node_at now k ≡ None = out.look k ∙ (rw (same_key-true key k same) refl) in
+      let gone : node_at now k ≡ None = out.look k ∙ (rw (same_key-equal key k same) refl) in
       let own : unless_over (node_at t k) ≡ None =
       unless-over (node_at t k) (ap (λ x. option_map_or is_over (node_at t x) false) (sym same) ∙ over) in
       rw gone (either_same (list_any (same_key k) older) None) ∙ sym (left_last t older key k same ∙ own)
   | inr differ ↦
-      let there : node_at now k ≡ node_at t k = out.look k ∙ (rw (same_key-false key k differ) refl) in
+      let there : node_at now k ≡ node_at t k = out.look k ∙ (rw (same_key-apart key k differ) refl) in
       rw there (left_before t older key k differ)
 ]
 

@@ -6,7 +6,7 @@ use Rattle.sm_names.specs.declared.keys.NodeKey.{NodeKey}
 use Rattle.sm_names.specs.Sameness.{same_key}
 use Rattle.node_table.specs.Table.{Row, Table, row_at, node_at, parent_at, parent_in, table_len, was_given}
 use Rattle.node_table.specs.Changes.{Writes, with_node}
-use Rattle.node_table.proofs.Keys.{key_cases, same_key-true, same_key-false}
+use Rattle.node_table.proofs.Keys.{key_cases, same_key-equal, same_key-apart}
 use Rattle.alloc_event.specs.declared.node.Node.{Node}
 use Rattle.alloc_event.specs.Forest.{Collection, with_nodes}
 use Rattle.alloc_event.specs.Kept.{Shelf, collection_in, is_filed, are_filed, IsStored, IsWhole, nodes_with}
@@ -84,7 +84,8 @@ module _ (f : Node → Node) (same : (n : Node) → IsSameNode (f n) n) where
   }
 
   -- a key is filed where it was
-  pub filed-map : (t now : Table Node) → ((key : NodeKey) → node_at now key ≡ option_map f (node_at t key)) → (id : ℕ) (keys : List NodeKey) →
+  pub filed-map : (t now : Table Node) → ((key : NodeKey) → node_at now key ≡ option_map f (node_at t key)) → (id : ℕ)
+      (keys : List NodeKey) →
       list_all (is_filed now id) keys ≡ list_all (is_filed t id) keys
   filed-map t now each id [] = refl
   filed-map t now each id (k ∷ ks) = rw (each k, filed-map t now each id ks)
@@ -167,9 +168,9 @@ written_row node (Some row) = refl
 pub look-written : (t now : Table Node) (key : NodeKey) (node : Node) → Writes t now key node → (k : NodeKey) →
     node_at now k ≡ (if same_key key k then option_map (λ _. node) (node_at t k) else node_at t k)
 look-written t now key node w k = elim (key_cases key k) [
-  | inl same ↦ rw (same_key-true key k same) (subst (λ (x : NodeKey). node_at now x ≡ option_map (λ _. node) (node_at t x)) same
+  | inl same ↦ rw (same_key-equal key k same) (subst (λ (x : NodeKey). node_at now x ≡ option_map (λ _. node) (node_at t x)) same
       (ap (option_map (λ (row : Row Node). row.node)) w.written ∙ written_row node (row_at t key)))
-  | inr differ ↦ rw (same_key-false key k differ) (ap (option_map (λ (row : Row Node). row.node)) (w.others k (λ same. differ (sym same))))
+  | inr differ ↦ rw (same_key-apart key k differ) (ap (option_map (λ (row : Row Node). row.node)) (w.others k (λ same. differ (sym same))))
 ]
 
 -- the row that is written has its parent
@@ -198,7 +199,7 @@ pub look-changed : (t now : Table Node) (f : Node → Node) (key : NodeKey) (old
 look-changed t now f key old node w was becomes named others k = elim (key_cases key k) [
   | inl same ↦
       let here : node_at t k ≡ Some old = subst (λ (x : NodeKey). node_at t x ≡ Some old) same was in
-      look-written t now key node w k ∙ rw (same_key-true key k same, here) (ap Some (sym becomes))
+      look-written t now key node w k ∙ rw (same_key-equal key k same, here) (ap Some (sym becomes))
   | inr differ ↦ look-written t now key node w k
-      ∙ rw (same_key-false key k differ) (look-kept f key k differ (node_at t k) (named k) others)
+      ∙ rw (same_key-apart key k differ) (look-kept f key k differ (node_at t k) (named k) others)
 ]

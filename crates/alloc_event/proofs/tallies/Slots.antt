@@ -8,7 +8,7 @@ use Rattle.sm_names.specs.declared.keys.NodeKey.{NodeKey}
 use Rattle.sm_names.specs.Marks.{Mark, Called, Loss, Allocated, Ended}
 use Rattle.sm_names.specs.Sameness.{same_key}
 use Rattle.sm_names.specs.Words.{times}
-use Rattle.sm_names.proofs.ListLaws.{In, In-filter, In-find, In-map, In-map-back}
+use Rattle.sm_names.proofs.ListLaws.{In, In-filter, In-find, In-map, In-map-back, none-find}
 use Rattle.sm_names.proofs.SamenessLaws.{and_left, and_right, both_ways, either_way, or_left, same_key-refl}
 use Rattle.sm_names.proofs.StandingLaws.{In-any}
 use Rattle.node_table.specs.Table.{Row, Table, next_at, node_at, was_given}
@@ -25,7 +25,6 @@ use Rattle.alloc_event.proofs.calm.Calming.{times_map}
 use Rattle.alloc_event.proofs.changes.Finishing.{looked-keys}
 use Rattle.alloc_event.proofs.tables.Hanging.{all_in, in_all, looked_gone, looked_there}
 use Rattle.alloc_event.proofs.tallies.Holding.{head_there}
-use Rattle.alloc_event.proofs.newborns.Members.{none-find}
 use Rattle.alloc_event.proofs.tallies.Reckoning.{cleared_long, cleared_other, cleared_own, started_other, tallied_adds, tallied_long, tallied_other}
 use Rattle.alloc_event.proofs.shelves.Showing.{filed-length}
 use Rattle.alloc_event.proofs.calm.Steps.{all-In}

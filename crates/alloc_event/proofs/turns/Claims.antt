@@ -83,21 +83,6 @@ else_same head n c e = from (same_key n.head head) e
       size = option_map_or (λ (d : Demand). max c.size d.size) (none_else n.gone n.constraints i) c.size;
     }
 
--- nor does one that is gone
-pub gone_same : (head : NodeKey) (n : Node) (c : Claim) → n.gone ≡ true → with_node head n c ≡ c
-gone_same head n c e = from n.gone e
-  where
-    from : (g : Bool) → g ≡ true → record {
-      ready = c.ready && (g || (not (same_key n.head head) || (n.released || is_some n.constraints)));
-      camping = summed c.camping (if not g && same_key n.head head then n.constraints else None);
-      more = summed c.more (if (not g && same_key n.head head) && not n.allocated then n.constraints else None);
-      at_least = option_map_or (λ (d : Demand). max c.at_least d.at_least) (if not g && same_key n.head head then n.constraints else None)
-          c.at_least;
-      size = option_map_or (λ (d : Demand). max c.size d.size) (if not g && same_key n.head head then n.constraints else None) c.size;
-    } ≡ c
-    from true e = λ i. record c { ready = and-true c.ready i }
-    from false e = cc
-
 -- ---- all nodes
 
 -- one more in front

@@ -5,13 +5,13 @@ use Rattle.std.specs.Option.{option_map_or}
 use Rattle.sm_names.specs.declared.keys.NodeKey.{NodeKey}
 use Rattle.sm_names.specs.Demands.{Demand}
 use Rattle.sm_names.specs.Sameness.{same_key}
-use Rattle.sm_names.proofs.ListLaws.{In, In-list_any}
+use Rattle.sm_names.proofs.ListLaws.{In, In-behind, In-list_any}
 use Rattle.sm_names.proofs.SamenessLaws.{and_right, both_ways, false_if, or_none_left, or_none_right, same_key-true, some-injective}
 use Rattle.sm_names.proofs.StandingLaws.{In-any, both_tests}
 use Rattle.alloc_event.specs.declared.node.Node.{Node}
 use Rattle.alloc_event.specs.Falls.{given_all}
 use Rattle.alloc_event.specs.InTurn.{IsKeyAt, is_new_in, summed}
-use Rattle.alloc_event.specs.Nodes.{after_allocation, given_buffers, is_of, node_of}
+use Rattle.alloc_event.specs.Nodes.{given_buffers, is_of, node_of}
 use Rattle.alloc_event.specs.Questions.{demands_of, is_in_unit, is_ready_node, is_served}
 use Rattle.alloc_event.specs.Scenes.{are_distinct}
 use Rattle.alloc_event.proofs.calm.Steps.{found_by_key}
@@ -41,15 +41,6 @@ none_of p xs nobody = false_if (list_any p xs) (λ e. let x = In-list_any p xs e
 pub not_this : {A : Type 0} (p : A → Bool) (xs : List A) (x : A) → list_any p xs ≡ false → In x xs → p x ≡ true → ⊥
 not_this p xs x none on is = both_ways (list_any p xs) (In-any p xs x on is) none
 
-pub In_front : {A : Type 0} (xs ys : List A) (x : A) → In x xs → In x (xs ++ ys)
-In_front [] ys x on = absurd on
-In_front (z ∷ zs) ys x (inl is) = inl is
-In_front (z ∷ zs) ys x (inr on) = inr (In_front zs ys x on)
-
-pub In_behind : {A : Type 0} (xs ys : List A) (x : A) → In x ys → In x (xs ++ ys)
-In_behind [] ys x on = on
-In_behind (z ∷ zs) ys x on = inr (In_behind zs ys x on)
-
 -- the first that passes, where none before it does
 pub first_at : (p : Node → Bool) (f : Node → Node) (before more : List Node) (n : Node) → list_any (λ m. p (f m)) before ≡ false →
     p (f n) ≡ true → find p (map f (before ++ n ∷ more)) ≡ Some (f n)
@@ -62,7 +53,7 @@ first_at p f (m ∷ ms) more n none is =
 pub parts_apart : (xs ys : List Node) (a b : Node) → are_distinct (xs ++ ys) ≡ true → In a xs → In b ys → b.key ≡ a.key → ⊥
 parts_apart [] ys a b h on there same = absurd on
 parts_apart (x ∷ xs) ys a b h (inl is) there same =
-    others_apart x (xs ++ ys) h b (In_behind xs ys b there) (same ∙ ap (λ (n : Node). n.key) is)
+    others_apart x (xs ++ ys) h b (In-behind xs ys b there) (same ∙ ap (λ (n : Node). n.key) is)
 parts_apart (x ∷ xs) ys a b h (inr on) there same =
     parts_apart xs ys a b (and_right (not (list_any (is_of x.key) (xs ++ ys))) (are_distinct (xs ++ ys)) h) on there same
 
@@ -109,11 +100,6 @@ given_snoc heads k n = λ i. record n { allocated = is i }
         ≡ (same_key k n.head || (list_any (same_key n.head) heads || n.allocated))
     is = ap (λ (b : Bool). b || n.allocated) (any_snoc (same_key n.head) heads k)
         ∙ swap (list_any (same_key n.head) heads) (same_key n.head k) (same_key k n.head) n.allocated (same_key-swap n.head k)
-
-pub all_snoc : (heads : List NodeKey) (k : NodeKey) (ns : List Node) →
-    map (given_all (heads ++ k ∷ [])) ns ≡ after_allocation k (map (given_all heads) ns)
-all_snoc heads k [] = refl
-all_snoc heads k (n ∷ ns) = λ i. given_snoc heads k n i ∷ all_snoc heads k ns i
 
 -- what the nodes of a unit ask for stays
 pub asks_same : (k : NodeKey) (heads : List NodeKey) (ns : List Node) →

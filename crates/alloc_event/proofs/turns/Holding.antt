@@ -6,8 +6,8 @@ use Rattle.std.specs.Option.{option_map_or}
 use Rattle.sm_names.specs.declared.keys.NodeKey.{NodeKey}
 use Rattle.sm_names.specs.declared.outcomes.Fault.{Fault}
 use Rattle.sm_names.specs.Words.{when}
-use Rattle.sm_names.proofs.ListLaws.{In, In-find, In-list_any, In-map, In-map-back, is_some-find}
-use Rattle.sm_names.proofs.SamenessLaws.{and_both, and_left, and_right, both_ways, either_way, or_both, or_none_left, or_none_right}
+use Rattle.sm_names.proofs.ListLaws.{In, In-find, In-list_any, In-map, In-map-back, find-none, none-find}
+use Rattle.sm_names.proofs.SamenessLaws.{and_both, and_left, and_right, both_ways, either_way, none_is, or_both, or_none_left, or_none_right, some_is}
 use Rattle.sm_names.proofs.StandingLaws.{In-any}
 use Rattle.alloc_event.specs.declared.node.Node.{Node}
 use Rattle.alloc_event.specs.Decisions.{has_strong, is_unplaced}
@@ -39,20 +39,6 @@ AreHeld nodes falls = (m : Node) → In m nodes → (is_none m.parent || m.attac
 
 -- ---- what is found
 
-pub found_some : {A : Type 0} (o : Option A) → is_some o ≡ true → (x : A) × (o ≡ Some x)
-found_some None h = cc
-found_some (Some x) h = (x, refl)
-
-found_none : {A : Type 0} (o : Option A) → is_some o ≡ false → o ≡ None
-found_none None h = refl
-found_none (Some x) h = cc
-
-pub none_found : {A : Type 0} (p : A → Bool) (xs : List A) → list_any p xs ≡ false → find p xs ≡ None
-none_found p xs none = found_none (find p xs) (is_some-find p xs ∙ none)
-
-not_found : {A : Type 0} (p : A → Bool) (xs : List A) → find p xs ≡ None → list_any p xs ≡ false
-not_found p xs none = sym (is_some-find p xs) ∙ ap is_some none
-
 module _ (nodes : List Node) (heads : List NodeKey) (falls : List Fault) where
   abbrev now : List Node
   now = stand nodes heads falls
@@ -65,7 +51,7 @@ module _ (nodes : List Node) (heads : List NodeKey) (falls : List Fault) where
   held_by none m on head stays =
       let live : list_any (lives_below now m.key) now ≡ true = elim (either_way (list_any (lives_below now m.key) now)) [
         | inl e ↦ e
-        | inr e ↦ absurd (not_this (is_deserted_node now) now (f m) (not_found (is_deserted_node now) now none) (In-map-back f nodes m on)
+        | inr e ↦ absurd (not_this (is_deserted_node now) now (f m) (none-find (is_deserted_node now) now none) (In-map-back f nodes m on)
             (and_both (is_none m.parent || m.attached) _ head (and_both (not (f m).gone) _ (ap not stays) (ap not e))))
       ] in
       let y = In-list_any (lives_below now m.key) now live in
@@ -82,7 +68,7 @@ module _ (nodes : List Node) (heads : List NodeKey) (falls : List Fault) where
 
   -- and where they are no end is
   pub none_ends : AreHeld nodes falls → find (is_deserted_node now) now ≡ None
-  none_ends held = none_found (is_deserted_node now) now (none_of (is_deserted_node now) now (λ y there deserted.
+  none_ends held = find-none (is_deserted_node now) now (none_of (is_deserted_node now) now (λ y there deserted.
       let m = In-map f nodes y there in
       let test : is_deserted_node now (f m.0) ≡ true = ap (is_deserted_node now) (sym m.2) ∙ deserted in
       let rest = and_right (is_none m.0.parent || m.0.attached) _ test in
@@ -141,7 +127,7 @@ module _ (nodes : List Node) (falls : List Fault) (fault : Fault) where
 
   pub stays_before : (n : Node) → gone_in nodes more n ≡ false → gone_in nodes falls n ≡ false
   stays_before n stays = or_both (is_some (fall_of nodes falls n.head)) n.gone
-      (ap is_some (still_none n.head (found_none (fall_of nodes more n.head) (or_none_left (is_some (fall_of nodes more n.head)) n.gone
+      (ap is_some (still_none n.head (none_is (fall_of nodes more n.head) (or_none_left (is_some (fall_of nodes more n.head)) n.gone
       stays))))
       (or_none_right (is_some (fall_of nodes more n.head)) n.gone stays)
 
@@ -162,7 +148,7 @@ module _ (nodes : List Node) (falls : List Fault) (fault : Fault) where
       | inl e ↦
           let here : m.gone ≡ false = or_none_right (is_some (fall_of nodes falls m.head)) m.gone stays in
           let none : fall_of nodes falls m.head ≡ None =
-          found_none (fall_of nodes falls m.head) (or_none_left (is_some (fall_of nodes falls m.head)) m.gone stays) in
+          none_is (fall_of nodes falls m.head) (or_none_left (is_some (fall_of nodes falls m.head)) m.gone stays) in
           let own : m.head ≡ m.key = heads_own m (all-In heads_itself nodes m on owned) head in
           let taken : is_below nodes fault.origin m.key ≡ true = elim (either_way (is_below nodes fault.origin m.head)) [
             | inl t ↦ ap (is_below nodes fault.origin) (sym own) ∙ t
@@ -179,7 +165,7 @@ module _ (nodes : List Node) (falls : List Fault) (fault : Fault) where
                   | inr t ↦ both_ways (gone_in nodes falls x.node) s
                       (or_both (is_some (fall_of nodes falls x.node.head)) x.node.gone t live)
                 ] in
-                let g = found_some (fall_of nodes falls x.node.head) some in
+                let g = some_is (fall_of nodes falls x.node.head) some in
                 let of = In-find (λ (f : Fault). is_below nodes f.origin x.node.head) falls g.0 g.1 in
                 let k = origins g.0 of.0 in
                 let by_g : is_below nodes g.0.origin x.node.key ≡ true =
@@ -195,7 +181,7 @@ module _ (nodes : List Node) (falls : List Fault) (fault : Fault) where
                       below_up nodes distinct grown g.0.origin fault.origin over m on here taken in
                       absurd (both_ways (list_any (λ (f : Fault). is_below nodes f.origin m.head) falls)
                       (In-any (λ (f : Fault). is_below nodes f.origin m.head) falls g.0 of.0 (ap (is_below nodes g.0.origin) own ∙ above))
-                      (not_found (λ (f : Fault). is_below nodes f.origin m.head) falls none))
+                      (none-find (λ (f : Fault). is_below nodes f.origin m.head) falls none))
                 ]
           ]
     ]

@@ -5,7 +5,7 @@ use Rattle.std.specs.List.{list_all, find, slice_get}
 use Rattle.sm_names.specs.declared.keys.NodeKey.{NodeKey}
 use Rattle.sm_names.specs.declared.outcomes.Fault.{Fault}
 use Rattle.sm_names.specs.Sameness.{same_key}
-use Rattle.sm_names.proofs.ListLaws.{In}
+use Rattle.sm_names.proofs.ListLaws.{In, In-front, find-none}
 use Rattle.sm_names.proofs.SamenessLaws.{either_way, false_if, same_key-true, some-injective}
 use Rattle.alloc_event.specs.declared.node.Node.{Node}
 use Rattle.alloc_event.specs.Falls.{AreGrown, Hangs, IsPlaced, Roots, fall_mark, fall_of}
@@ -13,8 +13,7 @@ use Rattle.alloc_event.specs.InTurn.{IsKeyAt, IsMarking}
 use Rattle.alloc_event.specs.Questions.{is_below}
 use Rattle.alloc_event.specs.Scenes.{are_distinct, heads_itself}
 use Rattle.alloc_event.proofs.calm.Steps.{all-In}
-use Rattle.alloc_event.proofs.turns.Gifts.{In_front, got_In, none_of, one_node, parts_apart}
-use Rattle.alloc_event.proofs.turns.Holding.{none_found}
+use Rattle.alloc_event.proofs.turns.Gifts.{got_In, none_of, one_node, parts_apart}
 use Rattle.alloc_event.proofs.turns.Trees.{heads_own, only_root, parent_below, place_of}
 use Rattle.alloc_event.proofs.turns.Walk.{here_In, parted}
 
@@ -59,7 +58,7 @@ module _ (nodes more : List Node) (n : Node) (at : ℕ) (fell : List (Option Fau
     | inr e ↦
         let own : n.head ≡ n.key = heads_own n (all-In heads_itself nodes n on owned) (rw none refl) in
         let p = place_of nodes n on in
-        let stays : fall_of nodes falls n.head ≡ None = none_found (λ (f : Fault). is_below nodes f.origin n.head) falls
+        let stays : fall_of nodes falls n.head ≡ None = find-none (λ (f : Fault). is_below nodes f.origin n.head) falls
         (none_of (λ (f : Fault). is_below nodes f.origin n.head) falls (λ f there below. began_before f there
         (only_root nodes distinct grown f.origin p.0 n p.1 none (ap (is_below nodes f.origin) (sym own) ∙ below)))) in
         rw e stays
@@ -86,7 +85,7 @@ module _ (nodes more : List Node) (n : Node) (at : ℕ) (fell : List (Option Fau
           let o = w.origins f there in
           subst (λ (k : NodeKey). is_below nodes k n.head ≡ is_below nodes k h.above.head) o.is
           (parent_below nodes distinct grown owned o.node
-          (subst (λ (ns : List Node). In o.node ns) (sym w.whole) (In_front w.before (n ∷ more) o.node o.on)) o.attached a.0 n a.1 here h
+          (subst (λ (ns : List Node). In o.node ns) (sym w.whole) (In-front w.before (n ∷ more) o.node o.on)) o.attached a.0 n a.1 here h
           (false_if (same_key o.node.key n.key) (λ e. began_before f there (sym o.is ∙ same_key-true o.node.key n.key e))))) in
           let mine : fall_mark nodes falls n ≡ fall_of nodes falls n.head = rw here refl in
           let theirs : fall_mark nodes falls h.above ≡ fall_of nodes falls h.above.head = rw h.here refl in

@@ -2,6 +2,7 @@
 use Rattle.std.proofs.Common.{◌+◌, ◌≡◌, refl, ap, sym, ◌∙◌, subst, Bool, true, false, not, ◌&&◌, ◌||◌, inl, inr, nat_lt, if◌then◌else◌, List, [], ◌∷◌, ◌++◌, map, reverse, is_none, is_some, Option, Some, None}
 use Rattle.std.specs.List.{list_all, list_any, cons_option, find, sum_by}
 use Rattle.std.specs.Option.{option_map_or}
+use Rattle.std.proofs.Math.Bool.{and-false, or-true}
 use Rattle.sm_names.specs.declared.keys.NodeKey.{NodeKey}
 use Rattle.sm_names.specs.declared.outcomes.Buffers.{Buffers}
 use Rattle.sm_names.specs.declared.outcomes.Failure.{Failure}
@@ -11,8 +12,8 @@ use Rattle.sm_names.specs.Losses.{top as topmost}
 use Rattle.sm_names.specs.Members.{greatest}
 use Rattle.sm_names.specs.Sameness.{same_key}
 use Rattle.sm_names.specs.Words.{first_some, when}
-use Rattle.sm_names.proofs.ListLaws.{In, In-map-back}
-use Rattle.sm_names.proofs.SamenessLaws.{and_both, either_way, or_left, same_key-refl, same_key-true}
+use Rattle.sm_names.proofs.ListLaws.{In, In-map-back, list_any-map}
+use Rattle.sm_names.proofs.SamenessLaws.{and_both, either_way, or_left, or_none_right, same_key-refl, same_key-true}
 use Rattle.sm_names.proofs.StandingLaws.{In-any}
 use Rattle.alloc_event.specs.declared.node.Node.{Node}
 use Rattle.alloc_event.specs.Decisions.{late_failure}
@@ -27,11 +28,6 @@ use Rattle.alloc_event.proofs.turns.Trees.{unit_below}
 use Rattle.alloc_event.proofs.turns.Gifts.{given_snoc}
 
 -- ---- tests that agree
-
-any_at : {A B : Type 0} (p : B → Bool) (q : A → Bool) (f : A → B) (xs : List A) → ((x : A) → In x xs → p (f x) ≡ q x) →
-    list_any p (map f xs) ≡ list_any q xs
-any_at p q f [] same = refl
-any_at p q f (x ∷ xs) same = λ i. same x (inl refl) i || any_at p q f xs (λ y on. same y (inr on)) i
 
 all_at : {A B : Type 0} (p : B → Bool) (q : A → Bool) (f : A → B) (xs : List A) → ((x : A) → In x xs → p (f x) ≡ q x) →
     list_all p (map f xs) ≡ list_all q xs
@@ -59,14 +55,6 @@ find_snoc p (y ∷ ys) x = elim (either_way (p y)) [
   | inr e ↦ rw e (find_snoc p ys x)
 ]
 
-and_never : (b : Bool) → (b && false) ≡ false
-and_never true = refl
-and_never false = refl
-
-or_ever : (b : Bool) → (b || true) ≡ true
-or_ever true = refl
-or_ever false = refl
-
 -- ---- a loss of a head that stands
 
 -- the climb ends where it is blocked
@@ -90,17 +78,13 @@ pub below_stays : (nodes : List Node) (heads : List NodeKey) (falls : List Fault
     is_below (stand nodes heads falls) top key ≡ is_below nodes top key
 below_stays nodes heads falls top key = below_by_links (stand nodes heads falls) nodes top key (links_stay nodes heads falls)
 
-not_either : (a b : Bool) → (a || b) ≡ false → b ≡ false
-not_either true b h = cc
-not_either false b h = h
-
 module _ (nodes : List Node) (distinct : are_distinct nodes ≡ true) (grown : AreGrown nodes)
     (owned : list_all heads_itself nodes ≡ true) (heads : List NodeKey) (falls : List Fault) where
   abbrev now : List Node
   now = stand nodes heads falls
 
   gone_same : (m : Node) → (stands nodes heads falls m).gone ≡ false → m.gone ≡ false
-  gone_same m h = not_either (is_some (fall_of nodes falls m.head)) m.gone h
+  gone_same m h = or_none_right (is_some (fall_of nodes falls m.head)) m.gone h
 
   -- one that stands falls with all below it
   module _ (n : Node) (on : In n nodes) (attached : n.attached ≡ true) (here : (stands nodes heads falls n).gone ≡ false) (f : Fault)
@@ -157,7 +141,7 @@ module _ (nodes : List Node) (heads : List NodeKey) (falls : List Fault) where
   ready_at k none n = elim (either_way (same_key n.head k)) [
     | inl e ↦ ap (λ (o : Option Fault). (is_some o || n.gone) || (not (same_key n.head k) || (n.released || is_some n.constraints)))
         (unit_at k none n e)
-    | inr e ↦ rw e (or_ever (is_some (fall_of nodes falls n.head) || n.gone) ∙ sym (or_ever n.gone))
+    | inr e ↦ rw e (or-true (is_some (fall_of nodes falls n.head) || n.gone) ∙ sym (or-true n.gone))
   ]
 
   asked_same : (k : NodeKey) → fall_of nodes falls k ≡ None →
@@ -169,7 +153,7 @@ module _ (nodes : List Node) (heads : List NodeKey) (falls : List Fault) where
       one n = elim (either_way (same_key n.head k)) [
         | inl e ↦ ap (λ (o : Option Fault). if not (is_some o || n.gone) && same_key n.head k then n.constraints else None)
             (unit_at k none n e)
-        | inr e ↦ rw e (λ i. if (and_never (not (is_some (fall_of nodes falls n.head) || n.gone)) ∙ sym (and_never (not n.gone))) i
+        | inr e ↦ rw e (λ i. if (and-false (not (is_some (fall_of nodes falls n.head) || n.gone)) ∙ sym (and-false (not n.gone))) i
             then n.constraints else None)
       ]
 
@@ -214,13 +198,16 @@ module _ (nodes : List Node) (heads : List NodeKey) (falls : List Fault) where
         ≡ option_map_or (λ p. list_any (is_allocated_node p) (map (given_all heads) nodes)) o false
     above_same None = refl
     above_same (Some p) =
-        any_at (is_allocated_node p) (λ (n : Node). is_allocated_node p (given_all heads n)) (stands nodes heads falls) nodes (allocated_at p)
-        ∙ sym (any_at (is_allocated_node p) (λ (n : Node). is_allocated_node p (given_all heads n)) (given_all heads) nodes (λ n on. refl))
+        list_any-map (is_allocated_node p) (λ (n : Node). is_allocated_node p (given_all heads n)) (stands nodes heads falls) nodes
+        (allocated_at p)
+        ∙ sym (list_any-map (is_allocated_node p) (λ (n : Node). is_allocated_node p (given_all heads n)) (given_all heads) nodes
+        (λ n on. refl))
 
     ready_same : (k : NodeKey) → fall_of nodes falls k ≡ None →
         list_all (is_ready_node k) (stand nodes heads falls) ≡ list_all (is_ready_node k) (map (given_all heads) nodes)
     ready_same k none =
-        all_at (is_ready_node k) (λ (n : Node). is_ready_node k (given_all heads n)) (stands nodes heads falls) nodes (λ n on. ready_at k none n)
+        all_at (is_ready_node k) (λ (n : Node). is_ready_node k (given_all heads n)) (stands nodes heads falls) nodes
+        (λ n on. ready_at k none n)
         ∙ sym (all_at (is_ready_node k) (λ (n : Node). is_ready_node k (given_all heads n)) (given_all heads) nodes (λ n on. refl))
 
     -- the next ones are those that stand, and would be next if none had fallen
@@ -234,6 +221,6 @@ module _ (nodes : List Node) (heads : List NodeKey) (falls : List Fault) where
             && (option_map_or (λ p. list_any (is_allocated_node p) (stand nodes heads falls)) n.parent false
             && list_all (is_ready_node n.key) (stand nodes heads falls)))))
             ≡ (is_none o && is_next_node (map (given_all heads) nodes) (given_all heads n))
-        from (Some f) e = and_never n.attached
+        from (Some f) e = and-false n.attached
         from None e = λ i. n.attached && (not n.gone && (not (list_any (same_key n.head) heads || n.allocated)
             && (above_same n.parent i && ready_same n.key (ap (fall_of nodes falls) (sym own) ∙ e) i)))

@@ -12,8 +12,8 @@ use Rattle.sm_names.specs.Demands.{Demand}
 use Rattle.sm_names.specs.Members.{greatest}
 use Rattle.sm_names.specs.Sameness.{same_key}
 use Rattle.sm_names.specs.Words.{first_some, when}
-use Rattle.sm_names.proofs.ListLaws.{In, In-append, In-list_any, map-In}
-use Rattle.sm_names.proofs.SamenessLaws.{and_both, and_left, and_right, both_ways, either_way, false_if, or_both, or_cases, or_left, or_none_left, or_right, same_key-refl, same_key-true}
+use Rattle.sm_names.proofs.ListLaws.{In, In-append, In-behind, In-front, In-list_any, map-In}
+use Rattle.sm_names.proofs.SamenessLaws.{and_both, and_left, and_right, both_ways, either_way, false_if, none_is, or_both, or_cases, or_left, or_none_left, or_right, same_key-refl, same_key-true}
 use Rattle.sm_names.proofs.StandingLaws.{In-any}
 use Rattle.alloc_event.specs.declared.in_turn.Claim.{Claim}
 use Rattle.alloc_event.specs.declared.in_turn.Turn.{Turn}
@@ -27,7 +27,7 @@ use Rattle.alloc_event.specs.Scenes.{are_distinct, heads_itself}
 use Rattle.alloc_event.proofs.calm.Calming.{any_map}
 use Rattle.alloc_event.proofs.calm.Steps.{all-In}
 use Rattle.alloc_event.proofs.turns.Claims.{camping_is, changed_flag, claim_at, least_is, more_is, ready_is, size_is}
-use Rattle.alloc_event.proofs.turns.Gifts.{In_behind, In_front, any_snoc, asks_same, at_front, first_at, got_In, none_of, not_this, only_this, parts_apart, ready_same, sums_on}
+use Rattle.alloc_event.proofs.turns.Gifts.{any_snoc, asks_same, at_front, first_at, got_In, none_of, not_this, only_this, parts_apart, ready_same, sums_on}
 use Rattle.alloc_event.proofs.turns.Holding.{still_none}
 use Rattle.alloc_event.proofs.turns.Standing.{find_snoc, late_same, next_stands}
 use Rattle.alloc_event.proofs.turns.Trees.{heads_own, not_below, unit_below}
@@ -136,15 +136,11 @@ none_or false = refl
 
 -- a node of these is one of more
 pub wider : (xs ys : List Node) (key : NodeKey) → IsOrigin xs key → IsOrigin (xs ++ ys) key
-wider xs ys key o = record { node = o.node; on = In_front xs ys o.node o.on; is = o.is; attached = o.attached; here = o.here }
+wider xs ys key o = record { node = o.node; on = In-front xs ys o.node o.on; is = o.is; attached = o.attached; here = o.here }
 
 some_or : {A : Type 0} (o : Option A) → option_map_or Some o None ≡ o
 some_or None = refl
 some_or (Some x) = refl
-
-pub none_some : {A : Type 0} (o : Option A) → is_some o ≡ false → o ≡ None
-none_some None h = refl
-none_some (Some x) h = cc
 
 module _ (nodes more : List Node) (n : Node) (at : ℕ) (fell : List (Option Fault)) (falls : List Fault)
     (distinct : are_distinct nodes ≡ true) (w : IsMarking nodes (n ∷ more) at fell falls) where
@@ -157,10 +153,10 @@ module _ (nodes more : List Node) (n : Node) (at : ℕ) (fell : List (Option Fau
       (key_here w.before more n))
 
   pub here_In : In n nodes
-  here_In = subst (λ (ns : List Node). In n ns) (sym w.whole) (In_behind w.before (n ∷ more) n (inl refl))
+  here_In = subst (λ (ns : List Node). In n ns) (sym w.whole) (In-behind w.before (n ∷ more) n (inl refl))
 
   before_In : (m : Node) → In m w.before → In m nodes
-  before_In m on = subst (λ (ns : List Node). In m ns) (sym w.whole) (In_front w.before (n ∷ more) m on)
+  before_In m on = subst (λ (ns : List Node). In m ns) (sym w.whole) (In-front w.before (n ∷ more) m on)
 
   pub longer : at + 1 ≡ length (w.before ++ n ∷ [])
   longer = ap (λ (i : ℕ). i + 1) w.place ∙ sym (length-append w.before (n ∷ []))
@@ -357,7 +353,7 @@ module _ (b : Buffers) (nodes more : List Node) (n : Node) (at : ℕ) (given : L
       fits_before fits m on stays_m some = fits m on stays_m (elim (either_way (is_some (fall_of nodes fallen m.head))) [
         | inl e ↦ e
         | inr e ↦ both_ways (is_some (fall_of nodes falls m.head)) some
-            (ap is_some (still_none nodes falls fault m.head (none_some (fall_of nodes fallen m.head) e)))
+            (ap is_some (still_none nodes falls fault m.head (none_is (fall_of nodes fallen m.head) e)))
       ])
 
       none_above : list_any (λ (f : Fault). is_below nodes n.key f.origin) falls ≡ false
@@ -403,7 +399,7 @@ module _ (b : Buffers) (nodes more : List Node) (n : Node) (at : ℕ) (given : L
               | inr new ↦ elim new [
                 | inl same ↦ record {
                   node = n;
-                  on = In_behind w.marks.before (n ∷ []) n (inl refl);
+                  on = In-behind w.marks.before (n ∷ []) n (inl refl);
                   is = ap (λ (g : Fault). g.origin) (sym same);
                   attached = attached;
                   here = there;

@@ -15,13 +15,12 @@ use Rattle.sm_names.specs.Words.{times}
 use Rattle.sm_names.proofs.BirthLaws.{birth_is}
 use Rattle.sm_names.proofs.GrowthLaws.{Grows}
 use Rattle.sm_names.proofs.LifeLaws.{IsOrdered, ordered, whole, In_old}
-use Rattle.sm_names.proofs.ListLaws.{In, In-find, times-reverse, times-map_filter, In-list_any}
+use Rattle.sm_names.proofs.ListLaws.{In, In-find, In-list_any, times-map_filter, times-reverse, times-zero}
 use Rattle.sm_names.proofs.SamenessLaws.{either_way, both_ways, and_left, and_right, and_both, or_left}
 use Rattle.sm_names.proofs.SettledLaws.{In-was_born, none_if, map-Some}
 use Rattle.sm_names.proofs.SumLaws.{one}
 use Rattle.sm_names.proofs.StandingLaws.{In-any}
 use Rattle.lifetime_core.specs.Shown.{kept_ids}
-use Rattle.lifetime_core.proofs.lists.Maps.{times_none}
 
 -- the collection of a kept node is kept
 pub collection_of_kept : (marks : Timeline) (b : Birth) → In b (births marks) → is_kept marks b.node ≡ true →
@@ -126,7 +125,7 @@ times_only : (p : Birth → Bool) (bs : List Birth) (b : Birth) → AreSound bs 
 times_only p [] b sound on is only = absurd on
 times_only p (c ∷ older) b sound (inl here) is only =
     let e : p c ≡ true = ap p (sym here) ∙ is in
-    let none : times p older ≡ 0 = times_none p older (λ d there. fails d there (either_way (p d))) in
+    let none : times p older ≡ 0 = times-zero p older (λ d there. fails d there (either_way (p d))) in
     rw (e, none) refl
   where
     fails : (d : Birth) → In d older → ((p d ≡ true) ⊎ (p d ≡ false)) → p d ≡ false
@@ -160,7 +159,7 @@ module _ (pool : ℕ) (limits : Bound) (marks : Timeline) (grown : Grows pool li
       let ours : c.collection ≡ collection =
       eqb-true c.collection collection (and_right (is_none c.parent && is_kept_collection marks c.collection) _ h) in
       o.roots c r.root on r.there (none_if c.parent (and_left (is_none c.parent) _ first)) r.is_root (ours ∙ sym r.ours))
-  roots_once collection false lost = times_none (roots_it collection) (births marks) (λ c on. fails c (either_way (roots_it collection c)))
+  roots_once collection false lost = times-zero (roots_it collection) (births marks) (λ c on. fails c (either_way (roots_it collection c)))
     where
       fails : (c : Birth) → ((roots_it collection c ≡ true) ⊎ (roots_it collection c ≡ false)) → roots_it collection c ≡ false
       fails c (inr e) = e

@@ -13,7 +13,7 @@ use Rattle.sm_names.specs.Marks.{Mark, Timeline, Called, Loss, Allocated, Ended}
 use Rattle.sm_names.specs.Members.{births_in}
 use Rattle.sm_names.proofs.GoneLaws.{gone_stays}
 use Rattle.sm_names.proofs.GrowthLaws.{Grows, Stays, Answers, Loses, Allocates, Ends}
-use Rattle.sm_names.proofs.ListLaws.{In, In-map, filter-In}
+use Rattle.sm_names.proofs.ListLaws.{In, In-map, filter-In, map-map}
 use Rattle.sm_names.proofs.SamenessLaws.{and_left, and_right, either_way, or_right}
 use Rattle.alloc_event.specs.declared.node.Node.{Node}
 use Rattle.alloc_event.specs.Forest.{Collection, Forest, with_nodes, is_left}
@@ -24,7 +24,7 @@ use Rattle.lifetime_core.specs.Steps.{place_of, with_place, without_over}
 use Rattle.lifetime_core.proofs.ends.NotRead.{placed_node, placed_in}
 use Rattle.lifetime_core.proofs.collections.Ids.{ids, kept_are}
 use Rattle.lifetime_core.proofs.ends.Forgotten.{left_after}
-use Rattle.lifetime_core.proofs.lists.Maps.{filter-filter, map-map}
+use Rattle.lifetime_core.proofs.lists.Maps.{filter-filter}
 use Rattle.lifetime_core.proofs.theorem.Follows.{Matches}
 use Rattle.lifetime_core.proofs.views.Nodes.{not_over}
 use Rattle.lifetime_core.proofs.collections.Replacing.{filter-map_asked, map-asked, map-stays}

@@ -18,7 +18,7 @@ use Rattle.sm_names.specs.Trackers.{Tracked, World, fired, tracked, tracked_at, 
 use Rattle.sm_names.proofs.AnswerLaws.{took_effect_all}
 use Rattle.sm_names.proofs.BirthLaws.{Named, named}
 use Rattle.sm_names.proofs.GrowthLaws.{Grows, Stays, grows_after}
-use Rattle.sm_names.proofs.ListLaws.{In, filter-In}
+use Rattle.sm_names.proofs.ListLaws.{In, filter-In, map-map}
 use Rattle.sm_names.proofs.SamenessLaws.{or_cases, or_first, or_left, or_right}
 use Rattle.sm_names.proofs.TakeLaws.{none_key}
 use Rattle.event_laws.specs.Waiting.{IsRecalled, asked, firing, is_due, waiting}
@@ -33,7 +33,7 @@ use Rattle.lifetime_core.specs.Reads.{world_in}
 use Rattle.lifetime_core.specs.Shown.{AreTrackers, IsAfter, node_after, tracked_as}
 use Rattle.lifetime_core.specs.State.{State}
 use Rattle.lifetime_core.specs.Steps.{Follows, GainsTracker, swept, tracker_by}
-use Rattle.lifetime_core.proofs.lists.Maps.{filter-map, map-map}
+use Rattle.lifetime_core.proofs.lists.Maps.{filter-map}
 use Rattle.lifetime_core.proofs.views.Nodes.{node_kept}
 use Rattle.lifetime_core.proofs.views.ForTrackers.{IsSeen, recalled}
 

@@ -18,7 +18,7 @@ use Rattle.sm_names.specs.Timelines.{collection_of, own_loss}
 use Rattle.sm_names.proofs.BirthLaws.{birth_is, Comes}
 use Rattle.sm_names.proofs.GrowthLaws.{Grows, Answers}
 use Rattle.sm_names.proofs.LifeLaws.{In_old, whole}
-use Rattle.sm_names.proofs.ListLaws.{In}
+use Rattle.sm_names.proofs.ListLaws.{In, map-map}
 use Rattle.sm_names.proofs.SamenessLaws.{or_right}
 use Rattle.sm_names.proofs.SettledLaws.{map-Some}
 use Rattle.alloc_event.specs.declared.change.Change.{Change}
@@ -36,7 +36,6 @@ use Rattle.lifetime_core.proofs.forced.CallStep.{matches_called, kept_answered, 
 use Rattle.lifetime_core.proofs.collections.Elsewhere.{came, born_in}
 use Rattle.lifetime_core.proofs.ends.NotRead.{placed_node, placed_in, lost_placed}
 use Rattle.lifetime_core.proofs.collections.Replacing.{map-stays}
-use Rattle.lifetime_core.proofs.lists.Maps.{map-map}
 use Rattle.lifetime_core.proofs.theorem.Follows.{Matches}
 use Rattle.lifetime_core.proofs.nodes.Members.{node_found}
 use Rattle.lifetime_core.proofs.nodes.Newborn.{new_root_is, child_stands, attached_stands}

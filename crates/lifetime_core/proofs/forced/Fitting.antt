@@ -13,7 +13,7 @@ use Rattle.sm_names.specs.Marks.{Mark, Called, Loss, Allocated, Ended}
 use Rattle.sm_names.specs.Members.{is_live, is_under, some_live, subtree, root_left, asked, demands, unit, reserved}
 use Rattle.sm_names.specs.Sameness.{same_key}
 use Rattle.sm_names.specs.Timelines.{layout}
-use Rattle.sm_names.proofs.ListLaws.{In, In-map, In-map-back, In-filter-back, In-find, In-append, In-first_some, none-In, when-Some}
+use Rattle.sm_names.proofs.ListLaws.{In, In-append, In-filter-back, In-find, In-first_some, In-front, In-map, In-map-back, none-In, when-Some}
 use Rattle.sm_names.proofs.SamenessLaws.{and_right, or_right}
 use Rattle.sm_names.proofs.SettledLaws.{and_then-Some, map-Some}
 use Rattle.alloc_event.specs.declared.change.Change.{Change}
@@ -276,12 +276,6 @@ module _ (Known : NodeKey → Type 0) (id : ℕ) (leaving : Option NodeKey) wher
       after_that from (made pool others mark from) to (forced_keeps pool handles others from mark is) (settles_keeps pool handles others
       (made pool others mark from) to on)
 
--- an element of the first of two lists
-pub in_front : {A : Type 0} (xs ys : List A) (x : A) → In x xs → In x (xs ++ ys)
-in_front [] ys x there = absurd there
-in_front (z ∷ xs) ys x (inl is) = inl is
-in_front (z ∷ xs) ys x (inr on) = inr (in_front xs ys x on)
-
 module _ (Known : NodeKey → Type 0) (id : ℕ) (leaving : Option NodeKey) where
   -- one more node that is fit, with a key of its own
   born : (c : Collection) (new : Node) → (AreFit Known id leaving c.nodes → IsNodeFit Known id leaving new) →
@@ -290,7 +284,7 @@ module _ (Known : NodeKey → Type 0) (id : ℕ) (leaving : Option NodeKey) wher
   born c new fits own = record {
     same_id = refl;
     fit = λ fit n there. by fit n (In-append c.nodes (new ∷ []) n there);
-    keys = λ n in_nodes. (n, in_front c.nodes (new ∷ []) n in_nodes, refl);
+    keys = λ n in_nodes. (n, In-front c.nodes (new ∷ []) n in_nodes, refl);
     once = λ once n m n_in m_in key. two once n m (In-append c.nodes (new ∷ []) n n_in) (In-append c.nodes (new ∷ []) m m_in) key;
   }
     where

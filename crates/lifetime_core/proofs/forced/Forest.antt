@@ -1,11 +1,11 @@
 -- What an event does to the forest, before ends are spent.
-use Rattle.std.proofs.Common.{ℕ, ◌≡◌, refl, ap, sym, ◌∙◌, subst, Bool, true, false, ◌==◌, ◌||◌, List, [], ◌∷◌, ◌++◌, Option, Some, None, is_some, IfSome, ◌⊎◌, inl, inr}
+use Rattle.std.proofs.Common.{ℕ, ◌≡◌, refl, ap, sym, ◌∙◌, subst, Bool, true, false, ◌==◌, ◌||◌, List, [], ◌∷◌, Option, Some, None, is_some, IfSome, ◌⊎◌, inl, inr}
 use Rattle.std.proofs.lemmas.Bool.{eqb-true, eq-eqb}
 use Rattle.std.specs.List.{flat_map}
 use Rattle.std.specs.Option.{option_map_or, unwrap_or}
 use Rattle.sm_names.specs.declared.keys.NodeKey.{NodeKey}
 use Rattle.sm_names.specs.Sameness.{same_key}
-use Rattle.sm_names.proofs.ListLaws.{In, In-append, In-find, is_some-find}
+use Rattle.sm_names.proofs.ListLaws.{In, In-append, In-behind, In-find, In-front, is_some-find}
 use Rattle.sm_names.proofs.SamenessLaws.{or_left, or_right, both_ways, same_key-refl, same_key-true}
 use Rattle.sm_names.proofs.StandingLaws.{In-any}
 use Rattle.alloc_event.specs.declared.change.Change.{Change}
@@ -16,14 +16,9 @@ use Rattle.alloc_event.specs.Settling.{Handles, Settled, collection_or_new, give
 use Rattle.alloc_event.proofs.tallies.Slots.{or_new_id}
 use Rattle.lifetime_core.specs.Tasks.{released_by}
 use Rattle.lifetime_core.specs.Whole.{AreFit, AreOnce, IsAmid, IsNodeFit, IsSound, IsTidy, Rise, is_leaving}
-use Rattle.lifetime_core.proofs.forced.Fitting.{Keeps, event_keeps, in_front}
+use Rattle.lifetime_core.proofs.forced.Fitting.{Keeps, event_keeps}
 use Rattle.lifetime_core.proofs.ends.Spending.{known_more}
 use Rattle.lifetime_core.proofs.collections.ById.{ids, found_by_id, put_from, put_rises, put_there}
-
--- an element of the second of two lists
-in_behind : {A : Type 0} (xs ys : List A) (x : A) → In x ys → In x (xs ++ ys)
-in_behind [] ys x there = there
-in_behind (z ∷ xs) ys x there = inr (in_behind xs ys x there)
 
 -- a node of all collections is one of some collection
 pub node_in : (cs : List Collection) (n : Node) → In n (flat_map (λ (c : Collection). c.nodes) cs) → (c : Collection) × In c cs ×
@@ -38,8 +33,8 @@ node_in (c ∷ cs) n there = elim (In-append c.nodes (flat_map (λ (d : Collecti
 pub in_all_nodes : (cs : List Collection) (c : Collection) (n : Node) → In c cs → In n c.nodes →
     In n (flat_map (λ (d : Collection). d.nodes) cs)
 in_all_nodes [] c n c_on n_in = absurd c_on
-in_all_nodes (d ∷ cs) c n (inl is) n_in = in_front d.nodes _ n (subst (λ (x : Collection). In n x.nodes) is n_in)
-in_all_nodes (d ∷ cs) c n (inr on) n_in = in_behind d.nodes _ n (in_all_nodes cs c n on n_in)
+in_all_nodes (d ∷ cs) c n (inl is) n_in = In-front d.nodes _ n (subst (λ (x : Collection). In n x.nodes) is n_in)
+in_all_nodes (d ∷ cs) c n (inr on) n_in = In-behind d.nodes _ n (in_all_nodes cs c n on n_in)
 
 -- the node with a key, in its collection
 pub node_with_key : (f : Forest) (key : NodeKey) (n : Node) → node_at f key ≡ Some n → (c : Collection) × In c f.collections ×

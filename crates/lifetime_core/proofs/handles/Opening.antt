@@ -238,16 +238,6 @@ module _ (collection : ℕ) (strength : Strength) (set : ℕ) where
       (opens_on more before new client (index + 1) (rest_next set index none)
       (opens_same before new client index (rest_bit set index none) opened))
 
-  -- so too the other way
-  pub opens_still : (before new : Counts) (client index : ℕ) → (bit_at set index == 1) ≡ false →
-      Opens before new client (is_below collection strength set (index + 1)) →
-      Opens before new client (is_below collection strength set index)
-  opens_still before new client index lacks opened = record {
-    counts = λ c b s. rw (← none_below index b s lacks) (opened.counts c b s);
-    parcels = opened.parcels;
-    totals = λ b s. rw (← none_below index b s lacks) (opened.totals b s);
-  }
-
   -- where none is left open the counts are those before
   pub all_closed : (before new : Counts) (client : ℕ) → Opens before new client (is_below collection strength set 0) →
       counts_of new ≡ counts_of before

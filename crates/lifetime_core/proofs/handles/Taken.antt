@@ -39,7 +39,7 @@ use Rattle.sm_names.proofs.HeldLaws.{given_root}
 use Rattle.sm_names.proofs.LifeLaws.{IsOrdered, ordered, members_on, whole}
 use Rattle.sm_names.proofs.ListLaws.{In, In-find, In-list_any, In-map, is_some-find}
 use Rattle.sm_names.proofs.RestLaws.{at_rest, every_rests}
-use Rattle.sm_names.proofs.SamenessLaws.{either_way, and_left, and_right, both_ways, false_if, none_or_some, same_key-true}
+use Rattle.sm_names.proofs.SamenessLaws.{and_left, and_right, both_ways, either_way, false_if, none_or_some, not_none, same_key-true}
 use Rattle.sm_names.proofs.SettledLaws.{find_birth, map-Some, member_birth, none_if, Why, Initial, Logical, forced_why}
 use Rattle.sm_names.proofs.StandingLaws.{In-any}
 use Rattle.sm_names.proofs.SumLaws.{one}
@@ -50,10 +50,10 @@ use Rattle.lifetime_core.proofs.collections.Roots.{HasRoot, has_root}
 -- ---- a collection is given one buffer at least
 
 -- where nothing stands against it, there is one
-not_none : (a b c d : Bool) (x y z w : Failure) → first_some (when a x ∷ when b y ∷ when c z ∷ when d w ∷ []) ≡ None → b ≡ false
-not_none true b c d x y z w h = cc
-not_none false true c d x y z w h = cc
-not_none false false c d x y z w h = refl
+second_false : (a b c d : Bool) (x y z w : Failure) → first_some (when a x ∷ when b y ∷ when c z ∷ when d w ∷ []) ≡ None → b ≡ false
+second_false true b c d x y z w h = cc
+second_false false true c d x y z w h = cc
+second_false false false c d x y z w h = refl
 
 -- what is not nothing is more
 above_nothing : (n : ℕ) → (n == 0) ≡ false → 0 < n
@@ -78,7 +78,7 @@ module _ (pool : ℕ) (limits : Bound) where
             let fits' : initial_failure pool (standing pool before c) (asked (members before c)) ≡ None =
             subst (λ (k : ℕ). initial_failure pool (standing pool before k) (asked (members before k)) ≡ None) same fits in
             let none : (v.count == 0) ≡ false =
-            not_none (not (some_strong_live (members before c))) (v.count == 0) (nat_lt 64 v.count)
+            second_false (not (some_strong_live (members before c))) (v.count == 0) (nat_lt 64 v.count)
             (is_none (places pool (pages_of v.size) v.count (standing pool before c).held)) Failure.NoStrong Failure.NoBuffers
             Failure.TooManyBuffers Failure.PoolFull fits' in
             let is_it : asked (members before c) ≡ w = cc in
@@ -87,12 +87,8 @@ module _ (pool : ℕ) (limits : Bound) where
       ]
   some_after before collection _ g (Logical b on ours child free waits attached) old c w h =
       let is : birth_of before b.node ≡ Some b = find_birth (births before) b (ordered pool limits before g).sound on in
-      let up : is_none b.parent ≡ false = has_one b.parent child in
+      let up : is_none b.parent ≡ false = not_none b.parent child in
       old c w (rw (is, up) at h)
-    where
-      has_one : (o : Option NodeKey) → is_some o ≡ true → is_none o ≡ false
-      has_one None h = cc
-      has_one (Some x) h = refl
 
   -- so each has some
   pub have_some : (marks : Timeline) → Grows pool limits [] marks → HaveSome marks

@@ -97,16 +97,7 @@ module _ (client : ℕ) (buffer : BufferName) (strength : Strength) where
   abbrev is_its : ℕ → BufferName → Strength → Bool
   is_its c b s = client == c && is_the buffer strength b s
 
-  -- a DupHandle opens one
-  pub moves_doubled : (old new : Counts) → Opens old new client (is_the buffer strength) →
-      MovesHandles old new (Called client Reply.Done (Call.DupHandle buffer strength))
-  moves_doubled old new opened = record {
-    each = λ c b s. goes_up (is_its c b s) _ (or_false _) (opened.counts c b s);
-    in_parcels = λ b s. goes_not (opened.parcels b s);
-    in_all = λ b s. goes_up (is_the buffer strength b s) _ refl (opened.totals b s);
-  }
-
-  -- and no other
+  -- a DupHandle opens one, and no other
   pub doubled_opens : (old new : Counts) → MovesHandles old new (Called client Reply.Done (Call.DupHandle buffer strength)) →
       Opens old new client (is_the buffer strength)
   doubled_opens old new moves = record {
@@ -203,15 +194,7 @@ module _ (client : ℕ) (buffer : BufferName) (strength : Strength) where
 -- ---- an event that is about no handles
 
 module _ (mark : Mark) (idle : is_about_handles mark ≡ false) where
-  -- it moves none
-  pub moves_none : (holds : Counts) → MovesHandles holds holds mark
-  moves_none holds = record {
-    each = λ c b s. rw (idle_gains (only c) b s mark idle, idle_loses (only c) b s mark idle) (goes_not refl);
-    in_parcels = λ b s. rw (idle_lifts anyone b s mark idle, idle_lands anyone b s mark idle) (goes_not refl);
-    in_all = λ b s. rw (idle_opens anyone b s mark idle, idle_drops anyone b s mark idle) (goes_not refl);
-  }
-
-  -- and leaves nothing to undo
+  -- it leaves nothing to undo
   pub moved_none : (before old : Counts) → MovesHandles before old mark → counts_of old ≡ counts_of before
   moved_none before old moves = same_counts before old
       (λ c b s. unmoved (idle_gains (only c) b s mark idle) (idle_loses (only c) b s mark idle) (moves.each c b s))
@@ -257,16 +240,6 @@ module _ (client : ℕ) (reply : Reply) where
       by : (reply : Reply) → (reply ≡ Reply.Done → ⊥) → is_about_handles (Called client reply (Call.GiveHandle buffer strength to)) ≡ false
       by Reply.Done undone = absurd (undone refl)
       by _ undone = refl
-
-  -- a Collect that got no handle
-  pub not_landed : ((buffer : BufferName) (strength : Strength) → reply ≡ Reply.CollectedHandle buffer strength → ⊥) →
-      is_about_handles (Called client reply Call.Collect) ≡ false
-  not_landed no_handle = by reply no_handle
-    where
-      by : (reply : Reply) → ((buffer : BufferName) (strength : Strength) → reply ≡ Reply.CollectedHandle buffer strength → ⊥) →
-          is_about_handles (Called client reply Call.Collect) ≡ false
-      by (Reply.CollectedHandle buffer strength) no_handle = absurd (no_handle buffer strength refl)
-      by _ no_handle = refl
 
   -- any other call
   pub not_handles : (call : Call) → ((key : NodeKey) → call ≡ Call.Take key → ⊥) → ((buffer : BufferName) (strength : Strength) →

@@ -19,6 +19,7 @@ use Rattle.sm_names.proofs.ParcelLaws.{IsDrawn, parcels-given, parcels-collected
 use Rattle.sm_names.proofs.SamenessLaws.{both_ways, either_way, false_if, none_or_some}
 use Rattle.sm_names.proofs.SumLaws.{AreOnce}
 use Rattle.sm_names.proofs.TakeLaws.{none_key}
+use Rattle.sm_names.proofs.ListLaws.{map-map}
 use Rattle.event_laws.specs.ByEvent.{SameHands, one_if}
 use Rattle.event_laws.proofs.HandLaws.{same_after}
 use Rattle.event_laws.proofs.HandleBufferLaws.{still_joined}
@@ -26,7 +27,6 @@ use Rattle.event_laws.proofs.ParcelEventLaws.{stranger_waits_for_none}
 use Rattle.lifetime_core.specs.Shown.{client_after}
 use Rattle.lifetime_core.specs.State.{Client}
 use Rattle.lifetime_core.specs.Steps.{client_by, clients_by, new_client}
-use Rattle.lifetime_core.proofs.lists.Maps.{map-map}
 
 -- ---- who has not joined
 

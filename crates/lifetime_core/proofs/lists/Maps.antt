@@ -4,7 +4,6 @@ use Rattle.std.proofs.lemmas.Bool.{eqb-true}
 use Rattle.std.proofs.lemmas.List.{map-append}
 use Rattle.std.specs.List.{filter, find, list_any, flat_map}
 use Rattle.std.specs.Option.{option_map}
-use Rattle.sm_names.specs.Words.{times}
 use Rattle.sm_names.proofs.ListLaws.{In}
 use Rattle.sm_names.proofs.SamenessLaws.{either_way, both_ways}
 use Rattle.alloc_event.proofs.tables.KeptRoots.{filter-reverse_aux, map-reverse_aux}
@@ -50,11 +49,6 @@ map-reverse f xs = map-reverse_aux f xs []
 -- what is kept may be turned round before or after
 pub filter-reverse : {A : Type 0} (test : A → Bool) (xs : List A) → filter test (reverse xs) ≡ reverse (filter test xs)
 filter-reverse test xs = filter-reverse_aux test xs []
-
--- two maps one after the other
-pub map-map : {A B C : Type 0} (g : B → C) (f : A → B) (xs : List A) → map g (map f xs) ≡ map (λ x. g (f x)) xs
-map-map g f [] = refl
-map-map g f (x ∷ xs) = ap (λ (l : List _). g (f x) ∷ l) (map-map g f xs)
 
 -- what is found in a map is made of what is found
 pub find-map : {A B : Type 0} (p : B → Bool) (f : A → B) (xs : List A) → find p (map f xs) ≡ option_map f (find (λ x. p (f x)) xs)
@@ -103,8 +97,3 @@ find_number n (m ∷ ms) = elim (either_way (m == n)) [
   | inl e ↦ rw e (ap Some (eqb-true m n e))
   | inr e ↦ rw e (find_number n ms)
 ]
-
--- and none is counted
-pub times_none : {A : Type 0} (p : A → Bool) (xs : List A) → ((y : A) → In y xs → p y ≡ false) → times p xs ≡ 0
-times_none p [] none = refl
-times_none p (y ∷ ys) none = rw (none y (inl refl)) (times_none p ys (λ z on. none z (inr on)))

@@ -70,15 +70,6 @@ module _ (mark : Mark) (unseen : IsUnseen mark) where
 
 -- ---- an idle call
 
--- the call does nothing, puts no end anywhere, and makes no tracker
-record IsIdle (s : State) (client : ℕ) (call : Call) (asked : Reply) : Type 0 where
-  work : None ≡ work_of s client call asked
-  spends : None ≡ spent_by call asked
-  carries : None ≡ carried_by client call asked
-  tracks : None ≡ tracker_by s.forest call asked
-  told : asked ≡ with_key asked None
-  unseen : IsUnseen (Called client asked call)
-
 no_work : (s : State) (client : ℕ) (call : Call) (asked : Reply) → changes_nothing call asked ≡ true → None ≡ work_of s client call asked
 no_work s client (Call.Sync key) Reply.Done idle = refl
 no_work s client _ Reply.Done idle = cc

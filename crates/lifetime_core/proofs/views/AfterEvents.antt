@@ -48,10 +48,6 @@ use Rattle.lifetime_core.proofs.forced.Work.{Starts, grown_later, kept_elsewhere
 module _ (s : State) (marks : Timeline) (shown : IsAfter s marks) (limits : Bound) (grown : Grows s.pool limits [] marks) (client : ℕ)
     (reply : Reply) (call : Call)
     (answer : IsAnswer limits (readings marks) client call reply) where
-  -- the marks with that of the call
-  abbrev called : Timeline
-  called = Called client reply call ∷ marks
-
   -- the marks after the event
   abbrev later : Timeline
   later = after s.pool marks (client, call, reply)

@@ -18,7 +18,7 @@ use Rattle.sm_names.proofs.BirthLaws.{birth_is}
 use Rattle.sm_names.proofs.GoneLaws.{fault_gone, live_born, not_live}
 use Rattle.sm_names.proofs.GrowthLaws.{Grows}
 use Rattle.sm_names.proofs.LifeLaws.{ordered, In_new}
-use Rattle.sm_names.proofs.ListLaws.{In, In-reverse, filter-In, is_some-find}
+use Rattle.sm_names.proofs.ListLaws.{In, In-reverse, filter-In, is_some-find, map-map}
 use Rattle.sm_names.proofs.SamenessLaws.{both_ways, none_or_some}
 use Rattle.sm_names.proofs.SettledLaws.{In-was_born}
 use Rattle.alloc_event.specs.declared.node.Node.{Node}
@@ -27,7 +27,7 @@ use Rattle.alloc_event.proofs.shelves.Ordered.{sorted_by-map}
 use Rattle.lifetime_core.specs.Reads.{is_live_in, fault_in}
 use Rattle.lifetime_core.specs.Shown.{IsAfter, node_after}
 use Rattle.lifetime_core.specs.State.{State}
-use Rattle.lifetime_core.proofs.lists.Maps.{filter-map, filter-filter, filter-reverse, map-map}
+use Rattle.lifetime_core.proofs.lists.Maps.{filter-map, filter-filter, filter-reverse}
 use Rattle.lifetime_core.proofs.lists.Reorderings.{Mixed, mixed_filter}
 use Rattle.lifetime_core.proofs.views.Nodes.{kept_births, kept_by_collection, all_nodes_are, mixed_births, node_kept, node_forgotten, node_unknown}
 use Rattle.lifetime_core.proofs.lists.ByNumber.{AreFalling, falling_filter, falling_numbered, sorted_falling, sorted-mixed}

@@ -113,7 +113,8 @@ pub fn parcels_keep_buffers()
         standing pool (Called client Reply.Done (Call.GiveHandle buffer strength to) ∷ marks) collection
         ≡ standing pool marks collection }
     ensures collected { (pool collection : ℕ) (marks : Timeline) (client : ℕ) (buffer : BufferName) (strength : Strength) →
-        standing pool (Called client (Reply.CollectedHandle buffer strength) Call.Collect ∷ marks) collection ≡ standing pool marks collection }
+        standing pool (Called client (Reply.CollectedHandle buffer strength) Call.Collect ∷ marks)
+        collection ≡ standing pool marks collection }
     ensures held_as_given { (pool : ℕ) (marks : Timeline) (client to : ℕ) (buffer : BufferName) (strength : Strength) →
         held pool (Called client Reply.Done (Call.GiveHandle buffer strength to) ∷ marks) ≡ held pool marks }
     ensures held_as_collected { (pool : ℕ) (marks : Timeline) (client : ℕ) (buffer : BufferName) (strength : Strength) →

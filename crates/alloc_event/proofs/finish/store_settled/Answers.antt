@@ -13,7 +13,12 @@ use Rattle.alloc_event.proofs.intervals.Pools.{pool_beside}
 use Rattle.alloc_event.proofs.finish.store_settled.Goals as goal
 
 pub settle_whole-requires : goal.settle_whole-requires
-settle_whole-requires c = record { sound = c.requires.sound; rooted = c.requires.hung.rooted; united = c.requires.united; together = c.requires.together }
+settle_whole-requires c = record {
+  sound = c.requires.sound;
+  rooted = c.requires.hung.rooted;
+  united = c.requires.united;
+  together = c.requires.together;
+}
 
 pub give_back-requires : goal.give_back-requires
 give_back-requires c = (

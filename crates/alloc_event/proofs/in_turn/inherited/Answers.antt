@@ -11,5 +11,6 @@ returns-in_default c falls more w =
 pub returns-then-up-fell : goal.returns-then-up-fell
 returns-then-up-fell c falls more w =
     let p = key_there c.args.nodes.now c.in_ok-up.up c.in-Some.parent c.in_ok-up.ensures.here in
-    parent_mark c.args.nodes.now more c.args.node.now c.args.at c.args.fell.now falls c.requires.distinct c.requires.heads c.requires.grown w
+    parent_mark c.args.nodes.now more c.args.node.now c.args.at c.args.fell.now falls c.requires.distinct c.requires.heads
+    c.requires.grown w
     c.in_ok-up.up p.0 None p.1 (c.in-Some.is ∙ ap Some (sym p.2)) c.if-node.false c.if-up-fell.true

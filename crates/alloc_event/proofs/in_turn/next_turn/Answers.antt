@@ -1,10 +1,11 @@
 -- The walk goes on by what the marks and the claims tell.
 use Rattle.std.proofs.Common.{◌≡◌, ◌∙◌, ap, sym, subst, set, true, false, not, ◌&&◌, ◌+◌, ◌++◌, [], ◌∷◌, Some, None}
+use Rattle.sm_names.proofs.SamenessLaws.{none_is}
 use Rattle.alloc_event.specs.InTurn.{IsPassing, claim_of}
 use Rattle.alloc_event.proofs.calm.Steps.{all-In}
 use Rattle.alloc_event.proofs.turns.Claims.{claim_at}
 use Rattle.alloc_event.proofs.turns.Gifts.{got_In}
-use Rattle.alloc_event.proofs.turns.Walk.{due_is, failed_by, fault_in, fell_before, given_by, got_is, hangs_not, here, mark_here, mark_of, none_due, none_hangs, none_some, not_due, own_head, passed_by, sum_of}
+use Rattle.alloc_event.proofs.turns.Walk.{due_is, failed_by, fault_in, fell_before, given_by, got_is, hangs_not, here, mark_here, mark_of, none_due, none_hangs, not_due, own_head, passed_by, sum_of}
 use Rattle.alloc_event.proofs.in_turn.next_turn.Goals.{then-is_some-via-then-is_some, then-is_some-via-else-is_some+then-not-is_due}
 use Rattle.alloc_event.proofs.in_turn.next_turn.Goals as goal
 
@@ -58,7 +59,7 @@ returns-in-None-clause-gets c sum is heads falls more w =
     heads falls c.args.taken c.args.claims.now _ _ _ c.index-nodes-up.result c.requires.distinct w a above c.requires.claims own left
     ∙ sym c.is_due.ensures ∙ c.if-not-is_due.false in
     let stays = mark_here ns falls n None (c.in-Some.ensures falls more w.marks
-    ∙ none_some c.in-Some.mark (sym c.is_some.ensures ∙ c.if-is_some.false)) left in
+    ∙ none_is c.in-Some.mark (sym c.is_some.ensures ∙ c.if-is_some.false)) left in
     let key = here ns more n c.args.at c.args.fell.now falls c.requires.distinct w.marks in
     subst (λ s. IsPassing c.args.buffers ns more (c.args.at + 1) (set c.args.given.now c.args.at true) (c.args.fell.now ++ None ∷ [])
     (heads ++ n.key ∷ []) falls s) (ap sum_of is)
@@ -80,7 +81,7 @@ returns-in-Some-lack-clause-falls c fault is heads falls more w =
     heads falls c.args.taken c.args.claims.now _ _ _ c.index-nodes-up.result c.requires.distinct w a above c.requires.claims own left
     ∙ sym c.is_due.ensures ∙ c.if-not-is_due.false in
     let stays = mark_here ns falls n None (c.in-Some.ensures falls more w.marks
-    ∙ none_some c.in-Some.mark (sym c.is_some.ensures ∙ c.if-is_some.false)) left in
+    ∙ none_is c.in-Some.mark (sym c.is_some.ensures ∙ c.if-is_some.false)) left in
     let key = here ns more n c.args.at c.args.fell.now falls c.requires.distinct w.marks in
     subst (λ f. IsPassing c.args.buffers ns more (c.args.at + 1) c.args.given.now (c.args.fell.now ++ Some f ∷ [])
     heads (falls ++ f ∷ []) c.args.taken) (ap (λ t. fault_in t fault) is)

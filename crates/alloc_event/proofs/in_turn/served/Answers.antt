@@ -13,11 +13,13 @@ loop-at-init c =
     record {
       long = ap length c.in_ok-given.ensures ∙ length-map ns (λ (n : Node). false);
       falls = [];
-      walk = subst (λ fell. IsPassing c.args.buffers ns ns 0 c.in_ok-given.given.items fell c.new-heads.result.items [] c.reserved-taken.result)
+      walk = subst (λ fell.
+          IsPassing c.args.buffers ns ns 0 c.in_ok-given.given.items fell c.new-heads.result.items [] c.reserved-taken.result)
           (sym c.in_ok-fell.ensures)
           (subst (λ hs. IsPassing c.args.buffers ns ns 0 c.in_ok-given.given.items [] hs [] c.reserved-taken.result)
           (sym c.new-heads.ensures.items)
-          (started c.args.buffers ns c.in_ok-given.given.items c.reserved-taken.result c.in_ok-given.ensures c.reserved-taken.ensures.value));
+          (started c.args.buffers ns c.in_ok-given.given.items c.reserved-taken.result c.in_ok-given.ensures
+          c.reserved-taken.ensures.value));
     }
 
 pub next_turn-requires-clause-here : goal.next_turn-requires-clause-here

@@ -15,7 +15,7 @@ use Rattle.alloc_event.proofs.shelves.Counted.{ends_tidy, mapped_all}
 use Rattle.alloc_event.proofs.leaving.Ends.{ends-kept, ends-look, ends-shown}
 use Rattle.alloc_event.proofs.shelves.Showing.{node_is}
 use Rattle.alloc_event.proofs.tallies.Slots.{units_with}
-use Rattle.alloc_event.proofs.turns.Holding.{found_some}
+use Rattle.sm_names.proofs.SamenessLaws.{some_is}
 use Rattle.alloc_event.proofs.forest.Forest.set_end.Goals as goal
 
 -- a node that the forest has is in the table
@@ -25,7 +25,7 @@ known t ss kept f key is some = ap is_some (sym (node_is t ss kept key)) ∙ ap 
 
 module _ (c : goal.After-note_over) where
   there : (n : Node) × (node_at c.self.inside.table c.args.key ≡ Some n)
-  there = found_some (node_at c.self.inside.table c.args.key) (known c.self.inside.table (shelves_of c.self.inside.entries.items)
+  there = some_is (node_at c.self.inside.table c.args.key) (known c.self.inside.table (shelves_of c.self.inside.entries.items)
       c.self.invariant.kept c.args.self.now c.args.key c.self.view_is c.requires)
 
   abbrev n : Node

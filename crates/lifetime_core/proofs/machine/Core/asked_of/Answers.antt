@@ -1,4 +1,4 @@
-use Rattle.std.proofs.Common.{◌≡◌, ap, sym, ◌∙◌, option_copied}
+use Rattle.std.proofs.Common.{ap, sym, ◌∙◌, option_copied}
 use Rattle.std.specs.Option.{option_and_then}
 use Rattle.alloc_event.specs.Forest.{node_at}
 use Rattle.lifetime_core.proofs.answers.Order.{end_of_named}

@@ -1,4 +1,4 @@
-use Rattle.std.proofs.Common.{AllPairs, ap, sym, ◌∙◌, subst, map}
+use Rattle.std.proofs.Common.{AllPairs, ap, sym, ◌∙◌, subst}
 use Rattle.std.proofs.lemmas.Result.{IfOk-weaker}
 use Rattle.alloc_event.specs.Forest.{held_by_page}
 use Rattle.lifetime_core.specs.State.{State}

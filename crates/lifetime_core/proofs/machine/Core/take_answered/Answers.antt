@@ -88,7 +88,8 @@ invariant_of-self c =
     c.requires (sym c.changes_nothing.ensures ∙ c.if-changes_nothing.true) in
     let next : c.next_event-self-inside.result ≡ s.events + 1 =
     c.next_event-self-inside.ensures ∙ ap (λ (x : State). x.events + 1) (sym c.self.view_is) in
-    rw next (idle_whole s c.args.client c.args.call.now c.args.asked i c.self.inside.contents.pool c.self.invariant (omega arith) (omega arith))
+    rw next (idle_whole s c.args.client c.args.call.now c.args.asked i c.self.inside.contents.pool c.self.invariant (omega arith)
+    (omega arith))
 
 -- and the new state follows
 pub returns-then-changes_nothing : goal.returns-then-changes_nothing
@@ -230,7 +231,8 @@ invariant_of-self-2 c =
       trackers = c.take_effect.new.contents.trackers;
     } in
     whole_then s c.args.client c.args.call.now c.args.asked (with_key c.args.asked c.in-Ok.key) c.task_of-task.result
-    c.tracking_of-tracking.result b parts c.in-Ok.ensures.ok c.self.inside.contents.pool c.take_effect.new.contents.pool c.put_end.new.forest
+    c.tracking_of-tracking.result b parts c.in-Ok.ensures.ok c.self.inside.contents.pool c.take_effect.new.contents.pool
+    c.put_end.new.forest
     (end_placed c.task_of-task.result c.carried_end-carried.result) c.sweep.new.trackers c.self.invariant c.take_effect.ensures.size
     c.take_effect.ensures.pool c.put_end.ensures.held c.take_effect.ensures.limit
     (omega arith) (omega arith) c.put_end.ensures.collections c.put_end.ensures.keys c.put_end.ensures.sound c.put_end.ensures.ids
@@ -264,7 +266,8 @@ returns c =
     let answers = step_answers s c.args.client c.args.call.now c.args.asked (with_key c.args.asked c.in-Ok.key)
     c.task_of-task.result c.tracking_of-tracking.result b parts c.in-Ok.ensures.ok in
     let follows = step_follows s c.args.client c.args.call.now c.args.asked (with_key c.args.asked c.in-Ok.key)
-    c.task_of-task.result c.tracking_of-tracking.result b parts c.in-Ok.ensures.ok c.carried_end-carried.result c.carried_end-carried.ensures
+    c.task_of-task.result c.tracking_of-tracking.result b parts c.in-Ok.ensures.ok c.carried_end-carried.result
+    c.carried_end-carried.ensures
     c.put_end.new.forest c.sweep.new.trackers
     c.put_end.ensures.collections c.put_end.ensures.keys c.sweep.ensures in
     let room : s.events < s.limits.events = omega arith in
