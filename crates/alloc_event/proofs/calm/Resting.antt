@@ -11,7 +11,6 @@ use Rattle.sm_names.specs.declared.outcomes.Cause.{Cause}
 use Rattle.sm_names.specs.Forced.{forced}
 use Rattle.sm_names.specs.Members.{some_strong_live}
 use Rattle.sm_names.specs.Words.{first_some, when}
-use Rattle.sm_names.proofs.ListLaws.{In}
 use Rattle.sm_names.proofs.SamenessLaws.{and_both, and_left, and_right, both_ways, either_way, or_cases, or_left, or_right}
 use Rattle.node_table.specs.Table.{Table, node_at}
 use Rattle.alloc_event.specs.declared.decision.Decision.{Decision}
@@ -33,7 +32,7 @@ use Rattle.alloc_event.proofs.calm.Calming.{AreNone, none_calm, none_decided}
 use Rattle.alloc_event.proofs.calm.Forcing.{forced_made, strong_tie}
 use Rattle.alloc_event.proofs.calm.Watched.{all_out, found_counted, strong_lives}
 use Rattle.alloc_event.proofs.changes.Altering.{found_filed, found_whole}
-use Rattle.alloc_event.proofs.lists.Removed.{all_stay}
+use Rattle.sm_names.proofs.ListLaws.{In, filter-list_all}
 use Rattle.alloc_event.proofs.shelves.Showing.{collection_is, shelf_found}
 
 -- ---- what is forced
@@ -163,7 +162,7 @@ module _ (handles : Handles) (t : Table Node) (s : Shelf) (lives : ℕ) (filed :
 
   -- so no pages go back
   pub back_kept : given_back handles (collection_in t s) ≡ collection_in t s
-  back_kept = λ i. record c { held = all_stay (λ (h : HeldBuffer). not (is_home_in handles c h.buffer)) s.held out_kept i }
+  back_kept = λ i. record c { held = filter-list_all (λ (h : HeldBuffer). not (is_home_in handles c h.buffer)) s.held out_kept i }
 
 -- ---- what becomes of it
 
