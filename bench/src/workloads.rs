@@ -43,8 +43,6 @@ pub const ALL: &[Row] = &[
     sized("b2 wide loss {} /node", FALL, &[10, 100, 1000], trees::wide_loss),
     sized("b3 husks closed {}", SIBLINGS, &[10, 100, 1000], trees::husks),
     sized("b4 attach, close among {}", SIBLINGS, &[10, 100, 900], trees::attach_among),
-    sized("b5 attach, close among {} weak", SIBLINGS, &[10, 100, 900], trees::attach_among_weak),
-    sized("b6 weakok among {} weak", SIBLINGS, &[10, 100, 900], trees::change_among_weak),
     sized("c1 chain births {}", SIBLINGS, &[10, 100, 1000], trees::chain_births),
     sized("c2 chain loss {} /node", FALL, &[10, 100, 1000], trees::chain_loss),
     sized("d1 take dup drop x{}", "buffers of a Take", &[1, 4, 64], handles::turns),

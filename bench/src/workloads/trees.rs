@@ -64,47 +64,6 @@ pub fn attach_among(n: u32) -> Stream {
     d.end()
 }
 
-/// A node that is weak, as all below it: a strong handle keeps the buffer.
-fn weak(d: &mut Driver, n: u32) -> NodeKey {
-    let (r, _) = d.token(Call::OpenRoot);
-    let (x, _) = d.token(Call::Duplicate(r));
-    d.done(Call::SetWeak(x));
-    for node in [r, x] {
-        d.done(Call::Bind(node));
-        d.done(Call::SetConstraints(node, k(1, 0, 1)));
-    }
-    d.call(Call::Take(r));
-    d.done(Call::Release(r));
-    let (y, _) = d.token(Call::AttachToken(x));
-    for _ in 1..n {
-        d.token(Call::Duplicate(y));
-    }
-    x
-}
-
-pub fn attach_among_weak(n: u32) -> Stream {
-    let mut d = Driver::new(16, FULL);
-    let x = weak(&mut d, n);
-    d.timed(|d| {
-        for _ in 0..500 {
-            let (y, _) = d.token(Call::AttachToken(x));
-            d.done(Call::Close(y));
-        }
-    });
-    d.end()
-}
-
-pub fn change_among_weak(n: u32) -> Stream {
-    let mut d = Driver::new(16, FULL);
-    let x = weak(&mut d, n);
-    d.timed(|d| {
-        for _ in 0..2_000 {
-            d.done(Call::SetWeakOk(x, true));
-        }
-    });
-    d.end()
-}
-
 fn chain(d: &mut Driver, n: u32) -> Vec<NodeKey> {
     let mut v = vec![d.token(Call::OpenRoot).0];
     for i in 0..n as usize {
