@@ -6,6 +6,7 @@ mod mixed;
 mod pool;
 mod trackers;
 mod trees;
+mod weak;
 
 use crate::stream::{Driver, FULL, Stream, demand as k};
 use plain_core::*;
@@ -29,6 +30,7 @@ const fn sized(name: &'static str, what: &'static str, sizes: &'static [u32], ma
 }
 
 const SIBLINGS: &str = "nodes of the collection";
+const WEAK: &str = "weak nodes of the collection";
 const PARCELS: &str = "parcels that wait";
 const FALL: &str = "nodes that fall, which divide";
 const HOLES: &str = "holes";
@@ -76,6 +78,8 @@ pub const ALL: &[Row] = &[
     sized("i2 short life beside {}", "collections", &[1, 16, 250], among::collections),
     sized("i3 short life beside {}", "clients", &[1, 100, 10_000], among::clients),
     sized("i4 passed on among {}", "clients", &[2, 100, 10_000], among::passed_on),
+    sized("k1 weakok among {} weak", WEAK, &[10, 100, 1000], weak::weak_ok),
+    sized("k2 attach, close, {} weak", WEAK, &[10, 100, 900], weak::attach),
 ];
 
 impl Row {

@@ -1,6 +1,6 @@
 //! Changes that force nothing, as the count of strong live nodes tells, made in their places.
 ghost use Rattle.std.specs.Option.{option_map_or};
-ghost use Rattle.std.specs.Prelude.{◌≡◌, ◌<◌, ◌⊎◌, ◌+◌, ◌==◌, ◌&&◌, not, ℕ, List, None, Some, true, false, IfSome};
+ghost use Rattle.std.specs.Prelude.{◌≡◌, ◌<◌, ◌⊎◌, ◌+◌, ◌==◌, ◌&&◌, ◌||◌, nat_lt, not, ℕ, List, None, Some, true, false, IfSome};
 ghost use Rattle.sm_names.specs.declared.keys.NodeKey.{NodeKey as Key};
 ghost use Rattle.buffer_holds.specs.Counts.{total};
 ghost use Rattle.node_table.specs.Changes.{Writes};
@@ -14,11 +14,10 @@ ghost use Rattle.alloc_event.specs.Calm.{AreCounted};
 ghost use Rattle.alloc_event.specs.Counts.{HasBelow, HaveUnits, is_unready};
 ghost use Rattle.alloc_event.specs.Due.{is_due_at};
 ghost use Rattle.alloc_event.specs.InPlace.{IsMade, IsOpen, bit, is_plain as is_plain_effect};
-ghost use Rattle.alloc_event.specs.Kept.{Finishes, IsStored, SameTable, Shelf, forest_of, is_strong, shelf_of, shelves_of};
+ghost use Rattle.alloc_event.specs.Kept.{Finishes, IsStored, SameTable, Shelf, forest_of, is_strong, shelves_of};
 ghost use Rattle.alloc_event.specs.Nodes.{affected};
 ghost use Rattle.alloc_event.specs.Questions.{is_live_node};
-ghost use Rattle.alloc_event.specs.Resting.{is_kept_by};
-ghost use Rattle.alloc_event.specs.Scenes.{given_few, has_tracker_room};
+ghost use Rattle.alloc_event.specs.Scenes.{has_tracker_room};
 ghost use Rattle.alloc_event.specs.Settling.{MayChange, changed, collection_or_new, no_key};
 
 use crate::change::{Change, Effect};
@@ -29,7 +28,7 @@ use crate::kept::is_strong;
 use crate::node::Node;
 use crate::questions::is_live;
 use crate::reserving::reserved_after;
-use crate::resting::is_kept_by;
+use crate::resting::rests_without;
 use crate::units::{Unit, is_unready, put_unit, unit_in};
 use buffer_holds::Holds;
 use node_table::NodeTable;
@@ -134,18 +133,17 @@ pub(crate) fn less(count: usize, was: bool, is: bool) -> usize
 /// how many strong nodes are live then. With `None` nothing changed.
 fn affect_in_place(
     table: &mut NodeTable<Node>,
-    entry: &Entry,
-    holds: &Holds,
+    strong: usize,
+    rests: bool,
     key: NodeKey,
     effect: &Effect,
 ) -> Option<usize>
-    requires few { given_few entry.now.buffers ≡ true }
     requires named { (at : Key) (n : Kept) → node_at table.old at ≡ Some n → n.key ≡ at }
     requires room { (at : Key) (n : Kept) → node_at table.old at ≡ Some n → has_tracker_room key effect.now n ≡ true }
     ensures none { result ≡ None → table.new ≡ table.old }
-    ensures rests { IfSome result (λ left. is_kept_by (total holds.now) table.old (shelf_of entry.now) left ≡ true) }
+    ensures rests { IfSome result (λ left. (nat_lt 0 left || rests) ≡ true) }
     ensures some { IfSome result (λ left. (us : List Counts) (ss : List Shelf) (s : Shelf) →
-        IsOpen table.old us ss s (Changed.Effect key effect.now) entry.now.strong →
+        IsOpen table.old us ss s (Changed.Effect key effect.now) strong →
         IsMade table.old table.new us ss s (Changed.Effect key effect.now) left) }
 {
     if !is_plain(effect) {
@@ -154,12 +152,8 @@ fn affect_in_place(
     let Some(node) = table.get(key) else {
         return None;
     };
-    let left = less(
-        entry.strong,
-        is_strong(node),
-        is_strong_after(node, key, effect),
-    );
-    if !is_kept_by(table, entry, holds, left) {
+    let left = less(strong, is_strong(node), is_strong_after(node, key, effect));
+    if left == 0 && !rests {
         return None;
     }
     affect_at(table, key, effect);
@@ -226,19 +220,18 @@ fn is_held(table: &NodeTable<Node>, live: usize, key: NodeKey, id: CollectionId)
 fn count_in_place(
     table: &mut NodeTable<Node>,
     units: &mut Vec<Unit>,
-    entry: &Entry,
-    holds: &Holds,
+    strong: usize,
+    rests: bool,
     key: NodeKey,
     effect: &Effect,
 ) -> Option<usize>
-    requires few { given_few entry.now.buffers ≡ true }
     requires named { (at : Key) (n : Kept) → node_at table.old at ≡ Some n → n.key ≡ at }
     requires room { (at : Key) (n : Kept) → node_at table.old at ≡ Some n → has_tracker_room key effect.now n ≡ true }
     ensures none { result ≡ None → table.new ≡ table.old }
     ensures none_units { result ≡ None → units.new.items ≡ units.old.items }
-    ensures rests { IfSome result (λ left. is_kept_by (total holds.now) table.old (shelf_of entry.now) left ≡ true) }
+    ensures rests { IfSome result (λ left. (nat_lt 0 left || rests) ≡ true) }
     ensures some { IfSome result (λ left. (ss : List Shelf) (s : Shelf) →
-        IsOpen table.old units.old.items ss s (Changed.Effect key effect.now) entry.now.strong →
+        IsOpen table.old units.old.items ss s (Changed.Effect key effect.now) strong →
         IsMade table.old table.new units.new.items ss s (Changed.Effect key effect.now) left) }
 {
     let Some(node) = table.get(key) else {
@@ -249,24 +242,20 @@ fn count_in_place(
         return None;
     }
     let unit = unit_in(units, slot);
-    let left = less(
-        entry.strong,
-        is_strong(node),
-        is_strong_after(node, key, effect),
-    );
+    let left = less(strong, is_strong(node), is_strong_after(node, key, effect));
     let live = less(unit.live, is_live(node), is_live_after(node, key, effect));
     let unready = less(
         unit.unready,
         is_unready(node),
         is_unready_after(node, key, effect),
     );
+    if left == 0 && !rests {
+        return None;
+    }
     if !is_held(table, live, key, node.collection) {
         return None;
     }
     if is_unready(node) && unready == 0 && is_due(table, node.head) {
-        return None;
-    }
-    if !is_kept_by(table, entry, holds, left) {
         return None;
     }
     affect_at(table, key, effect);
@@ -279,24 +268,23 @@ fn count_in_place(
 fn effect_in_place(
     table: &mut NodeTable<Node>,
     units: &mut Vec<Unit>,
-    entry: &Entry,
-    holds: &Holds,
+    strong: usize,
+    rests: bool,
     key: NodeKey,
     effect: &Effect,
 ) -> Option<usize>
-    requires few { given_few entry.now.buffers ≡ true }
     requires named { (at : Key) (n : Kept) → node_at table.old at ≡ Some n → n.key ≡ at }
     requires room { (at : Key) (n : Kept) → node_at table.old at ≡ Some n → has_tracker_room key effect.now n ≡ true }
     ensures none { result ≡ None → table.new ≡ table.old }
     ensures none_units { result ≡ None → units.new.items ≡ units.old.items }
-    ensures rests { IfSome result (λ left. is_kept_by (total holds.now) table.old (shelf_of entry.now) left ≡ true) }
+    ensures rests { IfSome result (λ left. (nat_lt 0 left || rests) ≡ true) }
     ensures some { IfSome result (λ left. (ss : List Shelf) (s : Shelf) →
-        IsOpen table.old units.old.items ss s (Changed.Effect key effect.now) entry.now.strong →
+        IsOpen table.old units.old.items ss s (Changed.Effect key effect.now) strong →
         IsMade table.old table.new units.new.items ss s (Changed.Effect key effect.now) left) }
 {
-    match affect_in_place(table, entry, holds, key, effect) {
+    match affect_in_place(table, strong, rests, key, effect) {
         Some(left) => Some(left),
-        None => count_in_place(table, units, entry, holds, key, effect),
+        None => count_in_place(table, units, strong, rests, key, effect),
     }
 }
 
@@ -305,34 +293,33 @@ fn effect_in_place(
 fn change_in_place(
     table: &mut NodeTable<Node>,
     units: &mut Vec<Unit>,
-    entry: &Entry,
-    holds: &Holds,
+    strong: usize,
+    rests: bool,
     change: &Change,
 ) -> Option<usize>
-    requires few { given_few entry.now.buffers ≡ true }
     requires named { (key : Key) (n : Kept) → node_at table.old key ≡ Some n → n.key ≡ key }
     requires room { (key : Key) (effect : Effected) (at : Key) (n : Kept) → change.now ≡ Changed.Effect key effect → node_at table.old at ≡ Some n → has_tracker_room key effect n ≡ true }
     ensures none { result ≡ None → table.new ≡ table.old }
     ensures none_units { result ≡ None → units.new.items ≡ units.old.items }
-    ensures rests { IfSome result (λ left. is_kept_by (total holds.now) table.old (shelf_of entry.now) left ≡ true) }
+    ensures rests { IfSome result (λ left. (nat_lt 0 left || rests) ≡ true) }
     ensures some { IfSome result (λ left. (ss : List Shelf) (s : Shelf) →
-        IsOpen table.old units.old.items ss s change.now entry.now.strong →
+        IsOpen table.old units.old.items ss s change.now strong →
         IsMade table.old table.new units.new.items ss s change.now left) }
 {
     match *change {
-        Change::Nothing if is_kept_by(table, entry, holds, entry.strong) => Some(entry.strong),
-        Change::Effect(key, effect) => effect_in_place(table, units, entry, holds, key, &effect),
+        Change::Nothing if strong > 0 || rests => Some(strong),
+        Change::Effect(key, effect) => effect_in_place(table, units, strong, rests, key, &effect),
         _ => None,
     }
 }
 
 /// Makes the change to a collection in its place, if it is none of nodes, or an effect, and the
 /// counts tell that nothing is forced, and no buffer goes home: a strong node of the collection is
-/// live after it, or it rests without one; and a release leaves a node of its unit live or a unit
-/// that its first child heads, and the unit does not become ready, has its buffers, or lies below
-/// one without buffers. Answers whether it did; if not, nothing changed. It takes no memory, and
-/// costs a binary search and a constant, and where no strong node is live after it, a look at the
-/// handles of the buffers.
+/// live after it, or none was before it and the collection rests without; and a release leaves a
+/// node of its unit live or a unit that its first child heads, and the unit does not become ready,
+/// has its buffers, or lies below one without buffers. Answers whether it did; if not, nothing
+/// changed. It takes no memory, and costs a binary search and a constant, and where no strong node is
+/// live before it, a look at the handles of the buffers.
 pub(crate) fn settle_in_place(
     table: &mut NodeTable<Node>,
     entries: &mut Vec<Entry>,
@@ -363,7 +350,8 @@ pub(crate) fn settle_in_place(
     let Some(reserved) = reserved_after(table, change, entry.reserved) else {
         return false;
     };
-    let Some(left) = change_in_place(table, units, entry, holds, change) else {
+    let rests = rests_without(table, entry, holds);
+    let Some(left) = change_in_place(table, units, entry.strong, rests, change) else {
         return false;
     };
     let entry = &mut entries[at];

@@ -37,3 +37,13 @@ pub(crate) fn is_kept_by(
 {
     lives > 0 || is_at_rest(table, entry, holds)
 }
+
+/// Whether no strong node of the collection is live, and it rests without. It looks at the handles
+/// only where there is none.
+#[inline(always)]
+pub(crate) fn rests_without(table: &NodeTable<Node>, entry: &Entry, holds: &Holds) -> bool
+    requires { given_few entry.now.buffers ≡ true }
+    ensures { result ≡ true → is_at_rest (total holds.now) table.now (shelf_of entry.now) ≡ true }
+{
+    entry.strong == 0 && is_at_rest(table, entry, holds)
+}

@@ -212,7 +212,8 @@ module _ (c : Collection) (sound : IsSound c) (k : NodeKey) (child : is_root_of 
         still false h = refl
 
     -- so its allocation is decided
-    pub serves : (strong_open : Bool) → losing after strong_open (find is_root_left after) ≡ None → (h : Node) → In h nodes → h.key ≡ k → is_next_node nodes h ≡ true →
+    pub serves : (strong_open : Bool) → losing after strong_open (find is_root_left after) ≡ None →
+        (h : Node) → In h nodes → h.key ≡ k → is_next_node nodes h ≡ true →
         late_failure k nodes b ≡ None → decided nodes c.buffers strong_open ≡ Some (Allocates k)
     serves strong_open stays h on is next fits =
         ap (λ (o : Option Buffers). decided nodes o strong_open) has

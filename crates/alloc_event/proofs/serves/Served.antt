@@ -428,7 +428,8 @@ module _ (t : Table Node) (us : List Unit) (key : NodeKey) (effect : Effect) (n 
       ready = sym (times_map (waits_in k) (waits_in k) (given_buffers k) (map f nodes) (λ m. refl))
           ∙ (sym (ap (times (waits_in k)) nodes_now) ∙ (sym unready_next ∙ less.ready))
 
-      told : (strong_open : Bool) → losing (after_allocation k c1.nodes) strong_open (find is_root_left (after_allocation k c1.nodes)) ≡ None →
+      told : (strong_open : Bool) →
+          losing (after_allocation k c1.nodes) strong_open (find is_root_left (after_allocation k c1.nodes)) ≡ None →
           decided c1.nodes c1.buffers strong_open ≡ Some (Allocates k)
       told strong_open stays = serves c1 sound1 k child1 (subst IsCalm allocated made_between.done.calm) b has strong_open stays h1 h1_on
           h1_key (next1 ready) fits

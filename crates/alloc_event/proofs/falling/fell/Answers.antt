@@ -64,7 +64,8 @@ returns-clause-some c ss s opens id =
     omega (arith, c.if-entry-lost.false, lost) in
     subst (λ (ns : List Node). IsLost t c.store.new.table c.lower.new.units.items ss s (change_of c.args.going.now)
     (c.args.entry.now.strong - c.count_strong-lost.result) ns) (sym nodes)
-    (subst (λ (l : List Unit). IsLost t c.store.new.table l ss s (change_of c.args.going.now) (c.args.entry.now.strong - c.count_strong-lost.result)
+    (subst (λ (l : List Unit). IsLost t c.store.new.table l ss s (change_of c.args.going.now)
+    (c.args.entry.now.strong - c.count_strong-lost.result)
     (map (gone_by c.args.going.now) (nodes_with t keys))) (sym units)
     (lost_made t us ss s c.args.going.now c.args.entry.now.strong opens c.args.origin keys c.requires.taken own
     c.in-Some.head c.in-Some.attached c.in-Some.ensures inside kept_up may c.requires.failing c.store.new.table stores

@@ -158,12 +158,14 @@ module _ (c : goal.After-entries-1) where
 
 pub returns-clause-ok : goal.returns-clause-ok
 returns-clause-ok c h pool =
-    subst (λ (ss : List Shelf). Finishes pool (total c.args.holds.now) c.args.table.now (shelves_of c.args.entries.now.items) c.fell.new.table ss
+    subst (λ (ss : List Shelf). Finishes pool (total c.args.holds.now) c.args.table.now (shelves_of c.args.entries.now.items)
+    c.fell.new.table ss
     (changed (loss c) no_key (collection_or_new (forest_of c.args.table.now (shelves_of c.args.entries.now.items)) c.args.id)))
     (sym (same_shelves c))
     (finishes_at c.args.table.now c.args.entries.now.items c.args.id c.in-Some.at (old c) (place c) (is c) c.requires.kept
     c.requires.counted (us c) c.requires.units (loss c) c.requires.change
-    c.fell.new.table c.fell.new.units.items c.in-Some-fell.left (lost c).done (new c) (ap shelf_of (again c)) refl (tidies c) pool (total c.args.holds.now) (rests c))
+    c.fell.new.table c.fell.new.units.items c.in-Some-fell.left (lost c).done (new c) (ap shelf_of (again c)) refl (tidies c) pool
+    (total c.args.holds.now) (rests c))
 
 pub returns-clause-shelves : goal.returns-clause-shelves
 returns-clause-shelves c = same_shelves c

@@ -31,12 +31,12 @@ returns-clause-some c us ss s opens =
     (affected c.args.key c.args.effect.now n) =
     subst (λ (k : NodeKey). Writes c.args.table.now c.affect_at.new.table k (affected c.args.key c.args.effect.now n)) own
     (c.affect_at.ensures.writes n was) in
-    let counted = strong_is c.args.table.now c.affect_at.new.table us c.args.key c.args.effect.now n was becomes writes ss s c.args.entry.now.strong
-    opens in
+    let counted = strong_is c.args.table.now c.affect_at.new.table us c.args.key c.args.effect.now n was becomes writes ss s
+    c.args.strong opens in
     let left : c.less-left.result ≡ strong_count (map (affected c.args.key c.args.effect.now) (nodes_with c.args.table.now s.keys)) =
-    less_is c.args.entry.now.strong c.less-left.result c.is_strong.result c.is_strong_after.result (is_strong n)
+    less_is c.args.strong c.less-left.result c.is_strong.result c.is_strong_after.result (is_strong n)
     (is_strong (affected c.args.key c.args.effect.now n))
     c.less-left.ensures c.is_strong.ensures c.is_strong_after.ensures (strong_before c.args.key c.args.effect.now n) _
     counted in
-    plain_made c.args.table.now c.affect_at.new.table us c.args.key c.args.effect.now n was becomes writes ss s c.args.entry.now.strong opens is
-    c.less-left.result left
+    plain_made c.args.table.now c.affect_at.new.table us c.args.key c.args.effect.now n was becomes writes ss s
+    c.args.strong opens is c.less-left.result left

@@ -1,6 +1,7 @@
 -- The change is made in its place, and the entry of the collection has the count.
-use Rattle.std.proofs.Common.{◌≡◌, true, false, List, Some, map, get_or, set, refl, sym, ◌∙◌, ap, subst, arith}
+use Rattle.std.proofs.Common.{◌≡◌, nat_lt, inl, inr, true, false, List, Some, map, get_or, set, refl, sym, ◌∙◌, ap, subst, arith}
 use Rattle.std.proofs.lemmas.List.{get_or_default}
+use Rattle.sm_names.proofs.SamenessLaws.{or_cases, or_left, or_right}
 use Rattle.std.specs.List.{list_any}
 use Rattle.buffer_holds.specs.Counts.{total}
 use Rattle.alloc_event.specs.declared.change.Change.{Change}
@@ -34,8 +35,8 @@ change_in_place-requires-clause-room c key effect at n is found =
     tracker_room c.args.table.now (shelves_of c.args.entries.now.items) c.requires.kept key effect
     (λ m e there. c.requires.change.trackers key m (is ∙ ap (Change.Effect key) e) there) at n found
 
-pub change_in_place-requires-clause-few : goal.change_in_place-requires-clause-few
-change_in_place-requires-clause-few c =
+pub rests_without-rests-requires : goal.rests_without-rests-requires
+rests_without-rests-requires c =
     let told : place_in c.args.id c.args.entries.now.items ≡ Some c.in-Some.at =
     sym (rw c.deref.ensures.value at c.place_of.ensures) ∙ c.in-Some.is in
     few_at c.args.table.now c.args.entries.now.items c.args.id c.in-Some.at c.index-entry.result.now
@@ -101,11 +102,15 @@ module _ (c : goal.After-entries-1) where
       tidies
 
   rests : is_kept_by (total c.args.holds.now) c.args.table.now (shelf_of old) c.in-Some-change_in_place.left ≡ true
-  rests = c.in-Some-change_in_place.ensures.rests
+  rests = elim (or_cases (nat_lt 0 c.in-Some-change_in_place.left) c.rests_without-rests.result c.in-Some-change_in_place.ensures.rests) [
+    | inl e ↦ or_left (nat_lt 0 c.in-Some-change_in_place.left) _ e
+    | inr e ↦ or_right (nat_lt 0 c.in-Some-change_in_place.left) _ (c.rests_without-rests.ensures e)
+  ]
 
 pub returns-clause-ok : goal.returns-clause-ok
 returns-clause-ok c h pool =
-    subst (λ (ss : List Shelf). Finishes pool (total c.args.holds.now) c.args.table.now (shelves_of c.args.entries.now.items) c.change_in_place.new.table ss
+    subst (λ (ss : List Shelf). Finishes pool (total c.args.holds.now) c.args.table.now (shelves_of c.args.entries.now.items)
+    c.change_in_place.new.table ss
     (changed c.args.change.now no_key (collection_or_new (forest_of c.args.table.now (shelves_of c.args.entries.now.items)) c.args.id)))
     (sym (same_shelves c))
     (finishes_at c.args.table.now c.args.entries.now.items c.args.id c.in-Some.at (old c) (place c) (is c) c.requires.kept

@@ -106,7 +106,8 @@ module _ (c : goal.After-entries-1) where
 
 pub returns-clause-ok : goal.returns-clause-ok
 returns-clause-ok c h pool =
-    subst (λ (ss : List Shelf). Finishes pool (total c.args.holds.now) c.args.table.now (shelves_of c.args.entries.now.items) c.serve_effect.new.table ss
+    subst (λ (ss : List Shelf). Finishes pool (total c.args.holds.now) c.args.table.now (shelves_of c.args.entries.now.items)
+    c.serve_effect.new.table ss
     (changed (Change.Effect c.args.key c.args.effect.now) no_key
     (collection_or_new (forest_of c.args.table.now (shelves_of c.args.entries.now.items)) c.args.id)))
     (sym (same_shelves c))
