@@ -73,13 +73,13 @@ impl Pool {
     /// `PoolFull` where some buffer has no such start, and `NoMemory` where a growth is refused.
     /// Either leaves the pool as it was.
     ///
-    /// It costs one walk over the holes up to the first start, but for those that an earlier search
-    /// for as many pages or fewer passed, two walks from there up to the last start, or to the end
-    /// where the pool is full, and for each buffer two looks at the held intervals where it lies
-    /// next to the one before, and else a binary search. What searches passed is kept for sixteen
-    /// numbers of pages, which are apart by their remainder. In either list a change moves what lies
-    /// between it and the change before it, so that the buffers of one call move all that they pass
-    /// once.
+    /// The holes and the held intervals lie in blocks of at most 128. It costs two walks over the
+    /// blocks of holes, from where the last search ended if that was for as many pages or fewer and
+    /// no pages came back before, up to the last start, or to the end where the pool is full: a block
+    /// whose greatest hole is too small is passed at once. For each buffer it costs two looks at the
+    /// held intervals where it lies next to the one before, and else two binary searches, one among
+    /// the blocks and one in a block. A change moves at most a block, and once in so many a list of
+    /// the blocks.
     pub fn place(&mut self, count: u32, pages_each: u32) -> Result<Placed, PoolFault>
         requires { (1 ≤ count) × (1 ≤ pages_each) }
 
@@ -109,8 +109,9 @@ impl Pool {
     /// Takes back the pages of a held interval, and leaves all others as they are. The pages form
     /// one hole with the holes that they touch.
     ///
-    /// It takes no memory, and costs a binary search in each of two lists, the held intervals and
-    /// the holes, and a move of what lies between this change and the one before it.
+    /// It takes no memory, and costs two binary searches in each of two lists, the held intervals and
+    /// the holes, and a move of at most a block in either, and once in so many of a list of the
+    /// blocks.
     pub fn give_back(&mut self, start: u32, pages: u32)
         requires { Contains self.old.held (record { start = start; pages = pages }) }
         ensures held { self.new ≡ record self.old { held = without start self.old.held } }
