@@ -143,6 +143,7 @@ pub record KeepsBack (size free : ℕ) (holes held : List Interval) (capacity : 
   pub fits : All (λ (h : Interval). end_of h < 4294967296) holes
   pub back_fits : end_of back < 4294967296
   pub room : length (released back holes) ≤ capacity
+  pub fewer : length (without back.start held) + 1 ≡ length held
   pub kept : IsPoolSound size (free + back.pages) (released back holes) (without back.start held) capacity
 
 pub keeps_back : (size free : ℕ) (holes held : List Interval) (capacity : ℕ) (back : Interval) → IsPoolSound size free holes held capacity →
@@ -160,6 +161,7 @@ keeps_back size free holes held capacity back k there =
           holes-end 0 size held k.in_order j d lt in omega (arith, at));
       back_fits = omega arith;
       room = subst (λ hs. length hs ≤ capacity) (sym released_is) (omega (arith, g.fewer, k.has_capacity));
+      fewer = g.fewer;
       kept = record {
         sized = k.sized;
         in_order = g.in_order;

@@ -13,7 +13,7 @@ use Rattle.buffer_pool.proofs.Placing.{length-taken, rooms-some, rooms-taken}
 use Rattle.buffer_pool.specs.Fitting.{too_small, rooms, first_fit, taken, starts_in, left_in, looks_in}
 
 -- so many buffers of the count are left, and what is so far makes with them what the whole makes
-pub record IsFilling (pages_each count left : ℕ) (holes0 held0 : List Interval) (at looks : ℕ) (starts : List ℕ)
+pub record IsFilling (pages_each count left : ℕ) (holes0 held0 : List Interval) (looks : ℕ) (starts : List ℕ)
     (holes held : List Interval) (capacity0 starts_capacity holes_capacity held_capacity : ℕ) : Type 0 where
   pub has_rooms : left ≤ rooms pages_each holes
   pub starts_are : starts ++ starts_in pages_each left holes ≡ starts_in pages_each count holes0
@@ -21,7 +21,6 @@ pub record IsFilling (pages_each count left : ℕ) (holes0 held0 : List Interval
   pub holes_are : left_in pages_each left holes ≡ left_in pages_each count holes0
   pub held_are : with_buffers pages_each (starts_in pages_each left holes) held ≡ with_buffers pages_each
       (starts_in pages_each count holes0) held0
-  pub passed : at ≤ prefix_len (too_small pages_each) holes
   pub fits : All (λ (h : Interval). end_of h < 4294967296) holes
   pub few : length holes ≤ 1048576
   pub looks_fit : looks + left * 1048576 ≤ count * 1048576
@@ -29,15 +28,6 @@ pub record IsFilling (pages_each count left : ℕ) (holes0 held0 : List Interval
   pub starts_room : length starts + left ≤ starts_capacity
   pub held_room : length held + left ≤ held_capacity
   pub same_capacity : holes_capacity ≡ capacity0
-
--- a hole that is taken from was the first that is not too small, and is not passed
-pub prefix_len-taken : (pages : ℕ) (hs : List Interval) → prefix_len (too_small pages) hs ≤ prefix_len (too_small pages) (taken pages hs)
-prefix_len-taken pages [] = omega arith
-prefix_len-taken pages (h ∷ hs) =
-    elim (cases_Bool (too_small pages h)) [
-      | inl y ↦ let r = prefix_len-taken pages hs in rw (y, y) (omega (arith, r))
-      | inr n ↦ rw n (omega arith)
-    ]
 
 -- no hole ends later
 pub ends-taken : (bound pages : ℕ) (hs : List Interval) → All (λ (h : Interval). end_of h < bound) hs →
@@ -62,15 +52,15 @@ ends-taken bound pages (h ∷ hs) all =
     behind x xs here rest (suc k) d lt = rest k d (omega arith)
 
 -- one buffer is placed
-pub filling_more : (pages count left next : ℕ) (holes0 held0 : List Interval) (at looks : ℕ) (starts : List ℕ) (holes held : List Interval)
+pub filling_more : (pages count left next : ℕ) (holes0 held0 : List Interval) (looks : ℕ) (starts : List ℕ) (holes held : List Interval)
     (c0 cs ch cd at' cs' ch' cd' : ℕ) → 1 ≤ pages → left ≡ suc next → at' ≡ prefix_len (too_small pages) holes → cs ≤ cs' → ch' ≡ ch →
-    cd ≤ cd' → IsFilling pages count left holes0 held0 at looks starts holes held c0 cs ch cd →
-    IsFilling pages count next holes0 held0 at' (looks + (at' + 1)) (starts ++ first_fit pages holes ∷ []) (taken pages holes)
+    cd ≤ cd' → IsFilling pages count left holes0 held0 looks starts holes held c0 cs ch cd →
+    IsFilling pages count next holes0 held0 (looks + (at' + 1)) (starts ++ first_fit pages holes ∷ []) (taken pages holes)
     (with_interval (record { start = first_fit pages holes; pages = pages }) held) c0 cs' ch' cd'
-filling_more pages count left next holes0 held0 at looks starts holes held c0 cs ch cd at' cs' ch' cd' one is found more_s same_h more_d
+filling_more pages count left next holes0 held0 looks starts holes held c0 cs ch cd at' cs' ch' cd' one is found more_s same_h more_d
     f0 =
-    let f : IsFilling pages count (suc next) holes0 held0 at looks starts holes held c0 cs ch cd =
-    subst (λ n. IsFilling pages count n holes0 held0 at looks starts holes held c0 cs ch cd) is f0 in
+    let f : IsFilling pages count (suc next) holes0 held0 looks starts holes held c0 cs ch cd =
+    subst (λ n. IsFilling pages count n holes0 held0 looks starts holes held c0 cs ch cd) is f0 in
     let some : prefix_len (too_small pages) holes < length holes = rooms-some pages holes one (omega (arith, f.has_rooms)) in
     let new : Interval = record { start = first_fit pages holes; pages = pages } in
     record {
@@ -79,7 +69,6 @@ filling_more pages count left next holes0 held0 at looks starts holes held c0 cs
       looks_are = omega (arith, f.looks_are);
       holes_are = f.holes_are;
       held_are = f.held_are;
-      passed = omega (arith, prefix_len-taken pages holes);
       fits = ends-taken 4294967296 pages holes f.fits;
       few = omega (arith, length-taken pages holes, f.few);
       looks_fit = omega (arith, f.looks_fit, f.few);
@@ -90,8 +79,8 @@ filling_more pages count left next holes0 held0 at looks starts holes held c0 cs
     }
 
 -- some hole is long enough while a buffer is left, and its look fits
-pub filling_some : (pages count left : ℕ) (holes0 held0 : List Interval) (at looks : ℕ) (starts : List ℕ) (holes held : List Interval)
-    (c0 cs ch cd : ℕ) → 1 ≤ pages → 0 < left → IsFilling pages count left holes0 held0 at looks starts holes held c0 cs ch cd →
+pub filling_some : (pages count left : ℕ) (holes0 held0 : List Interval) (looks : ℕ) (starts : List ℕ) (holes held : List Interval)
+    (c0 cs ch cd : ℕ) → 1 ≤ pages → 0 < left → IsFilling pages count left holes0 held0 looks starts holes held c0 cs ch cd →
     (prefix_len (too_small pages) holes < length holes) × (looks + 1048576 ≤ count * 1048576)
-filling_some pages count left holes0 held0 at looks starts holes held c0 cs ch cd one some f =
+filling_some pages count left holes0 held0 looks starts holes held c0 cs ch cd one some f =
     (rooms-some pages holes one (omega (arith, f.has_rooms)), omega (arith, f.looks_fit))

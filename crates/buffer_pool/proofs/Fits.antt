@@ -1,10 +1,11 @@
 -- First fit on a list of holes.
 use Rattle.std.proofs.Common.{ℕ, suc, ◌≡◌, ◌+◌, ◌-◌, ◌/◌, ◌<◌, ◌≤◌, refl, ap, sym, subst, ◌∙◌, true, false, List, [], ◌∷◌, ◌++◌, length, get_or, set, take, drop, inl, inr, arith, ◌==◌, one-add}
+use Rattle.std.specs.Prelude.{All}
 use Rattle.std.specs.List.{remove, prefix_len}
 use Rattle.std.proofs.Math.Nat.{div-eq_of_lt}
-use Rattle.std.proofs.lemmas.Bool.{cases_Bool, ltb-true, ltb-false, eq-eqb, ne_eqb, cases_lt}
-use Rattle.std.proofs.lemmas.List.{set_split, get_or_default}
-use Rattle.std.proofs.lemmas.List.Sums.{prefix_len_passes, prefix_len_stops, prefix_len-le-length, sum_by-cons}
+use Rattle.std.proofs.lemmas.Bool.{cases_Bool, ltb-true, ltb-false, lt-ltb, eq-eqb, ne_eqb, cases_lt}
+use Rattle.std.proofs.lemmas.List.{set_split, get_or_default, get_or-take}
+use Rattle.std.proofs.lemmas.List.Sums.{prefix_len_is, prefix_len_passes, prefix_len_stops, prefix_len-le-length, sum_by-cons}
 use Rattle.sm_names.specs.declared.keys.Interval.{Interval}
 use Rattle.buffer_pool.specs.Fitting.{too_small, AreSmall, rooms, first_fit, shortened, taken}
 
@@ -137,4 +138,59 @@ rooms-small pages (h ∷ hs) one =
           sum_by-cons (λ (x : Interval). x.pages / pages) h (take n hs) in
           rw (y, one-add) (omega arith)
       | inr n ↦ rw n refl
+    ]
+
+-- where all have few pages none is long enough, and the other way round
+pub all-small : (pages most : ℕ) (hs : List Interval) → All (λ (h : Interval). h.pages ≤ most) hs → most < pages →
+    length hs ≡ prefix_len (too_small pages) hs
+all-small pages most hs all lt =
+    let none : Interval = record { start = 0; pages = 0 } in
+    sym (prefix_len_is (too_small pages) hs (length hs) none (omega arith) (λ k less. lt-ltb _ _ (at k none less))
+    (λ more. absurd (omega arith)))
+  where
+    at : (k : ℕ) (d : Interval) → k < length hs → (get_or hs k d).pages < pages
+    at k d less = let few : (get_or hs k d).pages ≤ most = all k d less in omega arith
+
+pub small-all : (pages at : ℕ) (hs : List Interval) → 1 ≤ pages → at ≡ prefix_len (too_small pages) hs → length hs ≤ at →
+    All (λ (h : Interval). h.pages ≤ pages - 1) hs
+small-all pages at hs one found past = λ k d lt.
+    let small : (get_or hs k d).pages < pages = ltb-true _ _ (prefix_len_passes (too_small pages) hs k d (omega arith)) in omega arith
+
+-- what is passed for fewer pages is passed for more
+pub passed-more : (few pages : ℕ) (hs : List Interval) → few ≤ pages → prefix_len (too_small few) hs ≤ prefix_len (too_small pages) hs
+passed-more few pages [] le = omega arith
+passed-more few pages (h ∷ hs) le =
+    elim (cases_Bool (too_small few h)) [
+      | inl y ↦
+          let lt : h.pages < few = ltb-true _ _ y in
+          let small : too_small pages h ≡ true = lt-ltb _ _ (omega arith) in
+          let r = passed-more few pages hs le in
+          rw (y, small) (omega (arith, r))
+      | inr n ↦ rw n (omega arith)
+    ]
+
+-- what is passed stays passed where the front is the same
+pub passed-front : (pages n : ℕ) (hs ks : List Interval) → n ≤ prefix_len (too_small pages) hs → n ≤ length ks → take n ks ≡ take n hs →
+    n ≤ prefix_len (too_small pages) ks
+passed-front pages n hs ks le within same =
+    search_passes_many pages 0 n ks none (omega arith) (omega arith) within small
+  where
+    none : Interval
+    none = record { start = 0; pages = 0 }
+
+    small : AreSmall pages 0 n ks
+    small k d from to =
+        let in_it : k < length hs = omega (arith, prefix_len-le-length (too_small pages) hs) in
+        let there : get_or ks k d ≡ get_or hs k d =
+        sym (get_or-take n ks k d to) ∙ ap (λ xs. get_or xs k d) same ∙ get_or-take n hs k d to in
+        let lt : (get_or hs k d).pages < pages = ltb-true _ _ (prefix_len_passes (too_small pages) hs k d (omega arith)) in
+        subst (λ (h : Interval). h.pages < pages) (sym there) lt
+
+-- a hole that is taken from was the first that is not too small, and is not passed
+pub prefix_len-taken : (pages : ℕ) (hs : List Interval) → prefix_len (too_small pages) hs ≤ prefix_len (too_small pages) (taken pages hs)
+prefix_len-taken pages [] = omega arith
+prefix_len-taken pages (h ∷ hs) =
+    elim (cases_Bool (too_small pages h)) [
+      | inl y ↦ let r = prefix_len-taken pages hs in rw (y, y) (omega (arith, r))
+      | inr n ↦ rw n (omega arith)
     ]

@@ -1,13 +1,15 @@
 mod Backs
+mod Blocking
 mod Filling
+mod Finding
 mod Fits
 mod Gaps
 mod Greatest
+mod Joins
 mod Keeping
 pub mod Least
-mod Marking
-mod GapMoves
 mod Orders
+mod Passing
 mod Placing
 mod Searches
 mod Sounds

@@ -177,3 +177,11 @@ with_interval-rises new is h =
     omega arith in
     subst (IsNonDecreasingBy (λ (i : Interval). i.start)) (insert_in_place new is)
     (IsNonDecreasingBy-insert (λ (i : Interval). i.start) is at new h (prefix_len-le-length p is) below above)
+
+-- each interval of an order has a page
+pub length-le : (low high : ℕ) (is : List Interval) → in_order low high is ≡ true → low + length is ≤ high
+length-le low high [] h = let r : low ≤ high = leb-true _ _ h in omega arith
+length-le low high (i ∷ is) h =
+    let f = first_in_order low high i is h in
+    let r : end_of i + length is ≤ high = length-le (end_of i) high is f.rest in
+    omega (arith, f.from, f.has_pages)

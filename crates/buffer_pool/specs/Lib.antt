@@ -2,7 +2,6 @@ pub mod Fitting
 pub mod Holdings
 pub mod Holes
 pub mod Looks
-pub mod Marks
 pub mod Merging
 pub mod Placing
 pub mod Rows

@@ -1,8 +1,73 @@
--- What callers see of a row of intervals.
-use Rattle.std.specs.Prelude.{ℕ, List}
+-- What callers see of intervals that lie in blocks.
+use Rattle.std.specs.Prelude.{◌≡◌, ℕ, ◌+◌, ◌-◌, ◌*◌, ◌<◌, ◌≤◌, Bool, true, false, List, [], All, length, take, get_or}
+use Rattle.std.specs.List.{flat_map, prefix_len}
 use Rattle.sm_names.specs.declared.keys.Interval.{Interval}
+use Rattle.buffer_pool.specs.declared.blocks.Spot.{Spot}
+use Rattle.buffer_pool.specs.declared.blocks.Reach.{Reach}
+use Rattle.buffer_pool.specs.Fitting.{too_small}
+use Rattle.buffer_pool.specs.Holes.{end_of}
 
--- the intervals, and how many there can be before the row has to grow
+-- the intervals, and how many there can be before there have to be more blocks
 pub record Listed : Type 0 where
   pub items : List Interval
   pub capacity : ℕ
+
+-- the intervals by blocks, and how many blocks are spare
+pub record Blocked : Type 0 where
+  pub lists : List (List Interval)
+  pub spares : ℕ
+
+-- how many intervals there can be before there have to be more blocks: while one more is put in, a block is spare, or two can be made one
+abbrev pub capacity_of : Blocked → ℕ
+capacity_of b = (length b.lists + b.spares - 1) * 64
+
+-- all intervals, block by block
+abbrev pub all_in : List (List Interval) → List Interval
+all_in lists = flat_map (λ (b : List Interval). b) lists
+
+-- how many intervals lie before a spot
+abbrev pub place_of : List (List Interval) → Spot → ℕ
+place_of lists spot = length (all_in (take spot.block lists)) + spot.offset
+
+-- an interval lies at the spot
+abbrev pub IsTaken : List (List Interval) → Spot → Type 0
+IsTaken lists spot = (spot.block < length lists) × (spot.offset < length (get_or lists spot.block []))
+
+-- an interval can be put in before the spot: in a block, or in a new one behind the last
+abbrev pub IsOpen : List (List Interval) → Spot → Type 0
+IsOpen lists spot = (spot.block ≤ length lists) × (spot.offset ≤ length (get_or lists spot.block []))
+
+-- an interval lies at the spot, or none lies behind it
+pub record IsSettled (lists : List (List Interval)) (spot : Spot) : Type 0 where
+  pub within : IsOpen lists spot
+  pub taken : place_of lists spot < length (all_in lists) → IsTaken lists spot
+
+-- a change at a spot made these intervals, and left the blocks before it alone
+pub record IsChanged (old new : Blocked) (spot : Spot) (items : List Interval) : Type 0 where
+  pub items_are : all_in new.lists ≡ items
+  pub front : take spot.block new.lists ≡ take spot.block old.lists
+  pub capacity : capacity_of new ≡ capacity_of old
+
+-- the page at which an interval ends, or at which it begins
+abbrev pub edge_of : Bool → Interval → ℕ
+edge_of true i = end_of i
+edge_of false i = i.start
+
+-- what the fields of a block keep true
+pub record IsBlock (greatest room : ℕ) (items : List Interval) : Type 0 where
+  pub has_room : 128 ≤ room
+  pub few : length items ≤ 128
+  pub bound : All (λ h. h.pages ≤ greatest) items
+
+-- what the fields of intervals in blocks keep true
+pub record AreBlocks (used spare : List (List Interval)) (used_room spare_room : ℕ) : Type 0 where
+  pub some : All (λ b. 0 < length b) used
+  pub empty : All (λ b. b ≡ []) spare
+  pub has_used_room : length used + length spare ≤ used_room
+  pub has_spare_room : length used + length spare ≤ spare_room
+
+-- where a search can start: it is known how many intervals lie in the blocks before, and none up to there has so many pages
+pub record IsPassed (pages : ℕ) (reach : Reach) (lists : List (List Interval)) : Type 0 where
+  pub within : IsOpen lists reach.spot
+  pub before : reach.before ≡ length (all_in (take reach.spot.block lists))
+  pub passed : place_of lists reach.spot ≤ prefix_len (too_small pages) (all_in lists)

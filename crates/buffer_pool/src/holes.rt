@@ -1,195 +1,272 @@
-//! First fit and merging on a list of holes.
-ghost use Rattle.std.specs.Prelude.{◌≡◌, false, ◌+◌, ◌++◌, ◌<◌, ◌≤◌, ◌^◌, length, take, drop, nat_lt, nat_le, All, IsTrue};
+//! First fit and merging on the holes of a pool.
+ghost use Rattle.std.specs.Prelude.{ℕ, List, ◌≡◌, ◌+◌, ◌++◌, ◌∷◌, [], ◌<◌, ◌≤◌, ◌^◌, length, take, drop, nat_le, nat_lt, All, IsTrue, IfOk, OnOk};
 ghost use Rattle.std.specs.List.{prefix_len};
-ghost use Rattle.std.specs.List.Sorted.{IsNonDecreasingBy};
+ghost use Rattle.sm_names.specs.declared.keys.Interval.{Interval};
 ghost use Rattle.buffer_pool.specs.Holes.{end_of};
-ghost use Rattle.buffer_pool.specs.Fitting.{too_small, AreSmall, rooms, first_fit, taken};
+ghost use Rattle.buffer_pool.specs.Fitting.{too_small, rooms, first_fit, taken};
 ghost use Rattle.buffer_pool.specs.Merging.{spaced, first_ends, first_begins, joined, released};
+ghost use Rattle.buffer_pool.specs.Rows.{all_in, place_of, capacity_of, IsTaken, IsOpen, IsSettled, IsChanged, IsPassed};
 
-use crate::marked::HoleRow;
+use crate::block::edge;
+use crate::blocks::{Blocks, Reach, Spot};
 use sm_names::Interval;
+use std::alloc::{AllocError, Global};
+use std::marker::Model;
 
-/// Whether the holes have room for `count` buffers, of which those before `first` are too small.
-pub(crate) fn has_rooms(holes: &HoleRow, first: usize, count: u32, pages_each: u32) -> bool
-    requires pages { 1 ≤ pages_each }
-    requires first { first ≡ prefix_len (too_small pages_each) holes.now.items }
-    ensures { result ≡ nat_le count (rooms pages_each holes.now.items) }
-{
-    let mut found: u64 = 0;
-    for at in first..holes.len() {
-        if found >= u64::from(count) {
-            return true;
-        }
-        found += u64::from(holes.get(at).pages / pages_each);
+// Where a search starts of which nothing is known.
+const START: Reach = Reach {
+    spot: Spot {
+        block: 0,
+        offset: 0,
+    },
+    before: 0,
+};
+
+/// The holes by page. Where the last search ended is remembered for the next ones of as many pages or
+/// more.
+#[derive(Drop)]
+pub(crate) struct Holes {
+    blocks: Blocks,
+    // No hole before the reach has so many pages.
+    pages: u32,
+    reach: Reach,
+}
+
+impl Model for Holes {
+    ghost use Rattle.buffer_pool.specs.Rows.{Listed, all_in, capacity_of, IsPassed};
+
+    ghost Value = { Listed };
+
+    ghost view = { λ h. record { items = all_in h.blocks.lists; capacity = capacity_of h.blocks } };
+
+    ghost invariant = { λ h. IsPassed h.pages h.reach h.blocks.lists };
+}
+
+/// A hole's first pages, and how many holes lie before it.
+#[derive(Clone, Copy)]
+pub(crate) struct Taken {
+    pub(crate) start: u32,
+    pub(crate) before: usize,
+}
+
+impl Holes {
+    /// One hole.
+    pub(crate) fn of_one(alloc: Global, one: Interval) -> Result<Holes, AllocError>
+        ensures { IfOk result (λ holes. holes.items ≡ one ∷ []) }
+    {
+        let mut blocks = Blocks::new(alloc);
+        blocks.reserve(1)?;
+        blocks.insert(START.spot, one);
+        Ok(Holes {
+            blocks,
+            pages: 0,
+            reach: START,
+        })
     }
-    found >= u64::from(count)
+
+    /// Makes room for so many in all.
+    pub(crate) fn reserve(&mut self, most: usize) -> Result<(), AllocError>
+        ensures items { self.new.items ≡ self.old.items }
+        ensures capacity { self.old.capacity ≤ self.new.capacity }
+        ensures room { OnOk result (most ≤ self.new.capacity) }
+    {
+        self.blocks.reserve(most)
+    }
+
+    /// Whether the holes have room for `count` buffers.
+    pub(crate) fn has_rooms(&mut self, count: u32, pages_each: u32) -> bool
+        requires pages { 1 ≤ pages_each }
+        requires few { length self.old.items ≤ 2 ^ 20 }
+        ensures rooms { result ≡ nat_le count (rooms pages_each self.old.items) }
+        ensures same { self.new ≡ self.old }
+    {
+        let found = seek(&mut self.blocks, self.pages, self.reach, pages_each);
+        self.pages = pages_each;
+        self.reach = found;
+        self.blocks.has_rooms(found.spot, count, pages_each)
+    }
+
+    /// Takes pages from the front of the first hole that is not too small.
+    pub(crate) fn take_front(&mut self, pages_each: u32) -> Taken
+        requires pages { 1 ≤ pages_each }
+        requires few { length self.old.items ≤ 2 ^ 20 }
+        requires some { prefix_len (too_small pages_each) self.old.items < length self.old.items }
+        requires fits { All (λ h. end_of h < 2 ^ 32) self.old.items }
+        ensures start { result.start ≡ first_fit pages_each self.old.items }
+        ensures before { result.before ≡ prefix_len (too_small pages_each) self.old.items }
+        ensures items { self.new.items ≡ taken pages_each self.old.items }
+        ensures capacity { self.new.capacity ≡ self.old.capacity }
+    {
+        let found = seek(&mut self.blocks, self.pages, self.reach, pages_each);
+        self.pages = pages_each;
+        self.reach = found;
+        let start = shorten(&mut self.blocks, found.spot, pages_each);
+        let before = found.before + found.spot.offset;
+        Taken { start, before }
+    }
+
+    /// Puts pages back that nobody holds, as one hole with those that they touch.
+    pub(crate) fn release(&mut self, back: Interval)
+        requires spaced { IsTrue (spaced 0 self.old.items) }
+        requires few { length self.old.items ≤ 2 ^ 20 }
+        requires fits { All (λ h. end_of h < 2 ^ 32) self.old.items }
+        requires back_fits { end_of back < 2 ^ 32 }
+        requires room { length (released back self.old.items) ≤ self.old.capacity }
+        ensures items { self.new.items ≡ released back self.old.items }
+        ensures capacity { self.new.capacity ≡ self.old.capacity }
+    {
+        let reach = loosened(&mut self.blocks, self.reach);
+        let found = self.blocks.find(u64::from(back.start), true);
+        let spot = self.blocks.settle(found);
+        self.reach = lowered(reach, spot);
+        put_back(&mut self.blocks, spot, back);
+    }
 }
 
-/// The first hole that is not too small, or the number of holes where all are. The search starts
-/// where an earlier one ended, if it can, and is remembered for later ones.
-pub(crate) fn seek(holes: &mut HoleRow, pages_each: u32) -> usize
-    requires { IsNonDecreasingBy (λ h. h.start) holes.old.items }
-    ensures first { result ≡ prefix_len (too_small pages_each) holes.old.items }
-    ensures same { holes.new ≡ holes.old }
+// The first hole that is not too small. The search starts where one for so many pages ended, if they
+// are no more.
+fn seek(blocks: &mut Blocks, known: u32, reach: Reach, pages_each: u32) -> Reach
+    requires pages { 1 ≤ pages_each }
+    requires few { length (all_in blocks.old.lists) ≤ 2 ^ 20 }
+    requires known { IsPassed known reach blocks.old.lists }
+    ensures passed { IsPassed pages_each result blocks.old.lists }
+    ensures found { place_of blocks.old.lists result.spot
+        ≡ prefix_len (too_small pages_each) (all_in blocks.old.lists) }
+    ensures settled { IsSettled blocks.old.lists result.spot }
+    ensures same { blocks.new ≡ blocks.old }
 {
-    let from = holes.start_of_search(pages_each);
-    let first = next_fit(holes, from, pages_each);
-    holes.remember(first, pages_each);
-    first
+    if known <= pages_each {
+        blocks.fit(reach, pages_each)
+    } else {
+        blocks.fit(START, pages_each)
+    }
 }
 
-/// The same, sought from `from` on.
-pub(crate) fn next_fit(holes: &HoleRow, from: usize, pages_each: u32) -> usize
-    requires { from ≤ prefix_len (too_small pages_each) holes.now.items }
-    ensures { result ≡ prefix_len (too_small pages_each) holes.now.items }
+// Makes a block spare, and gives where the next search can start.
+fn loosened(blocks: &mut Blocks, reach: Reach) -> Reach
+    ensures items { all_in blocks.new.lists ≡ all_in blocks.old.lists }
+    ensures capacity { capacity_of blocks.new ≡ capacity_of blocks.old }
+    ensures spare { length (all_in blocks.old.lists) < capacity_of blocks.old → 0 < blocks.new.spares }
+    ensures passed { (pages : ℕ) → IsPassed pages reach blocks.old.lists → IsPassed pages result blocks.new.lists }
 {
-    let (front, back) = holes.parts();
-    let mut behind = 0;
-    if from < front.len() {
-        let at = fit_in(front, from, pages_each);
-        if at < front.len() {
-            return at;
+    if blocks.has_spare() {
+        return reach;
+    }
+    blocks.gather();
+    START
+}
+
+// Where the next search can start once a hole changes at the spot.
+fn lowered(reach: Reach, spot: Spot) -> Reach
+    ensures block { result.spot.block ≤ spot.block }
+    ensures offset { result.spot.offset ≡ 0 }
+    ensures passed { (pages : ℕ) (lists : List (List Interval)) → IsPassed pages reach lists → IsPassed pages result lists }
+{
+    if reach.spot.block <= spot.block {
+        Reach {
+            spot: Spot {
+                block: reach.spot.block,
+                offset: 0,
+            },
+            before: reach.before,
         }
     } else {
-        behind = from - front.len();
+        START
     }
-    front.len() + fit_in(back, behind, pages_each)
 }
 
-// The same in a slice. It looks at eight holes at a time.
-fn fit_in(holes: &[Interval], from: usize, pages_each: u32) -> usize
-    requires { from ≤ prefix_len (too_small pages_each) holes.now }
-    ensures { result ≡ prefix_len (too_small pages_each) holes.now }
+// Takes pages from the front of the first hole that is not too small, and gives their start.
+fn shorten(blocks: &mut Blocks, spot: Spot, pages_each: u32) -> u32
+    requires first { place_of blocks.old.lists spot ≡ prefix_len (too_small pages_each) (all_in blocks.old.lists) }
+    requires some { IsTaken blocks.old.lists spot }
+    requires fits { All (λ h. end_of h < 2 ^ 32) (all_in blocks.old.lists) }
+    ensures start { result ≡ first_fit pages_each (all_in blocks.old.lists) }
+    ensures changed { IsChanged blocks.old blocks.new spot (taken pages_each (all_in blocks.old.lists)) }
+    ensures within { IsOpen blocks.new.lists spot }
 {
-    let mut at = from;
-    while holes.len() - at >= 8 && !one_fits(holes, at, pages_each) {
-        at += 8;
-    }
-    while at < holes.len() && holes[at].pages < pages_each {
-        at += 1;
-    }
-    at
-}
-
-// Whether one of the next eight holes is not too small.
-fn one_fits(holes: &[Interval], at: usize, pages_each: u32) -> bool
-    requires { at + 8 ≤ length holes.now }
-    ensures { result ≡ false → AreSmall pages_each at (at + 8) holes.now }
-{
-    let mut fits = false;
-    for place in at..at + 8 {
-        fits = fits | (holes[place].pages >= pages_each);
-    }
-    fits
-}
-
-/// Takes pages from the front of the first hole that is not too small, and gives their start.
-pub(crate) fn take_front(holes: &mut HoleRow, at: usize, pages_each: u32) -> u32
-    requires first { at ≡ prefix_len (too_small pages_each) holes.old.items }
-    requires some { at < length holes.old.items }
-    requires fits { All (λ h. end_of h < 2 ^ 32) holes.old.items }
-    ensures start { result ≡ first_fit pages_each holes.old.items }
-    ensures holes { holes.new.items ≡ taken pages_each holes.old.items }
-    ensures capacity { holes.new.capacity ≡ holes.old.capacity }
-{
-    let hole = holes.get(at);
+    let hole = blocks.get(spot);
     if hole.pages == pages_each {
-        holes.remove(at);
+        blocks.remove(spot);
     } else {
         let rest = Interval {
             start: hole.start + pages_each,
             pages: hole.pages - pages_each,
         };
-        holes.shorten(at, rest);
+        blocks.set(spot, rest);
     }
     hole.start
 }
 
-// The page after the last.
-fn end(i: Interval) -> u64
-    ensures { result ≡ end_of i }
+// Whether there is a hole at this spot that ends at this page.
+fn ends_at(blocks: &Blocks, spot: Spot, page: u32) -> bool
+    requires { IsSettled blocks.now.lists spot }
+    ensures { result ≡ first_ends page (drop (place_of blocks.now.lists spot) (all_in blocks.now.lists)) }
 {
-    u64::from(i.start) + u64::from(i.pages)
+    blocks.is_taken(spot) && edge(blocks.get(spot), true) == u64::from(page)
 }
 
-// How many holes end before this page.
-fn ends_before(holes: &HoleRow, page: u32) -> usize
-    requires { IsTrue (spaced 0 holes.now.items) }
-    ensures { result ≡ prefix_len (λ h. nat_lt (end_of h) page) holes.now.items }
+// Whether there is a hole at this spot that begins at this page.
+fn begins_at(blocks: &Blocks, spot: Spot, page: u64) -> bool
+    requires { IsSettled blocks.now.lists spot }
+    ensures { result ≡ first_begins page (drop (place_of blocks.now.lists spot) (all_in blocks.now.lists)) }
 {
-    let mut low = 0;
-    let mut high = holes.len();
-    while low < high {
-        let middle = low + (high - low) / 2;
-        if end(holes.get(middle)) < u64::from(page) {
-            low = middle + 1;
-        } else {
-            high = middle;
-        }
-    }
-    low
-}
-
-// Whether there is a hole at this place that ends at this page.
-fn ends_at(holes: &HoleRow, at: usize, page: u32) -> bool
-    ensures { result ≡ first_ends page (drop at holes.now.items) }
-{
-    at < holes.len() && end(holes.get(at)) == u64::from(page)
-}
-
-// Whether there is a hole at this place that begins at this page.
-fn begins_at(holes: &HoleRow, at: usize, page: u64) -> bool
-    ensures { result ≡ first_begins page (drop at holes.now.items) }
-{
-    at < holes.len() && u64::from(holes.get(at).start) == page
+    blocks.is_taken(spot) && edge(blocks.get(spot), false) == page
 }
 
 // Makes one hole of this and the next, if they touch.
-fn join_next(holes: &mut HoleRow, at: usize, hole: Interval)
-    requires there { at < length holes.old.items }
-    requires few { length holes.old.items ≤ 2 ^ 20 }
-    requires fits { All (λ h. end_of h < 2 ^ 32) holes.old.items }
-    ensures holes { holes.new.items
-        ≡ take at holes.old.items ++ joined hole (drop (at + 1) holes.old.items) }
-    ensures capacity { holes.new.capacity ≡ holes.old.capacity }
+fn join_next(blocks: &mut Blocks, spot: Spot, hole: Interval)
+    requires there { IsTaken blocks.old.lists spot }
+    requires few { length (all_in blocks.old.lists) ≤ 2 ^ 20 }
+    requires fits { All (λ h. end_of h < 2 ^ 32) (all_in blocks.old.lists) }
+    ensures { IsChanged blocks.old blocks.new spot
+        (take (place_of blocks.old.lists spot) (all_in blocks.old.lists)
+        ++ joined hole (drop (place_of blocks.old.lists spot + 1) (all_in blocks.old.lists))) }
 {
-    let mut pages = hole.pages;
-    if begins_at(holes, at + 1, end(hole)) {
-        pages += holes.remove(at + 1).pages;
-    }
-    let whole = Interval {
-        start: hole.start,
-        pages,
+    let behind = Spot {
+        block: spot.block,
+        offset: spot.offset + 1,
     };
-    holes.set(at, whole);
+    let next = blocks.settle(behind);
+    if begins_at(blocks, next, edge(hole, true)) {
+        let more = blocks.get(next).pages;
+        let whole = Interval {
+            start: hole.start,
+            pages: hole.pages + more,
+        };
+        blocks.set(spot, whole);
+        blocks.remove(next);
+    } else {
+        blocks.set(spot, hole);
+    }
 }
 
-/// Puts pages back that nobody holds, as one hole with those that they touch.
-pub(crate) fn release(holes: &mut HoleRow, back: Interval)
-    requires spaced { IsTrue (spaced 0 holes.old.items) }
-    requires few { length holes.old.items ≤ 2 ^ 20 }
-    requires fits { All (λ h. end_of h < 2 ^ 32) holes.old.items }
+// Puts pages back at the spot before which all holes end before them.
+fn put_back(blocks: &mut Blocks, spot: Spot, back: Interval)
+    requires settled { IsSettled blocks.old.lists spot }
+    requires found { place_of blocks.old.lists spot
+        ≡ prefix_len (λ h. nat_lt (end_of h) back.start) (all_in blocks.old.lists) }
+    requires few { length (all_in blocks.old.lists) ≤ 2 ^ 20 }
+    requires fits { All (λ h. end_of h < 2 ^ 32) (all_in blocks.old.lists) }
     requires back_fits { end_of back < 2 ^ 32 }
-    requires room { length (released back holes.old.items) ≤ holes.old.capacity }
-    ensures holes { holes.new.items ≡ released back holes.old.items }
-    ensures capacity { holes.new.capacity ≡ holes.old.capacity }
+    requires room { length (released back (all_in blocks.old.lists)) ≤ capacity_of blocks.old }
+    requires spare { length (all_in blocks.old.lists) < capacity_of blocks.old → 0 < blocks.old.spares }
+    ensures { IsChanged blocks.old blocks.new spot (released back (all_in blocks.old.lists)) }
 {
-    let at = ends_before(holes, back.start);
-    if ends_at(holes, at, back.start) {
-        let before = holes.get(at);
+    if ends_at(blocks, spot, back.start) {
+        let before = blocks.get(spot);
         let hole = Interval {
             start: before.start,
             pages: before.pages + back.pages,
         };
-        join_next(holes, at, hole);
-    } else if begins_at(holes, at, end(back)) {
-        let behind = holes.get(at);
+        join_next(blocks, spot, hole);
+    } else if begins_at(blocks, spot, edge(back, true)) {
+        let behind = blocks.get(spot);
         let hole = Interval {
             start: back.start,
             pages: back.pages + behind.pages,
         };
-        holes.set(at, hole);
+        blocks.set(spot, hole);
     } else {
-        holes.insert(at, back);
+        blocks.insert(spot, back);
     }
 }

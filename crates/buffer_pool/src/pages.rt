@@ -1,18 +1,17 @@
 //! The pool.
 ghost use Rattle.std.specs.Prelude.{◌≡◌, ◌+◌, ◌<◌, ◌≤◌, ◌↔◌, [], length, vec_capacity, ◌^◌, IfOk, OnErr, OnOk, None, Err, All, Contains};
-ghost use Rattle.std.specs.List.{prefix_len};
 ghost use Rattle.std.specs.List.Sorted.{IsNonDecreasingBy};
 ghost use Rattle.sm_names.specs.Pages.{places};
-ghost use Rattle.buffer_pool.specs.Fitting.{too_small, rooms, starts_in, left_in, looks_in};
+ghost use Rattle.buffer_pool.specs.Fitting.{rooms, starts_in, left_in, looks_in};
 ghost use Rattle.buffer_pool.specs.Holdings.{IsSound, pages_in, with_buffers, without};
 ghost use Rattle.buffer_pool.specs.Holes.{end_of};
 ghost use Rattle.buffer_pool.specs.Placing.{PlacesBuffers};
+ghost use Rattle.buffer_pool.specs.Rows.{all_in, capacity_of};
 
+use crate::blocks::Blocks;
 use crate::holding::{hold, let_go};
-use crate::holes::{has_rooms, next_fit, release, seek, take_front};
-use crate::marked::HoleRow;
+use crate::holes::Holes;
 use crate::placement::{Placed, PoolFault};
-use crate::row::Row;
 use sm_names::{Interval, NoMemory};
 use std::alloc::{AllocError, Global};
 use std::marker::Model;
@@ -25,22 +24,27 @@ pub const MAX_PAGES: u32 = 1_048_576;
 pub struct Pool {
     size: u32,
     free: u32,
+    // How many intervals are held.
+    buffers: u32,
     // By page, with capacity for as many as there are held intervals, so that none is refused
     // its place when pages come back.
-    holes: HoleRow,
+    holes: Holes,
     // By page.
-    held: Row,
+    held: Blocks,
 }
 
 impl Model for Pool {
     ghost use Rattle.buffer_pool.specs.Holdings.{Holdings, IsPoolSound};
+    ghost use Rattle.buffer_pool.specs.Rows.{all_in};
+    ghost use Rattle.std.specs.Prelude.{◌≡◌, length};
 
     ghost Value = { Holdings };
 
-    ghost view = { λ p. record { size = p.size; held = p.held.items } };
+    ghost view = { λ p. record { size = p.size; held = all_in p.held.lists } };
 
     ghost invariant = { λ p.
-        IsPoolSound p.size p.free p.holes.items p.held.items p.holes.capacity };
+        (p.buffers ≡ length (all_in p.held.lists))
+        × IsPoolSound p.size p.free p.holes.items (all_in p.held.lists) p.holes.capacity };
 }
 
 impl Pool {
@@ -51,12 +55,13 @@ impl Pool {
         requires { (1 ≤ pages) × (pages ≤ MAX_PAGES) }
         ensures ok { IfOk result (λ pool. pool ≡ record { size = pages; held = [] }) }
     {
-        match HoleRow::of_one(alloc, Interval { start: 0, pages }) {
+        match Holes::of_one(alloc, Interval { start: 0, pages }) {
             Ok(holes) => Ok(Pool {
                 size: pages,
                 free: pages,
+                buffers: 0,
                 holes,
-                held: Row::new(alloc),
+                held: Blocks::new(alloc),
             }),
             Err(_) => Err(NoMemory),
         }
@@ -68,13 +73,13 @@ impl Pool {
     /// `PoolFull` where some buffer has no such start, and `NoMemory` where a growth is refused.
     /// Either leaves the pool as it was.
     ///
-    /// It costs one walk over the holes up to the first start, but for those that an earlier search
-    /// for as many pages or fewer passed, two walks from there up to the last start, or to the end
-    /// where the pool is full, and for each buffer two looks at the held intervals where it lies
-    /// next to the one before, and else a binary search. What searches passed is kept for sixteen
-    /// numbers of pages, which are apart by their remainder. In either list a change moves what lies
-    /// between it and the change before it, so that the buffers of one call move all that they pass
-    /// once.
+    /// The holes and the held intervals lie in blocks of at most 128. It costs two walks over the
+    /// blocks of holes, from where the last search ended if that was for as many pages or fewer and
+    /// no pages came back before, up to the last start, or to the end where the pool is full: a block
+    /// whose greatest hole is too small is passed at once. For each buffer it costs two looks at the
+    /// held intervals where it lies next to the one before, and else two binary searches, one among
+    /// the blocks and one in a block. A change moves at most a block, and once in so many a list of
+    /// the blocks.
     pub fn place(&mut self, count: u32, pages_each: u32) -> Result<Placed, PoolFault>
         requires { (1 ≤ count) × (1 ≤ pages_each) }
 
@@ -87,21 +92,14 @@ impl Pool {
             ↔ (places self.old.size pages_each count self.old.held ≡ None) }
         ensures sound { IsSound self.new }
     {
-        let first = seek(&mut self.holes, pages_each);
-        if !has_rooms(&self.holes, first, count, pages_each) {
+        if !self.holes.has_rooms(count, pages_each) {
             return Err(PoolFault::PoolFull);
         }
-        match reserve(&mut self.holes, &mut self.held, count) {
+        match reserve(&mut self.holes, &mut self.held, self.buffers, count) {
             Ok(starts) => {
-                let placed = fill(
-                    &mut self.holes,
-                    &mut self.held,
-                    starts,
-                    first,
-                    count,
-                    pages_each,
-                );
+                let placed = fill(&mut self.holes, &mut self.held, starts, count, pages_each);
                 self.free -= count * pages_each;
+                self.buffers += count;
                 Ok(placed)
             }
             Err(_) => Err(PoolFault::NoMemory),
@@ -111,8 +109,9 @@ impl Pool {
     /// Takes back the pages of a held interval, and leaves all others as they are. The pages form
     /// one hole with the holes that they touch.
     ///
-    /// It takes no memory, and costs a binary search in each of two lists, the held intervals and
-    /// the holes, and a move of what lies between this change and the one before it.
+    /// It takes no memory, and costs two binary searches in each of two lists, the held intervals and
+    /// the holes, and a move of at most a block in either, and once in so many of a list of the
+    /// blocks.
     pub fn give_back(&mut self, start: u32, pages: u32)
         requires { Contains self.old.held (record { start = start; pages = pages }) }
         ensures held { self.new ≡ record self.old { held = without start self.old.held } }
@@ -120,8 +119,9 @@ impl Pool {
     {
         let back = Interval { start, pages };
         let_go(&mut self.held, back);
-        release(&mut self.holes, back);
+        self.holes.release(back);
         self.free += pages;
+        self.buffers -= 1;
     }
 
     /// The held intervals in order of page, which lie in the pool and apart.
@@ -148,18 +148,23 @@ impl Pool {
 
 // Makes room for `count` more buffers: for their starts, among the held intervals, and for the
 // holes that they can leave.
-fn reserve(holes: &mut HoleRow, held: &mut Row, count: u32) -> Result<Vec<u32>, AllocError>
+fn reserve(
+    holes: &mut Holes,
+    held: &mut Blocks,
+    buffers: u32,
+    count: u32,
+) -> Result<Vec<u32>, AllocError>
+    requires { buffers ≡ length (all_in held.old.lists) }
     ensures holes { holes.new.items ≡ holes.old.items }
-    ensures held { held.new.items ≡ held.old.items }
+    ensures held { all_in held.new.lists ≡ all_in held.old.lists }
     ensures kept { holes.old.capacity ≤ holes.new.capacity }
     ensures starts { IfOk result (λ starts. starts.items ≡ []) }
     ensures starts_room { IfOk result (λ starts. count ≤ vec_capacity starts) }
-    ensures held_room { OnOk result (length held.new.items + count ≤ held.new.capacity) }
-    ensures holes_room { OnOk result (length held.new.items + count ≤ holes.new.capacity) }
+    ensures held_room { OnOk result (length (all_in held.new.lists) + count ≤ capacity_of held.new) }
+    ensures holes_room { OnOk result (length (all_in held.new.lists) + count ≤ holes.new.capacity) }
 {
-    let more = count as usize;
-    let starts = Vec::with_capacity(held.allocator(), more)?;
-    let most = held.len() + more;
+    let starts = Vec::with_capacity(held.allocator(), count as usize)?;
+    let most = buffers as usize + count as usize;
     held.reserve(most)?;
     holes.reserve(most)?;
     Ok(starts)
@@ -168,44 +173,38 @@ fn reserve(holes: &mut HoleRow, held: &mut Row, count: u32) -> Result<Vec<u32>, 
 // Places buffers that all have room, and counts the looks. As the buffers are of one size, a hole
 // that was too small for one is too small for those after it, so the search goes on where it was.
 fn fill(
-    holes: &mut HoleRow,
-    held: &mut Row,
+    holes: &mut Holes,
+    held: &mut Blocks,
     mut starts: Vec<u32>,
-    first: usize,
     count: u32,
     pages_each: u32,
 ) -> Placed
     requires pages { 1 ≤ pages_each }
     requires rooms { count ≤ rooms pages_each holes.old.items }
-    requires first { first ≤ prefix_len (too_small pages_each) holes.old.items }
     requires fits { All (λ h. end_of h < 2 ^ 32) holes.old.items }
     requires few { length holes.old.items ≤ 2 ^ 20 }
-    requires up { IsNonDecreasingBy (λ i. i.start) held.old.items }
-    requires held_room { length held.old.items + count ≤ held.old.capacity }
+    requires up { IsNonDecreasingBy (λ i. i.start) (all_in held.old.lists) }
+    requires held_room { length (all_in held.old.lists) + count ≤ capacity_of held.old }
     requires empty { starts.items ≡ [] }
     requires starts_room { count ≤ vec_capacity starts }
     ensures starts { result.starts.items ≡ starts_in pages_each count holes.old.items }
     ensures looks { result.looks ≡ looks_in pages_each count holes.old.items }
     ensures holes { holes.new.items ≡ left_in pages_each count holes.old.items }
-    ensures held { held.new.items
-        ≡ with_buffers pages_each (starts_in pages_each count holes.old.items) held.old.items }
+    ensures held { all_in held.new.lists
+        ≡ with_buffers pages_each (starts_in pages_each count holes.old.items) (all_in held.old.lists) }
     ensures capacity { holes.new.capacity ≡ holes.old.capacity }
 {
-    let mut at = first;
     let mut looks = 0;
     let mut left = count;
     while left > 0 {
-        at = next_fit(holes, at, pages_each);
-        looks += at as u64 + 1;
-        let start = take_front(holes, at, pages_each);
-        hold(
-            held,
-            Interval {
-                start,
-                pages: pages_each,
-            },
-        );
-        starts.push(start).unwrap();
+        let taken = holes.take_front(pages_each);
+        looks += taken.before as u64 + 1;
+        let new = Interval {
+            start: taken.start,
+            pages: pages_each,
+        };
+        hold(held, new);
+        starts.push(taken.start).unwrap();
         left -= 1;
     }
     Placed { starts, looks }

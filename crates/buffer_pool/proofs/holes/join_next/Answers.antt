@@ -1,19 +1,63 @@
 -- The next hole goes where the two touch.
-use Rattle.std.proofs.Common.{◌∙◌, sym}
-use Rattle.buffer_pool.proofs.Spaces.{join_apart, join_touching}
+use Rattle.std.proofs.Common.{◌∙◌, ◌≡◌, ◌≤◌, ◌+◌, arith, rules, ap, sym, get_or, set, take, drop, [], List, length-set, true, refl}
+use Rattle.std.specs.List.{remove}
+use Rattle.std.proofs.lemmas.List.{take-take}
+use Rattle.sm_names.specs.declared.keys.Interval.{Interval}
+use Rattle.buffer_pool.specs.Merging.{first_begins}
+use Rattle.buffer_pool.specs.Holes.{end_of}
+use Rattle.buffer_pool.specs.Rows.{all_in, place_of}
+use Rattle.buffer_pool.proofs.Joins.{place-within, within-all, same-place, remove-next}
+use Rattle.buffer_pool.proofs.Spaces.{join_apart, join_touching, first_within}
 use Rattle.buffer_pool.proofs.holes.join_next.Goals as goal
-use Rattle.buffer_pool.proofs.holes.join_next.Goals.{then-begins_at, else-begins_at}
+use Rattle.buffer_pool.proofs.holes.join_next.Goals.{After-settle-next}
 
-pub returns-clause-holes : goal.returns-clause-holes
-returns-clause-holes c =
-    let test = rw c.end.ensures at c.begins_at.ensures in
-    c.set.ensures.items
-    ∙ elim c.if-begins_at.branch [
-      | then-begins_at w ↦
-          rw (w.holes-is, w.pages-is, w.remove-pages.ensures.items)
-          (join_touching c.args.hole w.remove-pages.result c.args.at c.args.holes.now.items w.remove-pages.ensures.value (sym test
-          ∙ w.if-begins_at.true))
-      | else-begins_at w ↦
-          rw (w.holes-is, w.pages-is)
-          (join_apart c.args.hole c.args.at c.args.holes.now.items c.requires.there (sym test ∙ w.if-begins_at.false))
-    ]
+pub overflow_add-behind : goal.overflow_add-behind
+overflow_add-behind c =
+    let small : c.args.spot.offset + 1 ≤ 1048576 =
+    omega (arith, within-all c.args.blocks.now.lists c.args.spot.block c.requires.there.0, c.requires.there.1, c.requires.few) in
+    search rules
+
+next : (c : After-settle-next) → place_of c.args.blocks.now.lists c.settle-next.result ≡ place_of c.args.blocks.now.lists c.args.spot + 1
+next c = omega (arith, c.settle-next.ensures.place)
+
+pub returns-then-begins_at : goal.returns-then-begins_at
+returns-then-begins_at c =
+    let m = (goal.at.returns-then-begins_at c).After-settle-next in
+    let L : List (List Interval) = c.args.blocks.now.lists in
+    let hs : List Interval = all_in L in
+    let test = rw (c.edge.ensures, next m) at c.begins_at.ensures in
+    let begins : first_begins (end_of c.args.hole) (drop (place_of L c.args.spot + 1) hs) ≡ true = sym test ∙ c.if-begins_at.true in
+    let lt = first_within (first_begins (end_of c.args.hole)) (place_of L c.args.spot + 1) hs refl begins in
+    let is : c.get-more.result ≡ get_or hs (place_of L c.args.spot + 1) c.get-more.result =
+    c.get-more.ensures ∙ ap (λ n. get_or hs n c.get-more.result) (next m) in
+    let whole : Interval = record { start = c.args.hole.start; pages = c.args.hole.pages + c.get-more.result.pages } in
+    let B : List Interval = get_or L c.args.spot.block [] in
+    let place : place_of c.set.new.self.lists c.settle-next.result ≡ place_of L c.args.spot + 1 =
+    ap (λ (M : List (List Interval)). place_of M c.settle-next.result) c.set.ensures.lists
+    ∙ ap (λ n. n + c.settle-next.result.offset)
+    (same-place L c.args.spot.block c.settle-next.result.block (set B c.args.spot.offset whole) (length-set B c.args.spot.offset whole))
+    ∙ next m in
+    record {
+      items_are = c.remove.ensures.changed.items_are
+          ∙ (λ i. remove (c.set.ensures.changed.items_are i) (place i))
+          ∙ remove-next hs (place_of L c.args.spot) whole lt
+          ∙ join_touching c.args.hole c.get-more.result (place_of L c.args.spot) hs is begins;
+      front = sym (take-take c.args.spot.block c.settle-next.result.block c.remove.new.self.lists c.settle-next.ensures.block)
+          ∙ ap (take c.args.spot.block) c.remove.ensures.changed.front
+          ∙ take-take c.args.spot.block c.settle-next.result.block c.set.new.self.lists c.settle-next.ensures.block
+          ∙ c.set.ensures.changed.front;
+      capacity = c.remove.ensures.changed.capacity ∙ c.set.ensures.changed.capacity;
+    }
+
+pub returns-else-begins_at : goal.returns-else-begins_at
+returns-else-begins_at c =
+    let m = (goal.at.returns-else-begins_at c).After-settle-next in
+    let L : List (List Interval) = c.args.blocks.now.lists in
+    let test = rw (c.edge.ensures, next m) at c.begins_at.ensures in
+    record {
+      items_are = c.set-else-begins_at.ensures.changed.items_are
+          ∙ join_apart c.args.hole (place_of L c.args.spot) (all_in L)
+          (place-within L c.args.spot.block c.args.spot.offset c.requires.there.0 c.requires.there.1) (sym test ∙ c.if-begins_at.false);
+      front = c.set-else-begins_at.ensures.changed.front;
+      capacity = c.set-else-begins_at.ensures.changed.capacity;
+    }

@@ -3,37 +3,34 @@ use Rattle.std.proofs.Common.{◌≡◌, ◌+◌, ◌-◌, ◌≤◌, arith, rul
 use Rattle.buffer_pool.proofs.Filling.{filling_more, filling_some}
 use Rattle.buffer_pool.proofs.pages.fill.Goals as goal
 
-pub take_front-start-requires-clause-some : goal.take_front-start-requires-clause-some
-take_front-start-requires-clause-some c =
-    let found = c.next_fit-at.ensures in
-    let some = filling_some c.args.pages_each c.args.count c.loop-left.left _ _ _ _ _ _ _ _ _ _ _ c.requires.pages c.loop-left-test.true
-    c.loop-left.invariant in
-    omega (arith, found, some.0)
+pub take_front-taken-requires-clause-some : goal.take_front-taken-requires-clause-some
+take_front-taken-requires-clause-some c =
+    (filling_some c.args.pages_each c.args.count c.loop-left.left _ _ _ _ _ _ _ _ _ _ c.requires.pages c.loop-left-test.true
+    c.loop-left.invariant).0
 
 pub overflow_add-looks : goal.overflow_add-looks
 overflow_add-looks c =
-    let found = c.next_fit-at.ensures in
-    let some = filling_some c.args.pages_each c.args.count c.loop-left.left _ _ _ _ _ _ _ _ _ _ _ c.requires.pages c.loop-left-test.true
+    let some = filling_some c.args.pages_each c.args.count c.loop-left.left _ _ _ _ _ _ _ _ _ _ c.requires.pages c.loop-left-test.true
     c.loop-left.invariant in
-    let small : c.next_fit-at.result + 1 ≤ 1048576 = omega (arith, found, some.0, c.loop-left.invariant.few) in
+    let small : c.take_front-taken.result.before + 1 ≤ 1048576 =
+    omega (arith, c.take_front-taken.ensures.before, some.0, c.loop-left.invariant.few) in
     search rules
 
 pub overflow_add-looks-in-loop-left : goal.overflow_add-looks-in-loop-left
 overflow_add-looks-in-loop-left c =
-    let found = c.next_fit-at.ensures in
-    let some = filling_some c.args.pages_each c.args.count c.loop-left.left _ _ _ _ _ _ _ _ _ _ _ c.requires.pages c.loop-left-test.true
+    let some = filling_some c.args.pages_each c.args.count c.loop-left.left _ _ _ _ _ _ _ _ _ _ c.requires.pages c.loop-left-test.true
     c.loop-left.invariant in
-    let small : c.next_fit-at.result + 1 ≤ 1048576 = omega (arith, found, some.0, c.loop-left.invariant.few) in
+    let small : c.take_front-taken.result.before + 1 ≤ 1048576 =
+    omega (arith, c.take_front-taken.ensures.before, some.0, c.loop-left.invariant.few) in
     let few = c.ranges.count in
     let all = some.1 in
     search rules
 
 pub loop-left-preserved : goal.loop-left-preserved
 loop-left-preserved c =
-    let found = c.next_fit-at.ensures in
     let pushed = rw c.unwrap.ensures at c.push.ensures.items in
     let next : c.loop-left.left ≡ suc (c.loop-left.left - 1) = omega (arith, c.loop-left-test.true) in
-    rw (pushed, c.hold.ensures.items, c.take_front-start.ensures.holes, c.take_front-start.ensures.start)
-    (filling_more c.args.pages_each c.args.count c.loop-left.left (c.loop-left.left - 1) _ _ _ _ _ _ _ _ _ _ _ c.next_fit-at.result _ _ _
-    c.requires.pages next found c.push.ensures.capacity c.take_front-start.ensures.capacity (omega (arith, c.hold.ensures.capacity))
-    c.loop-left.invariant)
+    rw (pushed, c.hold.ensures.items, c.take_front-taken.ensures.items, c.take_front-taken.ensures.start)
+    (filling_more c.args.pages_each c.args.count c.loop-left.left (c.loop-left.left - 1) _ _ _ _ _ _ _ _ _ _ c.take_front-taken.result.before _
+    _ _ c.requires.pages next c.take_front-taken.ensures.before c.push.ensures.capacity c.take_front-taken.ensures.capacity
+    (omega (arith, c.hold.ensures.capacity)) c.loop-left.invariant)

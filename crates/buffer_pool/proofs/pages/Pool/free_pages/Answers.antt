@@ -1,7 +1,8 @@
 -- The fields keep what callers see sound.
+use Rattle.buffer_pool.specs.Rows.{all_in}
 use Rattle.buffer_pool.proofs.Sounds.{sound_from}
 use Rattle.buffer_pool.proofs.pages.Pool.free_pages.Goals as goal
 
 pub returns-clause-sound : goal.returns-clause-sound
 returns-clause-sound c =
-    rw (← c.self.view_is) (sound_from c.self.inside.size c.self.inside.held.items c.self.invariant.sized c.self.invariant.in_order)
+    rw (← c.self.view_is) (sound_from c.self.inside.size (all_in c.self.inside.held.lists) c.self.invariant.1.sized c.self.invariant.1.in_order)

@@ -1,52 +1,52 @@
 -- What all the buffers together make of the pool.
-use Rattle.std.proofs.Common.{◌<◌, ◌≤◌, ◌∙◌, refl, sym, ap, subst, rules}
+use Rattle.std.proofs.Common.{◌<◌, ◌≤◌, ◌∙◌, refl, sym, ap, rules, arith, ◌+◌}
 use Rattle.std.proofs.lemmas.Bool.{leb-true, leb-false}
-use Rattle.buffer_pool.specs.Fitting.{rooms}
+use Rattle.buffer_pool.specs.Fitting.{rooms, starts_in}
+use Rattle.buffer_pool.specs.Holdings.{with_buffers}
 use Rattle.buffer_pool.specs.Rows.{Listed}
+use Rattle.buffer_pool.specs.Rows.{all_in}
 use Rattle.buffer_pool.proofs.Keeping.{KeepsRun, lists_of, keeps_run, places_buffers, not_full, is_full}
+use Rattle.buffer_pool.proofs.Orders.{length-le}
 use Rattle.buffer_pool.proofs.Sounds.{sound_from}
 use Rattle.buffer_pool.proofs.pages.Pool.place.Goals as goal
 use Rattle.buffer_pool.proofs.pages.Pool.place.Goals.{In-Ok, Else-not-has_rooms}
 
 pub returns-then-not-has_rooms-clause-full : goal.returns-then-not-has_rooms-clause-full
 returns-then-not-has_rooms-clause-full c =
-    let test = c.has_rooms.ensures in
-    let found : rooms c.args.pages_each c.seek-first.new.holes.items < c.args.count = leb-false _ _ (sym test ∙ c.if-not-has_rooms.true) in
-    let few = subst (λ (l : Listed). rooms c.args.pages_each l.items < c.args.count) c.seek-first.ensures.same found in
+    let few : rooms c.args.pages_each c.self.inside.holes.items < c.args.count =
+    leb-false _ _ (sym c.has_rooms.ensures.rooms ∙ c.if-not-has_rooms.true) in
     rw (← c.self.view_is) (
-      λ _. is_full c.self.inside.size c.self.inside.free c.args.count c.args.pages_each c.self.inside.holes.items c.self.inside.held.items
-          c.self.inside.holes.capacity c.requires.1 c.self.invariant few,
+      λ _. is_full c.self.inside.size c.self.inside.free c.args.count c.args.pages_each c.self.inside.holes.items (all_in c.self.inside.held.lists)
+          c.self.inside.holes.capacity c.requires.1 c.self.invariant.1 few,
       λ _. refl,
     )
 
 pub returns-then-not-has_rooms-clause-sound : goal.returns-then-not-has_rooms-clause-sound
 returns-then-not-has_rooms-clause-sound c =
-    sound_from c.self.inside.size c.self.inside.held.items c.self.invariant.sized c.self.invariant.in_order
+    sound_from c.self.inside.size (all_in c.self.inside.held.lists) c.self.invariant.1.sized c.self.invariant.1.in_order
 
 -- all buffers have room
 all_fit : (c : Else-not-has_rooms) → KeepsRun c.self.inside.size c.self.inside.free c.args.count c.args.pages_each c.self.inside.holes.items
-    c.self.inside.held.items
+    (all_in c.self.inside.held.lists)
 all_fit c =
-    let test = c.has_rooms.ensures in
-    keeps_run c.self.inside.size c.self.inside.free c.args.count c.args.pages_each c.self.inside.holes.items c.self.inside.held.items
-    c.self.inside.holes.capacity c.requires.1 c.self.invariant
-    (subst (λ (l : Listed). c.args.count ≤ rooms c.args.pages_each l.items) c.seek-first.ensures.same (leb-true _ _ (sym test
-    ∙ c.if-not-has_rooms.false)))
+    keeps_run c.self.inside.size c.self.inside.free c.args.count c.args.pages_each c.self.inside.holes.items (all_in c.self.inside.held.lists)
+    c.self.inside.holes.capacity c.requires.1 c.self.invariant.1
+    (leb-true _ _ (sym c.has_rooms.ensures.rooms ∙ c.if-not-has_rooms.false))
 
 pub fill-placed-requires-clause-fits : goal.fill-placed-requires-clause-fits
 fill-placed-requires-clause-fits c =
-    rw (c.reserve.ensures.holes, c.seek-first.ensures.same) (lists_of c.self.inside.size c.self.inside.free c.self.inside.holes.items
-    c.self.inside.held.items c.self.inside.holes.capacity c.self.invariant).fits
+    rw (c.reserve.ensures.holes, c.has_rooms.ensures.same) (lists_of c.self.inside.size c.self.inside.free c.self.inside.holes.items
+    (all_in c.self.inside.held.lists) c.self.inside.holes.capacity c.self.invariant.1).fits
 
 pub fill-placed-requires-clause-few : goal.fill-placed-requires-clause-few
 fill-placed-requires-clause-few c =
-    rw (c.reserve.ensures.holes, c.seek-first.ensures.same) (lists_of c.self.inside.size c.self.inside.free c.self.inside.holes.items
-    c.self.inside.held.items c.self.inside.holes.capacity c.self.invariant).few
+    rw (c.reserve.ensures.holes, c.has_rooms.ensures.same) (lists_of c.self.inside.size c.self.inside.free c.self.inside.holes.items
+    (all_in c.self.inside.held.lists) c.self.inside.holes.capacity c.self.invariant.1).few
 
 pub fill-placed-requires-clause-up : goal.fill-placed-requires-clause-up
 fill-placed-requires-clause-up c =
-    rw c.reserve.ensures.held (lists_of c.self.inside.size c.self.inside.free c.self.inside.holes.items c.self.inside.held.items
-    c.self.inside.holes.capacity c.self.invariant).rises
+    rw c.reserve.ensures.held (lists_of c.self.inside.size c.self.inside.free c.self.inside.holes.items (all_in c.self.inside.held.lists)
+    c.self.inside.holes.capacity c.self.invariant.1).rises
 
 pub overflow_mul-self : goal.overflow_mul-self
 overflow_mul-self c = let small = (all_fit (goal.at.overflow_mul-self c).Else-not-has_rooms).small in search rules
@@ -54,35 +54,45 @@ overflow_mul-self c = let small = (all_fit (goal.at.overflow_mul-self c).Else-no
 pub overflow_sub-self : goal.overflow_sub-self
 overflow_sub-self c = (all_fit (goal.at.overflow_sub-self c).Else-not-has_rooms).taken
 
-pub seek-first-requires : goal.seek-first-requires
-seek-first-requires c =
-    (lists_of c.self.inside.size c.self.inside.free c.self.inside.holes.items c.self.inside.held.items c.self.inside.holes.capacity
-    c.self.invariant).begins
+pub has_rooms-requires-clause-few : goal.has_rooms-requires-clause-few
+has_rooms-requires-clause-few c =
+    (lists_of c.self.inside.size c.self.inside.free c.self.inside.holes.items (all_in c.self.inside.held.lists) c.self.inside.holes.capacity
+    c.self.invariant.1).few
+
+pub overflow_add-self : goal.overflow_add-self
+overflow_add-self c =
+    let run = (all_fit (goal.at.overflow_add-self c).Else-not-has_rooms).run in
+    let long = length-le 0 c.self.inside.size (with_buffers c.args.pages_each (starts_in c.args.pages_each c.args.count c.self.inside.holes.items)
+    (all_in c.self.inside.held.lists)) run.in_order in
+    let small : c.self.inside.buffers + c.args.count ≤ 1048576 = omega (arith, long, run.length_is, c.self.invariant.0, c.self.invariant.1.sized.1) in
+    search rules
 
 pub invariant_of-self : goal.invariant_of-self
-invariant_of-self c = rw c.seek-first.ensures.same c.self.invariant
+invariant_of-self c = rw c.has_rooms.ensures.same c.self.invariant
 
 pub invariant_of-self-in-Ok : goal.invariant_of-self-in-Ok
 invariant_of-self-in-Ok c =
-    let k = (all_fit (goal.at.invariant_of-self-in-Ok c).Else-not-has_rooms).kept in
+    let all = all_fit (goal.at.invariant_of-self-in-Ok c).Else-not-has_rooms in
+    let k = all.kept in
+    let long = all.run.length_is in
     rw (
       c.fill-placed.ensures.holes,
       c.fill-placed.ensures.held,
       c.fill-placed.ensures.capacity,
       c.reserve.ensures.holes,
       c.reserve.ensures.held,
-      c.seek-first.ensures.same,
+      c.has_rooms.ensures.same,
     )
-    (k c.reserve.new.holes.capacity (rw c.reserve.ensures.held at c.in-Ok.ensures.holes_room))
+    (omega (arith, long, c.self.invariant.0), k c.reserve.new.holes.capacity (rw c.reserve.ensures.held at c.in-Ok.ensures.holes_room))
 
 pub returns-in-Ok : goal.returns-in-Ok
 returns-in-Ok c =
     let k = all_fit (goal.at.returns-in-Ok c).Else-not-has_rooms in
     let kept = k.kept c.reserve.new.holes.capacity (rw c.reserve.ensures.held at c.in-Ok.ensures.holes_room) in
     let p = places_buffers c.self.inside.size c.self.inside.free c.args.count c.args.pages_each c.self.inside.holes.items
-    c.self.inside.held.items c.reserve.new.holes.items c.reserve.new.held.items c.fill-placed.new.held.items
+    (all_in c.self.inside.held.lists) c.reserve.new.holes.items (all_in c.reserve.new.held.lists) (all_in c.fill-placed.new.held.lists)
     c.fill-placed.result.starts.items c.fill-placed.result.looks k
-    (c.reserve.ensures.holes ∙ ap (λ (l : Listed). l.items) c.seek-first.ensures.same) c.reserve.ensures.held c.fill-placed.ensures.starts
+    (c.reserve.ensures.holes ∙ ap (λ (l : Listed). l.items) c.has_rooms.ensures.same) c.reserve.ensures.held c.fill-placed.ensures.starts
     c.fill-placed.ensures.looks c.fill-placed.ensures.held in
     rw (← c.self.view_is)
     (record {
@@ -90,10 +100,10 @@ returns-in-Ok c =
       err = tt;
       full = (
         λ same. cc,
-        not_full c.self.inside.size c.args.pages_each c.args.count c.self.inside.held.items
+        not_full c.self.inside.size c.args.pages_each c.args.count (all_in c.self.inside.held.lists)
             c.fill-placed.result.starts.items _ p.starts_are,
       );
-      sound = rw (c.fill-placed.ensures.held, c.reserve.ensures.holes, c.reserve.ensures.held, c.seek-first.ensures.same)
+      sound = rw (c.fill-placed.ensures.held, c.reserve.ensures.holes, c.reserve.ensures.held, c.has_rooms.ensures.same)
           (sound_from c.self.inside.size _ kept.sized kept.in_order);
     })
 
@@ -104,7 +114,7 @@ returns-in-Err c =
     (record {
       ok = tt;
       err = λ i. record { size = c.self.inside.size; held = c.reserve.ensures.held i };
-      full = (λ same. cc, not_full c.self.inside.size c.args.pages_each c.args.count c.self.inside.held.items _ _ k.run.places_are);
-      sound = rw c.reserve.ensures.held (sound_from c.self.inside.size c.self.inside.held.items c.self.invariant.sized
-          c.self.invariant.in_order);
+      full = (λ same. cc, not_full c.self.inside.size c.args.pages_each c.args.count (all_in c.self.inside.held.lists) _ _ k.run.places_are);
+      sound = rw c.reserve.ensures.held (sound_from c.self.inside.size (all_in c.self.inside.held.lists) c.self.invariant.1.sized
+          c.self.invariant.1.in_order);
     })

@@ -1,0 +1,8 @@
+-- What is left over of all is left over by what is left.
+use Rattle.std.proofs.Common.{◌≡◌, ◌-◌, drop}
+use Rattle.buffer_pool.specs.Fitting.{rooms}
+use Rattle.buffer_pool.proofs.block.Block.left_over.Given as goal
+
+abbrev pub invariant-loop-at : goal.invariant-loop-at
+invariant-loop-at l =
+    l.left - rooms l.pages_each (drop l.at l.self-inside.cells.items) ≡ l.fn.count - rooms l.pages_each (drop l.from l.self-inside.cells.items)

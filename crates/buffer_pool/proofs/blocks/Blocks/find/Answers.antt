@@ -1,0 +1,44 @@
+-- The place in the block is the place of all.
+use Rattle.std.proofs.Common.{◌≡◌, ◌<◌, ◌≤◌, ◌∙◌, ap, arith, sym, subst, length, get_or, take, [], nat_lt, ◌+◌}
+use Rattle.std.specs.List.{prefix_len}
+use Rattle.std.specs.List.Sorted.{IsNonDecreasingBy}
+use Rattle.std.proofs.lemmas.List.{get_or_read}
+use Rattle.std.proofs.lemmas.List.Sums.{prefix_len-le-length}
+use Rattle.sm_names.specs.declared.keys.Interval.{Interval}
+use Rattle.buffer_pool.specs.Rows.{all_in, edge_of}
+use Rattle.buffer_pool.proofs.Finding.{rises-in, found-in}
+use Rattle.buffer_pool.proofs.blocks.Blocks.find.Goals as goal
+use Rattle.buffer_pool.proofs.blocks.Blocks.find.Goals.{After-index}
+
+there : (c : After-index) → c.block_of-block.result < length c.self.inside.used.items
+there c = omega (arith, c.if-block-len.true, c.len.ensures, c.self.inside.used.ok.0)
+
+here : (c : After-index) → c.index.result.now ≡ get_or c.self.inside.used.items c.block_of-block.result []
+here c = get_or_read c.self.inside.used.items c.block_of-block.result c.index.result.now (there c) c.index.ensures []
+
+pub place-offset-requires : goal.place-offset-requires
+place-offset-requires c =
+    let up = rw (← c.self.view_is) at c.requires in
+    subst (IsNonDecreasingBy (edge_of c.args.by_end)) (sym (here c))
+    (rises-in (edge_of c.args.by_end) c.self.inside.used.items c.block_of-block.result (there c) up)
+
+pub returns-then-block-len-clause-within : goal.returns-then-block-len-clause-within
+returns-then-block-len-clause-within c =
+    let m = (goal.at.returns-then-block-len-clause-within c).After-index in
+    let p = λ (i : Interval). nat_lt (edge_of c.args.by_end i) c.args.page in
+    let short : prefix_len p c.index.result.now ≤ length c.index.result.now = prefix_len-le-length p c.index.result.now in
+    let same : length c.index.result.now ≡ length (get_or c.self.inside.used.items c.block_of-block.result []) = ap length (here m) in
+    let lt = there m in
+    rw (← c.self.view_is) (omega (arith, lt), omega (arith, c.place-offset.ensures, short, same))
+
+pub returns-then-block-len-clause-place : goal.returns-then-block-len-clause-place
+returns-then-block-len-clause-place c =
+    let m = (goal.at.returns-then-block-len-clause-place c).After-index in
+    let up = rw (← c.self.view_is) at c.requires in
+    let below = rw c.deref.ensures.value at c.block_of-block.ensures.below in
+    let above = rw c.deref.ensures.value at c.block_of-block.ensures.above in
+    rw (← c.self.view_is)
+    (ap (λ n. length (all_in (take c.block_of-block.result c.self.inside.used.items)) + n)
+    (c.place-offset.ensures ∙ ap (prefix_len (λ (i : Interval). nat_lt (edge_of c.args.by_end i) c.args.page)) (here m))
+    ∙ found-in (edge_of c.args.by_end) c.args.page c.block_of-block.result c.self.inside.used.items (there m) c.self.invariant.some up
+    below above)

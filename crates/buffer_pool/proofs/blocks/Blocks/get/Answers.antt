@@ -1,0 +1,15 @@
+-- The interval lies in its block.
+use Rattle.std.proofs.Common.{◌≡◌, ◌∙◌, ap, get_or, [], List}
+use Rattle.std.proofs.lemmas.List.{get_or_read}
+use Rattle.sm_names.specs.declared.keys.Interval.{Interval}
+use Rattle.buffer_pool.proofs.Joins.{get_in}
+use Rattle.buffer_pool.proofs.blocks.Blocks.get.Goals as goal
+
+pub returns : goal.returns
+returns c =
+    let taken = rw (← c.self.view_is) at c.requires in
+    let here : c.index.result.now ≡ get_or c.self.inside.used.items c.args.spot.block [] =
+    get_or_read c.self.inside.used.items c.args.spot.block c.index.result.now taken.0 c.index.ensures [] in
+    rw (← c.self.view_is)
+    (c.get.ensures ∙ ap (λ (B : List Interval). get_or B c.args.spot.offset c.get.result) here
+    ∙ get_in c.self.inside.used.items c.args.spot.block c.args.spot.offset c.get.result taken.0 taken.1)

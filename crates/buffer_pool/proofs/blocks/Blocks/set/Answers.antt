@@ -1,0 +1,30 @@
+-- The interval lies in its block.
+use Rattle.std.proofs.Common.{◌≡◌, ◌+◌, ◌-◌, ◌*◌, ◌∙◌, ap, length, get_or, set, [], List}
+use Rattle.std.proofs.lemmas.List.{get_or_read, length-set, take-set}
+use Rattle.sm_names.specs.declared.keys.Interval.{Interval}
+use Rattle.buffer_pool.specs.Rows.{all_in}
+use Rattle.buffer_pool.proofs.Joins.{set_in}
+use Rattle.buffer_pool.proofs.blocks.Blocks.set.Goals as goal
+
+pub returns-clause-changed : goal.returns-clause-changed
+returns-clause-changed c =
+    let taken = rw (← c.self.view_is) at c.requires in
+    let here : c.index_mut.result.now ≡ get_or c.self.inside.used.items c.args.spot.block [] =
+    get_or_read c.self.inside.used.items c.args.spot.block c.index_mut.result.now taken.0 c.index_mut.ensures.value [] in
+    rw (← c.self.view_is)
+    (record {
+      items_are = ap (λ (B : List Interval). all_in (set c.self.inside.used.items c.args.spot.block B)) (c.set.ensures
+          ∙ ap (λ (B : List Interval). set B c.args.spot.offset c.args.new) here)
+          ∙ set_in c.self.inside.used.items c.args.spot.block c.args.spot.offset c.args.new taken.0 taken.1;
+      front = take-set c.self.inside.used.items c.args.spot.block c.set.new.self;
+      capacity = ap (λ n. (n + length c.self.inside.spare.items - 1) * 64)
+          (length-set c.self.inside.used.items c.args.spot.block c.set.new.self);
+    })
+
+pub returns-clause-lists : goal.returns-clause-lists
+returns-clause-lists c =
+    let taken = rw (← c.self.view_is) at c.requires in
+    let here : c.index_mut.result.now ≡ get_or c.self.inside.used.items c.args.spot.block [] =
+    get_or_read c.self.inside.used.items c.args.spot.block c.index_mut.result.now taken.0 c.index_mut.ensures.value [] in
+    rw (← c.self.view_is)
+    (ap (set c.self.inside.used.items c.args.spot.block) (c.set.ensures ∙ ap (λ (B : List Interval). set B c.args.spot.offset c.args.new) here))
