@@ -1,5 +1,5 @@
 //! All bytes of a script come in.
-ghost use Rattle.std.specs.Prelude.{◌≡◌, ◌^◌, ◌<◌, [], length, IfErr, IfOk};
+ghost use Rattle.std.specs.Prelude.{◌<◌, length, IfErr, IfOk};
 ghost use Rattle.actor_scripts.specs.Reads.{IsWhole, Unread};
 
 use crate::fault::CastFault;

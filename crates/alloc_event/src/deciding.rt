@@ -1,7 +1,7 @@
 //! Which step a collection forces next.
-ghost use Rattle.std.specs.Prelude.{◌≡◌, ℕ, ◌++◌, [], List, nat_lt, true, IfSome};
+ghost use Rattle.std.specs.Prelude.{◌≡◌, ℕ, ◌++◌, List, nat_lt, true, IfSome};
 ghost use Rattle.std.specs.List.{list_any};
-ghost use Rattle.std.specs.Option.{option_map, option_map_or};
+ghost use Rattle.std.specs.Option.{option_map};
 ghost use Rattle.sm_names.specs.declared.keys.Interval.{Interval};
 ghost use Rattle.sm_names.specs.declared.keys.Strength.{Strength as Grade};
 ghost use Rattle.sm_names.specs.Forced.{forced};

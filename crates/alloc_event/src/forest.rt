@@ -1,9 +1,7 @@
 //! The forest: the collections with their nodes and buffers.
-ghost use Rattle.std.specs.Prelude.{◌≡◌, ◌≤◌, ℕ, [], false, true, None, IfOk, IfSome, OnErr, OnOk, map, length, not, is_some, option_copied, ◌&&◌, ◌==◌};
+ghost use Rattle.std.specs.Prelude.{◌≡◌, ◌≤◌, false, true, None, IfOk, IfSome, OnErr, OnOk, map, length, not, is_some, option_copied, ◌==◌};
 ghost use Rattle.std.specs.List.{filter};
 ghost use Rattle.sm_names.specs.declared.keys.BufferName.{BufferName};
-ghost use Rattle.sm_names.specs.declared.keys.NodeKey.{NodeKey as Key};
-ghost use Rattle.sm_names.specs.declared.keys.Strength.{Strength};
 ghost use Rattle.buffer_holds.specs.Counts.{total};
 ghost use Rattle.std.specs.Option.{option_map, option_map_or};
 ghost use Rattle.sm_names.specs.Members.{some_strong_live};

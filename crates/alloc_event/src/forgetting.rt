@@ -5,14 +5,14 @@ ghost use Rattle.std.specs.List.{filter, find, list_any, AllByRecursion};
 ghost use Rattle.std.specs.Option.{option_map_or};
 ghost use Rattle.sm_names.specs.declared.keys.NodeKey.{NodeKey as Key};
 ghost use Rattle.sm_names.specs.Sameness.{same_key};
-ghost use Rattle.node_table.specs.Table.{Table, row_at, node_at, children_at};
+ghost use Rattle.node_table.specs.Table.{Table, node_at, children_at};
 ghost use Rattle.node_table.specs.Changes.{SameKeys};
 ghost use Rattle.alloc_event.specs.declared.node.Node.{Node as Kept};
 ghost use Rattle.alloc_event.specs.declared.entry.Entry.{Entry as KeptEntry};
 ghost use Rattle.alloc_event.specs.Calm.{AreCounted, AreTidy};
 ghost use Rattle.alloc_event.specs.Forest.{without_over_in};
 ghost use Rattle.alloc_event.specs.Forgetting.{IsAlone, IsChild, IsMissing, IsNoted, IsNotedOr, IsPlace, Unlinks, TakesOut, is_found, left_at, thinned, thin_in, without_bare};
-ghost use Rattle.alloc_event.specs.Kept.{AreRising, IsStored, Shelf, collection_in, shelf_of, shelves_of};
+ghost use Rattle.alloc_event.specs.Kept.{AreRising, IsStored, Shelf, collection_in, shelves_of};
 ghost use Rattle.alloc_event.specs.Nodes.{is_over};
 
 use crate::entry::{Entry, entry_of, place_of};

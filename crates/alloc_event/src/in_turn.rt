@@ -1,5 +1,5 @@
 //! Attached units that wait for one event: allocated, or failing, one after another in one walk.
-ghost use Rattle.std.specs.Prelude.{◌≡◌, ℕ, ◌+◌, ◌<◌, Bool, ◌||◌, ◌&&◌, not, nat_lt, List, ◌∷◌, ◌++◌, [], map, drop, length, true, false, None, Some, Option, IfSome, is_none, is_some};
+ghost use Rattle.std.specs.Prelude.{◌≡◌, ℕ, ◌+◌, ◌<◌, ◌||◌, ◌&&◌, not, nat_lt, List, ◌∷◌, ◌++◌, [], map, drop, length, true, false, None, Some, Option, IfSome, is_none, is_some};
 ghost use Rattle.std.specs.List.{find, list_all, slice_get};
 ghost use Rattle.std.specs.List.Sorted.{IsSorted};
 ghost use Rattle.sm_names.specs.declared.keys.NodeKey.{NodeKey as Key};

@@ -1,5 +1,5 @@
 //! Collections as they are taken out of the table, and put back.
-ghost use Rattle.std.specs.Prelude.{◌≡◌, true, map, IfOk, OnErr, OnOk, IsSome, Some, None, vec_len, vec_capacity, ◌<◌};
+ghost use Rattle.std.specs.Prelude.{◌≡◌, true, map, IfOk, IsSome, Some, None, vec_len, vec_capacity, ◌<◌};
 ghost use Rattle.sm_names.specs.declared.keys.NodeKey.{NodeKey as Key};
 ghost use Rattle.node_table.specs.Table.{row_at, node_at};
 ghost use Rattle.node_table.specs.Changes.{Writes};

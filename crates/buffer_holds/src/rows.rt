@@ -1,5 +1,5 @@
 //! The rows of counts: one for each client and kind of handle.
-ghost use Rattle.std.specs.Prelude.{◌≡◌, ◌+◌, ◌-◌, ◌^◌, ◌<◌, ◌↔◌, IsTrue, Some, None, is_none, IfOk, IfSome, IfNone, OnOk, OnErr, IsSome, IsOk, length};
+ghost use Rattle.std.specs.Prelude.{◌≡◌, ◌+◌, ◌-◌, ◌^◌, ◌<◌, ◌↔◌, IsTrue, Some, None, IfSome, IfNone, OnOk, OnErr, IsSome, IsOk};
 ghost use Rattle.std.specs.Bool.{OnTrue, OnFalse};
 ghost use Rattle.buffer_holds.specs.Kinds.{same_hold};
 ghost use Rattle.buffer_holds.specs.Rows.{row_at, count_at, Resets, Raises, StandsAt};

@@ -1,5 +1,5 @@
 //! The running counts of one kind of handle.
-ghost use Rattle.std.specs.Prelude.{◌≡◌, ◌+◌, ◌^◌, ◌<◌, ◌≤◌, ◌↔◌, length, IsSome, IfSome, IfNone, None, OnOk, OnErr, IsErrOf, IsOkUnless};
+ghost use Rattle.std.specs.Prelude.{◌≡◌, ◌+◌, ◌<◌, ◌≤◌, ◌↔◌, length, IsSome, IfSome, IfNone, None, OnOk, OnErr, IsErrOf, IsOkUnless};
 ghost use Rattle.buffer_holds.specs.Kinds.{same_kind};
 ghost use Rattle.buffer_holds.specs.Rows.{row_at, count_at, Resets, Raises, StandsAt};
 ghost use Rattle.buffer_holds.specs.Stored.{Opens};

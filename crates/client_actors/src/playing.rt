@@ -1,6 +1,5 @@
 //! An actor plays its script, and vanishes.
 ghost use Rattle.std.specs.Prelude.{◌≡◌, [], OnErr, OnOk};
-ghost use Rattle.actor_steps.specs.Desks.{nothing_known};
 ghost use Rattle.actor_steps.specs.Plays.{Plays};
 ghost use Rattle.actor_steps.specs.Tables.{known};
 ghost use Rattle.client_parting.specs.Partings.{AreOf, held_in, sorted};

@@ -1,7 +1,7 @@
 //! A thread for each actor.
 ghost use Rattle.std.specs.Prelude.{◌≡◌, ◌<◌, ◌≤◌, [], Some, map, length, IfOk, IfErr, IsSome, vec_len, vec_capacity};
 ghost use Rattle.std.specs.List.{All, AllZip};
-ghost use Rattle.client_actors.specs.Running.{HaveRun, IsEndAt, IsEndThere, IsIdle, IsReady, end_id, id_there};
+ghost use Rattle.client_actors.specs.Running.{HaveRun, IsEndAt, IsEndThere, IsIdle, IsReady, id_there};
 
 use crate::gate::{ActorEnd, Gate};
 use crate::playing::play;

@@ -1,5 +1,5 @@
 //! What all clients have at the end, against the record under the lock.
-ghost use Rattle.std.specs.Prelude.{◌≡◌, ◌+◌, ◌<◌, ℕ, IfOk, IfErr, IfNone, IfSome, MatchOption, MatchResult, length, map};
+ghost use Rattle.std.specs.Prelude.{◌≡◌, ◌+◌, ◌<◌, IfOk, IfErr, MatchOption};
 ghost use Rattle.std.specs.List.{All, count_by};
 ghost use Rattle.service_lock.specs.States.{View};
 ghost use Rattle.sm_names.specs.Sameness.{same_strength};

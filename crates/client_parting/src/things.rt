@@ -1,5 +1,5 @@
 //! What a client that goes has still to part with: a stack, whose top comes first.
-ghost use Rattle.std.specs.Prelude.{◌≡◌, ◌+◌, ◌<◌, ◌≤◌, ◌∷◌, ◌++◌, [], length, map, vec_len, vec_capacity};
+ghost use Rattle.std.specs.Prelude.{◌≡◌, ◌+◌, ◌<◌, ◌≤◌, ◌∷◌, ◌++◌, [], map, vec_len, vec_capacity};
 ghost use Rattle.client_parting.specs.Partings.{Collection, Handle as Handed, Token, held_in, thing_of};
 ghost use Rattle.client_parting.specs.Stacks.{HasRoomFor, both, sorted_one, top_first};
 ghost use Rattle.client_parting.specs.Partings.{sorted};

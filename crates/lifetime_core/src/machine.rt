@@ -1,6 +1,6 @@
 //! Every call on one state.
 ghost use Rattle.std.specs.Prelude.{◌≡◌, ◌+◌, ◌<◌, ◌≤◌, ◌↔◌, ◌∷◌, ◌++◌, ◌==◌, ◌&&◌, not, nat_le};
-ghost use Rattle.std.specs.Prelude.{[], List, map, length, slice_get, option_map, if◌then◌else◌, IfOk, IfErr, IfSome};
+ghost use Rattle.std.specs.Prelude.{[], List, length, slice_get, option_map, if◌then◌else◌, IfOk, IfErr, IfSome};
 ghost use Rattle.std.specs.Prelude.{AllPairs, OnErr, false, true, None, is_some, option_copied};
 ghost use Rattle.sm_names.specs.declared.outcomes.Fault.{Fault};
 ghost use Rattle.sm_names.specs.declared.keys.Strength.{Strength};

@@ -1,5 +1,5 @@
 //! What is said of each client.
-ghost use Rattle.std.specs.Prelude.{◌≡◌, ◌<◌, ◌+◌, ◌≤◌, ◌^◌};
+ghost use Rattle.std.specs.Prelude.{◌≡◌, ◌<◌, ◌+◌, ◌^◌};
 ghost use Rattle.record_parts.specs.Lines.{gained_by, lost_by};
 
 use crate::own::Own;

@@ -1,5 +1,5 @@
 //! The service, and its lock.
-ghost use Rattle.std.specs.Prelude.{◌≡◌, ◌≤◌};
+ghost use Rattle.std.specs.Prelude.{◌≤◌};
 ghost use Rattle.service_lock.specs.Units.{AreFor};
 
 use crate::blanks::Blanks;

@@ -1,5 +1,5 @@
 //! A run of a script, line by line.
-ghost use Rattle.std.specs.Prelude.{◌≡◌, ◌≢◌, ◌+◌, ◌^◌, ◌<◌, ◌≤◌, [], ◌∷◌, ◌++◌, List, ℕ, Option, IfOk, IfErr, OnOk};
+ghost use Rattle.std.specs.Prelude.{◌≡◌, ◌≢◌, ◌+◌, ◌^◌, ◌<◌, ◌≤◌, [], ◌∷◌, List, ℕ, Option, IfOk, IfErr, OnOk};
 ghost use Rattle.sm_script.specs.Players.{Answered, Broken, Failed, SoFar};
 ghost use Rattle.sm_script.specs.Runs.{Stopped};
 ghost use Rattle.sm_script.specs.Scenes.{Setting};

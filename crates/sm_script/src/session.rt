@@ -1,5 +1,5 @@
 //! A script's core, and what its labels stand for.
-ghost use Rattle.std.specs.Prelude.{◌≡◌, ◌≢◌, ◌≤◌, ◌++◌, List, IfOk, IfErr, IfSome, OnOk};
+ghost use Rattle.std.specs.Prelude.{◌≡◌, ◌≢◌, ◌≤◌, List, IfOk, IfErr, IfSome, OnOk};
 ghost use Rattle.std.specs.Bool.{OnTrue};
 ghost use Rattle.std.specs.List.{Contains};
 ghost use Rattle.sm_names.specs.Marks.{Entry};
@@ -7,9 +7,8 @@ ghost use Rattle.sm_names.specs.Timelines.{timeline};
 ghost use Rattle.sm_names.specs.Trackers.{fired};
 ghost use Rattle.lifetime_core.specs.Shown.{Shows};
 ghost use Rattle.sm_script.specs.Names.{act_in};
-ghost use Rattle.sm_script.specs.Scenes.{Scene, as_line, first_scene};
+ghost use Rattle.sm_script.specs.Scenes.{Scene, first_scene};
 ghost use Rattle.sm_script.specs.Sessions.{IsAt, Advances, Gains, IsStopped};
-ghost use Rattle.sm_script.specs.Texts.{view_text};
 
 use crate::act::{Act, Binds};
 use crate::stop::Stop;

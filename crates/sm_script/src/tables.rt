@@ -1,8 +1,8 @@
 //! What the labels of a script stand for.
-ghost use Rattle.std.specs.Prelude.{◌≡◌, ◌==◌, OnOk, Some, None, if◌then◌else◌};
+ghost use Rattle.std.specs.Prelude.{◌≡◌, OnOk, Some, None, if◌then◌else◌};
 ghost use Rattle.std.specs.HashMap.{get};
 ghost use Rattle.std.specs.Option.{option_map_or};
-ghost use Rattle.sm_script.specs.Names.{Names, act_of, buffer_of, client_of, label_of_node, label_of_root, label_of_tracker, names_after, no_names, node_of, place_of, tracker_of, with_client, with_node, with_tracker, for_new, for_tracker, act_on_node, act_on_buffer, plain as plain_act};
+ghost use Rattle.sm_script.specs.Names.{Names, act_of, buffer_of, client_of, label_of_node, label_of_root, label_of_tracker, names_after, no_names, node_of, tracker_of, with_client, with_node, with_tracker, for_new, for_tracker, act_on_node, act_on_buffer, plain as plain_act};
 ghost use Rattle.sm_script.specs.Tables.{Keeps};
 
 use crate::act::{Act, Binds};

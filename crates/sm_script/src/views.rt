@@ -1,6 +1,5 @@
 //! The texts of what is seen.
-ghost use Rattle.std.specs.Prelude.{◌≡◌, ◌++◌, List, codes, OnOk, IfErr};
-ghost use Rattle.std.specs.Fmt.{decimal};
+ghost use Rattle.std.specs.Prelude.{◌≡◌, ◌++◌, List, OnOk, IfErr};
 ghost use Rattle.std.specs.List.{flat_map};
 ghost use Rattle.sm_names.specs.Marks.{Entry};
 ghost use Rattle.sm_names.specs.Timelines.{timeline};

@@ -1,5 +1,5 @@
 //! Names of the numbers that C is told.
-ghost use Rattle.std.specs.Prelude.{◌≡◌, ◌≢◌, length, [], map};
+ghost use Rattle.std.specs.Prelude.{◌≡◌, ◌≢◌, length, []};
 ghost use Rattle.sysmem.specs.Laying.{laid};
 ghost use Rattle.sysmem.specs.Names.{cause_name, code_name, misuse_at, name, refusal_at};
 

@@ -1,7 +1,6 @@
 //! What is left of actors.
 ghost use Rattle.std.specs.Prelude.{◌≡◌, ◌+◌, ◌≤◌, [], vec_len, vec_capacity};
 ghost use Rattle.std.specs.List.{AllZip};
-ghost use Rattle.client_parting.specs.Partings.{held_in, sorted};
 ghost use Rattle.thread_runs.specs.Gathered.{IsLeft, end_fault, first_fault, step_fault};
 
 use crate::fault::ThreadsFault;

@@ -1,5 +1,5 @@
 //! The rows that wait, filed by collection and then by the node or the buffer that they wait for.
-ghost use Rattle.std.specs.Prelude.{◌≡◌, ℕ, ◌+◌, ◌<◌, ◌≤◌, ◌==◌, [], true, length, vec_len, vec_capacity, slice_index_or, if◌then◌else◌, ⊤, OnOk, OnErr, OnSome, IfSome, MatchOption};
+ghost use Rattle.std.specs.Prelude.{◌≡◌, ℕ, ◌+◌, ◌<◌, ◌≤◌, ◌==◌, [], true, length, vec_len, vec_capacity, if◌then◌else◌, ⊤, OnOk, OnErr, OnSome, IfSome, MatchOption};
 ghost use Rattle.std.specs.BinaryHeap.{heap_len};
 ghost use Rattle.trackers.specs.Filing.{Wish, TakesDue, asking, at_most as narrowed, due_in, entries_in, entries_of, number_of as number_in, rank as rank_of, undue_in, weigh, weigh_at};
 

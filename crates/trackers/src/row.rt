@@ -1,7 +1,6 @@
 //! One tracker, as the table keeps it.
 ghost use Rattle.std.specs.Prelude.{◌≡◌, true, false, Some, IfSome, IfOk, IsTrue};
 ghost use Rattle.std.specs.Bool.{OnTrue};
-ghost use Rattle.trackers.specs.Table.{Reader};
 ghost use Rattle.trackers.specs.Held.{is_met};
 ghost use Rattle.trackers.specs.Row.{TrackerRow, Waits, Over, firing_of_row, reader_of_row, is_waiting};
 

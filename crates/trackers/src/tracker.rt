@@ -1,5 +1,5 @@
 //! The reader of one tracker.
-ghost use Rattle.std.specs.Prelude.{◌≡◌, Some, None, IfSome, IsNone};
+ghost use Rattle.std.specs.Prelude.{◌≡◌, Some, None, IfSome};
 ghost use Rattle.std.specs.Bool.{OnTrue};
 ghost use Rattle.std.specs.Arc.{arc_value};
 ghost use Rattle.once_cell.specs.Once.{cell_name, Agrees};

@@ -1,7 +1,5 @@
 //! Changes to a forest of three units: a root, an attached node below it, and one below that.
-ghost use Rattle.std.specs.Prelude.{◌≡◌, true, is_some};
-ghost use Rattle.std.specs.Option.{option_map_or};
-ghost use Rattle.alloc_event.specs.Forest.{node_at};
+ghost use Rattle.std.specs.Prelude.{true, is_some};
 
 use super::ground::{Ground, HERE};
 use super::{LOW, MIDDLE, ROOT, demand, failed};

@@ -1,7 +1,7 @@
 //! A forest and a pool of 16 pages, changed only as they may be.
 ghost use Rattle.std.specs.Prelude.{◌≡◌, true};
 ghost use Rattle.alloc_event.specs.declared.change.Effect.{Effect as Effected};
-ghost use Rattle.alloc_event.specs.Forest.{Forest as Trees, IsPoolOf};
+ghost use Rattle.alloc_event.specs.Forest.{IsPoolOf};
 ghost use Rattle.alloc_event.specs.Settling.{MayChange, has_collection, is_there};
 ghost use Rattle.forest_trials.specs.declared.tests.ground.TheConstants.{LIMIT};
 

@@ -1,5 +1,5 @@
 //! Where buffers are placed in the pool, and which of them are held.
-ghost use Rattle.std.specs.Prelude.{◌≡◌, ◌≤◌, ◌<◌, ◌+◌, ◌↔◌, ◌∷◌, ◌++◌, ◌&&◌, ◌==◌, ℕ, List, length, map, Bool, not, Some, None, true, false};
+ghost use Rattle.std.specs.Prelude.{◌≡◌, ◌≤◌, ◌<◌, ◌+◌, ◌↔◌, ◌++◌, ◌&&◌, ◌==◌, ℕ, List, length, map, Bool, not, Some, None, true, false};
 ghost use Rattle.std.specs.List.{list_all, list_any, sum_by};
 ghost use Rattle.std.specs.Option.{option_map_or};
 ghost use Rattle.sm_names.specs.declared.keys.BufferName.{BufferName};
