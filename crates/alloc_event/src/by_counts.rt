@@ -11,7 +11,7 @@ ghost use Rattle.alloc_event.specs.Settling.{MayChange, changed, collection_or_n
 use crate::change::{Change, Effect};
 use crate::emptied::{fail_in_place, leave_in_place};
 use crate::entry::Entry;
-use crate::in_place::{is_plain, settle_in_place};
+use crate::in_place::{is_plain, settle_in_place, settle_resting};
 use crate::node::Node;
 use crate::serving::serve_in_place;
 use crate::units::Unit;
@@ -19,6 +19,38 @@ use buffer_holds::Holds;
 use buffer_pool::Pool;
 use node_table::NodeTable;
 use sm_names::{CollectionId, Fault, NoMemory, NodeKey};
+
+/// Makes the change to a collection in its place, if it is none of nodes, or an effect, and nothing is
+/// forced by it, as `settle_in_place` tells, or `settle_resting`.
+#[inline(always)]
+fn settle_still(
+    table: &mut NodeTable<Node>,
+    entries: &mut Vec<Entry>,
+    units: &mut Vec<Unit>,
+    holds: &Holds,
+    id: CollectionId,
+    change: &Change,
+) -> bool
+    requires kept { IsStored table.old (shelves_of entries.old.items) }
+    requires counted { AreCounted table.old entries.old.items }
+    requires units { HaveUnits units.old.items table.old entries.old.items }
+    requires change { MayChange (forest_of table.old (shelves_of entries.old.items)) id change.now }
+    ensures no_table { result ≡ false → table.new ≡ table.old }
+    ensures no_entries { result ≡ false → entries.new.items ≡ entries.old.items }
+    ensures ok { result ≡ true → (pool : ℕ) →
+        Finishes pool (total holds.now) table.old (shelves_of entries.old.items) table.new (shelves_of entries.new.items)
+        (changed change.now no_key (collection_or_new (forest_of table.old (shelves_of entries.old.items)) id)) }
+    ensures shelves { shelves_of entries.new.items ≡ shelves_of entries.old.items }
+    ensures kept { result ≡ true → IsStored table.new (shelves_of entries.old.items) }
+    ensures counted { result ≡ true → AreCounted table.new entries.new.items }
+    ensures units { HaveUnits units.new.items table.new entries.new.items }
+    ensures same { SameTable table.old table.new }
+{
+    if settle_in_place(table, entries, units, id, change) {
+        return true;
+    }
+    settle_resting(table, entries, units, holds, id, change)
+}
 
 /// Makes an effect in its place, if the counts tell that nothing is forced by it, or nothing but the
 /// allocation of the node's unit, which is made with it. Answers whether it did; if not, the table
@@ -48,7 +80,7 @@ fn make_effect(
     ensures same { SameTable table.old table.new }
 {
     let change = Change::Effect(key, *effect);
-    if settle_in_place(table, entries, units, holds, id, &change) {
+    if settle_still(table, entries, units, holds, id, &change) {
         return true;
     }
     if is_plain(effect) {
@@ -135,7 +167,7 @@ fn settle_counted(
         Change::Effect(key, effect) => settle_effect(
             table, entries, units, holds, id, key, &effect,
         ),
-        _ => Ok(settle_in_place(table, entries, units, holds, id, change)),
+        _ => Ok(settle_still(table, entries, units, holds, id, change)),
     }
 }
 

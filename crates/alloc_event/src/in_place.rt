@@ -17,8 +17,9 @@ ghost use Rattle.alloc_event.specs.InPlace.{IsMade, IsOpen, bit, is_plain as is_
 ghost use Rattle.alloc_event.specs.Kept.{Finishes, IsStored, SameTable, Shelf, forest_of, is_strong, shelves_of};
 ghost use Rattle.alloc_event.specs.Nodes.{affected};
 ghost use Rattle.alloc_event.specs.Questions.{is_live_node};
+ghost use Rattle.alloc_event.specs.Resting.{rests_at};
 ghost use Rattle.alloc_event.specs.Scenes.{has_tracker_room};
-ghost use Rattle.alloc_event.specs.Settling.{MayChange, changed, collection_or_new, no_key};
+ghost use Rattle.alloc_event.specs.Settling.{Handles, MayChange, changed, collection_or_new, no_key};
 
 use crate::change::{Change, Effect};
 use crate::effects::affect_one;
@@ -28,7 +29,7 @@ use crate::kept::is_strong;
 use crate::node::Node;
 use crate::questions::is_live;
 use crate::reserving::reserved_after;
-use crate::resting::rests_without;
+use crate::resting::is_resting;
 use crate::units::{Unit, is_unready, put_unit, unit_in};
 use buffer_holds::Holds;
 use node_table::NodeTable;
@@ -313,14 +314,85 @@ fn change_in_place(
     }
 }
 
+/// Makes the change to a collection in its place, as `settle_in_place` does, or `settle_resting` if it
+/// rests without a strong live node.
+#[inline(always)]
+fn settle_so(
+    table: &mut NodeTable<Node>,
+    entries: &mut Vec<Entry>,
+    units: &mut Vec<Unit>,
+    id: CollectionId,
+    change: &Change,
+    rests: bool,
+) -> bool
+    requires kept { IsStored table.old (shelves_of entries.old.items) }
+    requires counted { AreCounted table.old entries.old.items }
+    requires units { HaveUnits units.old.items table.old entries.old.items }
+    requires change { MayChange (forest_of table.old (shelves_of entries.old.items)) id change.now }
+    ensures no_table { result ≡ false → table.new ≡ table.old }
+    ensures no_entries { result ≡ false → entries.new.items ≡ entries.old.items }
+    ensures ok { result ≡ true → (pool : ℕ) (handles : Handles) →
+        (rests ≡ true → rests_at handles table.old (shelves_of entries.old.items) id ≡ true) →
+        Finishes pool handles table.old (shelves_of entries.old.items) table.new (shelves_of entries.new.items)
+        (changed change.now no_key (collection_or_new (forest_of table.old (shelves_of entries.old.items)) id)) }
+    ensures shelves { shelves_of entries.new.items ≡ shelves_of entries.old.items }
+    ensures kept { result ≡ true → IsStored table.new (shelves_of entries.old.items) }
+    ensures counted { result ≡ true → AreCounted table.new entries.new.items }
+    ensures units { HaveUnits units.new.items table.new entries.new.items }
+    ensures same { SameTable table.old table.new }
+{
+    let Some(at) = place_of(entries, id) else {
+        return false;
+    };
+    let entry = &entries[at];
+    let strong = entry.strong;
+    let Some(reserved) = reserved_after(table, change, entry.reserved) else {
+        return false;
+    };
+    let Some(left) = change_in_place(table, units, strong, rests, change) else {
+        return false;
+    };
+    let entry = &mut entries[at];
+    entry.strong = left;
+    entry.reserved = reserved;
+    true
+}
+
 /// Makes the change to a collection in its place, if it is none of nodes, or an effect, and the
 /// counts tell that nothing is forced, and no buffer goes home: a strong node of the collection is
-/// live after it, or none was before it and the collection rests without; and a release leaves a
-/// node of its unit live or a unit that its first child heads, and the unit does not become ready,
-/// has its buffers, or lies below one without buffers. Answers whether it did; if not, nothing
-/// changed. It takes no memory, and costs a binary search and a constant, and where no strong node is
-/// live before it, a look at the handles of the buffers.
+/// live after it, and a release leaves a node of its unit live or a unit that its first child
+/// heads, and the unit does not become ready, has its buffers, or lies below one without buffers.
+/// Answers whether it did; if not, nothing changed. It takes no memory, and costs a binary search
+/// and a constant.
 pub(crate) fn settle_in_place(
+    table: &mut NodeTable<Node>,
+    entries: &mut Vec<Entry>,
+    units: &mut Vec<Unit>,
+    id: CollectionId,
+    change: &Change,
+) -> bool
+    requires kept { IsStored table.old (shelves_of entries.old.items) }
+    requires counted { AreCounted table.old entries.old.items }
+    requires units { HaveUnits units.old.items table.old entries.old.items }
+    requires change { MayChange (forest_of table.old (shelves_of entries.old.items)) id change.now }
+    ensures no_table { result ≡ false → table.new ≡ table.old }
+    ensures no_entries { result ≡ false → entries.new.items ≡ entries.old.items }
+    ensures ok { result ≡ true → (pool : ℕ) (handles : Handles) →
+        Finishes pool handles table.old (shelves_of entries.old.items) table.new (shelves_of entries.new.items)
+        (changed change.now no_key (collection_or_new (forest_of table.old (shelves_of entries.old.items)) id)) }
+    ensures shelves { shelves_of entries.new.items ≡ shelves_of entries.old.items }
+    ensures kept { result ≡ true → IsStored table.new (shelves_of entries.old.items) }
+    ensures counted { result ≡ true → AreCounted table.new entries.new.items }
+    ensures units { HaveUnits units.new.items table.new entries.new.items }
+    ensures same { SameTable table.old table.new }
+{
+    settle_so(table, entries, units, id, change, false)
+}
+
+/// The same, where no strong node of the collection is live before it, and the collection rests
+/// without. It costs a look at the handles of the buffers besides.
+#[inline(never)]
+pub(crate) fn settle_resting(
     table: &mut NodeTable<Node>,
     entries: &mut Vec<Entry>,
     units: &mut Vec<Unit>,
@@ -343,19 +415,8 @@ pub(crate) fn settle_in_place(
     ensures units { HaveUnits units.new.items table.new entries.new.items }
     ensures same { SameTable table.old table.new }
 {
-    let Some(at) = place_of(entries, id) else {
+    if !is_resting(table, entries, id, holds) {
         return false;
-    };
-    let entry = &entries[at];
-    let Some(reserved) = reserved_after(table, change, entry.reserved) else {
-        return false;
-    };
-    let rests = rests_without(table, entry, holds);
-    let Some(left) = change_in_place(table, units, entry.strong, rests, change) else {
-        return false;
-    };
-    let entry = &mut entries[at];
-    entry.strong = left;
-    entry.reserved = reserved;
-    true
+    }
+    settle_so(table, entries, units, id, change, true)
 }

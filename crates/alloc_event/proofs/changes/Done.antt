@@ -1,7 +1,8 @@
 -- A change that was made in its place and forces nothing: the forest then, and the entry of its collection.
-use Rattle.std.proofs.Common.{◌≡◌, ℕ, ◌==◌, nat_lt, true, false, List, map, get_or, set, Some, None, option_map, refl, sym, ap, subst, ◌∙◌}
+use Rattle.std.proofs.Common.{◌≡◌, ℕ, ◌==◌, nat_lt, true, false, List, map, get_or, set, Option, Some, None, option_map, refl, sym, ap, subst, ◌∙◌}
 use Rattle.std.proofs.lemmas.List.{get_or_default}
 use Rattle.std.specs.List.{find, list_all, list_any}
+use Rattle.std.specs.Option.{option_map_or}
 use Rattle.sm_names.specs.declared.keys.Interval.{Interval}
 use Rattle.sm_names.specs.Forced.{forced}
 use Rattle.node_table.specs.Table.{Table}
@@ -16,7 +17,7 @@ use Rattle.alloc_event.specs.Forest.{Collection, beside}
 use Rattle.alloc_event.specs.InPlace.{IsDone, IsOpen}
 use Rattle.alloc_event.specs.Kept.{Finishes, IsStored, Shelf, Stores, are_filed, collection_in, forest_of, is_filed, nodes_with, place_in, put_shelf, shelf_of, shelves_of}
 use Rattle.alloc_event.specs.Reserved.{reserved_count}
-use Rattle.alloc_event.specs.Resting.{is_kept_by}
+use Rattle.alloc_event.specs.Resting.{is_at_rest, is_kept_by, rests_at}
 use Rattle.alloc_event.specs.Scenes.{given_few}
 use Rattle.alloc_event.specs.Settling.{Handles, MayChange, Rests, Settles, changed, collection_or_new, given_back, no_key, put, standing}
 use Rattle.alloc_event.proofs.changes.Altering.{found_filed, found_put, found_whole}
@@ -107,6 +108,11 @@ module _ (t : Table Node) (es : List Entry) (id at : ℕ) (old : Entry) (place :
   -- it was given few buffers
   pub few_at : given_few old.buffers ≡ true
   few_at = few_found t es id old kept found
+
+  -- whether the collection rests is told by the entry
+  pub rest_at : (handles : Handles) → rests_at handles t (shelves_of es) id ≡ is_at_rest handles t (shelf_of old)
+  rest_at handles = ap (λ (o : Option Shelf). option_map_or (is_at_rest handles t) o false)
+      (shelf_found id es ∙ ap (option_map shelf_of) found)
 
   -- where it was tidy none of its nodes was over but the noted one
   pub tidy_at : old.tidy ≡ true → list_any (over_but old.one) (nodes_with t old.keys.items) ≡ false

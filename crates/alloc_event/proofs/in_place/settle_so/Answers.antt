@@ -3,7 +3,6 @@ use Rattle.std.proofs.Common.{◌≡◌, nat_lt, inl, inr, true, false, List, So
 use Rattle.std.proofs.lemmas.List.{get_or_default}
 use Rattle.sm_names.proofs.SamenessLaws.{or_cases, or_left, or_right}
 use Rattle.std.specs.List.{list_any}
-use Rattle.buffer_holds.specs.Counts.{total}
 use Rattle.alloc_event.specs.declared.change.Change.{Change}
 use Rattle.alloc_event.specs.declared.entry.Entry.{Entry}
 use Rattle.alloc_event.specs.Counts.{AreUnits}
@@ -11,12 +10,12 @@ use Rattle.alloc_event.specs.InPlace.{IsMade, IsOpen}
 use Rattle.alloc_event.specs.Kept.{Finishes, Shelf, collection_in, nodes_with, place_in, shelf_of, shelves_of, forest_of}
 use Rattle.alloc_event.specs.Calm.{over_but}
 use Rattle.alloc_event.specs.Reserved.{reserved_count}
-use Rattle.alloc_event.specs.Resting.{is_kept_by}
-use Rattle.alloc_event.specs.Settling.{changed, collection_or_new, no_key}
+use Rattle.alloc_event.specs.Resting.{is_at_rest, is_kept_by, rests_at}
+use Rattle.alloc_event.specs.Settling.{Handles, changed, collection_or_new, no_key}
 use Rattle.alloc_event.proofs.changes.Altering.{tracker_room}
-use Rattle.alloc_event.proofs.changes.Done.{counted_at, few_at, finishes_at, opens_at, reserved_at, shelves_at, tidy_at}
+use Rattle.alloc_event.proofs.changes.Done.{counted_at, finishes_at, opens_at, reserved_at, rest_at, shelves_at, tidy_at}
 use Rattle.alloc_event.proofs.shelves.Entries.{IsPlace, place_is}
-use Rattle.alloc_event.proofs.in_place.settle_in_place.Goals as goal
+use Rattle.alloc_event.proofs.in_place.settle_so.Goals as goal
 
 pub index-entry-requires : goal.index-entry-requires
 index-entry-requires c =
@@ -34,14 +33,6 @@ pub change_in_place-requires-clause-room : goal.change_in_place-requires-clause-
 change_in_place-requires-clause-room c key effect at n is found =
     tracker_room c.args.table.now (shelves_of c.args.entries.now.items) c.requires.kept key effect
     (λ m e there. c.requires.change.trackers key m (is ∙ ap (Change.Effect key) e) there) at n found
-
-pub rests_without-rests-requires : goal.rests_without-rests-requires
-rests_without-rests-requires c =
-    let told : place_in c.args.id c.args.entries.now.items ≡ Some c.in-Some.at =
-    sym (rw c.deref.ensures.value at c.place_of.ensures) ∙ c.in-Some.is in
-    few_at c.args.table.now c.args.entries.now.items c.args.id c.in-Some.at c.index-entry.result.now
-    (place_is c.args.id c.args.entries.now.items c.in-Some.at told) c.index-entry.ensures c.requires.kept c.requires.counted
-    c.args.units.now.items c.requires.units c.args.change.now c.requires.change
 
 -- the entry that was read, and the place where it stands
 module _ (c : goal.After-entries-1) where
@@ -101,22 +92,26 @@ module _ (c : goal.After-entries-1) where
       c.change_in_place.new.table c.change_in_place.new.units.items c.in-Some-change_in_place.left made.done new (ap shelf_of again) refl
       tidies
 
-  rests : is_kept_by (total c.args.holds.now) c.args.table.now (shelf_of old) c.in-Some-change_in_place.left ≡ true
-  rests = elim (or_cases (nat_lt 0 c.in-Some-change_in_place.left) c.rests_without-rests.result c.in-Some-change_in_place.ensures.rests) [
-    | inl e ↦ or_left (nat_lt 0 c.in-Some-change_in_place.left) _ e
-    | inr e ↦ or_right (nat_lt 0 c.in-Some-change_in_place.left) _ (c.rests_without-rests.ensures e)
-  ]
+  rests : (handles : Handles) → (c.args.rests ≡ true → rests_at handles c.args.table.now (shelves_of es) c.args.id ≡ true) →
+      is_kept_by handles c.args.table.now (shelf_of old) c.in-Some-change_in_place.left ≡ true
+  rests handles why =
+      elim (or_cases (nat_lt 0 c.in-Some-change_in_place.left) c.args.rests c.in-Some-change_in_place.ensures.rests) [
+        | inl e ↦ or_left (nat_lt 0 c.in-Some-change_in_place.left) (is_at_rest handles c.args.table.now (shelf_of old)) e
+        | inr e ↦ or_right (nat_lt 0 c.in-Some-change_in_place.left) (is_at_rest handles c.args.table.now (shelf_of old))
+            (sym (rest_at c.args.table.now es c.args.id c.in-Some.at old place is c.requires.kept c.requires.counted
+            c.args.units.now.items c.requires.units c.args.change.now c.requires.change handles) ∙ why e)
+      ]
 
 pub returns-clause-ok : goal.returns-clause-ok
-returns-clause-ok c h pool =
-    subst (λ (ss : List Shelf). Finishes pool (total c.args.holds.now) c.args.table.now (shelves_of c.args.entries.now.items)
+returns-clause-ok c h pool handles why =
+    subst (λ (ss : List Shelf). Finishes pool handles c.args.table.now (shelves_of c.args.entries.now.items)
     c.change_in_place.new.table ss
     (changed c.args.change.now no_key (collection_or_new (forest_of c.args.table.now (shelves_of c.args.entries.now.items)) c.args.id)))
     (sym (same_shelves c))
     (finishes_at c.args.table.now c.args.entries.now.items c.args.id c.in-Some.at (old c) (place c) (is c) c.requires.kept
     c.requires.counted c.args.units.now.items c.requires.units c.args.change.now c.requires.change
     c.change_in_place.new.table c.change_in_place.new.units.items c.in-Some-change_in_place.left (made c).done (new c)
-    (ap shelf_of (again c)) refl (tidies c) pool (total c.args.holds.now) (rests c))
+    (ap shelf_of (again c)) refl (tidies c) pool handles (rests c handles why))
 
 pub returns-clause-shelves : goal.returns-clause-shelves
 returns-clause-shelves c = same_shelves c
