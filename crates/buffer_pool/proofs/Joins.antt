@@ -126,7 +126,8 @@ merge_in L b lt =
     let S : List Interval = all_in (drop (b + 1 + 1) L) in
     let there : b < length K = omega (arith, length-remove L (b + 1) lt) in
     let size : length (take (b + 1) L) ≡ b + 1 = length-take-le (b + 1) L (omega arith) in
-    let front : take b K ≡ take b L = take-append-le b (take (b + 1) L) (drop (suc (b + 1)) L) (omega arith) ∙ take-take b (b + 1) L (omega arith) in
+    let front : take b K ≡ take b L = take-append-le b (take (b + 1) L) (drop (suc (b + 1)) L) (omega arith) ∙ take-take b (b + 1) L
+    (omega arith) in
     let back : drop (b + 1) K ≡ drop (b + 1 + 1) L =
     drop_at (take (b + 1) L) (drop (suc (b + 1)) L) (b + 1) size ∙ ap (λ n. drop n L) (sym (add-one (b + 1))) in
     let behind : all_in (drop (b + 1) L) ≡ C ++ S = ap all_in (drop_more L (b + 1) [] lt) in
@@ -221,7 +222,8 @@ pub place-within : (L : Lists) (b o : ℕ) → b < length L → o < length (get_
 place-within L b o lt less = omega (arith, within-all L b lt)
 
 -- an interval is replaced before the next is taken out
-remove-suc : (xs : List Interval) (at : ℕ) (y : Interval) → suc at < length xs → remove (set xs at y) (suc at) ≡ set (remove xs (suc at)) at y
+remove-suc : (xs : List Interval) (at : ℕ) (y : Interval) → suc at < length xs → remove (set xs at y) (suc at) ≡ set (remove xs (suc at))
+    at y
 remove-suc [] at y lt = absurd (omega arith)
 remove-suc (x ∷ xs) zero y lt = refl
 remove-suc (x ∷ xs) (suc at) y lt = ap (λ r. x ∷ r) (remove-suc xs at y (omega arith))

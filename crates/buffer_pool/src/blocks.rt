@@ -367,7 +367,8 @@ fn short_pair(blocks: &[Block]) -> usize
     requires { length blocks.now < 2 ^ 63 }
     ensures within { result ≤ length blocks.now }
     ensures none { length blocks.now ≤ result + 1 → (length blocks.now - 1) * 64 ≤ length (all_in blocks.now) }
-    ensures short { result + 1 < length blocks.now → length (get_or blocks.now result []) + length (get_or blocks.now (result + 1) []) ≤ 128 }
+    ensures short { result + 1 < length blocks.now
+        → length (get_or blocks.now result []) + length (get_or blocks.now (result + 1) []) ≤ 128 }
 {
     let mut at = 0;
     while at + 1 < blocks.len() && blocks[at].len() + blocks[at + 1].len() > FULL {

@@ -78,8 +78,8 @@ impl Pool {
     /// no pages came back before, up to the last start, or to the end where the pool is full: a block
     /// whose greatest hole is too small is passed at once. For each buffer it costs two looks at the
     /// held intervals where it lies next to the one before, and else two binary searches, one among
-    /// the blocks and one in a block. A change moves at most a block, and once in so many a list of
-    /// the blocks.
+    /// the blocks and one in a block. A change moves at most a block; where a block becomes full or
+    /// empty, also the part of the list of blocks behind it.
     pub fn place(&mut self, count: u32, pages_each: u32) -> Result<Placed, PoolFault>
         requires { (1 ≤ count) × (1 ≤ pages_each) }
 
@@ -110,8 +110,9 @@ impl Pool {
     /// one hole with the holes that they touch.
     ///
     /// It takes no memory, and costs two binary searches in each of two lists, the held intervals and
-    /// the holes, and a move of at most a block in either, and once in so many of a list of the
-    /// blocks.
+    /// the holes, and a move of at most a block in either; where a block becomes full or empty, also
+    /// of the part of the list of blocks behind it. Where no block is spare, two that fit into one
+    /// are sought and made one.
     pub fn give_back(&mut self, start: u32, pages: u32)
         requires { Contains self.old.held (record { start = start; pages = pages }) }
         ensures held { self.new ≡ record self.old { held = without start self.old.held } }

@@ -9,5 +9,6 @@ pub returns-then-is_taken : goal.returns-then-is_taken
 returns-then-is_taken c =
     let taken = c.is_taken.ensures.yes c.if-is_taken.true in
     let lt = place-within c.args.blocks.now.lists c.args.spot.block c.args.spot.offset taken.0 taken.1 in
-    let parts = rw (sym c.get.ensures) at (drop_more (all_in c.args.blocks.now.lists) (place_of c.args.blocks.now.lists c.args.spot) c.get.result lt) in
+    let parts = rw (sym c.get.ensures) at (drop_more (all_in c.args.blocks.now.lists) (place_of c.args.blocks.now.lists c.args.spot)
+    c.get.result lt) in
     rw (parts, c.edge.ensures, c.from.ensures) refl

@@ -9,5 +9,10 @@ fit-requires-clause-from c =
     record {
       within = c.requires.known.within;
       before = c.requires.known.before;
-      passed = omega (arith, c.requires.known.passed, passed-more c.args.known c.args.pages_each (all_in c.args.blocks.now.lists) c.if-known-pages_each.true);
+      passed = omega (
+        arith,
+        c.requires.known.passed,
+        passed-more c.args.known c.args.pages_each (all_in c.args.blocks.now.lists)
+            c.if-known-pages_each.true,
+      );
     }

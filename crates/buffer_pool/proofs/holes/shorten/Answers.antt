@@ -12,7 +12,8 @@ some : (c : After-get-hole) → place_of c.args.blocks.now.lists c.args.spot < l
 some c = place-within c.args.blocks.now.lists c.args.spot.block c.args.spot.offset c.requires.some.0 c.requires.some.1
 
 -- the hole at the place
-the_fit : (c : After-get-hole) → IsFirstFit c.args.pages_each (all_in c.args.blocks.now.lists) (place_of c.args.blocks.now.lists c.args.spot)
+the_fit : (c : After-get-hole) → IsFirstFit c.args.pages_each (all_in c.args.blocks.now.lists) (place_of c.args.blocks.now.lists
+    c.args.spot)
     c.get-hole.result
 the_fit c = fit_is c.args.pages_each (all_in c.args.blocks.now.lists) (place_of c.args.blocks.now.lists c.args.spot) c.get-hole.result
     c.requires.first (some c) c.get-hole.ensures
@@ -60,8 +61,13 @@ returns-else-hole-pages_each-clause-changed c =
 pub returns-else-hole-pages_each-clause-within : goal.returns-else-hole-pages_each-clause-within
 returns-else-hole-pages_each-clause-within c =
     let B : List Interval = get_or c.args.blocks.now.lists c.args.spot.block [] in
-    let rest : Interval = record { start = c.get-hole.result.start + c.args.pages_each; pages = c.get-hole.result.pages - c.args.pages_each } in
+    let rest : Interval = record {
+      start = c.get-hole.result.start + c.args.pages_each;
+      pages = c.get-hole.result.pages -
+          c.args.pages_each;
+    } in
     let many = ap length c.set.ensures.lists ∙ length-set c.args.blocks.now.lists c.args.spot.block (set B c.args.spot.offset rest) in
     let size = ap (λ (L : List (List Interval)). length (get_or L c.args.spot.block [])) c.set.ensures.lists
-    ∙ same-size c.args.blocks.now.lists c.args.spot.block c.args.spot.block (set B c.args.spot.offset rest) (length-set B c.args.spot.offset rest) in
+    ∙ same-size c.args.blocks.now.lists c.args.spot.block c.args.spot.block (set B c.args.spot.offset rest) (length-set B
+    c.args.spot.offset rest) in
     (omega (arith, many, c.requires.some.0), omega (arith, size, c.requires.some.1))

@@ -31,6 +31,7 @@ loop-left-preserved c =
     let pushed = rw c.unwrap.ensures at c.push.ensures.items in
     let next : c.loop-left.left ≡ suc (c.loop-left.left - 1) = omega (arith, c.loop-left-test.true) in
     rw (pushed, c.hold.ensures.items, c.take_front-taken.ensures.items, c.take_front-taken.ensures.start)
-    (filling_more c.args.pages_each c.args.count c.loop-left.left (c.loop-left.left - 1) _ _ _ _ _ _ _ _ _ _ c.take_front-taken.result.before _
+    (filling_more c.args.pages_each c.args.count c.loop-left.left (c.loop-left.left - 1) _ _ _ _ _ _ _ _ _ _
+    c.take_front-taken.result.before _
     _ _ c.requires.pages next c.take_front-taken.ensures.before c.push.ensures.capacity c.take_front-taken.ensures.capacity
     (omega (arith, c.hold.ensures.capacity)) c.loop-left.invariant)

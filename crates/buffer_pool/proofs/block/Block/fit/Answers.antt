@@ -13,6 +13,7 @@ invariant_of-self c =
     record {
       has_room = c.self.invariant.has_room;
       few = c.self.invariant.few;
-      bound = small-all c.args.pages_each c.fit_in-at.result c.self.inside.cells.items c.requires.pages (rw c.deref.ensures.value at c.fit_in-at.ensures)
+      bound = small-all c.args.pages_each c.fit_in-at.result c.self.inside.cells.items c.requires.pages (rw c.deref.ensures.value at
+          c.fit_in-at.ensures)
           (omega (arith, c.len-2.ensures, c.if-at-len.true, c.self.inside.cells.ok.0));
     }

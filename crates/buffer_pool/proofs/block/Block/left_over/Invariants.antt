@@ -5,4 +5,5 @@ use Rattle.buffer_pool.proofs.block.Block.left_over.Given as goal
 
 abbrev pub invariant-loop-at : goal.invariant-loop-at
 invariant-loop-at l =
-    l.left - rooms l.pages_each (drop l.at l.self-inside.cells.items) ≡ l.fn.count - rooms l.pages_each (drop l.from l.self-inside.cells.items)
+    l.left - rooms l.pages_each (drop l.at l.self-inside.cells.items) ≡ l.fn.count - rooms l.pages_each (drop l.from
+    l.self-inside.cells.items)

@@ -22,5 +22,6 @@ returns-then-at-len-clause-capacity c =
     (get_or c.args.self.now.lists c.short_pair-at.result [] ++ get_or c.args.self.now.lists (c.short_pair-at.result + 1) []) in
     let long = ap length c.merge.ensures.lists in
     let more = c.merge.ensures.spares in
-    let all : length c.merge.new.self.lists + c.merge.new.self.spares ≡ length c.args.self.now.lists + c.args.self.now.spares = omega arith in
+    let all : length c.merge.new.self.lists + c.merge.new.self.spares ≡ length c.args.self.now.lists + c.args.self.now.spares = omega
+    arith in
     ap (λ n. (n - 1) * 64) all

@@ -14,7 +14,8 @@ loop-block-init c =
     let within = rw (← c.self.view_is) at c.requires.within in
     let first = rw (← c.self.view_is) at c.requires.first in (
       within.1,
-      ap (λ n. c.args.count - n) (rooms-from c.args.pages_each (length (all_in (take c.args.from.block c.self.inside.used.items)) + c.args.from.offset)
+      ap (λ n. c.args.count - n) (rooms-from c.args.pages_each (length (all_in (take c.args.from.block c.self.inside.used.items)) +
+          c.args.from.offset)
           (all_in c.self.inside.used.items) c.requires.pages first),
     )
 

@@ -22,7 +22,8 @@ size c =
     ∙ ap length (get_or_read c.self.inside.used.items c.args.spot.block c.index.result.now lt c.index.ensures []))
 
 cut : (c : After-cut) → IsCut c.args.self.now.lists c.args.spot.block c.cut.new.self.lists
-cut c = is_cut c.args.self.now.lists c.args.spot.block c.cut.new.self.lists (there (goal.at.After-cut c).After-len-else-spot-len) c.cut.ensures.lists
+cut c = is_cut c.args.self.now.lists c.args.spot.block c.cut.new.self.lists (there (goal.at.After-cut c).After-len-else-spot-len)
+    c.cut.ensures.lists
 
 full : (c : After-cut) → length (get_or c.args.self.now.lists c.args.spot.block []) ≡ 128
 full c =
@@ -81,7 +82,14 @@ returns-then-spot-eq-FULL c =
     ≡ length c.args.self.now.lists + c.args.self.now.spares = omega (arith, c.begin-then-spot-eq-FULL.ensures.spares) in
     let place : length (all_in (take (c.args.spot.block + 1) c.args.self.now.lists))
     ≡ length (all_in (take c.args.spot.block c.args.self.now.lists)) + c.args.spot.offset =
-    omega (arith, before-next c.args.self.now.lists c.args.spot.block lt, size m, c.len-else-spot-len.ensures.few, c.if-len-lt-FULL.false, c.if-spot-eq-FULL.true) in
+    omega (
+      arith,
+      before-next c.args.self.now.lists c.args.spot.block lt,
+      size m,
+      c.len-else-spot-len.ensures.few,
+      c.if-len-lt-FULL.false,
+      c.if-spot-eq-FULL.true,
+    ) in
     record {
       items_are = ap all_in c.begin-then-spot-eq-FULL.ensures.lists
           ∙ begin_in c.args.self.now.lists (c.args.spot.block + 1) c.args.new le

@@ -27,4 +27,5 @@ returns-clause-lists c =
     let here : c.index_mut.result.now ≡ get_or c.self.inside.used.items c.args.spot.block [] =
     get_or_read c.self.inside.used.items c.args.spot.block c.index_mut.result.now taken.0 c.index_mut.ensures.value [] in
     rw (← c.self.view_is)
-    (ap (set c.self.inside.used.items c.args.spot.block) (c.set.ensures ∙ ap (λ (B : List Interval). set B c.args.spot.offset c.args.new) here))
+    (ap (set c.self.inside.used.items c.args.spot.block) (c.set.ensures ∙ ap (λ (B : List Interval). set B c.args.spot.offset c.args.new)
+    here))

@@ -5,4 +5,5 @@ use Rattle.buffer_pool.proofs.pages.Pool.free_pages.Goals as goal
 
 pub returns-clause-sound : goal.returns-clause-sound
 returns-clause-sound c =
-    rw (← c.self.view_is) (sound_from c.self.inside.size (all_in c.self.inside.held.lists) c.self.invariant.1.sized c.self.invariant.1.in_order)
+    rw (← c.self.view_is) (sound_from c.self.inside.size (all_in c.self.inside.held.lists) c.self.invariant.1.sized
+    c.self.invariant.1.in_order)

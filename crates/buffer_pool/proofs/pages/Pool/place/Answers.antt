@@ -16,7 +16,8 @@ returns-then-not-has_rooms-clause-full c =
     let few : rooms c.args.pages_each c.self.inside.holes.items < c.args.count =
     leb-false _ _ (sym c.has_rooms.ensures.rooms ∙ c.if-not-has_rooms.true) in
     rw (← c.self.view_is) (
-      λ _. is_full c.self.inside.size c.self.inside.free c.args.count c.args.pages_each c.self.inside.holes.items (all_in c.self.inside.held.lists)
+      λ _. is_full c.self.inside.size c.self.inside.free c.args.count c.args.pages_each c.self.inside.holes.items (all_in
+          c.self.inside.held.lists)
           c.self.inside.holes.capacity c.requires.1 c.self.invariant.1 few,
       λ _. refl,
     )
@@ -29,7 +30,8 @@ returns-then-not-has_rooms-clause-sound c =
 all_fit : (c : Else-not-has_rooms) → KeepsRun c.self.inside.size c.self.inside.free c.args.count c.args.pages_each c.self.inside.holes.items
     (all_in c.self.inside.held.lists)
 all_fit c =
-    keeps_run c.self.inside.size c.self.inside.free c.args.count c.args.pages_each c.self.inside.holes.items (all_in c.self.inside.held.lists)
+    keeps_run c.self.inside.size c.self.inside.free c.args.count c.args.pages_each c.self.inside.holes.items (all_in
+    c.self.inside.held.lists)
     c.self.inside.holes.capacity c.requires.1 c.self.invariant.1
     (leb-true _ _ (sym c.has_rooms.ensures.rooms ∙ c.if-not-has_rooms.false))
 
@@ -62,9 +64,16 @@ has_rooms-requires-clause-few c =
 pub overflow_add-self : goal.overflow_add-self
 overflow_add-self c =
     let run = (all_fit (goal.at.overflow_add-self c).Else-not-has_rooms).run in
-    let long = length-le 0 c.self.inside.size (with_buffers c.args.pages_each (starts_in c.args.pages_each c.args.count c.self.inside.holes.items)
+    let long = length-le 0 c.self.inside.size (with_buffers c.args.pages_each (starts_in c.args.pages_each c.args.count
+    c.self.inside.holes.items)
     (all_in c.self.inside.held.lists)) run.in_order in
-    let small : c.self.inside.buffers + c.args.count ≤ 1048576 = omega (arith, long, run.length_is, c.self.invariant.0, c.self.invariant.1.sized.1) in
+    let small : c.self.inside.buffers + c.args.count ≤ 1048576 = omega (
+      arith,
+      long,
+      run.length_is,
+      c.self.invariant.0,
+      c.self.invariant.1.sized.1,
+    ) in
     search rules
 
 pub invariant_of-self : goal.invariant_of-self
@@ -114,7 +123,11 @@ returns-in-Err c =
     (record {
       ok = tt;
       err = λ i. record { size = c.self.inside.size; held = c.reserve.ensures.held i };
-      full = (λ same. cc, not_full c.self.inside.size c.args.pages_each c.args.count (all_in c.self.inside.held.lists) _ _ k.run.places_are);
+      full = (
+        λ same. cc,
+        not_full c.self.inside.size c.args.pages_each c.args.count (all_in c.self.inside.held.lists) _ _
+            k.run.places_are,
+      );
       sound = rw c.reserve.ensures.held (sound_from c.self.inside.size (all_in c.self.inside.held.lists) c.self.invariant.1.sized
           c.self.invariant.1.in_order);
     })
