@@ -316,7 +316,7 @@ fn change_in_place(
 
 /// Makes the change to a collection in its place, as `settle_in_place` does, or `settle_resting` if it
 /// rests without a strong live node.
-#[inline(always)]
+#[inline(never)]
 fn settle_so(
     table: &mut NodeTable<Node>,
     entries: &mut Vec<Entry>,
@@ -364,6 +364,7 @@ fn settle_so(
 /// heads, and the unit does not become ready, has its buffers, or lies below one without buffers.
 /// Answers whether it did; if not, nothing changed. It takes no memory, and costs a binary search
 /// and a constant.
+#[inline(always)]
 pub(crate) fn settle_in_place(
     table: &mut NodeTable<Node>,
     entries: &mut Vec<Entry>,
@@ -391,7 +392,7 @@ pub(crate) fn settle_in_place(
 
 /// The same, where no strong node of the collection is live before it, and the collection rests
 /// without. It costs a look at the handles of the buffers besides.
-#[inline(never)]
+#[inline(always)]
 pub(crate) fn settle_resting(
     table: &mut NodeTable<Node>,
     entries: &mut Vec<Entry>,

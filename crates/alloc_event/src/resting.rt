@@ -49,6 +49,7 @@ fn rests_without(table: &NodeTable<Node>, entry: &Entry, holds: &Holds) -> bool
 }
 
 /// Whether there is such a collection, without a strong live node, and it rests so. A binary search.
+#[inline(never)]
 pub(crate) fn is_resting(
     table: &NodeTable<Node>,
     entries: &[Entry],

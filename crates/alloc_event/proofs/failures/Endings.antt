@@ -1,5 +1,5 @@
 -- Where the highest unit that goes is left without a live node, it ends, and all below it.
-use Rattle.std.proofs.Common.{◌≡◌, ℕ, ◌+◌, ◌<◌, ◌==◌, nat_lt, ap, sym, ◌∙◌, subst, Bool, true, false, not, refl, inl, inr, if◌then◌else◌, List, [], map, reverse, length, Option, Some, None, option_map}
+use Rattle.std.proofs.Common.{◌≡◌, ℕ, ◌+◌, ◌<◌, ◌==◌, ap, sym, ◌∙◌, subst, Bool, true, false, not, refl, inl, inr, if◌then◌else◌, List, [], map, reverse, length, Option, Some, None, option_map}
 use Rattle.std.proofs.lemmas.Bool.{not-true}
 use Rattle.std.specs.List.{find, list_any}
 use Rattle.std.specs.Option.{option_map_or, unwrap_or}

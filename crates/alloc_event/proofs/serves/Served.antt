@@ -1,6 +1,6 @@
 -- An effect by which an attached unit becomes ready, and the unit's allocation with it, in their places.
 use Rattle.std.proofs.Common.{◌≡◌, ◌≢◌, ℕ, ◌+◌, ◌<◌, ◌==◌, nat_lt, refl, ap, sym, ◌∙◌, subst, Bool, true, false, not, ◌&&◌, ◌||◌, is_none, if◌then◌else◌, ◌⊎◌, inl, inr, List, [], ◌∷◌, ◌++◌, map, set, Option, Some, None, option_map, arith}
-use Rattle.std.proofs.lemmas.Bool.{eqb-false, eqb-true, le-ltb, lt-ltb, not-true}
+use Rattle.std.proofs.lemmas.Bool.{eqb-false, eqb-true, le-ltb, not-true}
 use Rattle.std.proofs.Math.Bool.{and-false}
 use Rattle.std.specs.List.{AllByRecursion, find, list_all, list_any, sum_by}
 use Rattle.std.specs.Option.{option_map_or}

@@ -1,5 +1,5 @@
 -- The node is written, and the count tells that nothing is forced.
-use Rattle.std.proofs.Common.{◌≡◌, true, map, option_copied, Some, sym, ◌∙◌, ap, subst, arith}
+use Rattle.std.proofs.Common.{◌≡◌, true, map, option_copied, Some, sym, ◌∙◌, ap, subst}
 use Rattle.sm_names.specs.declared.keys.NodeKey.{NodeKey}
 use Rattle.node_table.specs.Table.{node_at}
 use Rattle.node_table.specs.Changes.{Writes}
