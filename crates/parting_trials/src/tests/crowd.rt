@@ -1,4 +1,5 @@
 //! Clients in threads of their own, who share trees by parcels.
+ghost use Rattle.std.specs.Prelude.{◌≡◌};
 
 use super::asking::{constraints, gathered, gone, made, nothing, put, report};
 use client_ends::{Client, CollectionEnd, End, EndOf, Handle, Held, Kept, TokenEnd, join};

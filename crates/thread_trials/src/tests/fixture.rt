@@ -1,4 +1,5 @@
 //! Runs of actors.
+ghost use Rattle.std.specs.Prelude.{◌≤◌};
 
 use script_lines::LabelHash;
 use sm_names::Limits;
