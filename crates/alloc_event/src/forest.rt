@@ -88,10 +88,10 @@ impl Forest {
     /// then the buffers that are home go back, which costs a look at the handles of each buffer, two
     /// where some stay held and others go, and what the pool takes.
     ///
-    /// So it is too where no strong node is live then and the collection rests without one: its root
-    /// has no buffers, or one of them has an open strong handle, and each buffer that it holds has an
-    /// open handle. To tell that costs a look at the handles of each buffer, of which there are at
-    /// most 64.
+    /// So it is too where no strong node is live, before a birth or an effect or after a loss, and the
+    /// collection rests without one: its root has no buffers, or one of them has an open strong handle,
+    /// and each buffer that it holds has an open handle. To tell that costs a look at the handles of
+    /// each buffer, of which there are at most 64.
     ///
     /// Any other change costs a copy of the collection, a pass over its units, and the
     /// question for the next step after each that is made. Attached units that are allocated or fail
