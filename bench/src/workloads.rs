@@ -60,6 +60,9 @@ pub const ALL: &[Row] = &[
     sized("f4 {} released heads", "released heads with a live child", &[5, 50, 400], trees::released_heads),
     sized("f5 allocated among {}", "attached units that have their buffers", &[10, 100, 900], trees::allocated_among),
     sized("f6 {} failing units /unit", "units that fail at once, which divide", &[10, 100, 900], trees::failing),
+    sized("f7 failing among {}", "attached units that have their buffers", &[10, 100, 900], trees::failing_among),
+    sized("f8 pairs among {}", "attached units that have their buffers", &[10, 100, 900], trees::pairs_among),
+    sized("f9 ends of {}, root released", "attached units below the root", &[10, 100, 900], trees::ends_below_released),
     sized("g1 short life beside {}", "trackers on others", &[0, 64, 4096], trackers::unrelated),
     sized("g2 {} lifetimes, same", "lifetimes of one node", &[4, 64, 4096], trackers::lifetimes),
     sized("g3 {} numbers on 64 nodes", "lifetimes, each with a number", &[64, 512, 4096], |n| {

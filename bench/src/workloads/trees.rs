@@ -114,12 +114,7 @@ pub fn attached(at_least: u32) -> Stream {
 /// An attached unit that is allocated, and goes, among attached units that have their buffers.
 pub fn allocated_among(n: u32) -> Stream {
     let mut d = Driver::new(64, FULL);
-    let (r, _) = d.allocated(k(2, 8, 4096));
-    for _ in 0..n {
-        let (x, _) = d.token(Call::AttachToken(r));
-        d.done(Call::Bind(x));
-        d.done(Call::SetConstraints(x, k(0, 0, 1)));
-    }
+    let (r, _) = attached_units(&mut d, n);
     d.timed(|d| {
         for _ in 0..200 {
             let (t, _) = d.token(Call::AttachToken(r));
@@ -129,6 +124,74 @@ pub fn allocated_among(n: u32) -> Stream {
             d.call(Call::Close(t));
         }
     });
+    d.end()
+}
+
+/// A root that has its buffers, and so many attached units that have them too.
+fn attached_units(d: &mut Driver, n: u32) -> (NodeKey, Vec<NodeKey>) {
+    let (r, _) = d.allocated(k(2, 8, 4096));
+    let mut units = Vec::new();
+    for _ in 0..n {
+        let (x, _) = d.token(Call::AttachToken(r));
+        d.done(Call::Bind(x));
+        d.done(Call::SetConstraints(x, k(0, 0, 1)));
+        units.push(x);
+    }
+    (r, units)
+}
+
+/// An attached unit that asks for too many buffers, and fails, among others.
+pub fn failing_among(n: u32) -> Stream {
+    let mut d = Driver::new(64, FULL);
+    let (r, _) = attached_units(&mut d, n);
+    d.timed(|d| {
+        for _ in 0..200 {
+            let (t, _) = d.token(Call::AttachToken(r));
+            d.call(Call::Bind(t));
+            d.call(Call::SetConstraints(t, k(9, 0, 4096)));
+            d.call(Call::Check(t));
+            d.call(Call::Close(t));
+        }
+    });
+    d.end()
+}
+
+/// An attached unit that becomes ready with one below it that is, and goes with that, among others.
+pub fn pairs_among(n: u32) -> Stream {
+    let mut d = Driver::new(64, FULL);
+    let (r, _) = attached_units(&mut d, n);
+    d.timed(|d| {
+        for _ in 0..200 {
+            let (t, _) = d.token(Call::AttachToken(r));
+            d.call(Call::Bind(t));
+            let (u, _) = d.token(Call::AttachToken(t));
+            d.call(Call::Bind(u));
+            d.call(Call::SetConstraints(u, k(1, 0, 4096)));
+            d.call(Call::SetConstraints(t, k(1, 0, 4096)));
+            d.call(Call::Check(u));
+            d.call(Call::Close(t));
+            d.call(Call::Close(u));
+        }
+    });
+    d.end()
+}
+
+/// Attached units below a released root that end one after another, half of so many.
+pub fn ends_below_released(n: u32) -> Stream {
+    let mut d = Driver::new(64, FULL);
+    for _ in 0..turns(n) {
+        let (r, units) = attached_units(&mut d, n);
+        d.done(Call::Release(r));
+        let (first, rest) = units.split_at(n as usize / 2);
+        d.timed(|d| {
+            for x in first {
+                d.call(Call::Release(*x));
+            }
+        });
+        for x in first.iter().chain(rest).chain([&r]) {
+            d.call(Call::Close(*x));
+        }
+    }
     d.end()
 }
 
