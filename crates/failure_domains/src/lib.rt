@@ -7,4 +7,4 @@ mod walks;
 
 pub use found::Fall;
 pub use link::Link;
-pub use walks::fall;
+pub use walks::{fall, fall_into};

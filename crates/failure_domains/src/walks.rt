@@ -1,8 +1,8 @@
 //! The two walks of a failure: up from its origin, and then down to all that lies below.
-ghost use Rattle.std.specs.Prelude.{◌≡◌, ◌≢◌, ◌↔◌, ◌+◌, ◌^◌, ◌<◌, ◌≤◌, None, IsSome, OnSome, OnOk, IfOk, AllPairs, Contains, length, vec_len};
+ghost use Rattle.std.specs.Prelude.{◌≡◌, ◌≢◌, ◌↔◌, ◌+◌, ◌^◌, ◌<◌, ◌≤◌, None, IsSome, OnSome, OnOk, IfOk, AllPairs, IsOk, Contains, length, vec_len, vec_capacity};
 ghost use Rattle.sm_names.specs.declared.keys.NodeKey.{NodeKey as Key};
 ghost use Rattle.sm_names.specs.Losses.{Reach};
-ghost use Rattle.node_table.specs.Table.{row_at, parent_at, children_at};
+ghost use Rattle.node_table.specs.Table.{row_at, parent_at, children_at, table_len};
 ghost use Rattle.node_table.specs.Forest.{IsForest, depth_at};
 ghost use Rattle.failure_domains.specs.Falls.{blocked_at, way_up, links_climbed, IsByLayers};
 ghost use Rattle.failure_domains.specs.Walks.{Climb, IsWalk};
@@ -33,12 +33,37 @@ pub fn fall<N: Link>(alloc: Global, table: &NodeTable<N>, origin: NodeKey) -> Re
     ensures few_visits { IfOk result (λ fall.
         fall.visits ≤ vec_len fall.keys + depth_at table.now origin) }
 {
+    let mut keys = Vec::new(alloc);
+    let visits = fall_into(table, origin, &mut keys)?;
+    Ok(Fall { keys, visits })
+}
+
+/// The same, written into this list in the place of what stands there. Answers the visits.
+///
+/// Where the list has room for as many keys as there are nodes, it takes no memory and never
+/// fails. It never loses room. On `NoMemory`, which comes only where it was refused more, it has a
+/// first part of the keys.
+pub fn fall_into<N: Link>(
+    table: &NodeTable<N>,
+    origin: NodeKey,
+    keys: &mut Vec<NodeKey>,
+) -> Result<u64, NoMemory>
+    requires { IsSome (row_at table.now origin) }
+
+    ensures keys { OnOk result ((key : Key) → Contains keys.new.items key
+        ↔ Reach (parent_at table.now) (blocked_at N.blocks table.now) origin key) }
+    ensures once { OnOk result (AllPairs (λ (a b : Key). a ≢ b) keys.new.items) }
+    ensures layers { OnOk result (IsByLayers (children_at table.now) keys.new.items) }
+    ensures visits { IfOk result (λ visits.
+        visits ≡ vec_len keys.new + links_climbed N.blocks table.now origin) }
+    ensures few_visits { IfOk result (λ visits.
+        visits ≤ vec_len keys.new + depth_at table.now origin) }
+    ensures room { table_len table.now ≤ vec_capacity keys.old → IsOk result }
+    ensures capacity { vec_capacity keys.old ≤ vec_capacity keys.new }
+{
     let (top, steps) = climb(table, origin);
-    let below = walk(alloc, table, top)?;
-    Ok(Fall {
-        keys: below.keys,
-        visits: steps + below.visits,
-    })
+    let below = walk(table, top, keys)?;
+    Ok(steps + below)
 }
 
 /// The highest node that a failure of `origin` goes up to, and the steps to it: fewer than there
@@ -48,6 +73,7 @@ fn climb<N: Link>(table: &NodeTable<N>, origin: NodeKey) -> (NodeKey, u64)
     ensures path { Climb (parent_at table.now) (blocked_at N.blocks table.now)
         origin result.0 result.1 }
     ensures top { way_up N.blocks table.now result.0 ≡ None }
+    ensures there { IsSome (row_at table.now result.0) }
 {
     let mut top = origin;
     'up: for steps in 0..table.len() as u64 {
@@ -70,25 +96,26 @@ fn way_up<N: Link>(table: &NodeTable<N>, key: NodeKey) -> Option<NodeKey>
     }
 }
 
-/// The node and all below it. Each of them is taken once from the list, which is a visit.
-fn walk<N>(alloc: Global, table: &NodeTable<N>, top: NodeKey) -> Result<Fall, NoMemory>
-    ensures keys { IfOk result (λ fall. IsWalk (children_at table.now) (depth_at table.now)
-        top (length fall.keys.items) fall.keys.items) }
-    ensures visits { IfOk result (λ fall. fall.visits ≡ length fall.keys.items) }
-    ensures few { IfOk result (λ fall. fall.visits < 2 ^ 63) }
+/// The node and all below it, in the place of what stands in the list. Each of them is taken once
+/// from the list, which is a visit: how many there were.
+fn walk<N>(table: &NodeTable<N>, top: NodeKey, keys: &mut Vec<NodeKey>) -> Result<u64, NoMemory>
+    requires { IsSome (row_at table.now top) }
+    ensures keys { OnOk result (IsWalk (children_at table.now) (depth_at table.now)
+        top (length keys.new.items) keys.new.items) }
+    ensures visits { IfOk result (λ visits. visits ≡ length keys.new.items) }
+    ensures few { IfOk result (λ visits. visits < 2 ^ 63) }
     ensures forest { OnOk result (IsForest table.now) }
+    ensures room { table_len table.now ≤ vec_capacity keys.old → IsOk result }
+    ensures capacity { vec_capacity keys.old ≤ vec_capacity keys.new }
 {
-    let mut keys = Vec::new(alloc);
+    keys.clear();
     if keys.push(top).is_err() {
         return Err(NoMemory);
     }
     let mut visits = 0;
     'down: while visits < keys.len() {
-        table.append_children(keys[visits], &mut keys)?;
+        table.append_children(keys[visits], keys)?;
         visits += 1;
     }
-    Ok(Fall {
-        keys,
-        visits: visits as u64,
-    })
+    Ok(visits as u64)
 }
