@@ -5,6 +5,7 @@ pub mod intervals
 pub mod leaving
 pub mod lists
 pub mod newborns
+pub mod refusals
 pub mod serves
 pub mod shelves
 pub mod tables

@@ -1,6 +1,7 @@
 -- The counts of units, and what they tell.
 pub mod Amounts
 pub mod Holding
+pub mod Hung
 pub mod Reckoning
 pub mod Reserved
 pub mod Slots

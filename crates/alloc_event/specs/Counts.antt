@@ -1,15 +1,17 @@
 -- What is counted of units. No public clause cites this module.
-use Rattle.std.specs.Prelude.{◌≡◌, ◌≢◌, ℕ, ◌+◌, ◌<◌, Bool, ◌&&◌, not, nat_lt, if◌then◌else◌, slice_index_or, List, [], ◌∷◌, ◌++◌, map, length, set, is_some, ◌==◌, true, false, Some}
-use Rattle.std.specs.List.{AllByRecursion}
+use Rattle.std.specs.Prelude.{◌≡◌, ◌≢◌, ℕ, ◌+◌, ◌<◌, Bool, ◌&&◌, ◌||◌, not, nat_lt, if◌then◌else◌, slice_index_or, List, [], ◌∷◌, ◌++◌, map, length, set, is_some, ◌==◌, true, false, Option, Some, None, option_map}
+use Rattle.std.specs.List.{AllByRecursion, list_any}
+use Rattle.std.specs.Option.{option_map_or}
 use Rattle.sm_names.specs.declared.keys.NodeKey.{NodeKey}
 use Rattle.sm_names.specs.Sameness.{same_key}
 use Rattle.sm_names.specs.Words.{times}
-use Rattle.node_table.specs.Table.{Table, node_at, parent_at}
+use Rattle.node_table.specs.Table.{Table, node_at}
 use Rattle.alloc_event.specs.declared.entry.Entry.{Entry}
 use Rattle.alloc_event.specs.declared.node.Node.{Node}
 use Rattle.alloc_event.specs.declared.units.Unit.{Unit}
 use Rattle.alloc_event.specs.Forest.{Collection}
 use Rattle.alloc_event.specs.Kept.{collection_in, shelves_of}
+use Rattle.alloc_event.specs.Nodes.{is_of}
 use Rattle.alloc_event.specs.Questions.{is_live_node, is_ready_node}
 
 -- ---- what is counted
@@ -26,13 +28,29 @@ waits_in head n = not (is_ready_node head n)
 abbrev pub is_unready : Node → Bool
 is_unready n = not n.gone && (not n.released && not (is_some n.constraints))
 
+-- the node's parent is in the unit with this head
+abbrev pub hangs_in : List Node → NodeKey → Node → Bool
+hangs_in nodes head n = option_map_or (λ p. list_any (λ q. is_of p q && same_key q.head head) nodes) n.parent false
+
+-- the node heads a unit right below the one with this head, and is not gone
+abbrev pub heads_below : List Node → NodeKey → Node → Bool
+heads_below nodes head n = not n.gone && (n.attached && hangs_in nodes head n)
+
 -- the counts of the unit with this head
 abbrev pub unit_of : List Node → NodeKey → Unit
-unit_of nodes head = record { live = times (lives_in head) nodes; unready = times (waits_in head) nodes }
+unit_of nodes head = record {
+  live = times (lives_in head) nodes;
+  unready = times (waits_in head) nodes;
+  below = times (heads_below nodes head) nodes;
+}
+
+-- a node of the unit with these counts lives, or a unit hangs right below it
+abbrev pub is_held_by : Unit → Bool
+is_held_by unit = nat_lt 0 unit.live || nat_lt 0 unit.below
 
 -- those of no unit
 abbrev pub no_unit : Unit
-no_unit = record { live = 0; unready = 0 }
+no_unit = record { live = 0; unready = 0; below = 0 }
 
 -- the counts in this slot
 abbrev pub unit_at : List Unit → ℕ → Unit
@@ -54,16 +72,6 @@ AreUnitsBut units id cs = AllByRecursion (λ (c : Collection). c.id ≢ id → H
 abbrev pub HaveUnits : List Unit → Table Node → List Entry → Type 0
 HaveUnits units t es = AreUnits units (map (collection_in t) (shelves_of es))
 
--- the table has a child of the node that is attached, and not gone, and of this collection
-pub record HasBelow (t : Table Node) (key : NodeKey) (id : ℕ) : Type 0 where
-  pub child : NodeKey
-  pub node : Node
-  pub at : node_at t child ≡ Some node
-  pub under : parent_at t child ≡ Some key
-  pub attached : node.attached ≡ true
-  pub here : node.gone ≡ false
-  pub of : node.collection ≡ id
-
 -- ---- counting anew
 
 -- one more, if it counts and there is room for it
@@ -84,9 +92,36 @@ abbrev pub with_node : Node → List Unit → List Unit
 with_node n units = set units n.head.slot (record {
   live = raised (is_live_node n) (unit_at units n.head.slot).live;
   unready = raised (is_unready n) (unit_at units n.head.slot).unready;
+  below = (unit_at units n.head.slot).below;
 })
 
 -- each node is, if it is not gone
 abbrev pub tallied : List Node → List Unit → List Unit
 tallied [] units = units
 tallied (n ∷ ns) units = tallied ns (if n.gone then units else with_node n units)
+
+-- the head of the unit of the node with this key
+abbrev pub head_of : Table Node → NodeKey → Option NodeKey
+head_of t key = option_map (λ (n : Node). n.head) (node_at t key)
+
+-- the head of the unit right above the one that the node heads, if it heads one and is not gone
+abbrev pub head_above : Table Node → Node → Option NodeKey
+head_above t n = if n.gone || not n.attached then None else option_map_or (head_of t) n.parent None
+
+-- one more unit hangs right below the one with this head
+abbrev pub with_below : Option NodeKey → List Unit → List Unit
+with_below None units = units
+with_below (Some head) units = set units head.slot (record {
+  live = (unit_at units head.slot).live;
+  unready = (unit_at units head.slot).unready;
+  below = raised true (unit_at units head.slot).below;
+})
+
+-- each node is counted for the unit right above the one that it heads
+abbrev pub hung : Table Node → List Node → List Unit → List Unit
+hung t [] units = units
+hung t (n ∷ ns) units = hung t ns (with_below (head_above t n) units)
+
+-- each node is counted, for its unit and for the one right above that
+abbrev pub reckoned : Table Node → List Node → List Unit → List Unit
+reckoned t ns units = hung t ns (tallied ns units)

@@ -6,6 +6,7 @@ pub mod Due
 pub mod Effects
 pub mod Falling
 pub mod Falls
+pub mod First
 pub mod Forest
 pub mod Forgetting
 pub mod InPlace
@@ -17,6 +18,7 @@ pub mod Progress
 pub mod Nodes
 pub mod Parted
 pub mod Questions
+pub mod Refusing
 pub mod Reserved
 pub mod Resting
 pub mod Scenes

@@ -1,5 +1,5 @@
--- An attached unit that becomes ready and is allocated in its place. No public clause cites this module.
-use Rattle.std.specs.Prelude.{◌≡◌, ℕ, ◌+◌, ◌<◌, Bool, true, false, ◌||◌, ◌&&◌, ◌==◌, not, nat_lt, if◌then◌else◌, List, length, Option, Some, None, option_map}
+-- An attached unit that becomes ready and is allocated in its place, and those below it that follow. No public clause cites this module.
+use Rattle.std.specs.Prelude.{◌≡◌, ℕ, ◌+◌, ◌<◌, Bool, true, false, ◌||◌, ◌&&◌, ◌==◌, not, nat_lt, if◌then◌else◌, List, [], ◌∷◌, length, Option, Some, None, option_map, ◌⊎◌}
 use Rattle.std.specs.List.{filter_map, list_any, sum_by}
 use Rattle.std.specs.Option.{option_and_then, option_map_or}
 use Rattle.sm_names.specs.declared.keys.NodeKey.{NodeKey}
@@ -15,10 +15,10 @@ use Rattle.alloc_event.specs.declared.node.Node.{Node}
 use Rattle.alloc_event.specs.declared.units.Unit.{Unit}
 use Rattle.alloc_event.specs.Calm.{over_but}
 use Rattle.alloc_event.specs.Counts.{is_unready, unit_at}
+use Rattle.alloc_event.specs.Falls.{given_all}
 use Rattle.alloc_event.specs.InPlace.{IsDone, bit}
 use Rattle.alloc_event.specs.Kept.{SameTable, Shelf, is_strong, nodes_with, written}
-use Rattle.alloc_event.specs.Nodes.{given_buffers}
-use Rattle.alloc_event.specs.Questions.{is_in_unit, is_live_node, is_served}
+use Rattle.alloc_event.specs.Questions.{is_live_node, is_served}
 use Rattle.alloc_event.specs.Reserved.{reserved_count}
 
 -- ---- whether the unit is to be allocated
@@ -36,34 +36,59 @@ abbrev pub has_turn_at : Table Node → NodeKey → Bool
 has_turn_at t head =
     option_map_or is_waiting_head (node_at t head) false && option_map_or (is_served_there t) (parent_at t head) false
 
--- there is a node with this key, of the unit with this head
-abbrev pub is_of_unit : Table Node → NodeKey → NodeKey → Bool
-is_of_unit t head key = option_map_or (λ (n : Node). same_key n.head head) (node_at t key) false
+-- there is a node with this key, of a unit with one of these heads
+abbrev pub is_of_some : Table Node → List NodeKey → NodeKey → Bool
+is_of_some t heads key = option_map_or (λ (n : Node). list_any (same_key n.head) heads) (node_at t key) false
 
--- the node heads a unit right below the one with this head, and that waits for no node, by the counts
-abbrev pub hangs_below : Table Node → List Unit → NodeKey → Node → Bool
-hangs_below t units head n =
-    n.attached && (not n.gone && ((unit_at units n.key.slot).unready == 0 && option_map_or (is_of_unit t head) n.parent false))
+-- the node heads a unit right below one of those with these heads, which has no buffers, and waits for no node, by the counts
+abbrev pub hangs_below : Table Node → List Unit → List NodeKey → Node → Bool
+hangs_below t units heads n =
+    is_waiting_head n && ((unit_at units n.key.slot).unready == 0 && option_map_or (is_of_some t heads) n.parent false)
 
--- the node with this key does
-abbrev pub hangs_below_at : Table Node → List Unit → NodeKey → NodeKey → Bool
-hangs_below_at t units head key = option_map_or (hangs_below t units head) (node_at t key) false
+-- the node does, and is none of these heads
+abbrev pub is_left_out : Table Node → List Unit → List NodeKey → Node → Bool
+is_left_out t units heads n = hangs_below t units heads n && not (list_any (same_key n.key) heads)
+
+-- the node with this key does, and is none
+abbrev pub left_out_at : Table Node → List Unit → List NodeKey → NodeKey → Bool
+left_out_at t units heads key = option_map_or (is_left_out t units heads) (node_at t key) false
 
 -- or is not of this collection
-abbrev pub bars_at : Table Node → List Unit → ℕ → NodeKey → NodeKey → Bool
-bars_at t units id head key = option_map_or (λ (n : Node). not (n.collection == id) || hangs_below t units head n) (node_at t key) false
+abbrev pub bars_at : Table Node → List Unit → ℕ → List NodeKey → NodeKey → Bool
+bars_at t units id heads key = option_map_or (λ (n : Node). not (n.collection == id) || is_left_out t units heads n) (node_at t key) false
 
--- ---- what it asks for
+-- ---- which units are allocated with it
 
--- what the node with this key asks for, if it is of the unit and not gone, where this node is in the place of the one with
--- its key
-abbrev pub asked_at : Table Node → NodeKey → Node → NodeKey → Option Demand
-asked_at t head after key =
-    option_and_then (λ (n : Node). if is_in_unit head (written after n) then (written after n).constraints else None) (node_at t key)
+-- the node heads such a unit below those with these heads, and is of the collection and counted
+abbrev pub is_following : Table Node → List Unit → ℕ → List NodeKey → Node → Bool
+is_following t units id heads n = n.collection == id && (nat_lt n.key.slot (length units) && hangs_below t units heads n)
+
+-- the node with this key does
+abbrev pub is_following_at : Table Node → List Unit → ℕ → List NodeKey → NodeKey → Bool
+is_following_at t units id heads key = option_map_or (is_following t units id heads) (node_at t key) false
+
+-- this head, and those of units that follow, each on those before it
+pub data Follows (t : Table Node) (units : List Unit) (id : ℕ) (head : NodeKey) : List NodeKey → Type 0 where
+  Alone : Follows t units id head (head ∷ [])
+  With : (heads more : List NodeKey) (key : NodeKey) → Follows t units id head heads → is_following_at t units id heads key ≡ true →
+      ((other : NodeKey) → list_any (same_key other) more ≡ (same_key other key || list_any (same_key other) heads)) →
+      Follows t units id head more
+
+-- ---- what they ask for
+
+-- the node is in one of the units with these heads, and not gone
+abbrev pub is_in_some : List NodeKey → Node → Bool
+is_in_some heads n = not n.gone && list_any (same_key n.head) heads
+
+-- what the node with this key asks for, if it is of one of these units and not gone, where this node is in the place of the one
+-- with its key
+abbrev pub asked_at : Table Node → List NodeKey → Node → NodeKey → Option Demand
+asked_at t heads after key =
+    option_and_then (λ (n : Node). if is_in_some heads (written after n) then (written after n).constraints else None) (node_at t key)
 
 -- what those with these keys ask for so
-abbrev pub asked_with : Table Node → List NodeKey → NodeKey → Node → List Demand
-asked_with t keys head after = filter_map (asked_at t head after) keys
+abbrev pub asked_with : Table Node → List NodeKey → List NodeKey → Node → List Demand
+asked_with t keys heads after = filter_map (asked_at t heads after) keys
 
 -- so many buffers of this size are enough, where so many are reserved and this is asked for besides
 abbrev pub are_enough : Buffers → ℕ → List Demand → Bool
@@ -77,13 +102,13 @@ pub record IsDue (t : Table Node) (given : Option Buffers) (n : Node) (buffers :
   pub bare : n.allocated ≡ false
   pub turn : has_turn_at t n.head ≡ true
 
--- these keys are of nodes of the collection, of which none heads a unit right below that is ready; the buffers are enough for
--- what is reserved and what the nodes ask for, and so much is reserved then
-pub record IsRoom (t : Table Node) (keys : List NodeKey) (units : List Unit) (id reserved : ℕ) (buffers : Buffers) (head : NodeKey)
+-- these keys are of nodes of the collection, of which none heads a unit right below one of these that is ready, and is none of
+-- these heads; the buffers are enough for what is reserved and what the nodes ask for, and so much is reserved then
+pub record IsRoom (t : Table Node) (keys : List NodeKey) (units : List Unit) (id reserved : ℕ) (buffers : Buffers) (heads : List NodeKey)
     (after : Node) (sum : ℕ) : Type 0 where
-  pub clear : list_any (bars_at t units id head) keys ≡ false
-  pub enough : are_enough buffers reserved (asked_with t keys head after) ≡ true
-  pub sum_is : sum ≡ reserved + sum_by (λ (d : Demand). d.camping) (asked_with t keys head after)
+  pub clear : list_any (bars_at t units id heads) keys ≡ false
+  pub enough : are_enough buffers reserved (asked_with t keys heads after) ≡ true
+  pub sum_is : sum ≡ reserved + sum_by (λ (d : Demand). d.camping) (asked_with t keys heads after)
 
 -- ---- the counts
 
@@ -98,29 +123,38 @@ pub record AreLess (units : List Unit) (strong : ℕ) (n after : Node) (left : �
   pub left_is : IsLess strong (is_strong n) (is_strong after) left
   pub live_is : IsLess (unit_at units n.head.slot).live (is_live_node n) (is_live_node after) next.live
   pub unready_is : IsLess (unit_at units n.head.slot).unready (is_unready n) (is_unready after) next.unready
-  pub lives : 0 < next.live
+  pub below_is : next.below ≡ (unit_at units n.head.slot).below
+  pub held : (0 < next.live) ⊎ (0 < next.below)
   pub ready : next.unready ≡ 0
 
 -- ---- the allocation
 
--- the node has its unit's buffers, if it is of this unit and its key is one of these
-abbrev pub given_at : NodeKey → List NodeKey → Node → Node
-given_at head keys n = if list_any (same_key n.key) keys then given_buffers head n else n
+-- the node has its unit's buffers, if it is of one of these units and its key is one of these
+abbrev pub given_at : List NodeKey → List NodeKey → Node → Node
+given_at heads keys n = if list_any (same_key n.key) keys then given_all heads n else n
 
 -- so it is in the table, where nothing else changed
-pub record IsGivenAt (old new : Table Node) (head : NodeKey) (keys : List NodeKey) : Type 0 where
-  pub look : (key : NodeKey) → node_at new key ≡ option_map (given_at head keys) (node_at old key)
+pub record IsGivenAt (old new : Table Node) (heads keys : List NodeKey) : Type 0 where
+  pub look : (key : NodeKey) → node_at new key ≡ option_map (given_at heads keys) (node_at old key)
   pub parents : (key : NodeKey) → parent_at new key ≡ parent_at old key
   pub same : SameTable old new
 
 -- and then this node is put in its place
-pub record IsServedAt (old new : Table Node) (head : NodeKey) (keys : List NodeKey) (n : Node) : Type 0 where
+pub record IsServedAt (old new : Table Node) (heads keys : List NodeKey) (n : Node) : Type 0 where
   pub between : Table Node
-  pub given : IsGivenAt old between head keys
+  pub given : IsGivenAt old between heads keys
   pub becomes : new ≡ table_with_node between n.key n
   pub writes : Writes between new n.key n
 
--- the change was made, the unit's allocation with it, nothing more is forced, so many strong nodes are live then, and so many
+-- the unit with this head and those that follow have room, and are allocated so
+pub record IsServing (old new : Table Node) (keys : List NodeKey) (units : List Unit) (id reserved : ℕ) (buffers : Buffers)
+    (head : NodeKey) (after : Node) (sum : ℕ) : Type 0 where
+  pub heads : List NodeKey
+  pub follows : Follows old units id head heads
+  pub room : IsRoom old keys units id reserved buffers heads after sum
+  pub served : IsServedAt old new heads keys (given_all heads after)
+
+-- the change was made, the allocations with it, nothing more is forced, so many strong nodes are live then, and so many
 -- buffers are reserved; as many are over as before, also without one of them
 pub record IsServed (t now : Table Node) (us : List Unit) (ss : List Shelf) (s : Shelf) (change : Change) (lives camping : ℕ) : Type 0 where
   pub done : IsDone t now us ss s change lives

@@ -47,7 +47,7 @@ pub fn unit_asks(nodes: &[Node], head: NodeKey) -> Asks
 }
 
 /// What the node asks for, if it is in the unit with this head and not gone.
-fn unit_demand(node: &Node, head: NodeKey) -> Option<Constraints>
+pub(crate) fn unit_demand(node: &Node, head: NodeKey) -> Option<Constraints>
     ensures { result ≡ (if is_in_unit head node.now then node.now.constraints else None) }
 {
     if !node.gone && node.head == head {

@@ -11,8 +11,11 @@ ghost use Rattle.alloc_event.specs.Settling.{MayChange, changed, collection_or_n
 use crate::change::{Change, Effect};
 use crate::emptied::{fail_in_place, leave_in_place};
 use crate::entry::Entry;
+use crate::first::allocate_first;
 use crate::in_place::{is_plain, settle_in_place, settle_resting};
 use crate::node::Node;
+use crate::refusing::refuse_in_place;
+use crate::room::Room;
 use crate::serving::serve_in_place;
 use crate::units::Unit;
 use buffer_holds::Holds;
@@ -63,6 +66,7 @@ fn make_effect(
     id: CollectionId,
     key: NodeKey,
     effect: &Effect,
+    room: &mut Room,
 ) -> bool
     requires kept { IsStored table.old (shelves_of entries.old.items) }
     requires counted { AreCounted table.old entries.old.items }
@@ -86,14 +90,12 @@ fn make_effect(
     if is_plain(effect) {
         return false;
     }
-    serve_in_place(table, entries, units, holds, id, key, effect)
+    serve_in_place(table, entries, units, holds, id, key, effect, room)
 }
 
-/// Makes an effect in its place, if the counts tell that nothing is forced by it, or nothing but the
-/// allocation of the node's unit, or that it is a release by which the unit ends, and no more is
-/// forced. Answers whether it did; if not, the table and the entries are as they were. `NoMemory`
-/// where the room for what leaves is refused.
-fn settle_effect(
+/// Makes an effect in its place, as `make_effect` does, or with the failure of the node's unit, to which
+/// the buffers are refused, as `refuse_in_place` does.
+fn make_or_refuse(
     table: &mut NodeTable<Node>,
     entries: &mut Vec<Entry>,
     units: &mut Vec<Unit>,
@@ -101,6 +103,7 @@ fn settle_effect(
     id: CollectionId,
     key: NodeKey,
     effect: &Effect,
+    room: &mut Room,
 ) -> Result<bool, NoMemory>
     requires kept { IsStored table.old (shelves_of entries.old.items) }
     requires counted { AreCounted table.old entries.old.items }
@@ -119,11 +122,53 @@ fn settle_effect(
     ensures units { HaveUnits units.new.items table.new entries.new.items }
     ensures same { SameTable table.old table.new }
 {
-    if make_effect(table, entries, units, holds, id, key, effect) {
+    if make_effect(table, entries, units, holds, id, key, effect, room) {
+        return Ok(true);
+    }
+    refuse_in_place(table, entries, units, holds, id, key, effect, room)
+}
+
+/// Makes an effect in its place, if the counts tell that nothing is forced by it, or nothing but
+/// the allocation of the node's unit or its failure, or that it is a release by which the unit
+/// ends, or all that is left, and no more is forced. Answers whether it did; if not, the table, the
+/// entries and the pool are as they were. `NoMemory` where the room for what goes is refused.
+fn settle_effect(
+    table: &mut NodeTable<Node>,
+    entries: &mut Vec<Entry>,
+    units: &mut Vec<Unit>,
+    pool: &mut Pool,
+    holds: &Holds,
+    id: CollectionId,
+    key: NodeKey,
+    effect: &Effect,
+    room: &mut Room,
+) -> Result<bool, NoMemory>
+    requires kept { IsStored table.old (shelves_of entries.old.items) }
+    requires counted { AreCounted table.old entries.old.items }
+    requires units { HaveUnits units.old.items table.old entries.old.items }
+    requires change { MayChange (forest_of table.old (shelves_of entries.old.items)) id (Changed.Effect key effect.now) }
+    requires pool { IsPoolOf pool.old (forest_of table.old (shelves_of entries.old.items)) }
+    ensures err_table { OnErr result (table.new ≡ table.old) }
+    ensures err_entries { OnErr result (entries.new.items ≡ entries.old.items) }
+    ensures err_pool { OnErr result (pool.new ≡ pool.old) }
+    ensures no_table { IfOk result (λ made. made ≡ false → table.new ≡ table.old) }
+    ensures no_entries { IfOk result (λ made. made ≡ false → entries.new.items ≡ entries.old.items) }
+    ensures no_pool { IfOk result (λ made. made ≡ false → pool.new ≡ pool.old) }
+    ensures ok { IfOk result (λ made. made ≡ true → Finishes pool.old.size (total holds.now) table.old (shelves_of entries.old.items)
+        table.new (shelves_of entries.new.items)
+        (changed (Changed.Effect key effect.now) no_key (collection_or_new (forest_of table.old (shelves_of entries.old.items)) id))) }
+    ensures kept { IfOk result (λ made. made ≡ true → IsStored table.new (shelves_of entries.new.items)) }
+    ensures counted { IfOk result (λ made. made ≡ true → AreCounted table.new entries.new.items) }
+    ensures units { HaveUnits units.new.items table.new entries.new.items }
+    ensures pool { IfOk result (λ made. made ≡ true → IsPoolOf pool.new (forest_of table.new (shelves_of entries.new.items))) }
+    ensures size { pool.new.size ≡ pool.old.size }
+    ensures same { SameTable table.old table.new }
+{
+    if make_or_refuse(table, entries, units, holds, id, key, effect, room)? {
         return Ok(true);
     }
     match *effect {
-        Effect::Released => leave_in_place(table, entries, units, holds, id, key),
+        Effect::Released => leave_in_place(table, entries, units, pool, holds, id, key, room),
         Effect::Bound
         | Effect::Dispensable
         | Effect::Weak
@@ -134,47 +179,100 @@ fn settle_effect(
     }
 }
 
-/// Makes a change to a collection that is there in its place, if it is no birth and no loss, and the
-/// counts tell that nothing is forced. Answers whether it did; if not, the table and the entries are
-/// as they were. `NoMemory` where the room is refused for what an end takes.
+/// Makes a change to a collection that is there in its place, if it is no birth and no loss, and
+/// the counts tell that nothing is forced. Answers whether it did; if not, the table, the entries
+/// and the pool are as they were. `NoMemory` where the room is refused for what an end takes.
 #[inline(always)]
 fn settle_counted(
     table: &mut NodeTable<Node>,
     entries: &mut Vec<Entry>,
     units: &mut Vec<Unit>,
+    pool: &mut Pool,
     holds: &Holds,
     id: CollectionId,
     change: &Change,
+    room: &mut Room,
 ) -> Result<bool, NoMemory>
     requires kept { IsStored table.old (shelves_of entries.old.items) }
     requires counted { AreCounted table.old entries.old.items }
     requires units { HaveUnits units.old.items table.old entries.old.items }
     requires change { MayChange (forest_of table.old (shelves_of entries.old.items)) id change.now }
+    requires pool { IsPoolOf pool.old (forest_of table.old (shelves_of entries.old.items)) }
     ensures err_table { OnErr result (table.new ≡ table.old) }
     ensures err_entries { OnErr result (entries.new.items ≡ entries.old.items) }
+    ensures err_pool { OnErr result (pool.new ≡ pool.old) }
     ensures no_table { IfOk result (λ made. made ≡ false → table.new ≡ table.old) }
     ensures no_entries { IfOk result (λ made. made ≡ false → entries.new.items ≡ entries.old.items) }
-    ensures ok { IfOk result (λ made. made ≡ true → (pool : ℕ) →
-        Finishes pool (total holds.now) table.old (shelves_of entries.old.items) table.new (shelves_of entries.new.items)
+    ensures no_pool { IfOk result (λ made. made ≡ false → pool.new ≡ pool.old) }
+    ensures ok { IfOk result (λ made. made ≡ true → Finishes pool.old.size (total holds.now) table.old (shelves_of entries.old.items)
+        table.new (shelves_of entries.new.items)
         (changed change.now no_key (collection_or_new (forest_of table.old (shelves_of entries.old.items)) id))) }
-    ensures shelves { shelves_of entries.new.items ≡ shelves_of entries.old.items }
-    ensures kept { IfOk result (λ made. made ≡ true → IsStored table.new (shelves_of entries.old.items)) }
+    ensures kept { IfOk result (λ made. made ≡ true → IsStored table.new (shelves_of entries.new.items)) }
     ensures counted { IfOk result (λ made. made ≡ true → AreCounted table.new entries.new.items) }
     ensures units { HaveUnits units.new.items table.new entries.new.items }
+    ensures pool { IfOk result (λ made. made ≡ true → IsPoolOf pool.new (forest_of table.new (shelves_of entries.new.items))) }
+    ensures size { pool.new.size ≡ pool.old.size }
     ensures same { SameTable table.old table.new }
 {
     match *change {
         Change::Effect(key, effect) => settle_effect(
-            table, entries, units, holds, id, key, &effect,
+            table, entries, units, pool, holds, id, key, &effect, room,
         ),
         _ => Ok(settle_still(table, entries, units, holds, id, change)),
     }
 }
 
+/// Makes a change to a collection that is there in its place, if it is no birth and no loss, as
+/// `settle_counted` does, or an effect with the first allocation, as `allocate_first` does. Answers
+/// whether it did; if not, the table, the entries and the pool are as they were. `NoMemory` where room
+/// is refused for what an end takes, or for the buffers.
+#[inline(always)]
+fn settle_or_place(
+    table: &mut NodeTable<Node>,
+    entries: &mut Vec<Entry>,
+    units: &mut Vec<Unit>,
+    pool: &mut Pool,
+    holds: &Holds,
+    id: CollectionId,
+    change: &Change,
+    room: &mut Room,
+) -> Result<bool, NoMemory>
+    requires kept { IsStored table.old (shelves_of entries.old.items) }
+    requires counted { AreCounted table.old entries.old.items }
+    requires units { HaveUnits units.old.items table.old entries.old.items }
+    requires change { MayChange (forest_of table.old (shelves_of entries.old.items)) id change.now }
+    requires pool { IsPoolOf pool.old (forest_of table.old (shelves_of entries.old.items)) }
+    ensures err_table { OnErr result (table.new ≡ table.old) }
+    ensures err_entries { OnErr result (entries.new.items ≡ entries.old.items) }
+    ensures err_pool { OnErr result (pool.new ≡ pool.old) }
+    ensures no_table { IfOk result (λ made. made ≡ false → table.new ≡ table.old) }
+    ensures no_entries { IfOk result (λ made. made ≡ false → entries.new.items ≡ entries.old.items) }
+    ensures no_pool { IfOk result (λ made. made ≡ false → pool.new ≡ pool.old) }
+    ensures ok { IfOk result (λ made. made ≡ true → Finishes pool.old.size (total holds.now) table.old (shelves_of entries.old.items)
+        table.new (shelves_of entries.new.items)
+        (changed change.now no_key (collection_or_new (forest_of table.old (shelves_of entries.old.items)) id))) }
+    ensures kept { IfOk result (λ made. made ≡ true → IsStored table.new (shelves_of entries.new.items)) }
+    ensures counted { IfOk result (λ made. made ≡ true → AreCounted table.new entries.new.items) }
+    ensures units { HaveUnits units.new.items table.new entries.new.items }
+    ensures pool { IfOk result (λ made. made ≡ true → IsPoolOf pool.new (forest_of table.new (shelves_of entries.new.items))) }
+    ensures size { pool.new.size ≡ pool.old.size }
+    ensures same { SameTable table.old table.new }
+{
+    if settle_counted(table, entries, units, pool, holds, id, change, room)? {
+        return Ok(true);
+    }
+    match *change {
+        Change::Effect(key, effect) => allocate_first(
+            table, entries, units, pool, id, key, &effect,
+        ),
+        _ => Ok(false),
+    }
+}
+
 /// Makes a change to a collection that is there in its place, if it is no birth, and either a loss of
-/// all that is left, or the counts tell that nothing is forced. Answers whether it did; if not, the
-/// table, the entries and the pool are as they were. `NoMemory` where the room is refused for what a
-/// loss or an end takes.
+/// all that is left, or the counts tell that nothing is forced, or nothing but allocations. Answers
+/// whether it did; if not, the table, the entries and the pool are as they were. `NoMemory` where the
+/// room is refused for what a loss or an end takes, or for the buffers.
 #[inline(always)]
 pub(crate) fn settle_there(
     table: &mut NodeTable<Node>,
@@ -184,6 +282,7 @@ pub(crate) fn settle_there(
     holds: &Holds,
     id: CollectionId,
     change: &Change,
+    room: &mut Room,
 ) -> Result<bool, NoMemory>
     requires kept { IsStored table.old (shelves_of entries.old.items) }
     requires counted { AreCounted table.old entries.old.items }
@@ -208,7 +307,7 @@ pub(crate) fn settle_there(
 {
     if let Change::Loss(origin, cause) = *change {
         let fault = Fault { cause, origin };
-        return fail_in_place(table, entries, units, pool, holds, id, fault);
+        return fail_in_place(table, entries, units, pool, holds, id, fault, room);
     }
-    settle_counted(table, entries, units, holds, id, change)
+    settle_or_place(table, entries, units, pool, holds, id, change, room)
 }

@@ -27,6 +27,7 @@ use crate::losses::lose_by_fall;
 use crate::marks::marks_of;
 use crate::node::Node;
 use crate::resting::is_kept_by;
+use crate::room::Room;
 use crate::scene::Scene;
 use crate::still::is_still;
 use crate::store::load;
@@ -102,9 +103,9 @@ fn settle_scene_change(
 }
 
 /// Makes a change to a collection that is there, and all that it forces: in its place, where it is a
-/// loss of all that is left, or the counts tell that nothing is forced; and else on a copy of the
-/// collection, whose units are then counted anew. `NoMemory` leaves the table, the entries and the
-/// pool as they were.
+/// loss of all that is left, or the counts tell that nothing is forced, or nothing but allocations;
+/// and else on a copy of the collection, whose units are then counted anew. `NoMemory` leaves the
+/// table, the entries and the pool as they were.
 #[inline(always)]
 pub(crate) fn settle_change(
     table: &mut NodeTable<Node>,
@@ -114,6 +115,7 @@ pub(crate) fn settle_change(
     holds: &Holds,
     id: CollectionId,
     change: &Change,
+    room: &mut Room,
 ) -> Result<(), NoMemory>
     requires kept { IsStored table.old (shelves_of entries.old.items) }
     requires counted { AreCounted table.old entries.old.items }
@@ -134,7 +136,7 @@ pub(crate) fn settle_change(
     ensures err_entries { OnErr result (entries.new.items ≡ entries.old.items) }
     ensures err_pool { OnErr result (pool.new ≡ pool.old) }
 {
-    if settle_there(table, entries, units, pool, holds, id, change)? {
+    if settle_there(table, entries, units, pool, holds, id, change, room)? {
         return Ok(());
     }
     settle_scene_change(table, entries, pool, holds, id, change)?;

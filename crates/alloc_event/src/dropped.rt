@@ -24,6 +24,7 @@ use crate::entry::{Entry, place_of};
 use crate::finish::part;
 use crate::node::Node;
 use crate::returns::look_at;
+use crate::room::Room;
 use crate::units::Unit;
 use buffer_holds::Holds;
 use buffer_pool::Pool;
@@ -152,6 +153,7 @@ pub(crate) fn settle_dropped(
     pool: &mut Pool,
     holds: &Holds,
     buffer: BufferName,
+    room: &mut Room,
 ) -> Result<(), NoMemory>
     requires kept { IsStored table.old (shelves_of entries.old.items) }
     requires counted { AreCounted table.old entries.old.items }
@@ -183,5 +185,6 @@ pub(crate) fn settle_dropped(
         holds,
         buffer.collection,
         &Change::Nothing,
+        room,
     )
 }

@@ -1,37 +1,36 @@
 //! Losses and ends in their places: what goes is found first, and then each node goes.
-ghost use Rattle.std.specs.Prelude.{◌≡◌, ◌⊎◌, ◌+◌, ℕ, List, Some, None, true, false, IfOk, IfSome, IsSome, OnErr, map};
+ghost use Rattle.std.specs.Prelude.{◌≡◌, ◌⊎◌, ◌+◌, ℕ, List, Some, None, true, false, IfSome, map};
 ghost use Rattle.std.specs.List.{list_any};
-ghost use Rattle.std.specs.List.Sorted.{IsSorted};
 ghost use Rattle.sm_names.specs.declared.keys.NodeKey.{NodeKey as Key};
 ghost use Rattle.buffer_holds.specs.Counts.{total};
-ghost use Rattle.node_table.specs.Table.{node_at, row_at};
+ghost use Rattle.node_table.specs.Table.{node_at};
 ghost use Rattle.alloc_event.specs.declared.node.Node.{Node as Kept};
-ghost use Rattle.alloc_event.specs.Calm.{AreCounted, over_but};
+ghost use Rattle.alloc_event.specs.Calm.{AreCounted, over_but, strong_count};
 ghost use Rattle.alloc_event.specs.Counts.{AreUnitsBut, HaveUnits, unit_at};
-ghost use Rattle.alloc_event.specs.Falling.{IsFailing, IsLost, IsOrdered, IsTaken, IsTop, change_of, gone_by, is_first, is_kept_up, is_spared, key_order, lowered, may_go, stays_live, untallied, without_node};
+ghost use Rattle.alloc_event.specs.Falling.{AreFailing, AreNamed, IsFailing, IsLost, IsOrdered, IsTaken, IsTop, change_of, gone_by, is_first, is_kept_up, lowered, may_go, stays_by, unreckoned, without_below, without_node};
 ghost use Rattle.alloc_event.specs.InPlace.{IsOpen};
 ghost use Rattle.alloc_event.specs.Kept.{Finishes, IsStored, SameTable, Shelf, all_of, collection_in, forest_of, nodes_with, shelf_of, shelves_of};
+ghost use Rattle.alloc_event.specs.Nodes.{is_over};
 ghost use Rattle.alloc_event.specs.Reserved.{reserved_count};
 ghost use Rattle.alloc_event.specs.Resting.{is_kept_by};
 ghost use Rattle.alloc_event.specs.Scenes.{given_few};
 ghost use Rattle.alloc_event.specs.Settling.{MayChange, changed, collection_or_new, no_key};
 
-use crate::asks::reserved;
+use crate::change::Effect;
+use crate::effects::affect_one;
 use crate::entry::{Entry, place_of};
 use crate::forgetting::is_listed;
 use crate::in_place::is_served;
-use crate::kept::{count_strong, is_over, is_some_over};
-use crate::losses::{fail, is_among, order};
+use crate::losses::{fail, is_among};
 use crate::node::Node;
 use crate::questions::is_live;
 use crate::reserving::without;
 use crate::resting::is_kept_by;
-use crate::store::{load_nodes, store};
-use crate::units::{Unit, is_unready, put_unit, recount, unit_in};
+use crate::surveying::{Surveyed, go_all, survey, untally};
+use crate::units::{Unit, is_held_by, is_unready, put_unit, recount, unit_in};
 use buffer_holds::Holds;
-use failure_domains::fall;
 use node_table::NodeTable;
-use sm_names::{CollectionId, Fault, NoMemory, NodeKey};
+use sm_names::{CollectionId, Fault, NodeKey};
 
 /// One less, if it counted and there is one.
 fn lowered(count: usize, is: bool) -> usize
@@ -41,7 +40,7 @@ fn lowered(count: usize, is: bool) -> usize
 }
 
 /// Counts the node no longer for its unit.
-fn uncount(units: &mut Vec<Unit>, node: &Node)
+pub(crate) fn uncount(units: &mut Vec<Unit>, node: &Node)
     ensures { units.new.items ≡ without_node node.now units.old.items }
 {
     let slot = node.head.slot as usize;
@@ -49,37 +48,47 @@ fn uncount(units: &mut Vec<Unit>, node: &Node)
     let less = Unit {
         live: lowered(unit.live, is_live(node)),
         unready: lowered(unit.unready, is_unready(node)),
+        below: unit.below,
     };
     put_unit(units, slot, less);
 }
 
-/// Counts the nodes no longer for their units.
-pub(crate) fn untally(units: &mut Vec<Unit>, nodes: &[Node])
-    ensures { units.new.items ≡ untallied nodes.now units.old.items }
+/// Counts one unit less right below the one with this head.
+pub(crate) fn uncount_below(units: &mut Vec<Unit>, head: Option<NodeKey>)
+    ensures { units.new.items ≡ without_below head units.old.items }
 {
-    let mut rest = nodes;
-    'on: while let Some((node, more)) = rest.split_first() {
-        if !node.gone {
-            uncount(units, node);
-        }
-        rest = more;
+    if let Some(head) = head {
+        let slot = head.slot as usize;
+        let unit = unit_in(units, slot);
+        let less = Unit {
+            live: unit.live,
+            unready: unit.unready,
+            below: lowered(unit.below, true),
+        };
+        put_unit(units, slot, less);
     }
 }
 
 /// How nodes go.
-#[derive(Drop)]
-pub(crate) enum Going {
+#[derive(Clone, Copy)]
+pub(crate) enum Going<'a> {
     /// They fail.
     Fails(Fault),
-    /// They leave with the unit that is left without a live node by the release of this one.
+    /// They leave with the unit that nothing holds once this one is released.
     Leaves(NodeKey),
-    /// Those with these keys, which stand in order, fail, and the others leave with the unit that is
-    /// left without a live node by it.
-    Ends(Fault, Vec<NodeKey>),
+    /// Those with these keys, which stand in order, fail, and the others leave with the unit that
+    /// nothing holds then.
+    Ends(Fault, &'a [NodeKey]),
+    /// The effect is made on the node with this key, by which its unit becomes ready. The buffers are
+    /// refused to it, so that they fail with its head.
+    Refused(NodeKey, Effect, Fault),
+    /// The effect is made so. Those with these keys, which stand in order, fail with that head, and the
+    /// others leave with the unit above it that nothing holds then.
+    EndsRefused(NodeKey, Effect, Fault, &'a [NodeKey]),
 }
 
 /// The node goes. One that is gone keeps its fault.
-fn go(node: &mut Node, going: &Going)
+pub(crate) fn go(node: &mut Node, going: &Going)
     requires { IsOrdered going.now }
     ensures { node.new ≡ gone_by going.now node.old }
 {
@@ -94,16 +103,16 @@ fn go(node: &mut Node, going: &Going)
             fail(node, taken, *fault);
             node.gone = true;
         }
-    }
-}
-
-/// Each node goes.
-pub(crate) fn go_each(nodes: &mut [Node], going: &Going)
-    requires { IsOrdered going.now }
-    ensures { nodes.new ≡ map (gone_by going.now) nodes.old }
-{
-    for node in nodes.iter_mut() {
-        go(node, going);
+        Going::Refused(key, effect, fault) => {
+            affect_one(node, *key, effect);
+            fail(node, true, *fault);
+        }
+        Going::EndsRefused(key, effect, fault, keys) => {
+            let falls = is_among(keys, node.key);
+            affect_one(node, *key, effect);
+            fail(node, falls, *fault);
+            node.gone = true;
+        }
     }
 }
 
@@ -117,58 +126,53 @@ fn is_first(keys: &[NodeKey], key: NodeKey) -> bool
     }
 }
 
-/// Whether a node of these is live, and stays so where the one with this key is released.
-fn is_some_staying(nodes: &[Node], key: NodeKey) -> bool
-    ensures { result ≡ list_any (stays_live key) nodes.now }
-{
-    nodes.iter().any(|node| is_live(node) && key != node.key)
-}
-
-/// Whether a node of these is live, and not one with these keys, which stand in order.
-fn is_some_spared(nodes: &[Node], keys: &[NodeKey]) -> bool
-    requires { IsSorted key_order keys.now }
-    ensures { result ≡ list_any (is_spared keys.now) nodes.now }
-{
-    let mut rest = nodes;
-    'on: while let Some((node, more)) = rest.split_first() {
-        if is_live(node) && !is_among(keys, node.key) {
-            return true;
-        }
-        rest = more;
-    }
-    false
-}
-
-/// Whether nodes that a failure at this key takes, of which the highest is attached or not, may go
-/// so: they fail by it, or the highest is attached, and none is live once one of them is released,
-/// or some below the highest failed.
-fn may_go(going: &Going, origin: NodeKey, attached: bool, keys: &[NodeKey], nodes: &[Node]) -> bool
+/// Whether the node is live, and stays so where such nodes go.
+pub(crate) fn stays_by(node: &Node, going: &Going) -> bool
     requires { IsOrdered going.now }
-    ensures { result ≡ may_go going.now origin attached keys.now nodes.now }
+    ensures { result ≡ stays_by going.now node.now }
+{
+    match going {
+        Going::Fails(_) | Going::Refused(_, _, _) => false,
+        Going::Leaves(key) => is_live(node) && *key != node.key,
+        Going::Ends(_, keys) | Going::EndsRefused(_, _, _, keys) => {
+            is_live(node) && !is_among(keys, node.key)
+        }
+    }
+}
+
+/// Whether nodes that a failure at this key takes, of which the highest is attached or not, and one
+/// stays live or none, may go so: they fail by it, or the highest is attached, and none is live once
+/// one of them is released, or some below the highest failed, or it fails itself as one of them makes
+/// its unit ready.
+fn may_go(going: &Going, origin: NodeKey, attached: bool, keys: &[NodeKey], stays: bool) -> bool
+    requires { IsOrdered going.now }
+    ensures { (nodes : List Kept) → stays ≡ list_any (stays_by going.now) nodes →
+        result ≡ may_go going.now origin attached keys.now nodes }
 {
     match going {
         Going::Fails(fault) => origin == fault.origin,
         Going::Leaves(key) => {
-            attached
-                && is_first(keys, origin)
-                && is_listed(keys, *key)
-                && !is_some_staying(nodes, *key)
+            attached && is_first(keys, origin) && is_listed(keys, *key) && !stays
         }
         Going::Ends(fault, failing) => {
             attached
                 && is_first(keys, origin)
                 && is_listed(keys, fault.origin)
                 && !is_among(failing, origin)
-                && !is_some_spared(nodes, failing)
+                && !stays
+        }
+        Going::Refused(key, _, fault) => {
+            attached && is_first(keys, origin) && is_listed(keys, *key) && origin == fault.origin
+        }
+        Going::EndsRefused(key, _, fault, failing) => {
+            attached
+                && is_first(keys, origin)
+                && is_listed(keys, fault.origin)
+                && is_among(failing, *key)
+                && !is_among(failing, origin)
+                && !stays
         }
     }
-}
-
-/// Whether each node is of this collection.
-pub(crate) fn are_of(nodes: &[Node], id: CollectionId) -> bool
-    ensures { result ≡ all_of id nodes.now }
-{
-    nodes.iter().all(|node| node.collection == id)
 }
 
 /// The head of the unit above what falls, and whether the highest node that falls heads a unit
@@ -189,7 +193,7 @@ pub(crate) fn unit_above(table: &NodeTable<Node>, keys: &[NodeKey]) -> Option<(N
 }
 
 /// Whether nothing is forced in the unit with this head, where its counts went from these to those:
-/// a node of it lives, and it does not become ready by what falls, or has its buffers.
+/// something holds it, and it does not become ready by what falls, or has its buffers.
 fn is_kept_up(
     table: &NodeTable<Node>,
     before: &Unit,
@@ -199,116 +203,120 @@ fn is_kept_up(
 ) -> bool
     ensures { result ≡ is_kept_up table.now before.now after.now head attached }
 {
-    0 < after.live
+    is_held_by(after)
         && (attached || before.unready == 0 || 0 < after.unready || is_served(table, head))
 }
 
-/// Counts the nodes no longer, and answers whether nothing is forced in the unit with this head.
+/// Counts the nodes with these keys no longer, and answers whether nothing is forced in the unit with
+/// this head.
 fn lower(
     table: &NodeTable<Node>,
     units: &mut Vec<Unit>,
-    nodes: &[Node],
+    keys: &[NodeKey],
     head: NodeKey,
     attached: bool,
 ) -> bool
-    ensures units { units.new.items ≡ untallied nodes.now units.old.items }
+    ensures units { units.new.items ≡ unreckoned table.now (nodes_with table.now keys.now) units.old.items }
     ensures value { result ≡ is_kept_up table.now (unit_at units.old.items head.slot) (unit_at units.new.items head.slot) head attached }
 {
     let slot = head.slot as usize;
     let before = unit_in(units, slot);
-    untally(units, nodes);
+    untally(table, units, keys);
     let after = unit_in(units, slot);
     is_kept_up(table, &before, &after, head, attached)
 }
 
-/// Makes these nodes go in their places, which a failure at `origin` takes, if they may go so and
-/// the counts tell that nothing more is forced by it: a strong node of the collection is live after
-/// it, or the collection rests without one; and one of the unit above is live, which does not become
-/// ready by it, or has its buffers. Answers how many strong nodes are live then, and the nodes are as
-/// they are then. With `None` the table is
-/// as it was, and the units of the collection are to be counted anew. It costs the number of the
-/// nodes.
+/// Makes the nodes with these keys go in their places, which a failure at `origin` takes, if they may
+/// go so and the counts tell that nothing more is forced by it: a strong node of the collection is
+/// live after it, or the collection rests without one; and something holds the unit above, which does
+/// not become ready by it, or has its buffers. Answers how many strong nodes are live then, and
+/// whether one that went is over. With `None` the table is as it was, and the units of the collection
+/// are to be counted anew. It costs the number of the nodes.
 fn fell(
     table: &mut NodeTable<Node>,
     units: &mut Vec<Unit>,
     entry: &Entry,
     holds: &Holds,
-    id: CollectionId,
     origin: NodeKey,
     keys: &[NodeKey],
-    nodes: &mut [Node],
     going: &Going,
-) -> Option<usize>
+    found: &Surveyed,
+) -> Option<(usize, bool)>
     requires few { given_few entry.now.buffers ≡ true }
     requires named { (key : Key) (n : Kept) → node_at table.old key ≡ Some n → n.key ≡ key }
     requires taken { IsTaken table.old origin keys.now }
-    requires nodes { nodes.old ≡ nodes_with table.old keys.now }
     requires ordered { IsOrdered going.now }
-    requires failing { IsFailing table.old going.now }
+    requires strong { found.now.strong ≡ strong_count (nodes_with table.old keys.now) }
+    requires own { found.now.own ≡ all_of entry.now.id (nodes_with table.old keys.now) }
+    requires stays { found.now.stays ≡ list_any (stays_by going.now) (nodes_with table.old keys.now) }
     ensures none { result ≡ None → table.new ≡ table.old }
     ensures none_units { result ≡ None → (ss : List Shelf) (s : Shelf) →
-        IsOpen table.old units.old.items ss s (change_of going.now) entry.now.strong → s.id ≡ id →
+        IsOpen table.old units.old.items ss s (change_of going.now) entry.now.strong → s.id ≡ entry.now.id →
         AreUnitsBut units.new.items s.id (map (collection_in table.old) ss) }
-    ensures rests { IfSome result (λ left. is_kept_by (total holds.now) table.old (shelf_of entry.now) left ≡ true) }
-    ensures some { IfSome result (λ left. (ss : List Shelf) (s : Shelf) →
-        IsOpen table.old units.old.items ss s (change_of going.now) entry.now.strong → s.id ≡ id →
-        IsLost table.old table.new units.new.items ss s (change_of going.now) left nodes.new) }
-    ensures reserved { IfSome result (λ left. (ss : List Shelf) (s : Shelf) →
-        IsOpen table.old units.old.items ss s (change_of going.now) entry.now.strong → s.id ≡ id →
-        reserved_count (nodes_with table.new s.keys) + reserved_count nodes.old ≡ reserved_count (nodes_with table.old s.keys)) }
+    ensures rests { IfSome result (λ went. is_kept_by (total holds.now) table.old (shelf_of entry.now) went.0 ≡ true) }
+    ensures some { IfSome result (λ went. (ss : List Shelf) (s : Shelf) →
+        IsOpen table.old units.old.items ss s (change_of going.now) entry.now.strong → s.id ≡ entry.now.id →
+        IsFailing table.old s going.now →
+        IsLost table.old table.new units.new.items ss s (change_of going.now) went.0
+        (map (gone_by going.now) (nodes_with table.old keys.now))) }
+    ensures over { IfSome result (λ went. went.1 ≡ list_any is_over (map (gone_by going.now) (nodes_with table.old keys.now))) }
+    ensures reserved { IfSome result (λ went. (ss : List Shelf) (s : Shelf) →
+        IsOpen table.old units.old.items ss s (change_of going.now) entry.now.strong → s.id ≡ entry.now.id →
+        reserved_count (nodes_with table.new s.keys) + reserved_count (nodes_with table.old keys.now)
+        ≡ reserved_count (nodes_with table.old s.keys)) }
 {
-    let lost = count_strong(nodes);
-    if entry.strong < lost || !are_of(nodes, id) {
+    if !found.own || entry.strong < found.strong {
         return None;
     }
-    let left = entry.strong - lost;
+    let left = entry.strong - found.strong;
     let Some((head, attached)) = unit_above(table, keys) else {
         return None;
     };
     if head.slot as usize >= units.len() {
         return None;
     }
-    if !may_go(going, origin, attached, keys, nodes) {
+    if !may_go(going, origin, attached, keys, found.stays) {
         return None;
     }
     if !is_kept_by(table, entry, holds, left) {
         return None;
     }
-    if !lower(table, units, nodes, head, attached) {
+    if !lower(table, units, keys, head, attached) {
         return None;
     }
-    go_each(nodes, going);
-    store(table, nodes);
-    Some(left)
+    let over = go_all(table, keys, going);
+    Some((left, over))
 }
 
-/// What is known of a collection once these nodes went: whether none is over but the noted one, as
-/// before or with another noted, and which is noted.
-pub(crate) fn note_gone(tidy: bool, one: Option<NodeKey>, nodes: &[Node]) -> (bool, Option<NodeKey>)
+/// What is known of a collection once the nodes with these keys went, of which one is over or none:
+/// whether none of it is over but the noted one, as before or with another noted, and which is noted.
+pub(crate) fn note_gone(
+    tidy: bool,
+    one: Option<NodeKey>,
+    keys: &[NodeKey],
+    over: bool,
+) -> (bool, Option<NodeKey>)
     ensures tidy { result.0 ≡ true → tidy ≡ true }
     ensures one { result.0 ≡ true → (result.1 ≡ one) ⊎ (one ≡ None) }
-    ensures over { result.0 ≡ true → list_any (over_but result.1) nodes.now ≡ false }
+    ensures over { result.0 ≡ true → (nodes : List Kept) → over ≡ list_any is_over nodes → AreNamed nodes keys.now →
+        list_any (over_but result.1) nodes ≡ false }
 {
-    if let Some(key) = only_over(nodes) {
-        return (tidy && one.is_none(), Some(key));
-    }
-    (tidy && !is_some_over(nodes), one)
-}
-
-/// The key of the node, if there is one alone and it is over.
-fn only_over(nodes: &[Node]) -> Option<NodeKey>
-    ensures { IfSome result (λ key. list_any (over_but (Some key)) nodes.now ≡ false) }
-{
-    match nodes {
-        [node] if is_over(node) => Some(node.key),
-        _ => None,
+    match keys {
+        [key] if over => (tidy && one.is_none(), Some(*key)),
+        _ => (tidy && !over, one),
     }
 }
 
-/// Makes these nodes go in their places so, and answers whether it did; if not, the table and the
-/// entries are as they were. A binary search besides, and a count of the units of the collection
-/// where it did not.
-fn lose_nodes(
+/// Makes the nodes with these keys go in their places, which are what a failure at `origin` takes,
+/// if they may go so and the counts tell that nothing more is forced by it: a strong node of the
+/// collection is live after it, or it rests without one; and something holds the unit above what goes,
+/// which does not become ready by it, or has its buffers. Answers whether it did; if not, the table
+/// and the entries are as they were.
+///
+/// It takes no memory. It costs a binary search and the number of what goes, with a logarithm for
+/// each where some leave by a failure of the others, and where no strong node is live then, a look at
+/// the handles of the buffers; where it was not made, a count of the units of the collection besides.
+pub(crate) fn go_in_place(
     table: &mut NodeTable<Node>,
     entries: &mut Vec<Entry>,
     units: &mut Vec<Unit>,
@@ -316,7 +324,6 @@ fn lose_nodes(
     id: CollectionId,
     origin: NodeKey,
     keys: &[NodeKey],
-    nodes: &mut [Node],
     going: &Going,
 ) -> bool
     requires kept { IsStored table.old (shelves_of entries.old.items) }
@@ -324,9 +331,8 @@ fn lose_nodes(
     requires units { HaveUnits units.old.items table.old entries.old.items }
     requires change { MayChange (forest_of table.old (shelves_of entries.old.items)) id (change_of going.now) }
     requires taken { IsTaken table.old origin keys.now }
-    requires nodes { nodes.old ≡ nodes_with table.old keys.now }
     requires ordered { IsOrdered going.now }
-    requires failing { IsFailing table.old going.now }
+    requires failing { AreFailing table.old (shelves_of entries.old.items) id going.now }
     ensures no_table { result ≡ false → table.new ≡ table.old }
     ensures no_entries { result ≡ false → entries.new.items ≡ entries.old.items }
     ensures ok { result ≡ true → (pool : ℕ) →
@@ -341,120 +347,25 @@ fn lose_nodes(
     let Some(at) = place_of(entries, id) else {
         return false;
     };
-    let freed = reserved(nodes);
-    let Some(left) = fell(
+    let found = survey(table, keys, id, going);
+    let Some((left, over)) = fell(
         table,
         units,
         &entries[at],
         holds,
-        id,
         origin,
         keys,
-        nodes,
         going,
+        &found,
     ) else {
         recount(units, table, entries, id);
         return false;
     };
-    let (tidy, one) = note_gone(entries[at].tidy, entries[at].one, nodes);
+    let (tidy, one) = note_gone(entries[at].tidy, entries[at].one, keys, over);
     let entry = &mut entries[at];
     entry.strong = left;
-    entry.reserved = without(entry.reserved, freed);
+    entry.reserved = without(entry.reserved, found.reserved);
     entry.tidy = tidy;
     entry.one = one;
     true
-}
-
-/// Makes the nodes with these keys go in their places, which are what a failure at `origin` takes,
-/// if they may go so and the counts tell that nothing more is forced by it: a strong node of the
-/// collection is live after it, or it rests without one; and one of the unit above what goes is live,
-/// which does not become ready by it, or has its buffers. Answers whether it did; if not, the table
-/// and the entries are as they were.
-///
-/// `NoMemory` where the list of what goes is refused room; then nothing changed. It costs the number
-/// of what goes, with a logarithm for each where some leave by a failure of the others, and where no
-/// strong node is live then, a look at the handles of the buffers; where it was not made, a count of
-/// the units of the collection besides.
-pub(crate) fn go_in_place(
-    table: &mut NodeTable<Node>,
-    entries: &mut Vec<Entry>,
-    units: &mut Vec<Unit>,
-    holds: &Holds,
-    id: CollectionId,
-    origin: NodeKey,
-    keys: &[NodeKey],
-    going: &Going,
-) -> Result<bool, NoMemory>
-    requires kept { IsStored table.old (shelves_of entries.old.items) }
-    requires counted { AreCounted table.old entries.old.items }
-    requires units { HaveUnits units.old.items table.old entries.old.items }
-    requires change { MayChange (forest_of table.old (shelves_of entries.old.items)) id (change_of going.now) }
-    requires taken { IsTaken table.old origin keys.now }
-    requires ordered { IsOrdered going.now }
-    requires failing { IsFailing table.old going.now }
-    ensures err_table { OnErr result (table.new ≡ table.old) }
-    ensures err_entries { OnErr result (entries.new.items ≡ entries.old.items) }
-    ensures no_table { IfOk result (λ made. made ≡ false → table.new ≡ table.old) }
-    ensures no_entries { IfOk result (λ made. made ≡ false → entries.new.items ≡ entries.old.items) }
-    ensures ok { IfOk result (λ made. made ≡ true → (pool : ℕ) →
-        Finishes pool (total holds.now) table.old (shelves_of entries.old.items) table.new (shelves_of entries.new.items)
-        (changed (change_of going.now) no_key (collection_or_new (forest_of table.old (shelves_of entries.old.items)) id))) }
-    ensures shelves { shelves_of entries.new.items ≡ shelves_of entries.old.items }
-    ensures kept { IfOk result (λ made. made ≡ true → IsStored table.new (shelves_of entries.old.items)) }
-    ensures counted { IfOk result (λ made. made ≡ true → AreCounted table.new entries.new.items) }
-    ensures units { HaveUnits units.new.items table.new entries.new.items }
-    ensures same { SameTable table.old table.new }
-{
-    let alloc = *entries.allocator();
-    let Ok(mut nodes) = load_nodes(alloc, table, keys) else {
-        return Err(NoMemory);
-    };
-    Ok(lose_nodes(
-        table, entries, units, holds, id, origin, keys, &mut nodes, going,
-    ))
-}
-
-/// Finds what a failure at `origin` takes, and makes it go in its place, as `go_in_place` does. It
-/// costs what `fall` costs besides.
-pub(crate) fn lose_in_place(
-    table: &mut NodeTable<Node>,
-    entries: &mut Vec<Entry>,
-    units: &mut Vec<Unit>,
-    holds: &Holds,
-    id: CollectionId,
-    origin: NodeKey,
-    going: &Going,
-) -> Result<bool, NoMemory>
-    requires kept { IsStored table.old (shelves_of entries.old.items) }
-    requires counted { AreCounted table.old entries.old.items }
-    requires units { HaveUnits units.old.items table.old entries.old.items }
-    requires change { MayChange (forest_of table.old (shelves_of entries.old.items)) id (change_of going.now) }
-    requires there { IsSome (row_at table.old origin) }
-    requires ordered { IsOrdered going.now }
-    requires failing { IsFailing table.old going.now }
-    ensures err_table { OnErr result (table.new ≡ table.old) }
-    ensures err_entries { OnErr result (entries.new.items ≡ entries.old.items) }
-    ensures no_table { IfOk result (λ made. made ≡ false → table.new ≡ table.old) }
-    ensures no_entries { IfOk result (λ made. made ≡ false → entries.new.items ≡ entries.old.items) }
-    ensures ok { IfOk result (λ made. made ≡ true → (pool : ℕ) →
-        Finishes pool (total holds.now) table.old (shelves_of entries.old.items) table.new (shelves_of entries.new.items)
-        (changed (change_of going.now) no_key (collection_or_new (forest_of table.old (shelves_of entries.old.items)) id))) }
-    ensures shelves { shelves_of entries.new.items ≡ shelves_of entries.old.items }
-    ensures kept { IfOk result (λ made. made ≡ true → IsStored table.new (shelves_of entries.old.items)) }
-    ensures counted { IfOk result (λ made. made ≡ true → AreCounted table.new entries.new.items) }
-    ensures units { HaveUnits units.new.items table.new entries.new.items }
-    ensures same { SameTable table.old table.new }
-{
-    let alloc = *entries.allocator();
-    let fallen = fall(alloc, table, origin)?;
-    go_in_place(
-        table,
-        entries,
-        units,
-        holds,
-        id,
-        origin,
-        &fallen.keys,
-        going,
-    )
 }

@@ -18,6 +18,7 @@ use crate::entry::{Entry, entry_of, place_of};
 use crate::forgetting::{forget_over, note_over, take_out};
 use crate::kept::{held_by_page, live_by_birth};
 use crate::node::{End, Node};
+use crate::room::Room;
 use crate::store::put_end;
 use crate::summary::Summary;
 use crate::units::Unit;
@@ -36,6 +37,8 @@ pub struct Forest {
     entries: Vec<Entry>,
     // What is counted of the unit whose head has the slot.
     units: Vec<Unit>,
+    // For what falls.
+    room: Room,
 }
 
 impl Model for Forest {
@@ -60,6 +63,7 @@ impl Forest {
             table: NodeTable::new(alloc, limit),
             entries: Vec::new(alloc),
             units: Vec::new(alloc),
+            room: Room::new(alloc),
         }
     }
 
@@ -73,20 +77,32 @@ impl Forest {
     /// Where a strong node of the collection is live all along, a birth, an effect and no change of
     /// nodes cost a binary search and a constant, growth spread over the births. So does the birth of
     /// a root, but for the shift of the collections behind its own. Of effects there are two that
-    /// cost more: the release that leaves no node of its unit live, unless the node's first child
-    /// heads a unit, and one that leaves its unit ready and without buffers, unless the unit above
-    /// has none either. Where that unit is attached, a node of it stays live, no other unit that is
-    /// ready hangs right below it and the buffers are enough for it, it is allocated in its place,
-    /// which costs a list of the keys at and below its head, some reads of each, and a write of each
-    /// node of the unit; where the list is refused room, a copy as below. A loss costs what `fall`
-    /// costs and a binary search, where a node stays live of the unit above what it takes, and
-    /// where that unit does not become ready by it or has its buffers.
-    /// So does the release of the last live node at or below the head of an attached unit, which
-    /// ends, where a node of the unit above stays live; and a loss that leaves no live node at or
-    /// below the head of such a unit, with a logarithm for each node that goes. A loss that takes the
-    /// root, and so all that is left of the collection, costs what `fall` costs and a binary search;
-    /// then the buffers that are home go back, which costs a look at the handles of each buffer, two
-    /// where some stay held and others go, and what the pool takes.
+    /// cost more: the release after which nothing holds its unit, no live node of it and no unit that
+    /// hangs right below, and one that leaves its unit ready and without buffers, unless the unit
+    /// above has none either.
+    ///
+    /// Where that unit is attached, it is allocated in its place, and with it each attached unit that
+    /// is ready below it, as far as one hangs right below another of them, if the buffers are enough
+    /// for all of them. That costs some reads of each node at and below its head, and a write of each
+    /// node of the units; where others are ready below it, also a logarithm of their number for each
+    /// node, and a move of some keys for each of them. Where the buffers are too few or too small for
+    /// it, it fails in its place, at the cost of those reads and of a loss.
+    ///
+    /// Where it is the root's and the collection has no buffers, something holds it and a strong node
+    /// stays live, no unit right below it is ready, what is asked for is some and within the limits,
+    /// and the pool has places, it is allocated in its place too, which costs a few reads of each node
+    /// of the collection, a write of each node of the unit, and what the places cost.
+    ///
+    /// A loss costs what `fall` costs and a binary search, where something still holds the unit above
+    /// what it takes, and where that unit does not become ready by it or has its buffers. So does the
+    /// release after which nothing holds a unit, which ends with those above it that nothing else
+    /// holds, and a loss after which nothing holds the unit above what it takes, with a logarithm for
+    /// each node that goes. Where the root goes by a loss or ends so, all that is left of the
+    /// collection goes, and the buffers that are home go back, which costs a look at the handles of
+    /// each buffer besides, two where some stay held and others go, and what the pool takes.
+    ///
+    /// Of all these only the first allocation takes memory, for what is held, and a birth, which also
+    /// makes the room in which what falls is listed.
     ///
     /// So it is too where no strong node is live, before a birth or an effect or after a loss, and the
     /// collection rests without one: its root has no buffers, or one of them has an open strong handle,
@@ -124,12 +140,16 @@ impl Forest {
             event,
         } = change
         {
+            self.room.make(table.len().saturating_add(1))?;
             let key = settle_birth(
                 table, entries, units, pool, holds, collection, parent, attached, client, event,
             )?;
             return Ok(Some(key));
         }
-        settle_change(table, entries, units, pool, holds, collection, &change)?;
+        let room = &mut self.room;
+        settle_change(
+            table, entries, units, pool, holds, collection, &change, room,
+        )?;
         Ok(None)
     }
 
@@ -161,7 +181,7 @@ impl Forest {
         ensures kept { OnErr result ((self.new ≡ self.old) × (pool.new ≡ pool.old)) }
     {
         let (table, entries, units) = (&mut self.table, &mut self.entries, &mut self.units);
-        settle_dropped(table, entries, units, pool, holds, buffer)
+        settle_dropped(table, entries, units, pool, holds, buffer, &mut self.room)
     }
 
     /// The node with this key, unless it was never born or was forgotten. It costs a constant.

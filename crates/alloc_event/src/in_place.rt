@@ -1,6 +1,6 @@
 //! Changes that force nothing, as the count of strong live nodes tells, made in their places.
 ghost use Rattle.std.specs.Option.{option_map_or};
-ghost use Rattle.std.specs.Prelude.{◌≡◌, ◌<◌, ◌⊎◌, ◌+◌, ◌==◌, ◌&&◌, ◌||◌, nat_lt, not, ℕ, List, None, Some, true, false, IfSome};
+ghost use Rattle.std.specs.Prelude.{◌≡◌, ◌+◌, ◌||◌, nat_lt, ℕ, List, None, Some, true, false, IfSome};
 ghost use Rattle.sm_names.specs.declared.keys.NodeKey.{NodeKey as Key};
 ghost use Rattle.buffer_holds.specs.Counts.{total};
 ghost use Rattle.node_table.specs.Changes.{Writes};
@@ -11,7 +11,7 @@ ghost use Rattle.alloc_event.specs.declared.change.Effect.{Effect as Effected};
 ghost use Rattle.alloc_event.specs.declared.node.Node.{Node as Kept};
 ghost use Rattle.alloc_event.specs.declared.units.Unit.{Unit as Counts};
 ghost use Rattle.alloc_event.specs.Calm.{AreCounted};
-ghost use Rattle.alloc_event.specs.Counts.{HasBelow, HaveUnits, is_unready};
+ghost use Rattle.alloc_event.specs.Counts.{HaveUnits, is_unready};
 ghost use Rattle.alloc_event.specs.Due.{is_due_at};
 ghost use Rattle.alloc_event.specs.InPlace.{IsMade, IsOpen, bit, is_plain as is_plain_effect};
 ghost use Rattle.alloc_event.specs.Kept.{Finishes, IsStored, SameTable, Shelf, forest_of, is_strong, shelves_of};
@@ -24,13 +24,12 @@ ghost use Rattle.alloc_event.specs.Settling.{Handles, MayChange, changed, collec
 use crate::change::{Change, Effect};
 use crate::effects::affect_one;
 use crate::entry::{Entry, place_of};
-use crate::forgetting::first_child;
 use crate::kept::is_strong;
 use crate::node::Node;
 use crate::questions::is_live;
 use crate::reserving::reserved_after;
 use crate::resting::is_resting;
-use crate::units::{Unit, is_unready, put_unit, unit_in};
+use crate::units::{Unit, is_held_by, is_unready, put_unit, unit_in};
 use buffer_holds::Holds;
 use node_table::NodeTable;
 use sm_names::{CollectionId, NodeKey};
@@ -185,39 +184,11 @@ fn is_due(table: &NodeTable<Node>, head: NodeKey) -> bool
     }
 }
 
-/// Whether the node with this key is attached, not gone, and of the collection.
-fn heads_unit(table: &NodeTable<Node>, key: NodeKey, id: CollectionId) -> bool
-    ensures { result ≡ option_map_or (λ n. n.attached && (not n.gone && n.collection == id)) (node_at table.now key) false }
-{
-    match table.get(key) {
-        Some(node) => node.attached && !node.gone && node.collection == id,
-        None => false,
-    }
-}
-
-/// Whether the first child of the node is attached, not gone, and of the collection.
-fn has_unit_below(table: &NodeTable<Node>, key: NodeKey, id: CollectionId) -> bool
-    ensures { result ≡ true → HasBelow table.now key id }
-{
-    match first_child(table, key) {
-        Some(child) => heads_unit(table, child, id),
-        None => false,
-    }
-}
-
-/// Whether something holds the unit of the node with this key: so many live nodes of it, or the
-/// node's first child, which heads a unit.
-fn is_held(table: &NodeTable<Node>, live: usize, key: NodeKey, id: CollectionId) -> bool
-    ensures { result ≡ true → (0 < live) ⊎ HasBelow table.now key id }
-{
-    live > 0 || has_unit_below(table, key, id)
-}
-
 /// Makes the effect in its place, if the counts tell that nothing is forced: a strong node is live
-/// after it, or the collection rests without one; and one of the node's unit is live, or its first
-/// child heads a unit, and the node's unit has its buffers, or waits for another node, or did not
-/// wait for this one, or lies below a unit without buffers. Answers how many strong nodes are live
-/// then. With `None` nothing changed.
+/// after it, or the collection rests without one; and one of the node's unit is live, or a unit hangs
+/// right below that, and the node's unit has its buffers, or waits for another node, or did not wait
+/// for this one, or lies below a unit without buffers. Answers how many strong nodes are live then.
+/// With `None` nothing changed.
 fn count_in_place(
     table: &mut NodeTable<Node>,
     units: &mut Vec<Unit>,
@@ -250,17 +221,22 @@ fn count_in_place(
         is_unready(node),
         is_unready_after(node, key, effect),
     );
+    let after = Unit {
+        live,
+        unready,
+        below: unit.below,
+    };
     if left == 0 && !rests {
         return None;
     }
-    if !is_held(table, live, key, node.collection) {
+    if !is_held_by(&after) {
         return None;
     }
     if is_unready(node) && unready == 0 && is_due(table, node.head) {
         return None;
     }
     affect_at(table, key, effect);
-    put_unit(units, slot, Unit { live, unready });
+    put_unit(units, slot, after);
     Some(left)
 }
 
@@ -360,10 +336,9 @@ fn settle_so(
 
 /// Makes the change to a collection in its place, if it is none of nodes, or an effect, and the
 /// counts tell that nothing is forced, and no buffer goes home: a strong node of the collection is
-/// live after it, and a release leaves a node of its unit live or a unit that its first child
-/// heads, and the unit does not become ready, has its buffers, or lies below one without buffers.
-/// Answers whether it did; if not, nothing changed. It takes no memory, and costs a binary search
-/// and a constant.
+/// live after it, and a release leaves a node of its unit live or a unit right below that, and the
+/// unit does not become ready, has its buffers, or lies below one without buffers. Answers whether
+/// it did; if not, nothing changed. It takes no memory, and costs a binary search and a constant.
 #[inline(always)]
 pub(crate) fn settle_in_place(
     table: &mut NodeTable<Node>,

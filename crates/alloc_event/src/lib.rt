@@ -3,7 +3,7 @@
 #![tactic(auto)]
 
 pub mod abandoned;
-mod all_lost;
+mod all_gone;
 pub mod allocating;
 pub mod asks;
 mod bearing;
@@ -20,6 +20,8 @@ pub mod ending;
 mod entry;
 mod falling;
 mod finish;
+mod first;
+mod following;
 pub mod forest;
 mod forgetting;
 mod in_place;
@@ -34,15 +36,18 @@ pub mod marks;
 pub mod node;
 pub mod placing;
 pub mod questions;
+mod refusing;
 mod reserving;
 mod resting;
 pub mod returns;
+mod room;
 pub mod scene;
 mod serving;
 pub mod settling;
 mod still;
 mod store;
 pub mod summary;
+mod surveying;
 mod units;
 
 pub use change::{Change, Effect};

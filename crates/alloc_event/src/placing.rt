@@ -1,8 +1,9 @@
 //! The buffers of a root unit, placed in the pool.
-ghost use Rattle.std.specs.Prelude.{◌≡◌, ◌≤◌, ◌+◌, ◌^◌, ◌++◌, [], OnErr, OnOk, length, true, vec_capacity};
+ghost use Rattle.std.specs.Prelude.{◌≡◌, ◌≤◌, ◌+◌, ◌^◌, ◌++◌, [], IfOk, IfSome, None, OnErr, OnOk, length, true, vec_capacity};
 ghost use Rattle.sm_names.specs.Pages.{pages_of as pages_taken};
 ghost use Rattle.alloc_event.specs.Decisions.{is_unplaced, IsMadeBy, IsPlacing};
 ghost use Rattle.alloc_event.specs.declared.decision.Decision.{Decision};
+ghost use Rattle.alloc_event.specs.First.{IsLaid};
 ghost use Rattle.alloc_event.specs.Progress.{Progress};
 ghost use Rattle.alloc_event.specs.Scenes.{collection_of, given_few, laid, IsSound, PoolFollows};
 
@@ -67,6 +68,34 @@ pub fn place_first(
             );
             Ok(())
         }
+        Err(PoolFault::NoMemory) => Err(NoMemory),
+    }
+}
+
+/// Places so many buffers of the collection in the pool, and answers them with the others behind them.
+/// `None` where the pool is full. With `None` and `NoMemory` the pool is as it was.
+pub(crate) fn lay_in(
+    pool: &mut Pool,
+    collection: CollectionId,
+    wants: Buffers,
+    others: &Vec<HeldBuffer>,
+) -> Result<Option<Vec<HeldBuffer>>, NoMemory>
+    requires count { (1 ≤ wants.count) × (wants.count ≤ 64) }
+    requires sized { (1 ≤ wants.size) × (wants.size ≤ 2 ^ 30) }
+    ensures err { OnErr result (pool.new ≡ pool.old) }
+    ensures none { IfOk result (λ held. held ≡ None → pool.new ≡ pool.old) }
+    ensures some { IfOk result (λ held. IfSome held (λ held.
+        IsLaid pool.old pool.new collection wants others.now.items held.items)) }
+    ensures size { pool.new.size ≡ pool.old.size }
+{
+    let pages = pages_of(wants.size);
+    let room = wants.count as usize + others.len();
+    let Ok(held) = Vec::with_capacity(*others.allocator(), room) else {
+        return Err(NoMemory);
+    };
+    match pool.place(wants.count, pages) {
+        Ok(placed) => Ok(Some(lay_out(held, collection, pages, &placed.starts, others))),
+        Err(PoolFault::PoolFull) => Ok(None),
         Err(PoolFault::NoMemory) => Err(NoMemory),
     }
 }

@@ -51,7 +51,7 @@ fn exchanged(reserved: u128, was: u8, is: u8) -> Option<u128>
 
 /// How many buffers the node camps on where it asks for this, if its unit is allocated and it is not
 /// gone.
-fn camped(node: &Node, asks: Option<Constraints>) -> u8
+pub(crate) fn camped(node: &Node, asks: Option<Constraints>) -> u8
     ensures { result ≡ camped (record node.now { constraints = asks }) }
 {
     match asks {

@@ -1,5 +1,6 @@
-//! Attached units that become ready by an effect, allocated in their places.
+//! Attached units that become ready by an effect, allocated in their places with those that follow.
 ghost use Rattle.std.specs.List.{filter_map, list_any, sum_by};
+ghost use Rattle.std.specs.List.Sorted.{IsSorted};
 ghost use Rattle.std.specs.Prelude.{nat_lt, ◌≡◌, ◌≤◌, ◌+◌, ◌^◌, ◌&&◌, not, if◌then◌else◌, ◌∷◌, [], ℕ, List, None, Some, true, false, IfSome, IsSome};
 ghost use Rattle.sm_names.specs.Demands.{Demand};
 ghost use Rattle.sm_names.specs.Members.{greatest};
@@ -10,36 +11,41 @@ ghost use Rattle.alloc_event.specs.declared.change.Change.{Change as Changed};
 ghost use Rattle.alloc_event.specs.declared.node.Node.{Node as Kept};
 ghost use Rattle.alloc_event.specs.Calm.{AreCounted};
 ghost use Rattle.alloc_event.specs.Counts.{HaveUnits};
-ghost use Rattle.alloc_event.specs.Falling.{IsTaken};
+ghost use Rattle.alloc_event.specs.Falling.{IsTaken, key_order};
+ghost use Rattle.alloc_event.specs.Falls.{given_all};
 ghost use Rattle.alloc_event.specs.InPlace.{IsOpen};
 ghost use Rattle.alloc_event.specs.Kept.{Finishes, IsStored, SameTable, Shelf, forest_of, nodes_with, shelf_of, shelves_of};
-ghost use Rattle.alloc_event.specs.Nodes.{given_buffers};
-ghost use Rattle.alloc_event.specs.Questions.{is_in_unit};
 ghost use Rattle.alloc_event.specs.Reserved.{reserved_count};
 ghost use Rattle.alloc_event.specs.Resting.{is_kept_by};
 ghost use Rattle.alloc_event.specs.Scenes.{given_few, has_tracker_room};
-ghost use Rattle.alloc_event.specs.Serving.{AreLess, IsDue, IsGivenAt, IsRoom, IsServed, IsServedAt, asked_at, asked_with, bars_at, hangs_below, has_turn_at, is_of_unit, is_served_there};
+ghost use Rattle.alloc_event.specs.Serving.{AreLess, IsDue, IsGivenAt, IsRoom, IsServed, IsServedAt, IsServing, asked_at, asked_with, bars_at, has_turn_at, is_in_some, is_left_out, is_served_there};
 ghost use Rattle.alloc_event.specs.Settling.{MayChange, changed, collection_or_new, no_key};
 
 use crate::asks::Asks;
 use crate::change::Effect;
 use crate::entry::{Entry, place_of};
+use crate::following::{following, hangs_below, is_of_some, is_one_of, is_waiting_head};
 use crate::in_place::{affected_by, less};
 use crate::kept::is_strong;
 use crate::node::Node;
 use crate::questions::is_live;
 use crate::resting::is_kept_by;
+use crate::room::Room;
 use crate::store::write;
-use crate::units::{Unit, is_unready, put_unit, unit_in};
+use crate::units::{Unit, is_held_by, is_unready, put_unit, unit_in};
 use buffer_holds::Holds;
-use failure_domains::fall;
+use failure_domains::fall_into;
 use node_table::NodeTable;
 use sm_names::{Buffers, CollectionId, Constraints, NodeKey};
-use std::alloc::Global;
 
-/// The counts once the first node is the second one, if a node of its unit is live then, which waits
-/// for none any more: how many strong nodes are live, and the unit's counts.
-fn counts_with(units: &[Unit], strong: usize, node: &Node, after: &Node) -> Option<(usize, Unit)>
+/// The counts once the first node is the second one, if something holds its unit then, which waits for
+/// none any more: how many strong nodes are live, and the unit's counts.
+pub(crate) fn counts_with(
+    units: &[Unit],
+    strong: usize,
+    node: &Node,
+    after: &Node,
+) -> Option<(usize, Unit)>
     ensures { IfSome result (λ counts. AreLess units.now strong node.now after.now counts.0 counts.1) }
 {
     let slot = node.head.slot as usize;
@@ -48,16 +54,19 @@ fn counts_with(units: &[Unit], strong: usize, node: &Node, after: &Node) -> Opti
     }
     let unit = unit_in(units, slot);
     let left = less(strong, is_strong(node), is_strong(after));
-    let live = less(unit.live, is_live(node), is_live(after));
-    let unready = less(unit.unready, is_unready(node), is_unready(after));
-    if live == 0 || unready > 0 {
+    let next = Unit {
+        live: less(unit.live, is_live(node), is_live(after)),
+        unready: less(unit.unready, is_unready(node), is_unready(after)),
+        below: unit.below,
+    };
+    if next.unready > 0 || !is_held_by(&next) {
         return None;
     }
-    Some((left, Unit { live, unready }))
+    Some((left, next))
 }
 
 /// Whether there is a node with this key that is not gone, and its unit has its buffers.
-fn is_served_there(table: &NodeTable<Node>, key: NodeKey) -> bool
+pub(crate) fn is_served_there(table: &NodeTable<Node>, key: NodeKey) -> bool
     ensures { result ≡ is_served_there table.now key }
 {
     match table.get(key) {
@@ -73,7 +82,7 @@ fn has_turn(table: &NodeTable<Node>, head: NodeKey) -> bool
     let Some(node) = table.get(head) else {
         return false;
     };
-    if !node.attached || node.gone || node.allocated {
+    if !is_waiting_head(node) {
         return false;
     }
     match table.parent(head) {
@@ -82,28 +91,13 @@ fn has_turn(table: &NodeTable<Node>, head: NodeKey) -> bool
     }
 }
 
-/// Whether there is a node with this key, of the unit with this head.
-fn is_of_unit(table: &NodeTable<Node>, head: NodeKey, key: NodeKey) -> bool
-    ensures { result ≡ is_of_unit table.now head key }
+/// Whether the node heads a unit without buffers that waits for no node, right below one of those
+/// with these heads, which stand in order, and is none of these heads.
+fn is_left_out(table: &NodeTable<Node>, units: &[Unit], heads: &[NodeKey], node: &Node) -> bool
+    requires { IsSorted key_order heads.now }
+    ensures { result ≡ is_left_out table.now units.now heads.now node.now }
 {
-    match table.get(key) {
-        Some(node) => node.head == head,
-        None => false,
-    }
-}
-
-/// Whether the node heads a unit right below the one with this head, and that waits for no node, by
-/// the counts.
-fn hangs_below(table: &NodeTable<Node>, units: &[Unit], head: NodeKey, node: &Node) -> bool
-    ensures { result ≡ hangs_below table.now units.now head node.now }
-{
-    if !node.attached || node.gone || unit_in(units, node.key.slot as usize).unready != 0 {
-        return false;
-    }
-    match node.parent {
-        Some(above) => is_of_unit(table, head, above),
-        None => false,
-    }
+    hangs_below(table, units, heads, node) && !is_one_of(heads, node.key)
 }
 
 /// Whether the node with this key does, or is not of this collection.
@@ -111,60 +105,65 @@ fn bars_at(
     table: &NodeTable<Node>,
     units: &[Unit],
     id: CollectionId,
-    head: NodeKey,
+    heads: &[NodeKey],
     key: NodeKey,
 ) -> bool
-    ensures { result ≡ bars_at table.now units.now id head key }
+    requires { IsSorted key_order heads.now }
+    ensures { result ≡ bars_at table.now units.now id heads.now key }
 {
     match table.get(key) {
-        Some(node) => node.collection != id || hangs_below(table, units, head, node),
+        Some(node) => node.collection != id || is_left_out(table, units, heads, node),
         None => false,
     }
 }
 
-/// What the node asks for, if it is of the unit with this head and not gone.
-fn unit_demand(node: &Node, head: NodeKey) -> Option<Constraints>
-    ensures { result ≡ (if is_in_unit head node.now then node.now.constraints else None) }
+/// What the node asks for, if it is of one of the units with these heads, which stand in order, and
+/// not gone.
+fn unit_demand(node: &Node, heads: &[NodeKey]) -> Option<Constraints>
+    requires { IsSorted key_order heads.now }
+    ensures { result ≡ (if is_in_some heads.now node.now then node.now.constraints else None) }
 {
-    if !node.gone && node.head == head {
+    if !node.gone && is_one_of(heads, node.head) {
         node.constraints
     } else {
         None
     }
 }
 
-/// What the node with this key asks for, if it is of the unit with this head and not gone, where this
+/// What the node with this key asks for, if it is of one of these units and not gone, where this
 /// node is in the place of the one with its key.
 fn asked_at(
     table: &NodeTable<Node>,
-    head: NodeKey,
+    heads: &[NodeKey],
     after: &Node,
     key: NodeKey,
 ) -> Option<Constraints>
-    ensures { result ≡ asked_at table.now head after.now key }
+    requires { IsSorted key_order heads.now }
+    ensures { result ≡ asked_at table.now heads.now after.now key }
 {
     let node = table.get(key)?;
     if after.key == node.key {
-        unit_demand(after, head)
+        unit_demand(after, heads)
     } else {
-        unit_demand(node, head)
+        unit_demand(node, heads)
     }
 }
 
-/// What the nodes with these keys ask for so, if all are of this collection and none of them heads a
-/// unit right below this one that waits for no node, by the counts.
-fn asks_with(
+/// What the nodes with these keys ask for so, if all are of this collection, and none of them is
+/// left out.
+pub(crate) fn asks_with(
     table: &NodeTable<Node>,
     keys: &[NodeKey],
     units: &[Unit],
     id: CollectionId,
-    head: NodeKey,
+    heads: &[NodeKey],
     after: &Node,
 ) -> Option<Asks>
-    ensures clear { IfSome result (λ asks. list_any (bars_at table.now units.now id head) keys.now ≡ false) }
-    ensures camping { IfSome result (λ asks. asks.camping ≡ sum_by (λ (d : Demand). d.camping) (asked_with table.now keys.now head after.now)) }
-    ensures at_least { IfSome result (λ asks. asks.at_least ≡ greatest (λ d. d.at_least) (asked_with table.now keys.now head after.now)) }
-    ensures size { IfSome result (λ asks. asks.size ≡ greatest (λ d. d.size) (asked_with table.now keys.now head after.now)) }
+    requires { IsSorted key_order heads.now }
+    ensures clear { IfSome result (λ asks. list_any (bars_at table.now units.now id heads.now) keys.now ≡ false) }
+    ensures camping { IfSome result (λ asks. asks.camping ≡ sum_by (λ (d : Demand). d.camping) (asked_with table.now keys.now heads.now after.now)) }
+    ensures at_least { IfSome result (λ asks. asks.at_least ≡ greatest (λ d. d.at_least) (asked_with table.now keys.now heads.now after.now)) }
+    ensures size { IfSome result (λ asks. asks.size ≡ greatest (λ d. d.size) (asked_with table.now keys.now heads.now after.now)) }
 {
     let mut asks = Asks {
         camping: 0,
@@ -172,10 +171,10 @@ fn asks_with(
         size: 0,
     };
     for key in keys {
-        if bars_at(table, units, id, head, *key) {
+        if bars_at(table, units, id, heads, *key) {
             return None;
         }
-        if let Some(demand) = asked_at(table, head, after, *key) {
+        if let Some(demand) = asked_at(table, heads, after, *key) {
             asks.camping += demand.camping() as u128;
             asks.at_least = asks.at_least.max(demand.at_least());
             asks.size = asks.size.max(demand.size());
@@ -197,9 +196,10 @@ fn with_room(count: u32, reserved: u128, camping: u128) -> Option<u128>
     }
 }
 
-/// What is reserved once the unit with this head is allocated, and this node is in the place of the one
-/// with its key: if the nodes with these keys are of this collection, no unit that is ready hangs right
-/// below that one, and the buffers, of which so many are reserved, are enough.
+/// What is reserved once the units with these heads, which stand in order, are allocated, and this
+/// node is in the place of the one with its key: if the nodes with these keys are of this
+/// collection, none of them is left out, and the buffers, of which so many are reserved, are
+/// enough.
 fn room_for(
     table: &NodeTable<Node>,
     keys: &[NodeKey],
@@ -207,12 +207,13 @@ fn room_for(
     id: CollectionId,
     reserved: u128,
     buffers: Buffers,
-    head: NodeKey,
+    heads: &[NodeKey],
     after: &Node,
 ) -> Option<u128>
-    ensures { IfSome result (λ sum. IsRoom table.now keys.now units.now id reserved buffers head after.now sum) }
+    requires { IsSorted key_order heads.now }
+    ensures { IfSome result (λ sum. IsRoom table.now keys.now units.now id reserved buffers heads.now after.now sum) }
 {
-    let asks = asks_with(table, keys, units, id, head, after)?;
+    let asks = asks_with(table, keys, units, id, heads, after)?;
     let sum = with_room(buffers.count, reserved, asks.camping)?;
     if buffers.count >= asks.at_least as u32 && buffers.size >= asks.size {
         Some(sum)
@@ -223,7 +224,11 @@ fn room_for(
 
 /// The buffers of the collection, if the unit of the node has none of them, it is attached, and the one
 /// above it has them.
-fn buffers_due(table: &NodeTable<Node>, given: Option<Buffers>, node: &Node) -> Option<Buffers>
+pub(crate) fn buffers_due(
+    table: &NodeTable<Node>,
+    given: Option<Buffers>,
+    node: &Node,
+) -> Option<Buffers>
     ensures { IfSome result (λ buffers. IsDue table.now given node.now buffers) }
 {
     let buffers = given?;
@@ -234,83 +239,137 @@ fn buffers_due(table: &NodeTable<Node>, given: Option<Buffers>, node: &Node) -> 
     }
 }
 
-/// The keys of the node with this key and of all below it, if it is attached; `None` where the room for
-/// them is refused. It costs their number.
-fn keys_below(alloc: Global, table: &NodeTable<Node>, head: NodeKey) -> Option<Vec<NodeKey>>
+/// Lists the keys of the node with this key and of all below it, if it is attached. Answers whether
+/// it did; if not, the room for them was refused. It costs their number.
+pub(crate) fn list_below(table: &NodeTable<Node>, head: NodeKey, keys: &mut Vec<NodeKey>) -> bool
     requires { IsSome (row_at table.now head) }
-    ensures { IfSome result (λ keys. IsTaken table.now head keys.items) }
+    ensures { result ≡ true → IsTaken table.now head keys.new.items }
 {
-    match fall(alloc, table, head) {
-        Ok(fallen) => Some(fallen.keys),
-        Err(_) => None,
-    }
+    fall_into(table, head, keys).is_ok()
 }
 
-/// The nodes with these keys that are of the unit with this head have its buffers then.
-fn give(table: &mut NodeTable<Node>, keys: &[NodeKey], head: NodeKey)
+/// The nodes with these keys that are of the units with these heads, which stand in order, have
+/// their buffers then.
+fn give(table: &mut NodeTable<Node>, keys: &[NodeKey], heads: &[NodeKey])
+    requires sorted { IsSorted key_order heads.now }
     requires named { (key : Key) (n : Kept) → node_at table.old key ≡ Some n → n.key ≡ key }
-    ensures { IsGivenAt table.old table.new head keys.now }
+    ensures { IsGivenAt table.old table.new heads.now keys.now }
 {
     for key in keys {
-        give_at(table, *key, head);
+        give_at(table, *key, heads);
     }
 }
 
-/// The node with this key has its unit's buffers then, if it is of the unit with this head.
-fn give_at(table: &mut NodeTable<Node>, key: NodeKey, head: NodeKey)
+/// The node with this key has its unit's buffers then, if it is of one of these units.
+fn give_at(table: &mut NodeTable<Node>, key: NodeKey, heads: &[NodeKey])
+    requires sorted { IsSorted key_order heads.now }
     requires named { (key : Key) (n : Kept) → node_at table.old key ≡ Some n → n.key ≡ key }
-    ensures { IsGivenAt table.old table.new head (key ∷ []) }
+    ensures { IsGivenAt table.old table.new heads.now (key ∷ []) }
 {
-    if is_of_unit(table, head, key) {
-        give_one(table, key, head);
+    if is_of_some(table, heads, key) {
+        give_one(table, key, heads);
     }
 }
 
 /// The same, by a copy of the node.
-fn give_one(table: &mut NodeTable<Node>, key: NodeKey, head: NodeKey)
+fn give_one(table: &mut NodeTable<Node>, key: NodeKey, heads: &[NodeKey])
+    requires sorted { IsSorted key_order heads.now }
     requires named { (key : Key) (n : Kept) → node_at table.old key ≡ Some n → n.key ≡ key }
-    ensures { IsGivenAt table.old table.new head (key ∷ []) }
+    ensures { IsGivenAt table.old table.new heads.now (key ∷ []) }
 {
-    let Some(node) = table.get(key).copied() else {
-        return;
-    };
-    if head == node.head {
-        write(table, given(node, head));
+    if let Some(node) = table.get(key).copied() {
+        write(table, given(node, heads));
     }
 }
 
-/// The node once the unit with this head is allocated.
-fn given(mut node: Node, head: NodeKey) -> Node
-    ensures { result ≡ given_buffers head node }
+/// The node once the units with these heads, which stand in order, are allocated.
+fn given(mut node: Node, heads: &[NodeKey]) -> Node
+    requires { IsSorted key_order heads.now }
+    ensures { result ≡ given_all heads.now node }
 {
-    node.allocated = head == node.head || node.allocated;
+    node.allocated = is_one_of(heads, node.head) || node.allocated;
     node
 }
 
-/// The unit with this head, whose nodes are among those with these keys, is allocated, and the node
-/// is put in its place as one of it.
-fn serve(table: &mut NodeTable<Node>, keys: &[NodeKey], head: NodeKey, node: &Node)
+/// The units with these heads, which stand in order, and whose nodes are among those with these
+/// keys, are allocated, and the node is put in its place as one of them.
+pub(crate) fn serve(table: &mut NodeTable<Node>, keys: &[NodeKey], heads: &[NodeKey], node: &Node)
+    requires sorted { IsSorted key_order heads.now }
     requires named { (key : Key) (n : Kept) → node_at table.old key ≡ Some n → n.key ≡ key }
     requires there { IsSome (node_at table.old node.now.key) }
-    ensures { IsServedAt table.old table.new head keys.now (given_buffers head node.now) }
+    ensures { IsServedAt table.old table.new heads.now keys.now (given_all heads.now node.now) }
 {
-    give(table, keys, head);
-    write(table, given(*node, head));
+    give(table, keys, heads);
+    write(table, given(*node, heads));
 }
 
-/// Makes the effect in its place, if the counts tell that it leaves a node of the node's unit live and
-/// that unit ready, and a strong node live, or the collection rests without one, and if the unit is
-/// then to be allocated, which is made with it.
+/// They are allocated so, if there is room for them. Answers how many buffers are reserved then.
+/// With `None` nothing changed.
+fn serve_with_room(
+    table: &mut NodeTable<Node>,
+    keys: &[NodeKey],
+    units: &[Unit],
+    id: CollectionId,
+    reserved: u128,
+    buffers: Buffers,
+    heads: &[NodeKey],
+    after: &Node,
+) -> Option<u128>
+    requires sorted { IsSorted key_order heads.now }
+    requires named { (key : Key) (n : Kept) → node_at table.old key ≡ Some n → n.key ≡ key }
+    requires there { IsSome (node_at table.old after.now.key) }
+    ensures none { result ≡ None → table.new ≡ table.old }
+    ensures room { IfSome result (λ sum. IsRoom table.old keys.now units.now id reserved buffers heads.now after.now sum) }
+    ensures served { IfSome result (λ sum. IsServedAt table.old table.new heads.now keys.now (given_all heads.now after.now)) }
+{
+    let Some(sum) = room_for(table, keys, units, id, reserved, buffers, heads, after) else {
+        return None;
+    };
+    serve(table, keys, heads, after);
+    Some(sum)
+}
+
+/// The unit with this head and those that follow it are allocated so, if there is room for all of
+/// them. Their heads are listed only where some are ready below it, or there is no room.
+fn serve_following(
+    table: &mut NodeTable<Node>,
+    keys: &[NodeKey],
+    units: &[Unit],
+    id: CollectionId,
+    reserved: u128,
+    buffers: Buffers,
+    head: NodeKey,
+    after: &Node,
+    heads: &mut Vec<NodeKey>,
+) -> Option<u128>
+    requires named { (key : Key) (n : Kept) → node_at table.old key ≡ Some n → n.key ≡ key }
+    requires there { IsSome (node_at table.old after.now.key) }
+    ensures none { result ≡ None → table.new ≡ table.old }
+    ensures some { IfSome result (λ sum. IsServing table.old table.new keys.now units.now id reserved buffers head after.now sum) }
+{
+    let one = [head];
+    if let Some(sum) = serve_with_room(table, keys, units, id, reserved, buffers, &one, after) {
+        return Some(sum);
+    }
+    if !following(table, keys, units, id, head, heads) || heads.len() < 2 {
+        return None;
+    }
+    serve_with_room(table, keys, units, id, reserved, buffers, heads, after)
+}
+
+/// Makes the effect in its place, if the counts tell that something holds the node's unit after it,
+/// which is ready then, and a strong node is live, or the collection rests without one, and if the
+/// unit is then to be allocated, which is made with it, and with the allocation of those that follow.
 /// Answers how many strong nodes are live then, and how many buffers are reserved. With `None`
 /// nothing changed.
 fn serve_effect(
-    alloc: Global,
     table: &mut NodeTable<Node>,
     units: &mut Vec<Unit>,
     entry: &Entry,
     holds: &Holds,
     key: NodeKey,
     effect: &Effect,
+    room: &mut Room,
 ) -> Option<(usize, u128)>
     requires few { given_few entry.now.buffers ≡ true }
     requires named { (at : Key) (n : Kept) → node_at table.old at ≡ Some n → n.key ≡ at }
@@ -336,33 +395,37 @@ fn serve_effect(
     if !is_kept_by(table, entry, holds, left) {
         return None;
     }
-    let Some(keys) = keys_below(alloc, table, node.head) else {
+    if !list_below(table, node.head, &mut room.going) {
         return None;
-    };
-    let Some(reserved) = room_for(
+    }
+    let Some(reserved) = serve_following(
         table,
-        &keys,
+        &room.going,
         units,
         entry.id,
         entry.reserved,
         buffers,
         node.head,
         &after,
+        &mut room.failing,
     ) else {
         return None;
     };
-    serve(table, &keys, node.head, &after);
     put_unit(units, node.head.slot as usize, next);
     Some((left, reserved))
 }
 
 /// Makes an effect in its place by which an attached unit becomes ready, and the unit's allocation
-/// with it, if the buffers are enough for it, no unit that is ready hangs below it, and the counts
-/// tell that nothing more is forced: a strong node of the collection is live after it, or it rests
-/// without one, and one of the unit is live.
-/// Answers whether it did; if not, nothing changed. It costs a binary search and a constant; where the
-/// unit is ready and due, besides, a list of the keys of all that lies below its head and some reads of
-/// each, and a write of each node of the unit. Where the list is refused room it does nothing.
+/// with it, and that of each attached unit below that is ready, as far as one hangs right below
+/// another of them, if the buffers are enough for all, and the counts tell that nothing more is
+/// forced: a strong node of the collection is live after it, or it rests without one, and something
+/// holds the unit.
+/// Answers whether it did; if not, nothing changed. It costs a binary search and a constant; where
+/// the unit is ready and due, besides, some reads of each node at and below its head, and a write of
+/// each node of the units; where other units are ready below it or the buffers are too few, also a
+/// logarithm of the number of those for each node, and a move of some keys for each of them. It takes
+/// memory only where the lists have less room than there are nodes; where that is refused, it does
+/// nothing.
 pub(crate) fn serve_in_place(
     table: &mut NodeTable<Node>,
     entries: &mut Vec<Entry>,
@@ -371,6 +434,7 @@ pub(crate) fn serve_in_place(
     id: CollectionId,
     key: NodeKey,
     effect: &Effect,
+    room: &mut Room,
 ) -> bool
     requires kept { IsStored table.old (shelves_of entries.old.items) }
     requires counted { AreCounted table.old entries.old.items }
@@ -387,11 +451,10 @@ pub(crate) fn serve_in_place(
     ensures units { HaveUnits units.new.items table.new entries.new.items }
     ensures same { SameTable table.old table.new }
 {
-    let alloc = *entries.allocator();
     let Some(at) = place_of(entries, id) else {
         return false;
     };
-    let Some((left, reserved)) = serve_effect(alloc, table, units, &entries[at], holds, key, effect)
+    let Some((left, reserved)) = serve_effect(table, units, &entries[at], holds, key, effect, room)
     else {
         return false;
     };

@@ -1,7 +1,8 @@
-//! What is counted of units: how many of their nodes are live, and for how many they wait.
+//! What is counted of units: how many of their nodes are live, for how many they wait, and how many
+//! units hang right below them.
 ghost use Rattle.std.specs.Prelude.{◌≡◌, ◌<◌, ◌≤◌, [], ◌∷◌, map, set, vec_len, vec_capacity};
 ghost use Rattle.node_table.specs.Table.{table_len};
-ghost use Rattle.alloc_event.specs.Counts.{AreUnitsBut, HaveUnits, cleared, is_unready, raised, started, tallied, unit_at, with_node};
+ghost use Rattle.alloc_event.specs.Counts.{AreUnitsBut, HaveUnits, cleared, head_above, head_of, hung, is_held_by, is_unready, no_unit, raised, reckoned, started, tallied, unit_at, with_below, with_node};
 ghost use Rattle.alloc_event.specs.Kept.{IsStored, collection_in, nodes_with, shelves_of};
 
 use crate::entry::{Entry, entry_of};
@@ -17,6 +18,26 @@ pub(crate) struct Unit {
     pub(crate) live: usize,
     /// Its nodes that are not gone, neither released nor with constraints.
     pub(crate) unready: usize,
+    /// The attached nodes that are not gone whose parents are its nodes: the heads right below it.
+    pub(crate) below: usize,
+}
+
+/// The counts of a unit without a node.
+pub(crate) fn no_unit() -> Unit
+    ensures { result ≡ no_unit }
+{
+    Unit {
+        live: 0,
+        unready: 0,
+        below: 0,
+    }
+}
+
+/// Whether something holds the unit: a node of it is live, or a unit hangs right below it.
+pub(crate) fn is_held_by(unit: &Unit) -> bool
+    ensures { result ≡ is_held_by unit.now }
+{
+    unit.live > 0 || unit.below > 0
 }
 
 /// Whether its unit waits for the node.
@@ -32,10 +53,7 @@ pub(crate) fn unit_in(units: &[Unit], slot: usize) -> Unit
 {
     match units.get(slot) {
         Some(unit) => *unit,
-        None => Unit {
-            live: 0,
-            unready: 0,
-        },
+        None => no_unit(),
     }
 }
 
@@ -53,14 +71,10 @@ pub(crate) fn start(units: &mut Vec<Unit>, slot: usize)
     requires { vec_len units.old < vec_capacity units.old }
     ensures { units.new.items ≡ started slot units.old.items }
 {
-    let none = Unit {
-        live: 0,
-        unready: 0,
-    };
     if slot == units.len() {
-        units.push(none).unwrap();
+        units.push(no_unit()).unwrap();
     } else {
-        put_unit(units, slot, none);
+        put_unit(units, slot, no_unit());
     }
 }
 
@@ -84,8 +98,48 @@ fn count(units: &mut Vec<Unit>, node: &Node)
     let more = Unit {
         live: raised(unit.live, is_live(node)),
         unready: raised(unit.unready, is_unready(node)),
+        below: unit.below,
     };
     put_unit(units, slot, more);
+}
+
+/// The head of the unit of the node with this key.
+fn head_of(table: &NodeTable<Node>, key: NodeKey) -> Option<NodeKey>
+    ensures { result ≡ head_of table.now key }
+{
+    match table.get(key) {
+        Some(node) => Some(node.head),
+        None => None,
+    }
+}
+
+/// The head of the unit right above the one that the node heads, if it heads one and is not gone.
+pub(crate) fn head_above(table: &NodeTable<Node>, node: &Node) -> Option<NodeKey>
+    ensures { result ≡ head_above table.now node.now }
+{
+    if node.gone || !node.attached {
+        return None;
+    }
+    match node.parent {
+        Some(above) => head_of(table, above),
+        None => None,
+    }
+}
+
+/// Counts one unit more right below the one with this head.
+fn count_below(units: &mut Vec<Unit>, head: Option<NodeKey>)
+    ensures { units.new.items ≡ with_below head units.old.items }
+{
+    if let Some(head) = head {
+        let slot = head.slot as usize;
+        let unit = unit_in(units, slot);
+        let more = Unit {
+            live: unit.live,
+            unready: unit.unready,
+            below: raised(unit.below, true),
+        };
+        put_unit(units, slot, more);
+    }
 }
 
 /// Counts the slots of these keys from nothing on.
@@ -94,20 +148,13 @@ fn clear(units: &mut Vec<Unit>, keys: &[NodeKey])
 {
     let mut rest = keys;
     'on: while let Some((key, more)) = rest.split_first() {
-        put_unit(
-            units,
-            key.slot as usize,
-            Unit {
-                live: 0,
-                unready: 0,
-            },
-        );
+        put_unit(units, key.slot as usize, no_unit());
         rest = more;
     }
 }
 
 /// Counts the node with this key for its unit, unless it is gone.
-pub(crate) fn count_at(units: &mut Vec<Unit>, table: &NodeTable<Node>, key: NodeKey)
+fn count_own(units: &mut Vec<Unit>, table: &NodeTable<Node>, key: NodeKey)
     ensures { units.new.items ≡ tallied (nodes_with table.now (key ∷ [])) units.old.items }
 {
     if let Some(node) = table.get(key) {
@@ -117,13 +164,42 @@ pub(crate) fn count_at(units: &mut Vec<Unit>, table: &NodeTable<Node>, key: Node
     }
 }
 
+/// Counts the node with this key for the unit right above the one that it heads, if it heads one
+/// and is not gone.
+fn hang_at(units: &mut Vec<Unit>, table: &NodeTable<Node>, key: NodeKey)
+    ensures { units.new.items ≡ hung table.now (nodes_with table.now (key ∷ [])) units.old.items }
+{
+    if let Some(node) = table.get(key) {
+        count_below(units, head_above(table, node));
+    }
+}
+
+/// Counts the node with this key, for its unit and for the one right above that.
+pub(crate) fn count_at(units: &mut Vec<Unit>, table: &NodeTable<Node>, key: NodeKey)
+    ensures { units.new.items ≡ reckoned table.now (nodes_with table.now (key ∷ [])) units.old.items }
+{
+    count_own(units, table, key);
+    hang_at(units, table, key);
+}
+
 /// Counts the nodes with these keys for their units.
 fn tally(units: &mut Vec<Unit>, table: &NodeTable<Node>, keys: &[NodeKey])
     ensures { units.new.items ≡ tallied (nodes_with table.now keys.now) units.old.items }
 {
     let mut rest = keys;
     'on: while let Some((key, more)) = rest.split_first() {
-        count_at(units, table, *key);
+        count_own(units, table, *key);
+        rest = more;
+    }
+}
+
+/// Counts the nodes with these keys for the units right above those that they head.
+fn hang(units: &mut Vec<Unit>, table: &NodeTable<Node>, keys: &[NodeKey])
+    ensures { units.new.items ≡ hung table.now (nodes_with table.now keys.now) units.old.items }
+{
+    let mut rest = keys;
+    'on: while let Some((key, more)) = rest.split_first() {
+        hang_at(units, table, *key);
         rest = more;
     }
 }
@@ -147,7 +223,9 @@ pub(crate) fn recount(
     ensures { HaveUnits units.new.items table.now entries.now }
 {
     if let Some(entry) = entry_of(entries, id) {
-        clear(units, entry.keys.as_slice());
-        tally(units, table, entry.keys.as_slice());
+        let keys = entry.keys.as_slice();
+        clear(units, keys);
+        tally(units, table, keys);
+        hang(units, table, keys);
     }
 }

@@ -13,9 +13,14 @@ use sm_names::{Buffers, Cause, Constraints, Failure, Fault, NodeKey};
 use std::alloc::Global;
 use std::test::Fail;
 
+mod below;
 mod changes;
+mod ending;
+mod first;
 mod ground;
+mod held;
 mod many;
+mod refusing;
 mod serving;
 mod waiting;
 mod weak;

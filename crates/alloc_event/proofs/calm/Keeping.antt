@@ -1,6 +1,6 @@
 -- A calm collection stays calm where one node changes, as far as the counts of its unit tell.
-use Rattle.std.proofs.Common.{◌≡◌, ◌<◌, refl, ap, sym, ◌∙◌, subst, Bool, true, false, not, ◌&&◌, ◌||◌, is_none, ◌⊎◌, inl, inr, List, [], ◌∷◌, map, Option, Some, None, arith}
-use Rattle.std.proofs.lemmas.Bool.{not-true}
+use Rattle.std.proofs.Common.{◌≡◌, ℕ, ◌<◌, nat_lt, refl, ap, sym, ◌∙◌, subst, Bool, true, false, not, ◌&&◌, ◌||◌, is_none, ◌⊎◌, inl, inr, List, [], ◌∷◌, map, Option, Some, None, arith}
+use Rattle.std.proofs.lemmas.Bool.{ltb-true, not-true}
 use Rattle.std.specs.List.{list_any, list_all, find}
 use Rattle.std.specs.Option.{option_map, option_map_or, option_and_then}
 use Rattle.sm_names.specs.declared.keys.NodeKey.{NodeKey}
@@ -8,7 +8,7 @@ use Rattle.sm_names.specs.declared.outcomes.Buffers.{Buffers}
 use Rattle.sm_names.specs.Sameness.{same_key}
 use Rattle.sm_names.specs.Words.{times, when}
 use Rattle.sm_names.proofs.ListLaws.{In, In-find, In-list_any, In-map, In-map-back, find-none, list_any-map, none-find}
-use Rattle.sm_names.proofs.SamenessLaws.{and_both, and_left, and_right, both_ways, either_way, false_if, or_left, or_right, same_key-true}
+use Rattle.sm_names.proofs.SamenessLaws.{and_both, and_left, and_right, both_ways, either_way, false_if, or_cases, or_left, or_right, same_key-true}
 use Rattle.sm_names.proofs.StandingLaws.{In-any}
 use Rattle.sm_names.proofs.SizeLaws.{all_on}
 use Rattle.alloc_event.specs.declared.node.Node.{Node}
@@ -18,7 +18,7 @@ use Rattle.alloc_event.specs.Forest.{Collection, with_nodes}
 use Rattle.alloc_event.specs.Kept.{IsWhole}
 use Rattle.alloc_event.specs.Nodes.{is_of}
 use Rattle.alloc_event.specs.Questions.{is_allocated_node, is_deserted_node, is_next_node, is_ready_node, is_root_left}
-use Rattle.alloc_event.specs.Counts.{lives_in, waits_in}
+use Rattle.alloc_event.specs.Counts.{heads_below, lives_in, waits_in}
 use Rattle.alloc_event.specs.Units.{is_head}
 use Rattle.alloc_event.proofs.calm.Together.{together_same}
 use Rattle.alloc_event.proofs.calm.Calming.{AreNone, calm_none, find_map, later, none_calm}
@@ -179,7 +179,7 @@ module _ (nodes : List Node) (f : Node → Node) (same : (n : Node) → IsSameNo
         own (inr (inr (inr bare))) (inl e) = both_ways (has_turn nodes h) turn (bare h in_nodes (sym (same_key-true n.head h.key e)))
 
     -- each unit is held still, where something still holds the node's own
-    held_still : list_any (holds_unit now n.head) now ≡ true → are_held nodes ≡ true → are_held now ≡ true
+    pub held_still : list_any (holds_unit now n.head) now ≡ true → are_held nodes ≡ true → are_held now ≡ true
     held_still some held = all_on (is_held now) now (λ m there.
         let x = In-map f nodes m there in
         ap (is_held now) x.2 ∙ still x.0 x.1)
@@ -228,6 +228,26 @@ lives_held nodes head some =
     lives_hold false true s b h = cc
     lives_hold false false true b h = refl
     lives_hold false false false b h = cc
+
+-- a head right below a unit holds it
+pub below_held : (nodes : List Node) (head : NodeKey) → 0 < times (heads_below nodes head) nodes →
+    list_any (holds_unit nodes head) nodes ≡ true
+below_held nodes head some =
+    let x = In-list_any (heads_below nodes head) nodes (some_pass (heads_below nodes head) nodes some) in
+    In-any (holds_unit nodes head) nodes x.0 x.1 (heads_hold x.0.gone (same_key x.0.head head && not x.0.released)
+    (x.0.attached && hangs_in nodes head x.0) x.2)
+  where
+    heads_hold : (g a b : Bool) → (not g && b) ≡ true → (not g && (a || b)) ≡ true
+    heads_hold true a b h = cc
+    heads_hold false true b h = refl
+    heads_hold false false b h = h
+
+-- a live node, or a unit right below
+pub either_holds : (live below : ℕ) → (nat_lt 0 live || nat_lt 0 below) ≡ true → (0 < live) ⊎ (0 < below)
+either_holds live below h = elim (or_cases (nat_lt 0 live) (nat_lt 0 below) h) [
+  | inl a ↦ inl (ltb-true 0 live a)
+  | inr b ↦ inr (ltb-true 0 below b)
+]
 
 -- where one node changes, something holds its unit still, and no unit that is to get its buffers next becomes ready
 pub calm_changed : (c : Collection) → IsWhole c → (f : Node → Node) → ((n : Node) → IsSameNode (f n) n) →

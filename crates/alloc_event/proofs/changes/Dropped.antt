@@ -92,7 +92,7 @@ units_set us t (e ∷ es) zero new same all =
 units_set us t (e ∷ es) (suc n) new same all = (all.0, units_set us t es n new (λ within. same (omega arith)) all.1)
 
 -- a table in which nothing was written
-nothing_stored : (t : Table Node) → Stores t t []
+pub nothing_stored : (t : Table Node) → Stores t t []
 nothing_stored t = record {
   look = λ key. sym (same (node_at t key));
   parents = λ key. refl;

@@ -1,6 +1,6 @@
 -- An effect that is made in its place, and what the count of strong live nodes becomes.
 use Rattle.std.proofs.Common.{◌≡◌, ◌≢◌, ℕ, ◌+◌, ◌==◌, Bool, true, false, ◌||◌, ◌&&◌, not, if◌then◌else◌, is_none, is_some, ◌<◌, ◌⊎◌, inl, inr, List, [], ◌∷◌, map, length, set, Option, Some, None, option_map, refl, sym, ap, subst, ◌∙◌, arith}
-use Rattle.std.proofs.lemmas.Bool.{eq-eqb, eqb-true, not-true}
+use Rattle.std.proofs.lemmas.Bool.{eqb-true, not-true}
 use Rattle.std.proofs.lemmas.List.{get_or-set_other, get_or-set_same, length-set}
 use Rattle.std.specs.List.{list_all, list_any}
 use Rattle.std.specs.Option.{option_map_or, unwrap_or}
@@ -11,8 +11,7 @@ use Rattle.sm_names.specs.Forced.{forced}
 use Rattle.sm_names.specs.Sameness.{same_key}
 use Rattle.sm_names.specs.Words.{times}
 use Rattle.sm_names.proofs.ListLaws.{In, In-find, In-list_any, In-map, In-map-back}
-use Rattle.sm_names.proofs.SamenessLaws.{and_both, and_left, and_right, both_ways, either_way, false_if, or_right, same_key-refl, same_key-true, or_none_right}
-use Rattle.sm_names.proofs.StandingLaws.{In-any}
+use Rattle.sm_names.proofs.SamenessLaws.{and_both, and_left, and_right, both_ways, either_way, false_if, same_key-refl, same_key-true, or_none_right}
 use Rattle.node_table.specs.Table.{Table, node_at, parent_at}
 use Rattle.node_table.specs.Changes.{Writes}
 use Rattle.node_table.specs.Lending.{table_with_node}
@@ -21,13 +20,13 @@ use Rattle.alloc_event.specs.declared.change.Effect.{Effect}
 use Rattle.alloc_event.specs.declared.node.Node.{Node}
 use Rattle.alloc_event.specs.declared.units.Unit.{Unit}
 use Rattle.alloc_event.specs.Calm.{IsCalm, strong_count, over_but}
-use Rattle.alloc_event.specs.Counts.{AreUnits, HasBelow, HasUnits, is_unready, lives_in, no_unit, unit_at, unit_of, waits_in}
+use Rattle.alloc_event.specs.Counts.{AreUnits, HasUnits, heads_below, is_unready, lives_in, no_unit, unit_at, unit_of, waits_in}
 use Rattle.alloc_event.specs.Dropped.{has_given_root}
 use Rattle.alloc_event.specs.Due.{is_due_at, is_served_at}
 use Rattle.alloc_event.specs.Forest.{Collection, beside, with_nodes}
 use Rattle.alloc_event.specs.InPlace.{IsMade, IsOpen, bit, is_plain}
 use Rattle.alloc_event.specs.Kept.{Finishes, IsStored, IsWhole, Shelf, Stores, collection_in, forest_of, is_filed, is_strong, nodes_with}
-use Rattle.alloc_event.specs.Nodes.{affected, is_over, is_of}
+use Rattle.alloc_event.specs.Nodes.{affected, is_over}
 use Rattle.alloc_event.specs.Questions.{is_allocated_node, is_live_node}
 use Rattle.alloc_event.specs.Settling.{Rests, changed, collection_or_new, given_back, is_there, no_key, put, standing}
 use Rattle.alloc_event.specs.Units.{is_head}
@@ -39,8 +38,9 @@ use Rattle.alloc_event.proofs.calm.Resting.{back_kept, rests_kept, roots_stay}
 use Rattle.alloc_event.proofs.changes.Done.{done_by}
 use Rattle.alloc_event.proofs.changes.Finishing.{collection-beside}
 use Rattle.alloc_event.proofs.tables.Hanging.{all_in, in_all, looked_there}
-use Rattle.alloc_event.proofs.tallies.Holding.{hangs_in, head_there, holds_unit}
-use Rattle.alloc_event.proofs.calm.Keeping.{calm_changed, has_turn, lives_held}
+use Rattle.alloc_event.proofs.tallies.Holding.{head_there, holds_unit}
+use Rattle.alloc_event.proofs.tallies.Hung.{below_mapped}
+use Rattle.alloc_event.proofs.calm.Keeping.{below_held, calm_changed, has_turn, lives_held}
 use Rattle.alloc_event.proofs.tables.LeftParents.{loss_left}
 use Rattle.alloc_event.proofs.lists.Lookups.{looked-map}
 use Rattle.alloc_event.proofs.shelves.Putting.{put-map}
@@ -301,6 +301,10 @@ module _ (t now : Table Node) (us : List Unit) (key : NodeKey) (effect : Effect)
       subst (λ (d : Collection). HasUnits after d.nodes) (sym (x.2 ∙ ap (collection_in now) one)) (subst (HasUnits after) (sym nodes_now)
       has))
 
+  -- no effect changes how many units hang right below one
+  below_same : (k : NodeKey) → times (heads_below (map f nodes) k) (map f nodes) ≡ times (heads_below nodes k) nodes
+  below_same k = below_mapped f same nodes (λ m. (remains_affected key effect m).gone) k
+
   -- an effect that neither releases nor sets constraints changes no count of units
   pub plain_made : is_plain effect ≡ true → (lives : ℕ) → lives ≡ strong_count (map f nodes) →
       IsMade t now us ss s (Change.Effect key effect) lives
@@ -315,7 +319,8 @@ module _ (t now : Table Node) (us : List Unit) (key : NodeKey) (effect : Effect)
           (not ((p m).gone i) && not ((p m).released i)) && same_key ((p m).head i) k) in
           let w = times_map (waits_in k) (waits_in k) f nodes (λ m. λ i.
           not ((p m).gone i || (not (same_key ((p m).head i) k) || ((p m).released i || (p m).asks i)))) in
-          λ i. record { live = l i; unready = w i }
+          let b = below_same k in
+          λ i. record { live = l i; unready = w i; below = b i }
 
   -- ---- where the counts of the unit change
 
@@ -352,37 +357,6 @@ module _ (t now : Table Node) (us : List Unit) (key : NodeKey) (effect : Effect)
       ∙ (count_is (waits_in n.head)
       ∙ (λ i. (sym (unit_is within) i).unready + bit (waits_own n.head (f n) own_unit_now i)))
 
-  own_of : n.collection ≡ s.id
-  own_of = eqb-true n.collection s.id (all-In (λ (x : Node). x.collection == s.id) nodes n on
-      (looked-of t s.id s.keys (found_filed t s.id ss s opens.kept.filed opens.found)))
-
-  -- an attached child holds the unit
-  below_holds : HasBelow t key n.collection → list_any (holds_unit (map f nodes) n.head) (map f nodes) ≡ true
-  below_holds below =
-      let m : Node = below.node in
-      let there : is_there (forest_of t ss) s.id below.child ≡ true =
-      ap (λ (o : Option Node). option_map_or (λ (x : Node). x.collection == s.id && not x.gone) o false)
-      (node_is t ss opens.kept below.child ∙ below.at)
-      ∙ and_both (m.collection == s.id) (not m.gone) (eq-eqb m.collection s.id (below.of ∙ own_of)) (ap not below.here) in
-      let found : IsLeft nodes below.child =
-      left_node nodes below.child (loss_left t ss opens.kept s.id (Change.Loss below.child Cause.Lost)
-      (record { named = there; room = λ e. cc; heads = refl; trackers = λ k x e. cc }) s opens.found) in
-      let both : Some m ≡ Some found.node = sym below.at ∙ (ap (node_at t) (sym found.is) ∙ at_key found.node found.on) in
-      let one : m ≡ found.node = cc in
-      let child_on : In m nodes = subst (λ (x : Node). In x nodes) (sym one) found.on in
-      let up : (f m).parent ≡ Some key = (same m).parent ∙ sym (opens.kept.linked below.child m below.at below.here) ∙ below.under in
-      let in_unit : list_any (λ (q : Node). is_of key q && same_key q.head n.head) (map f nodes) ≡ true =
-      In-any (λ (q : Node). is_of key q && same_key q.head n.head) (map f nodes) (f n) (In-map-back f nodes n on)
-      (and_both (is_of key (f n)) (same_key (f n).head n.head) (ap (λ (k : NodeKey). same_key k key) own
-      ∙ same_key-refl key) own_unit_now) in
-      let hangs : hangs_in (map f nodes) n.head (f m) ≡ true =
-      ap (λ (o : Option NodeKey). option_map_or (λ p. list_any (λ (q : Node). is_of p q && same_key q.head n.head) (map f nodes)) o false)
-      up ∙ in_unit in
-      In-any (holds_unit (map f nodes) n.head) (map f nodes) (f m) (In-map-back f nodes m child_on)
-      (and_both (not (f m).gone) _ (ap not ((remains_affected key effect m).gone ∙ below.here))
-      (or_right (same_key (f m).head n.head && not (f m).released) ((f m).attached && hangs_in (map f nodes) n.head (f m))
-      (and_both (f m).attached (hangs_in (map f nodes) n.head (f m)) ((same m).attached ∙ below.attached) hangs)))
-
   -- a unit that is not due has its buffers, or the one above it has none
   turnless : (h : Node) → In h nodes → (o : Option NodeKey) → h.parent ≡ o → option_map_or (is_served_at t) o true ≡ false →
       option_map_or (λ parent. list_any (is_allocated_node parent) nodes) o true ≡ false
@@ -409,7 +383,7 @@ module _ (t now : Table Node) (us : List Unit) (key : NodeKey) (effect : Effect)
   ]
 
   module _ (within : n.head.slot < length us) (next : Unit) (live_next : next.live ≡ times (lives_in n.head) (map f nodes))
-      (unready_next : next.unready ≡ times (waits_in n.head) (map f nodes)) where
+      (unready_next : next.unready ≡ times (waits_in n.head) (map f nodes)) (below_next : next.below ≡ (unit_at us n.head.slot).below) where
     abbrev after_one : List Unit
     after_one = set us n.head.slot next
 
@@ -437,7 +411,11 @@ module _ (t now : Table Node) (us : List Unit) (key : NodeKey) (effect : Effect)
         let h : bit (waits_in k (f n)) ≡ 0 = ap bit (waits_other k (f n) other_now) in
         let l : times (lives_in k) (map f nodes) ≡ times (lives_in k) nodes = omega arith in
         let w : times (waits_in k) (map f nodes) ≡ times (waits_in k) nodes = omega arith in
-        λ i. record { live = l i; unready = w i }
+        let b = below_same k in
+        λ i. record { live = l i; unready = w i; below = b i }
+
+    below_now : next.below ≡ times (heads_below (map f nodes) n.head) (map f nodes)
+    below_now = below_next ∙ ap (λ (u : Unit). u.below) (unit_is within) ∙ sym (below_same n.head)
 
     has_one : HasUnits after_one (map f nodes)
     has_one = all_in (λ (m : Node). m.key.slot < length after_one → unit_at after_one m.key.slot ≡ unit_of (map f nodes) m.key)
@@ -451,7 +429,8 @@ module _ (t now : Table Node) (us : List Unit) (key : NodeKey) (effect : Effect)
             x.key.slot < length after_one → unit_at after_one x.key.slot ≡ unit_of (map f nodes) x.key
         one_of x there (inl e) inside =
             subst (λ (k : NodeKey). unit_at after_one k.slot ≡ unit_of (map f nodes) k) (same_key-true n.head x.key e)
-            (get_or-set_same us n.head.slot next no_unit within ∙ (λ i. record { live = live_next i; unready = unready_next i }))
+            (get_or-set_same us n.head.slot next no_unit within
+            ∙ (λ i. record { live = live_next i; unready = unready_next i; below = below_now i }))
         one_of x there (inr e) inside =
             get_or-set_other us n.head.slot x.key.slot next no_unit (λ slots.
             let one : x.key ≡ n.head = one_slot t x.key n.head x head.0 (at_key x there) head_at slots in
@@ -462,7 +441,7 @@ module _ (t now : Table Node) (us : List Unit) (key : NodeKey) (effect : Effect)
 
     -- something holds the unit, and where it is due it does not become ready
     pub counted_made : (lives : ℕ) → lives ≡ strong_count (map f nodes) →
-        (0 < next.live) ⊎ HasBelow t key n.collection →
+        (0 < next.live) ⊎ (0 < next.below) →
         (is_unready n ≡ false) ⊎ ((0 < next.unready) ⊎ (is_due_at t n.head ≡ false)) →
         IsMade t now after_one ss s (Change.Effect key effect) lives
     counted_made lives lives_is live guard =
@@ -472,9 +451,9 @@ module _ (t now : Table Node) (us : List Unit) (key : NodeKey) (effect : Effect)
         (holds live) (guarded guard) opens.calm))
         (units_join after_one stays_one has_one)
       where
-        holds : (0 < next.live) ⊎ HasBelow t key n.collection → list_any (holds_unit (map f nodes) n.head) (map f nodes) ≡ true
+        holds : (0 < next.live) ⊎ (0 < next.below) → list_any (holds_unit (map f nodes) n.head) (map f nodes) ≡ true
         holds (inl some) = lives_held (map f nodes) n.head (omega (arith, live_next, some))
-        holds (inr below) = below_holds below
+        holds (inr some) = below_held (map f nodes) n.head (omega (arith, below_now, some))
 
         guarded : (is_unready n ≡ false) ⊎ ((0 < next.unready) ⊎ (is_due_at t n.head ≡ false)) →
             (waits_in n.head n ≡ false) ⊎ ((0 < times (waits_in n.head) (map f nodes)) ⊎ (((h : Node) → In h nodes → h.key ≡ n.head →

@@ -1,4 +1,4 @@
--- A loss that takes the root takes all that is left of a collection, and nothing is forced in one that is gone.
+-- What takes the root takes all that is left of a collection, and nothing is forced in one that is gone.
 use Rattle.std.proofs.Common.{◌≡◌, ℕ, refl, ap, sym, ◌∙◌, subst, Bool, true, false, ◌||◌, inl, inr, List, [], ◌∷◌, map, reverse, drop, Option, Some, None, is_none, is_some, arith}
 use Rattle.std.proofs.lemmas.Map.Views.{Contains-from_any, list_any-from_Contains}
 use Rattle.std.specs.List.{find, list_all, list_any}
@@ -6,20 +6,18 @@ use Rattle.std.specs.Option.{option_map_or}
 use Rattle.std.proofs.Math.Bool.{and-false}
 use Rattle.sm_names.specs.declared.keys.NodeKey.{NodeKey}
 use Rattle.sm_names.specs.declared.outcomes.Buffers.{Buffers}
-use Rattle.sm_names.specs.declared.outcomes.Fault.{Fault}
 use Rattle.sm_names.specs.Losses.{Down, Reach}
 use Rattle.sm_names.specs.Sameness.{same_key}
 use Rattle.sm_names.proofs.ListLaws.{In, In-map, In-reverse, In-reverse-back}
-use Rattle.sm_names.proofs.SamenessLaws.{and_left, and_right, both_ways, either_way, or_left, same_key-refl, same_key-true}
+use Rattle.sm_names.proofs.SamenessLaws.{and_both, and_left, and_right, both_ways, either_way, or_left, same_key-refl, same_key-true}
 use Rattle.node_table.specs.Table.{Table, node_at, parent_at}
 use Rattle.failure_domains.specs.Falls.{blocked_at}
-use Rattle.alloc_event.specs.declared.change.Change.{Change}
 use Rattle.alloc_event.specs.declared.falling.Going.{Going}
 use Rattle.alloc_event.specs.declared.node.Node.{Node}
 use Rattle.alloc_event.specs.declared.units.Unit.{Unit}
 use Rattle.alloc_event.specs.Calm.{strong_count}
 use Rattle.alloc_event.specs.Decisions.{decided, is_left_of}
-use Rattle.alloc_event.specs.Falling.{IsTaken, takes_root}
+use Rattle.alloc_event.specs.Falling.{IsTaken, change_of, takes_root}
 use Rattle.alloc_event.specs.InPlace.{IsOpen}
 use Rattle.alloc_event.specs.Kept.{IsWhole, Shelf, all_of, collection_in, is_strong, nodes_with}
 use Rattle.alloc_event.specs.Questions.{is_deserted_node, is_next_node, is_root_left}
@@ -91,6 +89,16 @@ none_decides ns buffers strong_open gone =
     no_later None = refl
     no_later (Some b) = rw no_next refl
 
+-- and they hang on their parents
+pub rooted_gone : (ns : List Node) → AreGone ns → are_rooted (reverse ns) ≡ true
+rooted_gone ns gone = from (reverse ns) (λ n on. gone n (In-reverse ns n on))
+  where
+    from : (ms : List Node) → AreGone ms → are_rooted ms ≡ true
+    from [] each = refl
+    from (m ∷ ms) each =
+        and_both (hangs_on ms m) (are_rooted ms) (or_left m.gone (option_map_or (is_left_of ms) m.parent true) (each m (inl refl)))
+        (from ms (λ n on. each n (inr on)))
+
 -- ---- what a failure of the root takes
 
 -- only one node is a root
@@ -125,21 +133,18 @@ all_hang P nodes root below (m ∷ older) part rooted n on here =
         from rest n.parent refl (rw here at first)
     by rest (inr there) = rest n there here
 
-module _ (t : Table Node) (us : List Unit) (ss : List Shelf) (s : Shelf) (fault : Fault) (strong : ℕ)
-    (opens : IsOpen t us ss s (Change.Loss fault.origin fault.cause) strong)
-    (keys : List NodeKey) (taken : IsTaken t fault.origin keys) (own : all_of s.id (nodes_with t keys) ≡ true)
+module _ (t : Table Node) (us : List Unit) (ss : List Shelf) (s : Shelf) (going : Going) (strong : ℕ)
+    (opens : IsOpen t us ss s (change_of going) strong)
+    (origin : NodeKey) (keys : List NodeKey) (taken : IsTaken t origin keys) (own : all_of s.id (nodes_with t keys) ≡ true)
     (root : takes_root t keys ≡ true) where
-  abbrev failing : Going
-  failing = Going.Fails fault
-
   abbrev nodes : List Node
   nodes = nodes_with t s.keys
 
   abbrev reached : NodeKey → Type 0
-  reached key = Reach (parent_at t) (blocked_at is_blocking t) fault.origin key
+  reached key = Reach (parent_at t) (blocked_at is_blocking t) origin key
 
   entire : IsWhole (collection_in t s)
-  entire = whole t us ss s failing strong opens fault.origin keys taken own
+  entire = whole t us ss s going strong opens origin keys taken own
 
   -- the root is among what falls
   root_falls : (r : Node) × (node_at t r.key ≡ Some r) × (list_any (same_key r.key) keys ≡ true) × (r.parent ≡ None)
@@ -167,8 +172,8 @@ module _ (t : Table Node) (us : List Unit) (ss : List Shelf) (s : Shelf) (fault 
 
   root_on : In root_falls.0 nodes
   root_on =
-      within t us ss s failing strong opens fault.origin keys taken own root_falls.0
-      (in_looked t opens.kept.named failing keys root_falls.0 root_falls.1 root_falls.2)
+      within t us ss s going strong opens origin keys taken own root_falls.0
+      (in_looked t opens.kept.named going keys root_falls.0 root_falls.1 root_falls.2)
 
   root_reached : reached root_falls.0.key
   root_reached = (taken.fall root_falls.0.key).0 (Contains-from_any same_key-true root_falls.0.key keys root_falls.2)
@@ -181,14 +186,14 @@ module _ (t : Table Node) (us : List Unit) (ss : List Shelf) (s : Shelf) (fault 
       (λ x there left none. subst (λ (y : Node). reached y.key)
       (one_root nodes entire.sound.one_root root_falls.0 x root_on there root_falls.3 none) root_reached)
       (λ p x there left up above. Down p.key x.key above
-      (linked t us ss s failing strong opens fault.origin keys taken own x there left ∙ up))
+      (linked t us ss s going strong opens origin keys taken own x there left ∙ up))
       (reverse nodes) (λ x there. In-reverse nodes x there) entire.rooted n (In-reverse-back nodes n on) here))
 
   -- so all are gone then
-  pub all_gone : AreGone (map (f t us ss s failing strong opens fault.origin keys taken own) nodes)
+  pub all_gone : AreGone (map (f t us ss s going strong opens origin keys taken own) nodes)
   all_gone n on =
-      let x = In-map (f t us ss s failing strong opens fault.origin keys taken own) nodes n on in
-      ap (λ (m : Node). m.gone) x.2 ∙ (gone_of failing keys x.0 ∙ elim (either_way x.0.gone) [
+      let x = In-map (f t us ss s going strong opens origin keys taken own) nodes n on in
+      ap (λ (m : Node). m.gone) x.2 ∙ (gone_of going keys x.0 ∙ elim (either_way x.0.gone) [
         | inl e ↦ or_right' (list_any (same_key x.0.key) keys) x.0.gone e
         | inr e ↦ or_left (list_any (same_key x.0.key) keys) x.0.gone (all_taken x.0 x.1 e)
       ])

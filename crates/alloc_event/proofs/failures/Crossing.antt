@@ -14,7 +14,7 @@ use Rattle.sm_names.proofs.StandingLaws.{In-any}
 use Rattle.sm_names.proofs.SizeLaws.{all_on}
 use Rattle.alloc_event.specs.declared.node.Node.{Node}
 use Rattle.alloc_event.specs.Calm.{IsCalm}
-use Rattle.alloc_event.specs.Counts.{lives_in, waits_in}
+use Rattle.alloc_event.specs.Counts.{waits_in}
 use Rattle.alloc_event.specs.Decisions.{is_left_of, later_step, waiting}
 use Rattle.alloc_event.specs.Forest.{Collection, with_nodes}
 use Rattle.alloc_event.specs.Kept.{IsWhole}
@@ -24,13 +24,13 @@ use Rattle.alloc_event.specs.Scenes.{are_distinct, heads_itself}
 use Rattle.alloc_event.specs.Units.{is_head}
 use Rattle.alloc_event.proofs.calm.Calming.{AreNone, calm_none, count_none, later, none_calm}
 use Rattle.alloc_event.proofs.tallies.Holding.{are_held, hangs_in, held_where, holds_unit, is_held, line, none_deserted, own_head, shared, step, still_here}
-use Rattle.alloc_event.proofs.calm.Keeping.{lives_held, some_pass}
+use Rattle.alloc_event.proofs.calm.Keeping.{some_pass}
 use Rattle.alloc_event.proofs.tables.Rooted.{left_parent}
 use Rattle.alloc_event.proofs.calm.Steps.{all-In}
 use Rattle.alloc_event.proofs.tables.Writing.{IsSameNode}
 
 -- what is found, where tests agree
-find-In : {A : Type 0} (p q : A → Bool) (f : A → A) (xs : List A) → ((x : A) → In x xs → p (f x) ≡ q x) →
+pub find-In : {A : Type 0} (p q : A → Bool) (f : A → A) (xs : List A) → ((x : A) → In x xs → p (f x) ≡ q x) →
     find p (map f xs) ≡ option_map f (find q xs)
 find-In p q f [] same = refl
 find-In {A = A} p q f (x ∷ xs) same = elim (either_way (q x)) [
@@ -313,12 +313,13 @@ module _ (c : Collection) (whole : IsWhole c) (falls : NodeKey → Bool) (top ab
           none_made (Some n) h = cc
 
       -- so nothing is forced
-      pub calm_fallen : IsWhole (with_nodes (map f) c) → 0 < times (lives_in above.head) now → IsCalm c → IsCalm (with_nodes (map f) c)
-      calm_fallen whole' lives calm =
+      pub calm_fallen : IsWhole (with_nodes (map f) c) → list_any (holds_unit now above.head) now ≡ true → IsCalm c →
+          IsCalm (with_nodes (map f) c)
+      calm_fallen whole' holds calm =
           let was : AreNone nodes c.buffers = none_calm c calm in
           let held : are_held nodes ≡ true =
           held_where nodes distinct heads whole.rooted whole.united (none-find (is_deserted_node nodes) nodes was.no_end) in
-          let held' : are_held now ≡ true = held_now (lives_held now above.head lives) held in
+          let held' : are_held now ≡ true = held_now holds held in
           calm_none (with_nodes (map f) c) (record {
             no_end = find-none (is_deserted_node now) now
                 (none_deserted now whole'.sound.distinct whole'.sound.heads whole'.rooted whole'.united held');

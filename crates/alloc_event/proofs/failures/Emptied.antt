@@ -1,5 +1,5 @@
 -- Nodes that fail leave the unit above them without a live node, and it ends.
-use Rattle.std.proofs.Common.{◌≡◌, ℕ, ◌+◌, ◌<◌, refl, ap, sym, ◌∙◌, subst, Bool, true, false, not, ◌&&◌, ◌||◌, ◌⊎◌, inl, inr, if◌then◌else◌, List, map, length, Vec, Global}
+use Rattle.std.proofs.Common.{Bor, ◌≡◌, ℕ, ◌+◌, ◌<◌, refl, ap, sym, ◌∙◌, subst, Bool, true, false, not, ◌&&◌, ◌||◌, ◌⊎◌, inl, inr, if◌then◌else◌, List, map, length}
 use Rattle.std.proofs.lemmas.Bool.{not-true}
 use Rattle.std.specs.List.{list_any}
 use Rattle.sm_names.specs.declared.keys.NodeKey.{NodeKey}
@@ -16,7 +16,7 @@ use Rattle.alloc_event.specs.declared.units.Unit.{Unit}
 use Rattle.alloc_event.specs.Calm.{strong_count}
 use Rattle.alloc_event.specs.Counts.{unit_at}
 use Rattle.alloc_event.specs.Decisions.{is_left_of}
-use Rattle.alloc_event.specs.Falling.{IsLost, IsTaken, IsTop, gone_by, is_first, is_kept_up, is_spared, may_go, untallied}
+use Rattle.alloc_event.specs.Falling.{IsLost, IsTaken, IsTop, gone_by, is_first, is_kept_up, is_spared, may_go, unreckoned}
 use Rattle.alloc_event.specs.InPlace.{IsOpen}
 use Rattle.alloc_event.specs.Kept.{IsWhole, Shelf, Stores, all_of, collection_in, nodes_with}
 use Rattle.alloc_event.specs.Nodes.{after_loss, lost}
@@ -33,11 +33,11 @@ use Rattle.alloc_event.proofs.tables.LeftParents.{loss_left}
 use Rattle.alloc_event.proofs.tables.Rooted.{IsRooted, distinct_one, left_node}
 use Rattle.alloc_event.proofs.tables.Writing.{IsSameNode}
 
-module _ (t : Table Node) (us : List Unit) (ss : List Shelf) (s : Shelf) (fault : Fault) (failing : Vec NodeKey Global) (strong : ℕ)
-    (opens : IsOpen t us ss s (Change.Loss fault.origin fault.cause) strong) (fall : IsFall t fault.origin failing.items)
+module _ (t : Table Node) (us : List Unit) (ss : List Shelf) (s : Shelf) (fault : Fault) (failing : Bor (List NodeKey)) (strong : ℕ)
+    (opens : IsOpen t us ss s (Change.Loss fault.origin fault.cause) strong) (fall : IsFall t fault.origin failing.now)
     (origin : NodeKey) (keys : List NodeKey) (taken : IsTaken t origin keys) (own : all_of s.id (nodes_with t keys) ≡ true)
     (head : NodeKey) (attached : Bool) (top : IsTop t keys head attached) (inside : head.slot < length us)
-    (kept_up : is_kept_up t (unit_at us head.slot) (unit_at (untallied (nodes_with t keys) us) head.slot) head attached ≡ true)
+    (kept_up : is_kept_up t (unit_at us head.slot) (unit_at (unreckoned t (nodes_with t keys) us) head.slot) head attached ≡ true)
     (may : may_go (Going.Ends fault failing) origin attached keys (nodes_with t keys) ≡ true) where
   abbrev ending : Going
   ending = Going.Ends fault failing
@@ -50,7 +50,7 @@ module _ (t : Table Node) (us : List Unit) (ss : List Shelf) (s : Shelf) (fault 
 
   -- the node is one of those that fail
   abbrev fails : Node → Bool
-  fails n = list_any (same_key n.key) failing.items
+  fails n = list_any (same_key n.key) failing.now
 
   -- what the loss makes of a node
   abbrev g : Node → Node
@@ -67,17 +67,17 @@ module _ (t : Table Node) (us : List Unit) (ss : List Shelf) (s : Shelf) (fault 
       same_key-true top.key origin (subst (λ (ks : List NodeKey). is_first origin ks ≡ true) top.first first)
 
   later : (among fault.origin
-      && (not (list_any (same_key origin) failing.items) && not (list_any (is_spared failing.items) (nodes_with t keys)))) ≡ true
+      && (not (list_any (same_key origin) failing.now) && not (list_any (is_spared failing.now) (nodes_with t keys)))) ≡ true
   later = and_right (is_first origin keys) _ (and_right attached _ may)
 
   listed : among fault.origin ≡ true
   listed = and_left (among fault.origin) _ later
 
-  spared : list_any (same_key origin) failing.items ≡ false
-  spared = not-true _ (and_left (not (list_any (same_key origin) failing.items)) _ (and_right (among fault.origin) _ later))
+  spared : list_any (same_key origin) failing.now ≡ false
+  spared = not-true _ (and_left (not (list_any (same_key origin) failing.now)) _ (and_right (among fault.origin) _ later))
 
-  none_stays : list_any (is_spared failing.items) (nodes_with t keys) ≡ false
-  none_stays = not-true _ (and_right (not (list_any (same_key origin) failing.items)) _ (and_right (among fault.origin) _ later))
+  none_stays : list_any (is_spared failing.now) (nodes_with t keys) ≡ false
+  none_stays = not-true _ (and_right (not (list_any (same_key origin) failing.now)) _ (and_right (among fault.origin) _ later))
 
   -- ---- the nodes
 
@@ -101,7 +101,7 @@ module _ (t : Table Node) (us : List Unit) (ss : List Shelf) (s : Shelf) (fault 
 
   -- the highest does not fail
   top_out : fails top.node ≡ false
-  top_out = ap (λ (k : NodeKey). list_any (same_key k) failing.items) key_e ∙ spared
+  top_out = ap (λ (k : NodeKey). list_any (same_key k) failing.now) key_e ∙ spared
 
   -- it lies above where the failure began
   begins_below : is_below members top.node.key fault.origin ≡ true
@@ -114,7 +114,7 @@ module _ (t : Table Node) (us : List Unit) (ss : List Shelf) (s : Shelf) (fault 
   fails_among : (n : Node) → In n members → n.gone ≡ false → fails n ≡ true → among n.key ≡ true
   fails_among n on here h =
       takes_e n on here
-      ∙ fall_within t members tied_e fault.origin left_e failing.items fall top.node top_in top.here top_out begins_below n on here h
+      ∙ fall_within t members tied_e fault.origin left_e failing.now fall top.node top_in top.here top_out begins_below n on here h
 
   -- ---- what the loss makes of them
 
@@ -149,9 +149,9 @@ module _ (t : Table Node) (us : List Unit) (ss : List Shelf) (s : Shelf) (fault 
       let there : In n (nodes_with t keys) =
       in_looked t opens.kept.named ending keys n (at_key t us ss s ending strong opens origin keys taken own n on) h in
       ap is_live_node (g_in n h)
-      ∙ elim (either_way (is_spared failing.items n)) [
-        | inl e ↦ both_ways (list_any (is_spared failing.items) (nodes_with t keys))
-            (In-any (is_spared failing.items) (nodes_with t keys) n there e) none_stays
+      ∙ elim (either_way (is_spared failing.now n)) [
+        | inl e ↦ both_ways (list_any (is_spared failing.now) (nodes_with t keys))
+            (In-any (is_spared failing.now) (nodes_with t keys) n there e) none_stays
         | inr e ↦ from n.gone n.released (fails n) e
       ]
     where
@@ -164,7 +164,7 @@ module _ (t : Table Node) (us : List Unit) (ss : List Shelf) (s : Shelf) (fault 
   -- the loss takes just those
   g_is : map g members ≡ after_loss fault members
   g_is = map-In g (lost fails fault) members (λ n on. one n on (either_way (among n.key)) (either_way n.gone))
-      ∙ losses_by_fall t members tied_e fault left_e failing.items fall
+      ∙ losses_by_fall t members tied_e fault left_e failing.now fall
     where
       one : (n : Node) → In n members → (among n.key ≡ true) ⊎ (among n.key ≡ false) → (n.gone ≡ true) ⊎ (n.gone ≡ false) →
           g n ≡ lost fails fault n
@@ -183,7 +183,7 @@ module _ (t : Table Node) (us : List Unit) (ss : List Shelf) (s : Shelf) (fault 
 
   pub ends_made : (now : Table Node) → Stores t now (map (gone_by ending) (nodes_with t keys)) →
       (lives : ℕ) → lives + strong_count (nodes_with t keys) ≡ strong →
-      IsLost t now (untallied (nodes_with t keys) us) ss s (Change.Loss fault.origin fault.cause) lives
+      IsLost t now (unreckoned t (nodes_with t keys) us) ss s (Change.Loss fault.origin fault.cause) lives
       (map (gone_by ending) (nodes_with t keys))
   ends_made now stores =
       ended_made t us ss s ending strong opens origin keys taken own head attached top inside kept_up is_attached stands_first

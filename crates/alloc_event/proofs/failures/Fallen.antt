@@ -22,8 +22,8 @@ use Rattle.alloc_event.specs.declared.node.Node.{Node}
 use Rattle.alloc_event.specs.declared.units.Unit.{Unit}
 use Rattle.alloc_event.specs.Calm.{IsCalm, strong_count}
 use Rattle.alloc_event.specs.Dropped.{has_given_root}
-use Rattle.alloc_event.specs.Counts.{AreUnits, AreUnitsBut, HasUnits, lives_in, unit_at, unit_of, waits_in}
-use Rattle.alloc_event.specs.Falling.{change_of, gone_by, IsLost, IsTaken, IsTop, is_kept_up, untallied}
+use Rattle.alloc_event.specs.Counts.{AreUnits, AreUnitsBut, HasUnits, hangs_in, head_above, heads_below, is_held_by, lives_in, unit_at, unit_of, waits_in}
+use Rattle.alloc_event.specs.Falling.{change_of, gone_by, IsLost, IsTaken, IsTop, is_kept_up, unreckoned, untallied}
 use Rattle.alloc_event.specs.Forest.{Collection, with_nodes}
 use Rattle.alloc_event.specs.InPlace.{IsOpen}
 use Rattle.alloc_event.specs.Kept.{IsStored, IsWhole, Shelf, Stores, all_of, collection_in, forest_of, is_filed, is_strong, nodes_with, stored, written}
@@ -31,15 +31,18 @@ use Rattle.alloc_event.specs.Reserved.{camped, reserved_count}
 use Rattle.alloc_event.specs.Settling.{Handles, Settles, standing, changed, collection_or_new, no_key}
 use Rattle.alloc_event.specs.Ties.{are_rooted, is_blocking}
 use Rattle.alloc_event.specs.Units.{GoTogether, is_head}
-use Rattle.alloc_event.proofs.changes.Altering.{found_filed, found_whole, looked-of}
+use Rattle.alloc_event.proofs.changes.Altering.{found_filed, found_whole, looked-of, same_affected}
 use Rattle.alloc_event.proofs.calm.Calming.{times_map}
 use Rattle.alloc_event.proofs.calm.Resting.{roots_stay}
 use Rattle.alloc_event.proofs.failures.Crossing.{calm_fallen}
 use Rattle.alloc_event.proofs.changes.Done.{done_led}
+use Rattle.alloc_event.proofs.changes.Effecting.{remains_affected}
 use Rattle.alloc_event.proofs.failures.Ties.{key_equivalence}
 use Rattle.alloc_event.proofs.changes.Finishing.{collection-beside, keys_in}
 use Rattle.alloc_event.proofs.tables.Hanging.{all_in, in_all, looked_there}
-use Rattle.alloc_event.proofs.tallies.Holding.{head_there}
+use Rattle.alloc_event.proofs.calm.Keeping.{below_held, lives_held}
+use Rattle.alloc_event.proofs.tallies.Holding.{head_there, holds_unit}
+use Rattle.alloc_event.proofs.tallies.Hung.{above_node, hangs_mapped, hung_is, is_hung, unhung_drops, unhung_long, unhung_other}
 use Rattle.alloc_event.proofs.tables.LeftParents.{in_shelf}
 use Rattle.alloc_event.proofs.lists.Lookups.{looked-map, same_key-swap}
 use Rattle.alloc_event.proofs.tallies.Reckoning.{lives_gone, waits_gone}
@@ -50,7 +53,7 @@ use Rattle.alloc_event.proofs.calm.Lasting.{whole_formed}
 use Rattle.alloc_event.proofs.calm.Steps.{all-In}
 use Rattle.alloc_event.proofs.calm.Together.{StepsUp, goes_up, together_taken}
 use Rattle.alloc_event.proofs.calm.United.{united_mapped}
-use Rattle.alloc_event.proofs.tallies.Untold.{but, taken_count, untallied_long, untallied_other, untallied_takes}
+use Rattle.alloc_event.proofs.tallies.Untold.{but, taken_count, times_same, untallied_long, untallied_other, untallied_takes}
 use Rattle.alloc_event.proofs.tables.Writing.{IsSameNode, IsSound-map, kept-with}
 
 -- ---- one node that goes
@@ -59,16 +62,26 @@ pub gone_same : (going : Going) (n : Node) → IsSameNode (gone_by going n) n
 gone_same (Going.Fails fault) n = record { key = refl; parent = refl; attached = refl; collection = refl; head = refl }
 gone_same (Going.Leaves key) n = record { key = refl; parent = refl; attached = refl; collection = refl; head = refl }
 gone_same (Going.Ends fault keys) n = record { key = refl; parent = refl; attached = refl; collection = refl; head = refl }
+gone_same (Going.Refused key effect fault) n =
+    let s = same_affected key effect n in
+    record { key = s.key; parent = s.parent; attached = s.attached; collection = s.collection; head = s.head }
+gone_same (Going.EndsRefused key effect fault keys) n =
+    let s = same_affected key effect n in
+    record { key = s.key; parent = s.parent; attached = s.attached; collection = s.collection; head = s.head }
 
 pub gone_is : (going : Going) (n : Node) → (gone_by going n).gone ≡ true
 gone_is (Going.Fails fault) n = refl
 gone_is (Going.Leaves key) n = refl
 gone_is (Going.Ends fault keys) n = refl
+gone_is (Going.Refused key effect fault) n = refl
+gone_is (Going.EndsRefused key effect fault keys) n = refl
 
 pub gone_given : (going : Going) (n : Node) → (gone_by going n).allocated ≡ n.allocated
 gone_given (Going.Fails fault) n = refl
 gone_given (Going.Leaves key) n = refl
 gone_given (Going.Ends fault keys) n = refl
+gone_given (Going.Refused key effect fault) n = (remains_affected key effect n).allocated
+gone_given (Going.EndsRefused key effect fault keys) n = (remains_affected key effect n).allocated
 
 -- the nodes with these keys go
 abbrev pub goes_of : Going → List NodeKey → Node → Node
@@ -231,7 +244,7 @@ module _ (t : Table Node) (us : List Unit) (ss : List Shelf) (s : Shelf) (going 
   fallen = nodes_with t keys
 
   abbrev pub new : List Unit
-  new = untallied fallen us
+  new = unreckoned t fallen us
 
   same : (n : Node) → IsSameNode (f n) n
   same n = same_of going keys n
@@ -280,6 +293,31 @@ module _ (t : Table Node) (us : List Unit) (ss : List Shelf) (s : Shelf) (going 
   head_of : (n : Node) → In n fallen → n.gone ≡ false → (h : Node) × In h nodes × (h.key ≡ n.head) × (h.gone ≡ false) × (is_head h ≡ true)
   head_of n on here = head_there nodes whole.sound.distinct whole.sound.heads whole.rooted whole.united n (within n on) here
 
+  -- and the head of the unit right above the one that it heads
+  above_of : (n : Node) → In n fallen → (h : NodeKey) → head_above t n ≡ Some h → (a : Node) × In a nodes × (a.key ≡ h)
+  above_of n on h is =
+      let x = above_node t nodes whole.sound.distinct whole.rooted at_key n (within n on) h is in
+      let a = head_there nodes whole.sound.distinct whole.sound.heads whole.rooted whole.united x.0 x.1 x.2 in
+      (a.0, a.1, a.2 ∙ x.3)
+
+  -- those that hang right below a unit are left, or fell
+  below_but : (k : NodeKey) (n : Node) → heads_below (map f nodes) k (f n) ≡ but (heads_below nodes k) keys n
+  below_but k n =
+      (λ i. not (gone_of going keys n i) && ((same n).attached i && hangs_mapped f same nodes k n i))
+      ∙ from (falls n.key) n.gone (n.attached && hangs_in nodes k n)
+    where
+      from : (x g b : Bool) → (not (x || g) && b) ≡ ((not g && b) && not x)
+      from true g b = sym (and-false (not g && b))
+      from false g b = sym (and-true (not g && b))
+
+  below_is : (k : NodeKey) →
+      times (heads_below (map f nodes) k) (map f nodes) + times (is_hung t k) fallen ≡ times (heads_below nodes k) nodes
+  below_is k =
+      (λ i. times_map (heads_below (map f nodes) k) (but (heads_below nodes k) keys) f nodes (below_but k) i
+      + times_same (is_hung t k) (heads_below nodes k) fallen (λ n on. hung_is t nodes whole.sound.distinct whole.rooted at_key k n
+      (within n on)) i)
+      ∙ taken_count t nodes whole.sound.distinct at_key opens.kept.named (heads_below nodes k) keys taken.once within
+
   unit_before : (n : Node) → In n nodes → n.key.slot < length us → unit_at us n.key.slot ≡ unit_of nodes n.key
   unit_before n on inside =
       in_all (λ (m : Node). m.key.slot < length us → unit_at us m.key.slot ≡ unit_of nodes m.key) nodes unit_has n on inside
@@ -298,12 +336,24 @@ module _ (t : Table Node) (us : List Unit) (ss : List Shelf) (s : Shelf) (going 
       (omega arith) (omega arith) in
       let e = takes.live in
       let g = takes.unready in
+      let h = takes.below in
+      let hangs : (unit_at us n.key.slot).below ≡ times (heads_below nodes n.key) nodes = ap (λ (u : Unit). u.below) was in
+      let left = below_is n.key in
+      let own_long = untallied_long fallen us in
+      let drops = unhung_drops t fallen (untallied fallen us) n.key (omega arith)
+      (λ m there j is slots. let x = above_of m there j is in
+      one_slot t j n.key x.0 n (ap (node_at t) (sym x.2) ∙ at_key x.0 x.1) (at_key n on) slots)
+      (omega arith) in
+      let dl = drops.live in
+      let dw = drops.unready in
+      let db = drops.below in
       let l : (unit_at new n.key.slot).live ≡ times (lives_in n.key) (map f nodes) = omega arith in
       let w : (unit_at new n.key.slot).unready ≡ times (waits_in n.key) (map f nodes) = omega arith in
-      λ i. record { live = l i; unready = w i }
+      let o : (unit_at new n.key.slot).below ≡ times (heads_below (map f nodes) n.key) (map f nodes) = omega arith in
+      λ i. record { live = l i; unready = w i; below = o i }
 
   long : length new ≡ length us
-  long = untallied_long fallen us
+  long = unhung_long t fallen (untallied fallen us) ∙ untallied_long fallen us
 
   pub has_now : HasUnits new (map f nodes)
   has_now = all_in (λ (m : Node). m.key.slot < length new → unit_at new m.key.slot ≡ unit_of (map f nodes) m.key) (map f nodes) (λ m there.
@@ -315,7 +365,13 @@ module _ (t : Table Node) (us : List Unit) (ss : List Shelf) (s : Shelf) (going 
   stays : Stays t s.id us new
   stays k n is differ inside = (
     subst (λ (l : ℕ). k.slot < l) long inside,
-    untallied_other fallen us k.slot (λ m there here slots.
+    unhung_other t fallen (untallied fallen us) k.slot (λ m there j above slots.
+        let h = above_of m there j above in
+        let at : node_at t j ≡ Some h.0 = ap (node_at t) (sym h.2) ∙ at_key h.0 h.1 in
+        let one : j ≡ k = one_slot t j k h.0 n at is slots in
+        let node : n ≡ h.0 = one_option n h.0 (sym is ∙ (ap (node_at t) (sym one) ∙ at)) in
+        differ (ap (λ (x : Node). x.collection) node ∙ of_it h.0 h.1))
+        ∙ untallied_other fallen us k.slot (λ m there here slots.
         let h = head_of m there here in
         let at : node_at t m.head ≡ Some h.0 = ap (node_at t) (sym h.2) ∙ at_key h.0 h.1 in
         let one : m.head ≡ k = one_slot t m.head k h.0 n at is slots in
@@ -401,7 +457,7 @@ module _ (t : Table Node) (us : List Unit) (ss : List Shelf) (s : Shelf) (going 
     pub above_one : (q : Node) → In q nodes → q.key ≡ top.above.key → q ≡ top.above
     above_one q on is = one_option q top.above (sym (at_key q on) ∙ (ap (node_at t) (is ∙ key_above) ∙ top.there))
 
-    up : (x : Node) → In x nodes → x.gone ≡ false → falls x.key ≡ true → (x ≡ top.node) ⊎ ((p : NodeKey) × (x.parent ≡ Some p) ×
+    pub up : (x : Node) → In x nodes → x.gone ≡ false → falls x.key ≡ true → (x ≡ top.node) ⊎ ((p : NodeKey) × (x.parent ≡ Some p) ×
         (falls p ≡ true))
     up x on here h =
         let listed : Contains (top.key ∷ top.rest) x.key =
@@ -444,15 +500,27 @@ module _ (t : Table Node) (us : List Unit) (ss : List Shelf) (s : Shelf) (going 
     after_unit = subst (λ (k : NodeKey). k.slot < length us → unit_at new k.slot ≡ unit_of (map f nodes) k) key_head
         (unit_after above_head.0 above_head.1) inside
 
-    pub lives : 0 < times (lives_in top.above.head) (map f nodes)
-    lives =
-        subst (λ (k : NodeKey). 0 < times (lives_in k) (map f nodes)) top.head_is
-        (subst (λ (u : Unit). 0 < u.live) after_unit (ltb-true 0 (unit_at new head.slot).live
-        (and_left (nat_lt 0 (unit_at new head.slot).live) _ kept_up)))
+    -- a node of the unit above is live still, or a head hangs right below it
+    pub held_up : (0 < times (lives_in top.above.head) (map f nodes))
+        ⊎ (0 < times (heads_below (map f nodes) top.above.head) (map f nodes))
+    held_up = elim (or_cases (nat_lt 0 (unit_at new head.slot).live) (nat_lt 0 (unit_at new head.slot).below)
+        (and_left (is_held_by (unit_at new head.slot)) _ kept_up)) [
+          | inl e ↦ inl (subst (λ (k : NodeKey). 0 < times (lives_in k) (map f nodes)) top.head_is
+              (subst (λ (u : Unit). 0 < u.live) after_unit (ltb-true 0 (unit_at new head.slot).live e)))
+          | inr e ↦ inr (subst (λ (k : NodeKey). 0 < times (heads_below (map f nodes) k) (map f nodes)) top.head_is
+              (subst (λ (u : Unit). 0 < u.below) after_unit (ltb-true 0 (unit_at new head.slot).below e)))
+        ]
+
+    -- so something holds it
+    holds : list_any (holds_unit (map f nodes) top.above.head) (map f nodes) ≡ true
+    holds = elim held_up [
+      | inl some ↦ lives_held (map f nodes) top.above.head some
+      | inr some ↦ below_held (map f nodes) top.above.head some
+    ]
 
     guard : (top.node.attached ≡ true) ⊎ ((times (waits_in top.above.head) nodes ≡ 0) ⊎ ((0 < times (waits_in top.above.head) (map f nodes))
         ⊎ ((h : Node) → In h nodes → h.key ≡ top.above.head → h.allocated ≡ true)))
-    guard = elim (or_cases attached _ (and_right (nat_lt 0 (unit_at new head.slot).live) _ kept_up)) [
+    guard = elim (or_cases attached _ (and_right (is_held_by (unit_at new head.slot)) _ kept_up)) [
       | inl a ↦ inl (sym top.attached_is ∙ a)
       | inr a ↦ inr (elim (or_cases ((unit_at us head.slot).unready == 0) _ a) [
         | inl b ↦ inl (ap (λ (k : NodeKey). times (waits_in k) nodes) (sym top.head_is) ∙ (ap (λ (u : Unit). u.unready) (sym before_is)
@@ -537,7 +605,7 @@ module _ (t : Table Node) (us : List Unit) (ss : List Shelf) (s : Shelf) (going 
       calm_now = subst IsCalm (sym now_is)
           (calm_fallen (collection_in t s) whole falls top.node top.above up (λ on here. top_up) above_one f same (given_of going keys)
           (gone_of going keys)
-          (λ n out. goes_not going keys n out) guard whole_after lives opens.calm)
+          (λ n out. goes_not going keys n out) guard whole_after holds opens.calm)
 
       -- a root that has buffers had them
       roots : has_given_root t s.keys ≡ false → has_given_root now s.keys ≡ false

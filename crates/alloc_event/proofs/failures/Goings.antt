@@ -17,7 +17,7 @@ use Rattle.alloc_event.specs.declared.units.Unit.{Unit}
 use Rattle.alloc_event.specs.Calm.{strong_count}
 use Rattle.alloc_event.specs.Counts.{unit_at}
 use Rattle.alloc_event.specs.Decisions.{is_left_of}
-use Rattle.alloc_event.specs.Falling.{IsFailing, IsLost, IsTaken, IsTop, change_of, gone_by, is_first, is_kept_up, may_go, stays_live, untallied}
+use Rattle.alloc_event.specs.Falling.{IsFailing, IsLost, IsTaken, IsTop, change_of, gone_by, is_first, is_kept_up, may_go, stays_live, unreckoned}
 use Rattle.alloc_event.specs.Forest.{with_nodes}
 use Rattle.alloc_event.specs.InPlace.{IsOpen}
 use Rattle.alloc_event.specs.Kept.{IsWhole, Shelf, Stores, all_of, collection_in, nodes_with}
@@ -31,6 +31,8 @@ use Rattle.alloc_event.proofs.failures.Emptied.{ends_made}
 use Rattle.alloc_event.proofs.failures.Endings.{change_nodes, ended_made}
 use Rattle.alloc_event.proofs.failures.Fallen.{at_key, f, goes_in, goes_not, in_looked, made_by, now_is, whole}
 use Rattle.alloc_event.proofs.failures.Ties.{losses_by_fall}
+use Rattle.alloc_event.proofs.refusals.Emptied.{ends_refused}
+use Rattle.alloc_event.proofs.refusals.Made.{refused_made}
 use Rattle.alloc_event.proofs.tables.Hanging.{looked_hung, looked_tied}
 use Rattle.alloc_event.proofs.tables.KeptRoots.{rooted_effect, rooted_loss}
 use Rattle.alloc_event.proofs.tables.LeftParents.{loss_left}
@@ -77,13 +79,13 @@ module _ (t : Table Node) (us : List Unit) (ss : List Shelf) (s : Shelf) (fault 
       ∙ (rooted_loss kept_nodes (record { one = distinct_one kept_nodes whole_c.sound.distinct; rooted = whole_c.rooted }) fault).rooted
 
   module _ (head : NodeKey) (attached : Bool) (top : IsTop t keys head attached) (inside : head.slot < length us)
-      (kept_up : is_kept_up t (unit_at us head.slot) (unit_at (untallied (nodes_with t keys) us) head.slot) head attached ≡ true)
+      (kept_up : is_kept_up t (unit_at us head.slot) (unit_at (unreckoned t (nodes_with t keys) us) head.slot) head attached ≡ true)
       (now : Table Node) (stores : Stores t now (map (gone_by failing) (nodes_with t keys))) where
     fails_now : collection_in now s ≡ with_nodes (map fails) (collection_in t s)
     fails_now = now_is t us ss s failing strong opens fault.origin keys taken own head attached top inside kept_up now stores rooted_fails
 
     pub fails_made : (lives : ℕ) → lives + strong_count (nodes_with t keys) ≡ strong →
-        IsLost t now (untallied (nodes_with t keys) us) ss s (Change.Loss fault.origin fault.cause) lives
+        IsLost t now (unreckoned t (nodes_with t keys) us) ss s (Change.Loss fault.origin fault.cause) lives
         (map (gone_by failing) (nodes_with t keys))
     fails_made =
         made_by t us ss s failing strong opens fault.origin keys taken own head attached top inside kept_up now stores rooted_fails
@@ -98,7 +100,7 @@ module _ (t : Table Node) (us : List Unit) (ss : List Shelf) (s : Shelf) (key : 
     (opens : IsOpen t us ss s (Change.Effect key Effect.Released) strong)
     (origin : NodeKey) (keys : List NodeKey) (taken : IsTaken t origin keys) (own : all_of s.id (nodes_with t keys) ≡ true)
     (head : NodeKey) (attached : Bool) (top : IsTop t keys head attached) (inside : head.slot < length us)
-    (kept_up : is_kept_up t (unit_at us head.slot) (unit_at (untallied (nodes_with t keys) us) head.slot) head attached ≡ true)
+    (kept_up : is_kept_up t (unit_at us head.slot) (unit_at (unreckoned t (nodes_with t keys) us) head.slot) head attached ≡ true)
     (may : may_go (Going.Leaves key) origin attached keys (nodes_with t keys) ≡ true) where
   abbrev leaving : Going
   leaving = Going.Leaves key
@@ -162,7 +164,7 @@ module _ (t : Table Node) (us : List Unit) (ss : List Shelf) (s : Shelf) (key : 
 
   pub leaves_made : (now : Table Node) → Stores t now (map (gone_by leaving) (nodes_with t keys)) →
       (lives : ℕ) → lives + strong_count (nodes_with t keys) ≡ strong →
-      IsLost t now (untallied (nodes_with t keys) us) ss s (Change.Effect key Effect.Released) lives
+      IsLost t now (unreckoned t (nodes_with t keys) us) ss s (Change.Effect key Effect.Released) lives
       (map (gone_by leaving) (nodes_with t keys))
   leaves_made now stores =
       ended_made t us ss s leaving strong opens origin keys taken own head attached top inside kept_up is_attached stands_first
@@ -177,11 +179,11 @@ pub lost_made : (t : Table Node) (us : List Unit) (ss : List Shelf) (s : Shelf) 
     IsOpen t us ss s (change_of going) strong →
     (origin : NodeKey) (keys : List NodeKey) → IsTaken t origin keys → all_of s.id (nodes_with t keys) ≡ true →
     (head : NodeKey) (attached : Bool) → IsTop t keys head attached → head.slot < length us →
-    is_kept_up t (unit_at us head.slot) (unit_at (untallied (nodes_with t keys) us) head.slot) head attached ≡ true →
-    may_go going origin attached keys (nodes_with t keys) ≡ true → IsFailing t going →
+    is_kept_up t (unit_at us head.slot) (unit_at (unreckoned t (nodes_with t keys) us) head.slot) head attached ≡ true →
+    may_go going origin attached keys (nodes_with t keys) ≡ true → IsFailing t s going →
     (now : Table Node) → Stores t now (map (gone_by going) (nodes_with t keys)) →
     (lives : ℕ) → lives + strong_count (nodes_with t keys) ≡ strong →
-    IsLost t now (untallied (nodes_with t keys) us) ss s (change_of going) lives (map (gone_by going) (nodes_with t keys))
+    IsLost t now (unreckoned t (nodes_with t keys) us) ss s (change_of going) lives (map (gone_by going) (nodes_with t keys))
 lost_made t us ss s (Going.Fails fault) strong opens origin keys taken own head attached top inside kept_up may falls now stores =
     fails_made t us ss s fault strong opens keys (subst (λ (k : NodeKey). IsTaken t k keys) (same_key-true origin fault.origin may) taken)
     own head attached top inside kept_up now stores
@@ -189,3 +191,10 @@ lost_made t us ss s (Going.Leaves key) strong opens origin keys taken own head a
     leaves_made t us ss s key strong opens origin keys taken own head attached top inside kept_up may now stores
 lost_made t us ss s (Going.Ends fault keys') strong opens origin keys taken own head attached top inside kept_up may falls now stores =
     ends_made t us ss s fault keys' strong opens falls origin keys taken own head attached top inside kept_up may now stores
+lost_made t us ss s (Going.Refused key effect fault) strong opens origin keys taken own head attached top inside kept_up may falls now
+    stores =
+    refused_made t us ss s key effect fault strong opens falls origin keys taken own head attached top inside kept_up may now stores
+lost_made t us ss s (Going.EndsRefused key effect fault failing) strong opens origin keys taken own head attached top inside kept_up may
+    falls now stores =
+    ends_refused t us ss s key effect fault failing strong opens falls.0 falls.1 origin keys taken own head attached top inside kept_up may
+    now stores

@@ -1,7 +1,7 @@
 -- A key that is taken out of a list whose first cells are left over.
-use Rattle.std.proofs.Common.{ℕ, suc, ◌≡◌, ◌+◌, ◌-◌, ◌<◌, ◌≤◌, refl, ap, sym, ◌∙◌, List, ◌++◌, length, take, drop, arith, append_assoc}
+use Rattle.std.proofs.Common.{ℕ, suc, ◌≡◌, ◌+◌, ◌-◌, ◌<◌, ◌≤◌, ap, sym, ◌∙◌, List, ◌++◌, length, take, drop, arith, append_assoc}
 use Rattle.std.specs.List.{copy_within, remove}
-use Rattle.std.proofs.lemmas.List.{drop-drop, drop_at, length-drop, length-take-le, take-append-drop}
+use Rattle.std.proofs.lemmas.List.{drop-drop, drop_at, length-take-le, take-append-drop}
 use Rattle.std.proofs.lemmas.List.Edits.{remove-append_right}
 
 -- those before it move up by one, over it

@@ -1,5 +1,5 @@
 -- The counts of units, once a node is born and counted.
-use Rattle.std.proofs.Common.{◌≡◌, ◌≢◌, ℕ, ◌+◌, ◌<◌, ◌≤◌, ◌==◌, nat_lt, Bool, true, false, if◌then◌else◌, List, [], ◌∷◌, ◌++◌, map, length, Option, Some, None, refl, sym, ap, subst, ◌∙◌, inl, inr, arith}
+use Rattle.std.proofs.Common.{◌≡◌, ◌≢◌, ℕ, ◌+◌, ◌<◌, ◌≤◌, ◌==◌, nat_lt, Bool, true, false, if◌then◌else◌, List, [], ◌∷◌, ◌++◌, map, length, reverse, Option, Some, None, refl, sym, ap, subst, ◌∙◌, inl, inr, arith}
 use Rattle.std.proofs.lemmas.Bool.{eqb-true}
 use Rattle.std.proofs.lemmas.List.{length-append}
 use Rattle.std.specs.List.{cons_option, list_all, list_any}
@@ -13,26 +13,31 @@ use Rattle.sm_names.proofs.StandingLaws.{In-any}
 use Rattle.node_table.specs.Table.{Table, node_at, table_len}
 use Rattle.alloc_event.specs.declared.node.Node.{Node}
 use Rattle.alloc_event.specs.declared.units.Unit.{Unit}
-use Rattle.alloc_event.specs.Counts.{AreUnits, AreUnitsBut, HasUnits, lives_in, started, tallied, unit_at, unit_of, waits_in}
+use Rattle.alloc_event.specs.Counts.{AreUnits, AreUnitsBut, HasUnits, head_above, heads_below, lives_in, reckoned, started, tallied, unit_at, unit_of, waits_in}
 use Rattle.alloc_event.specs.Forest.{Collection, collection_at}
 use Rattle.alloc_event.specs.Kept.{Bears, IsStored, IsWhole, Shelf, all_keys, born, collection_in, forest_of, is_filed, nodes_with, put_shelf}
 use Rattle.alloc_event.specs.Nodes.{is_of}
+use Rattle.alloc_event.specs.Scenes.{are_distinct}
 use Rattle.alloc_event.specs.Settling.{Handles, collection_or_new, put}
 use Rattle.alloc_event.specs.Still.{IsStill, shelf_before, shelf_with}
+use Rattle.alloc_event.specs.Ties.{are_rooted}
 use Rattle.alloc_event.proofs.changes.Altering.{looked-of, shelf_by}
 use Rattle.alloc_event.proofs.tables.Hanging.{all_in, in_all, looked_there}
 use Rattle.alloc_event.proofs.tallies.Holding.{head_there}
+use Rattle.alloc_event.proofs.tallies.Hung.{above_node, hung_hangs, hung_is, hung_long, hung_other, is_above, is_hung}
 use Rattle.alloc_event.proofs.newborns.Newborn.{Above, IsBefore, before_is, born_collection, born_fresh, born_here, born_shown, key_is}
 use Rattle.alloc_event.proofs.newborns.Quiet.{behind_is, behind_shown, quiet_kept}
 use Rattle.alloc_event.proofs.tallies.Reckoning.{lives_gone, lives_other, started_other, started_own, tallied_adds, tallied_long, tallied_other, waits_gone, waits_other}
 use Rattle.alloc_event.proofs.shelves.Showing.{filed-length}
 use Rattle.alloc_event.proofs.tallies.Slots.{Stays, all_at, but_put, one_slot, units_own}
+use Rattle.alloc_event.proofs.tallies.Untold.{times_same}
 use Rattle.alloc_event.proofs.calm.Steps.{all-In}
 
 -- the table has the old nodes of the collection and the one that was born, and the others have their counts
 module _ (t : Table Node) (ss : List Shelf) (kept : IsStored t ss) (id : ℕ) (s : Shelf) (on : In s ss) (own : s.id ≡ id) (old : List Node)
     (node : Node)
     (grown : nodes_with t s.keys ≡ old ++ node ∷ []) (here : node.gone ≡ false) (fresh : list_any (is_of node.key) old ≡ false)
+    (distinct : are_distinct old ≡ true) (rooted : are_rooted (reverse old) ≡ true)
     (olds : (n : Node) → In n old → n.gone ≡ false → (h : Node) × In h old × (h.key ≡ n.head)) (of : (n : Node) →
     In n (nodes_with t s.keys) → n.collection ≡ id)
     (us : List Unit) (has : HasUnits us old) (but : AreUnitsBut us id (map (collection_in t) ss))
@@ -43,8 +48,11 @@ module _ (t : Table Node) (ss : List Shelf) (kept : IsStored t ss) (id : ℕ) (s
   abbrev us1 : List Unit
   us1 = started node.key.slot us
 
+  abbrev own_new : List Unit
+  own_new = tallied (node ∷ []) us1
+
   abbrev new : List Unit
-  new = tallied (node ∷ []) us1
+  new = reckoned t (node ∷ []) us1
 
   whole : IsWhole (collection_in t s)
   whole = all_at (λ (x : Shelf). IsWhole (collection_in t x)) ss kept.whole s on
@@ -87,6 +95,32 @@ module _ (t : Table Node) (ss : List Shelf) (kept : IsStored t ss) (id : ℕ) (s
         (lives_other node.key n other, waits_other node.key n other)
   ]
 
+  -- nor does one hang right below that
+  none_hung : (n : Node) → In n old → is_hung t node.key n ≡ false
+  none_hung n there = from (head_above t n) refl
+    where
+      from : (o : Option NodeKey) → head_above t n ≡ o → is_above node.key o ≡ false
+      from None is = refl
+      from (Some h) is =
+          let x = above_node t old distinct rooted (λ m on. at m (was_old m on)) n there h is in
+          let a = olds x.0 x.1 x.2 in
+          elim (either_way (same_key h node.key)) [
+            | inl d ↦ both_ways (list_any (is_of node.key) old)
+                (In-any (is_of node.key) old a.0 a.1 (ap (λ (k : NodeKey). same_key k node.key) (a.2 ∙ x.3) ∙ d)) fresh
+            | inr d ↦ d
+          ]
+
+  -- how many hang right below a unit of the old nodes
+  below_old : (k : NodeKey) → times (is_hung t k) old ≡ times (heads_below old k) old
+  below_old k = times_same (is_hung t k) (heads_below old k) old (hung_is t old distinct rooted (λ m on. at m (was_old m on)) k)
+
+  -- the head of the unit right above the one that the node heads
+  above_of : (m : Node) → In m nodes → (h : NodeKey) → head_above t m ≡ Some h → (a : Node) × In a nodes × (a.key ≡ h)
+  above_of m there h is =
+      let x = above_node t nodes whole.sound.distinct whole.rooted at m there h is in
+      let a = head_there nodes whole.sound.distinct whole.sound.heads whole.rooted whole.united x.0 x.1 x.2 in
+      (a.0, a.1, a.2 ∙ x.3)
+
   -- an old node has another slot
   old_slot : (n : Node) → In n old → n.key.slot ≢ node.key.slot
   old_slot n there slots =
@@ -95,7 +129,7 @@ module _ (t : Table Node) (ss : List Shelf) (kept : IsStored t ss) (id : ℕ) (s
       ∙ same_key-refl node.key)) fresh
 
   long : length new ≡ length us1
-  long = tallied_long (node ∷ []) us1
+  long = hung_long t (node ∷ []) own_new ∙ tallied_long (node ∷ []) us1
 
   -- what each slot had before the node was counted
   before : (n : Node) → In n nodes → n.key.slot < length us1 → unit_at us1 n.key.slot ≡ unit_of old n.key
@@ -111,8 +145,10 @@ module _ (t : Table Node) (ss : List Shelf) (kept : IsStored t ss) (id : ℕ) (s
           let within : node.key.slot < length us1 = subst (λ (m : Node). m.key.slot < length us1) is inside in
           let l : times (lives_in node.key) old ≡ 0 = times-zero (lives_in node.key) old (λ m o. (none_counted m o).0) in
           let w : times (waits_in node.key) old ≡ 0 = times-zero (waits_in node.key) old (λ m o. (none_counted m o).1) in
+          let b : times (heads_below old node.key) old ≡ 0 =
+          sym (below_old node.key) ∙ times-zero (is_hung t node.key) old none_hung in
           subst (λ (m : Node). unit_at us1 m.key.slot ≡ unit_of old m.key) (sym is)
-          (started_own node.key.slot us within ∙ (λ i. record { live = sym l i; unready = sym w i }))
+          (started_own node.key.slot us within ∙ (λ i. record { live = sym l i; unready = sym w i; below = sym b i }))
       last (inr none) = absurd none
 
   has_new : HasUnits new nodes
@@ -121,19 +157,33 @@ module _ (t : Table Node) (ss : List Shelf) (kept : IsStored t ss) (id : ℕ) (s
       let was = before n there inside in
       let l0 : (unit_at us1 n.key.slot).live ≡ times (lives_in n.key) old = ap (λ (u : Unit). u.live) was in
       let w0 : (unit_at us1 n.key.slot).unready ≡ times (waits_in n.key) old = ap (λ (u : Unit). u.unready) was in
+      let b0 : (unit_at us1 n.key.slot).below ≡ times (heads_below old n.key) old = ap (λ (u : Unit). u.below) was in
+      let own_long = tallied_long (node ∷ []) us1 in
       let l1 = times-le-length (lives_in n.key) old in
+      let b1 = times-le-length (heads_below old n.key) old in
       let w1 = times-le-length (waits_in n.key) old in
       let count : length nodes ≡ length old + 1 = ap length grown ∙ long_more old in
       let adds = tallied_adds (node ∷ []) us1 n.key inside (head_of n there) (omega arith) (omega arith) in
       let a = adds.live in
       let b = adds.unready in
+      let d = adds.below in
+      let hangs = hung_hangs t (node ∷ []) own_new n.key (omega arith) (above_at n there) (omega arith) in
+      let e = hangs.live in
+      let f = hangs.unready in
+      let g = hangs.below in
+      let told : times (is_hung t n.key) nodes ≡ times (heads_below nodes n.key) nodes =
+      times_same (is_hung t n.key) (heads_below nodes n.key) nodes (hung_is t nodes whole.sound.distinct whole.rooted at n.key) in
+      let before_told = below_old n.key in
+      let h2 : times (is_hung t n.key) nodes ≡ times (is_hung t n.key) old + times (is_hung t n.key) (node ∷ []) =
+      ap (times (is_hung t n.key)) grown ∙ times-append (is_hung t n.key) old (node ∷ []) in
       let l2 : times (lives_in n.key) nodes ≡ times (lives_in n.key) old + times (lives_in n.key) (node ∷ []) =
       ap (times (lives_in n.key)) grown ∙ times-append (lives_in n.key) old (node ∷ []) in
       let w2 : times (waits_in n.key) nodes ≡ times (waits_in n.key) old + times (waits_in n.key) (node ∷ []) =
       ap (times (waits_in n.key)) grown ∙ times-append (waits_in n.key) old (node ∷ []) in
       let l : (unit_at new n.key.slot).live ≡ times (lives_in n.key) nodes = omega arith in
       let w : (unit_at new n.key.slot).unready ≡ times (waits_in n.key) nodes = omega arith in
-      λ i. record { live = l i; unready = w i })
+      let h : (unit_at new n.key.slot).below ≡ times (heads_below nodes n.key) nodes = omega arith in
+      λ i. record { live = l i; unready = w i; below = h i })
     where
       long_more : (ns : List Node) → length (ns ++ node ∷ []) ≡ length ns + 1
       long_more [] = refl
@@ -146,11 +196,18 @@ module _ (t : Table Node) (ss : List Shelf) (kept : IsStored t ss) (id : ℕ) (s
           ap (λ (x : Node). x.head) is ∙ one
       head_of n there m (inr none) stays slots = absurd none
 
+      above_at : (n : Node) → In n nodes → (m : Node) → In m (node ∷ []) → (h : NodeKey) → head_above t m ≡ Some h →
+          h.slot ≡ n.key.slot → h ≡ n.key
+      above_at n there m (inl is) h above slots =
+          let x = above_of m (subst (λ (y : Node). In y nodes) (sym is) born_on) h above in
+          one_slot t h n.key x.0 n (ap (node_at t) (sym x.2) ∙ at x.0 x.1) (at n there) slots
+      above_at n there m (inr none) h above slots = absurd none
+
   stays_new : Stays t id us new
   stays_new k n is differ within =
       let inside : k.slot < length us1 = subst (λ (l : ℕ). k.slot < l) long within in
       let x = started_other node.key.slot k.slot us (apart node.key node (at node born_on) (of node born_on)) inside in
-      (x.0, tallied_other (node ∷ []) us1 k.slot heads ∙ x.1)
+      (x.0, hung_other t (node ∷ []) own_new k.slot aboves ∙ tallied_other (node ∷ []) us1 k.slot heads ∙ x.1)
     where
       apart : (j : NodeKey) (m : Node) → node_at t j ≡ Some m → m.collection ≡ id → k.slot ≢ j.slot
       apart j m found owned slots =
@@ -162,6 +219,12 @@ module _ (t : Table Node) (ss : List Shelf) (kept : IsStored t ss) (id : ℕ) (s
       heads : (m : Node) → In m (node ∷ []) → m.gone ≡ false → m.head.slot ≢ k.slot
       heads m (inl e) stays slots = apart node.head head.0 head_at (of head.0 head.1) (sym slots ∙ ap (λ (y : Node). y.head.slot) e)
       heads m (inr none) stays slots = absurd none
+
+      aboves : (m : Node) → In m (node ∷ []) → (h : NodeKey) → head_above t m ≡ Some h → h.slot ≢ k.slot
+      aboves m (inl e) h above slots =
+          let x = above_of m (subst (λ (y : Node). In y nodes) (sym e) born_on) h above in
+          apart h x.0 (ap (node_at t) (sym x.2) ∙ at x.0 x.1) (of x.0 x.1) (sym slots)
+      aboves m (inr none) h above slots = absurd none
 
   -- so all have their counts
   pub born_units : AreUnits new (map (collection_in t) ss)
@@ -242,7 +305,7 @@ module _ (t now : Table Node) (ss : List Shelf) (ok : IsStored t ss) (id : ℕ) 
 
   -- all have their counts, once the slot of the node is started and the node counted
   pub newborn_units : (us : List Unit) → AreUnits us (map (collection_in t) ss) → table_len now ≤ 18446744073709551615 →
-      AreUnits (tallied (nodes_with now (key ∷ [])) (started key.slot us)) (map (collection_in now) behind)
+      AreUnits (reckoned now (nodes_with now (key ∷ [])) (started key.slot us)) (map (collection_in now) behind)
   newborn_units us all few =
       let own : c0.id ≡ id = before_it.id_is in
       let named : child.key ≡ key = key_is t now ss ok id parent attached client event above up key bears in
@@ -252,14 +315,15 @@ module _ (t now : Table Node) (ss : List Shelf) (ok : IsStored t ss) (id : ℕ) 
       placed))
       (subst (λ (i : ℕ). AreUnitsBut us i (put with_it (map (collection_in t) ss))) own (but_put us with_it (map (collection_in t) ss)
       all)) in
-      let made : AreUnits (tallied (child ∷ []) (started child.key.slot us)) (map (collection_in now) behind) =
+      let made : AreUnits (reckoned now (child ∷ []) (started child.key.slot us)) (map (collection_in now) behind) =
       born_units now behind kept_now id (shelf_by with_it) shelf_on own c0.nodes child shown_nodes (born_here above attached id event client
       key)
       (born_fresh t now ss ok id parent attached client event above up key bears)
+      before_it.whole.sound.distinct before_it.whole.rooted
       (λ n on here. let h = head_there c0.nodes before_it.whole.sound.distinct before_it.whole.sound.heads before_it.whole.rooted
       before_it.whole.united n on here in (h.0, h.1, h.2))
       (λ n on. eqb-true n.collection (shelf_by with_it).id (all-In (λ (m : Node). m.collection == (shelf_by with_it).id)
       (nodes_with now (shelf_by with_it).keys) n on (looked-of now (shelf_by with_it).id (shelf_by with_it).keys filed_keys)) ∙ own)
       us (had us all) but (few_nodes few) in
-      subst (λ (ns : List Node). AreUnits (tallied ns (started key.slot us)) (map (collection_in now) behind)) (sym one)
-      (subst (λ (k : NodeKey). AreUnits (tallied (child ∷ []) (started k.slot us)) (map (collection_in now) behind)) named made)
+      subst (λ (ns : List Node). AreUnits (reckoned now ns (started key.slot us)) (map (collection_in now) behind)) (sym one)
+      (subst (λ (k : NodeKey). AreUnits (reckoned now (child ∷ []) (started k.slot us)) (map (collection_in now) behind)) named made)

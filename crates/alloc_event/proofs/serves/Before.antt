@@ -6,7 +6,7 @@ use Rattle.std.specs.Option.{option_map_or}
 use Rattle.sm_names.specs.declared.keys.NodeKey.{NodeKey}
 use Rattle.sm_names.specs.Sameness.{same_key}
 use Rattle.sm_names.proofs.ListLaws.{In, In-list_any, times-zero}
-use Rattle.sm_names.proofs.SamenessLaws.{and_both, and_left, and_right, both_ways, either_way, false_if, or_left, or_right, same_key-refl, same_key-true}
+use Rattle.sm_names.proofs.SamenessLaws.{and_both, and_left, and_right, both_ways, either_way, or_left, or_right, same_key-refl, same_key-true}
 use Rattle.node_table.specs.Table.{Table, node_at, parent_at}
 use Rattle.alloc_event.specs.declared.node.Node.{Node}
 use Rattle.alloc_event.specs.declared.units.Unit.{Unit}
@@ -16,13 +16,14 @@ use Rattle.alloc_event.specs.Kept.{IsStored, IsWhole, Shelf, collection_in, node
 use Rattle.alloc_event.specs.Nodes.{is_of}
 use Rattle.alloc_event.specs.Questions.{is_ready_node, is_served}
 use Rattle.alloc_event.specs.Scenes.{IsSound, heads_itself}
-use Rattle.alloc_event.specs.Serving.{hangs_below, hangs_below_at, has_turn_at, is_of_unit, is_served_there, is_waiting_head}
+use Rattle.alloc_event.specs.Serving.{hangs_below, has_turn_at, is_left_out, is_of_some, is_served_there, is_waiting_head, left_out_at}
 use Rattle.alloc_event.specs.Settling.{is_root_of}
 use Rattle.alloc_event.proofs.calm.Steps.{all-In, found_by_key}
 use Rattle.alloc_event.proofs.changes.Altering.{found_whole}
+use Rattle.alloc_event.proofs.serves.Next.{hangs_in_some}
 use Rattle.alloc_event.proofs.tables.Hanging.{in_all, looked_there}
 use Rattle.alloc_event.proofs.tables.Rooted.{left_node, left_parent}
-use Rattle.alloc_event.proofs.tallies.Holding.{hangs_in, head_there}
+use Rattle.alloc_event.proofs.tallies.Holding.{head_there}
 
 -- a key that passes is one of those that pass
 pub any_key : (test : NodeKey → Bool) (keys : List NodeKey) (key : NodeKey) → list_any (same_key key) keys ≡ true → test key ≡ true →
@@ -154,22 +155,27 @@ module _ (t : Table Node) (ss : List Shelf) (kept : IsStored t ss) (s : Shelf) (
         served = and_right (not left.node.gone) _ serves;
       }
 
-  -- no unit that is ready hangs below
-  pub none_below : (us : List Unit) → HasUnits us nodes → list_any (hangs_below_at t us k) s.keys ≡ false → (m : Node) → In m nodes →
-      m.attached ≡ true → m.gone ≡ false → list_all (is_ready_node m.key) nodes ≡ true → hangs_in nodes k m ≡ false
-  none_below us counts none m on attached here ready = false_if (hangs_in nodes k m) (λ h.
-      let p = some_there (λ p. list_any (λ (q : Node). is_of p q && same_key q.head k) nodes) m.parent h in
-      let q = In-list_any (λ (q : Node). is_of p.0 q && same_key q.head k) nodes p.2 in
-      let at : node_at t p.0 ≡ Some q.0 =
-      ap (node_at t) (sym (same_key-true q.0.key p.0 (and_left (is_of p.0 q.0) _ q.2))) ∙ at_key q.0 q.1 in
-      let unit : is_of_unit t k p.0 ≡ true =
-      ap (λ (o : Option Node). option_map_or (λ (x : Node). same_key x.head k) o false) at ∙ and_right (is_of p.0 q.0) _ q.2 in
-      let hangs : hangs_below t us k m ≡ true =
-      and_both m.attached _ attached
-      (and_both (not m.gone) _ (ap not here)
-      (and_both ((unit_at us m.key.slot).unready == 0) _ (eq-eqb (unit_at us m.key.slot).unready 0 (waits_for_none us counts m on ready))
-      (ap (λ (o : Option NodeKey). option_map_or (is_of_unit t k) o false) p.1 ∙ unit))) in
-      both_ways (list_any (hangs_below_at t us k) s.keys)
-      (any_key (hangs_below_at t us k) s.keys m.key (key_listed t kept.named s.keys m on)
-      (ap (λ (o : Option Node). option_map_or (hangs_below t us k) o false) (at_key m on) ∙ hangs))
-      none)
+  -- each unit that is ready and hangs right below one of these is one of them
+  pub closed_below : (us : List Unit) → HasUnits us nodes → (hs : List NodeKey) → list_any (left_out_at t us hs) s.keys ≡ false →
+      (m : Node) → In m nodes → m.attached ≡ true → m.gone ≡ false → m.allocated ≡ false → list_all (is_ready_node m.key) nodes ≡ true →
+      hangs_in_some nodes hs m ≡ true → list_any (same_key m.key) hs ≡ true
+  closed_below us counts hs none m on attached here bare ready h = elim (either_way (list_any (same_key m.key) hs)) [
+    | inl e ↦ e
+    | inr e ↦
+        let p = some_there (λ p. list_any (λ (q : Node). is_of p q && list_any (same_key q.head) hs) nodes) m.parent h in
+        let q = In-list_any (λ (q : Node). is_of p.0 q && list_any (same_key q.head) hs) nodes p.2 in
+        let at : node_at t p.0 ≡ Some q.0 =
+        ap (node_at t) (sym (same_key-true q.0.key p.0 (and_left (is_of p.0 q.0) _ q.2))) ∙ at_key q.0 q.1 in
+        let unit : is_of_some t hs p.0 ≡ true =
+        ap (λ (o : Option Node). option_map_or (λ (x : Node). list_any (same_key x.head) hs) o false) at
+        ∙ and_right (is_of p.0 q.0) _ q.2 in
+        let hangs : hangs_below t us hs m ≡ true =
+        and_both (is_waiting_head m) _ (and_both m.attached _ attached (and_both (not m.gone) _ (ap not here) (ap not bare)))
+        (and_both ((unit_at us m.key.slot).unready == 0) _ (eq-eqb (unit_at us m.key.slot).unready 0 (waits_for_none us counts m on ready))
+        (ap (λ (o : Option NodeKey). option_map_or (is_of_some t hs) o false) p.1 ∙ unit)) in
+        both_ways (list_any (left_out_at t us hs) s.keys)
+        (any_key (left_out_at t us hs) s.keys m.key (key_listed t kept.named s.keys m on)
+        (ap (λ (o : Option Node). option_map_or (is_left_out t us hs) o false) (at_key m on)
+        ∙ and_both (hangs_below t us hs m) _ hangs (ap not e)))
+        none
+  ]

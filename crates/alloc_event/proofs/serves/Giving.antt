@@ -1,4 +1,4 @@
--- Nodes of a unit that are given its buffers, one after another.
+-- Nodes of units that are given their buffers, one after another.
 use Rattle.std.proofs.Common.{◌≡◌, refl, ap, sym, ◌∙◌, subst, Bool, true, false, ◌||◌, if◌then◌else◌, List, [], ◌∷◌, ◌++◌, Option, Some, None, option_map}
 use Rattle.std.proofs.lemmas.List.Folds.{list_any-append}
 use Rattle.std.specs.List.{list_any}
@@ -10,36 +10,35 @@ use Rattle.node_table.specs.Changes.{Writes}
 use Rattle.node_table.specs.Lending.{table_with_node}
 use Rattle.node_table.specs.Table.{Table, node_at}
 use Rattle.alloc_event.specs.declared.node.Node.{Node}
-use Rattle.alloc_event.specs.Nodes.{given_buffers}
-use Rattle.alloc_event.specs.Serving.{IsGivenAt, given_at, is_of_unit}
-use Rattle.alloc_event.proofs.lists.Lookups.{same_key-swap}
+use Rattle.alloc_event.specs.Falls.{given_all}
+use Rattle.alloc_event.specs.Serving.{IsGivenAt, given_at, is_of_some}
 use Rattle.alloc_event.proofs.tables.Writing.{IsSameNode, look-changed, parents-written}
 
--- each node of the unit, or of none but these, as it was
-pub same_given : (head : NodeKey) (keys : List NodeKey) (n : Node) → IsSameNode (given_at head keys n) n
-same_given head keys n = from (list_any (same_key n.key) keys)
+-- each node is as it was otherwise
+pub same_given : (heads keys : List NodeKey) (n : Node) → IsSameNode (given_at heads keys n) n
+same_given heads keys n = from (list_any (same_key n.key) keys)
   where
-    from : (b : Bool) → IsSameNode (if b then given_buffers head n else n) n
+    from : (b : Bool) → IsSameNode (if b then given_all heads n else n) n
     from true = record { key = refl; parent = refl; attached = refl; collection = refl; head = refl }
     from false = record { key = refl; parent = refl; attached = refl; collection = refl; head = refl }
 
 -- what the buffers don't change of a node stays
-pub kept_given : {A : Type 0} (p : Node → A) (head : NodeKey) → ((m : Node) → p (given_buffers head m) ≡ p m) →
+pub kept_given : {A : Type 0} (p : Node → A) (heads : List NodeKey) → ((m : Node) → p (given_all heads m) ≡ p m) →
     (keys : List NodeKey) (n : Node) →
-    p (given_at head keys n) ≡ p n
-kept_given p head same keys n = from (list_any (same_key n.key) keys)
+    p (given_at heads keys n) ≡ p n
+kept_given p heads same keys n = from (list_any (same_key n.key) keys)
   where
-    from : (b : Bool) → p (if b then given_buffers head n else n) ≡ p n
+    from : (b : Bool) → p (if b then given_all heads n else n) ≡ p n
     from true = same n
     from false = refl
 
 -- a node whose key is one of these has them, and another stays
-pub given_in : (head : NodeKey) (keys : List NodeKey) (n : Node) → list_any (same_key n.key) keys ≡ true →
-    given_at head keys n ≡ given_buffers head n
-given_in head keys n e = λ i. if e i then given_buffers head n else n
+pub given_in : (heads keys : List NodeKey) (n : Node) → list_any (same_key n.key) keys ≡ true →
+    given_at heads keys n ≡ given_all heads n
+given_in heads keys n e = λ i. if e i then given_all heads n else n
 
-pub given_out : (head : NodeKey) (keys : List NodeKey) (n : Node) → list_any (same_key n.key) keys ≡ false → given_at head keys n ≡ n
-given_out head keys n e = λ i. if e i then given_buffers head n else n
+pub given_out : (heads keys : List NodeKey) (n : Node) → list_any (same_key n.key) keys ≡ false → given_at heads keys n ≡ n
+given_out heads keys n e = λ i. if e i then given_all heads n else n
 
 -- what is there, and stays
 each_still : (f : Node → Node) (o : Option Node) → ((n : Node) → o ≡ Some n → f n ≡ n) → o ≡ option_map f o
@@ -51,20 +50,20 @@ or_twice : (a b : Bool) → (a || (a || b)) ≡ (a || b)
 or_twice true b = refl
 or_twice false b = refl
 
-given_twice : (head k : NodeKey) (n : Node) (b : Bool) →
-    given_at head (k ∷ []) (if b then given_buffers head n else n) ≡ (if b || (same_key n.key k || false) then given_buffers head n else n)
-given_twice head k n true = from (same_key n.key k || false)
+given_twice : (heads : List NodeKey) (k : NodeKey) (n : Node) (b : Bool) →
+    given_at heads (k ∷ []) (if b then given_all heads n else n) ≡ (if b || (same_key n.key k || false) then given_all heads n else n)
+given_twice heads k n true = from (same_key n.key k || false)
   where
-    from : (b : Bool) → (if b then given_buffers head (given_buffers head n) else given_buffers head n) ≡ given_buffers head n
-    from true = λ i. record n { allocated = or_twice (same_key head n.head) n.allocated i }
+    from : (b : Bool) → (if b then given_all heads (given_all heads n) else given_all heads n) ≡ given_all heads n
+    from true = λ i. record n { allocated = or_twice (list_any (same_key n.head) heads) n.allocated i }
     from false = refl
-given_twice head k n false = refl
+given_twice heads k n false = refl
 
 -- one more is
-pub given_more : (t u now : Table Node) (head k : NodeKey) (keys : List NodeKey) → IsGivenAt t u head keys → IsGivenAt u now head (k ∷ []) →
-    IsGivenAt t now head (keys ++ k ∷ [])
-given_more t u now head k keys before one = record {
-  look = λ key. one.look key ∙ (ap (option_map (given_at head (k ∷ []))) (before.look key) ∙ by (node_at t key));
+pub given_more : (t u now : Table Node) (heads : List NodeKey) (k : NodeKey) (keys : List NodeKey) → IsGivenAt t u heads keys →
+    IsGivenAt u now heads (k ∷ []) → IsGivenAt t now heads (keys ++ k ∷ [])
+given_more t u now heads k keys before one = record {
+  look = λ key. one.look key ∙ (ap (option_map (given_at heads (k ∷ []))) (before.look key) ∙ by (node_at t key));
   parents = λ key. one.parents key ∙ before.parents key;
   same = record {
     first = one.same.first ∙ before.same.first;
@@ -74,48 +73,48 @@ given_more t u now head k keys before one = record {
   };
 }
   where
-    by : (o : Option Node) → option_map (given_at head (k ∷ [])) (option_map (given_at head keys) o)
-        ≡ option_map (given_at head (keys ++ k ∷ [])) o
+    by : (o : Option Node) → option_map (given_at heads (k ∷ [])) (option_map (given_at heads keys) o)
+        ≡ option_map (given_at heads (keys ++ k ∷ [])) o
     by None = refl
-    by (Some n) = ap Some (given_twice head k n (list_any (same_key n.key) keys)
-        ∙ ap (λ (b : Bool). if b then given_buffers head n else n) (sym (list_any-append (same_key n.key) keys (k ∷ []))))
+    by (Some n) = ap Some (given_twice heads k n (list_any (same_key n.key) keys)
+        ∙ ap (λ (b : Bool). if b then given_all heads n else n) (sym (list_any-append (same_key n.key) keys (k ∷ []))))
 
-module _ (t : Table Node) (named : (key : NodeKey) (n : Node) → node_at t key ≡ Some n → n.key ≡ key) (head key : NodeKey) where
+module _ (t : Table Node) (named : (key : NodeKey) (n : Node) → node_at t key ≡ Some n → n.key ≡ key) (heads : List NodeKey)
+    (key : NodeKey) where
   -- by whether it has the key
-  by_key : (n : Node) (b : Bool) → (b ≡ true → given_buffers head n ≡ n) → (if b || false then given_buffers head n else n) ≡ n
+  by_key : (n : Node) (b : Bool) → (b ≡ true → given_all heads n ≡ n) → (if b || false then given_all heads n else n) ≡ n
   by_key n true same = same refl
   by_key n false same = refl
 
   -- one that has them, or is of another unit, stays
-  pub given_still : ((n : Node) → node_at t key ≡ Some n → given_buffers head n ≡ n) → IsGivenAt t t head (key ∷ [])
+  pub given_still : ((n : Node) → node_at t key ≡ Some n → given_all heads n ≡ n) → IsGivenAt t t heads (key ∷ [])
   given_still same = record {
-    look = λ k. each_still (given_at head (key ∷ [])) (node_at t k) (λ n is. by_key n (same_key n.key key) (λ e.
+    look = λ k. each_still (given_at heads (key ∷ [])) (node_at t k) (λ n is. by_key n (same_key n.key key) (λ e.
         same n (ap (node_at t) (sym (same_key-true n.key key e) ∙ named k n is) ∙ is)));
     parents = λ k. refl;
     same = record { first = refl; nexts = refl; limit = refl; len = refl };
   }
 
   -- one of another unit does
-  pub given_apart : is_of_unit t head key ≡ false → IsGivenAt t t head (key ∷ [])
+  pub given_apart : is_of_some t heads key ≡ false → IsGivenAt t t heads (key ∷ [])
   given_apart e = given_still (λ n is.
-      let other : same_key n.head head ≡ false =
-      sym (ap (λ (o : Option Node). option_map_or (λ (m : Node). same_key m.head head) o false) is) ∙ e in
-      let apart : same_key head n.head ≡ false = same_key-swap head n.head ∙ other in
+      let apart : list_any (same_key n.head) heads ≡ false =
+      sym (ap (λ (o : Option Node). option_map_or (λ (m : Node). list_any (same_key m.head) heads) o false) is) ∙ e in
       λ i. record n { allocated = apart i || n.allocated })
 
   -- a node is written so
   pub given_written : (now : Table Node) (n : Node) → node_at t key ≡ Some n →
-      now ≡ table_with_node t (given_buffers head n).key (given_buffers head n) →
-      Writes t now (given_buffers head n).key (given_buffers head n) → IsGivenAt t now head (key ∷ [])
+      now ≡ table_with_node t (given_all heads n).key (given_all heads n) →
+      Writes t now (given_all heads n).key (given_all heads n) → IsGivenAt t now heads (key ∷ [])
   given_written now n is becomes writes =
       let own : n.key ≡ key = named key n is in
       record {
-        look = look-changed t now (given_at head (key ∷ [])) key n (given_buffers head n)
+        look = look-changed t now (given_at heads (key ∷ [])) key n (given_all heads n)
             (subst_key own writes) is
-            (ap (λ (b : Bool). if b || false then given_buffers head n else n) (ap (same_key n.key) (sym own) ∙ same_key-refl n.key)) named
-            (λ m differ. ap (λ (b : Bool). if b || false then given_buffers head m else m)
+            (ap (λ (b : Bool). if b || false then given_all heads n else n) (ap (same_key n.key) (sym own) ∙ same_key-refl n.key)) named
+            (λ m differ. ap (λ (b : Bool). if b || false then given_all heads m else m)
             (false_if (same_key m.key key) (λ e. differ (same_key-true m.key key e))));
-        parents = parents-written t now n.key (given_buffers head n) writes;
+        parents = parents-written t now n.key (given_all heads n) writes;
         same = record {
           first = ap (λ (x : Table Node). x.first) becomes;
           nexts = ap (λ (x : Table Node). x.nexts) becomes;
@@ -124,5 +123,5 @@ module _ (t : Table Node) (named : (key : NodeKey) (n : Node) → node_at t key 
         };
       }
     where
-      subst_key : {k : NodeKey} → k ≡ key → Writes t now k (given_buffers head n) → Writes t now key (given_buffers head n)
-      subst_key own = λ w. subst (λ (j : NodeKey). Writes t now j (given_buffers head n)) own w
+      subst_key : {k : NodeKey} → k ≡ key → Writes t now k (given_all heads n) → Writes t now key (given_all heads n)
+      subst_key own = λ w. subst (λ (j : NodeKey). Writes t now j (given_all heads n)) own w

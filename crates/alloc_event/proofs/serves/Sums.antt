@@ -1,21 +1,19 @@
--- What a unit asks for that is to be allocated, and what is reserved besides.
-use Rattle.std.proofs.Common.{◌≡◌, ℕ, refl, ap, sym, ◌∙◌, subst, Bool, true, false, not, ◌&&◌, ◌||◌, if◌then◌else◌, ◌⊎◌, inl, inr, List, [], ◌∷◌, map, Option, Some, None, nat_lt, ◌+◌}
-use Rattle.std.specs.List.{cons_option, filter_map, sum_by}
+-- What units ask for that are to be allocated, and what is reserved besides.
+use Rattle.std.proofs.Common.{◌≡◌, ℕ, refl, ap, sym, ◌∙◌, subst, Bool, true, false, not, ◌&&◌, if◌then◌else◌, ◌⊎◌, inl, inr, List, [], ◌∷◌, map, Option, Some, None, nat_lt}
+use Rattle.std.specs.List.{cons_option, filter_map, list_any}
 use Rattle.std.specs.Option.{option_and_then}
 use Rattle.sm_names.specs.declared.keys.NodeKey.{NodeKey}
-use Rattle.sm_names.specs.declared.outcomes.Buffers.{Buffers}
-use Rattle.sm_names.specs.declared.outcomes.Failure.{Failure}
 use Rattle.sm_names.specs.Demands.{Demand}
 use Rattle.sm_names.specs.Members.{greatest}
-use Rattle.sm_names.specs.Words.{first_some, when}
-use Rattle.sm_names.proofs.ListLaws.{In}
-use Rattle.sm_names.proofs.SamenessLaws.{either_way}
+use Rattle.sm_names.proofs.ListLaws.{In, In-list_any}
+use Rattle.sm_names.proofs.SamenessLaws.{both_ways, either_way, false_if}
+use Rattle.sm_names.proofs.StandingLaws.{In-any}
 use Rattle.node_table.specs.Table.{Table, node_at}
 use Rattle.alloc_event.specs.declared.node.Node.{Node}
-use Rattle.alloc_event.specs.Decisions.{late_failure}
 use Rattle.alloc_event.specs.Kept.{nodes_with, written}
-use Rattle.alloc_event.specs.Questions.{demands_of, is_in_unit, is_served}
-use Rattle.alloc_event.specs.Serving.{IsLess, are_enough, asked_with}
+use Rattle.alloc_event.specs.Questions.{demands_of, is_served}
+use Rattle.alloc_event.specs.Serving.{IsLess, asked_with, is_in_some}
+use Rattle.alloc_event.proofs.lists.Filters.{above_greatest}
 
 -- tests that are others
 pub less_by : (count counted result : ℕ) (was w is i : Bool) → IsLess count was is result → count ≡ counted → was ≡ w → is ≡ i →
@@ -48,35 +46,50 @@ alike : {A : Type 0} (f g : Node → Option A) (ns : List Node) → ((n : Node) 
 alike f g [] same = refl
 alike {A = A} f g (n ∷ ns) same = λ i. cons_option (same n (inl refl) i) (alike f g ns (λ m on. same m (inr on)) i)
 
-pub asked_is : (t : Table Node) (keys : List NodeKey) (head : NodeKey) (after : Node) →
-    asked_with t keys head after ≡ demands_of (is_in_unit head) (map (written after) (nodes_with t keys))
-asked_is t keys head after =
-    joined (node_at t) (λ (n : Node). if is_in_unit head (written after n) then (written after n).constraints else None) keys
-    ∙ mapped (written after) (λ (n : Node). if is_in_unit head n then n.constraints else None) (nodes_with t keys)
+pub asked_is : (t : Table Node) (keys heads : List NodeKey) (after : Node) →
+    asked_with t keys heads after ≡ demands_of (is_in_some heads) (map (written after) (nodes_with t keys))
+asked_is t keys heads after =
+    joined (node_at t) (λ (n : Node). if is_in_some heads (written after n) then (written after n).constraints else None) keys
+    ∙ mapped (written after) (λ (n : Node). if is_in_some heads n then n.constraints else None) (nodes_with t keys)
 
--- ---- the unit is served
+-- a demand is made by a node that passes
+pub asked_of : (test : Node → Bool) (ns : List Node) (d : Demand) → In d (demands_of test ns) →
+    (n : Node) × In n ns × ((if test n then n.constraints else None) ≡ Some d)
+asked_of test [] d on = absurd on
+asked_of test (n ∷ ns) d on = by (λ there. asked_of test ns d there) (if test n then n.constraints else None) refl on
+  where
+    by : (In d (demands_of test ns) → (m : Node) × In m ns × ((if test m then m.constraints else None) ≡ Some d)) →
+        (o : Option Demand) → (if test n then n.constraints else None) ≡ o → In d (cons_option o (demands_of test ns)) →
+        (m : Node) × In m (n ∷ ns) × ((if test m then m.constraints else None) ≡ Some d)
+    by rest None is there = let r = rest there in (r.0, inr r.1, r.2)
+    by rest (Some e) is (inl same) = (n, inl refl, is ∙ ap Some (sym same))
+    by rest (Some e) is (inr there) = let r = rest there in (r.0, inr r.1, r.2)
 
-none_fails : (a b c : Bool) → (not (a || b) && not c) ≡ true →
-    first_some (when (a || b) Failure.TooFew ∷ when c Failure.TooSmall ∷ []) ≡ None
-none_fails true b c h = cc
-none_fails false true c h = cc
-none_fails false false true h = cc
-none_fails false false false h = refl
+pub asked_back : (test : Node → Bool) (ns : List Node) (n : Node) (d : Demand) → In n ns →
+    (if test n then n.constraints else None) ≡ Some d → In d (demands_of test ns)
+asked_back test [] n d on is = absurd on
+asked_back test (m ∷ ns) n d (inl same) is =
+    subst (λ (o : Option Demand). In d (cons_option o (demands_of test ns)))
+    (sym ((λ i. if test (sym same i) then (sym same i).constraints else None) ∙ is)) (inl refl)
+asked_back test (m ∷ ns) n d (inr on) is = by (if test m then m.constraints else None) (asked_back test ns n d on is)
+  where
+    by : (o : Option Demand) → In d (demands_of test ns) → In d (cons_option o (demands_of test ns))
+    by None there = there
+    by (Some e) there = inr there
 
--- buffers that are enough, by what the nodes ask for as they are then
-pub enough_is : (nodes : List Node) (head : NodeKey) (buffers : Buffers) (reserved : ℕ) (asked : List Demand) →
-    reserved ≡ sum_by (λ (d : Demand). d.camping) (demands_of is_served nodes) → asked ≡ demands_of (is_in_unit head) nodes →
-    are_enough buffers reserved asked ≡ true → late_failure head nodes buffers ≡ None
-enough_is nodes head buffers reserved asked held wants h =
-    let told : are_enough buffers (sum_by (λ (d : Demand). d.camping) (demands_of is_served nodes))
-    (demands_of (is_in_unit head) nodes) ≡ true =
-    (λ i. are_enough buffers (sym held i) (sym wants i)) ∙ h in
-    none_fails
-    (nat_lt buffers.count (sum_by (λ (d : Demand). d.camping) (demands_of is_served nodes)
-    + sum_by (λ (d : Demand). d.camping) (demands_of (is_in_unit head) nodes)))
-    (nat_lt buffers.count (greatest (λ d. d.at_least) (demands_of (is_in_unit head) nodes)))
-    (nat_lt buffers.size (greatest (λ d. d.size) (demands_of (is_in_unit head) nodes)))
-    told
+-- a node that asks passes
+pub asks_passes : (b : Bool) (o : Option Demand) (d : Demand) → (if b then o else None) ≡ Some d → b ≡ true
+asks_passes true o d h = refl
+asks_passes false o d h = cc
+
+-- where each that is asked for by the first is by the others, no greater number is asked for
+pub greatest_fewer : (f : Demand → ℕ) (b : ℕ) (xs ys : List Demand) → ((d : Demand) → In d xs → In d ys) →
+    nat_lt b (greatest f ys) ≡ false → nat_lt b (greatest f xs) ≡ false
+greatest_fewer f b xs ys fewer h = false_if (nat_lt b (greatest f xs)) (λ e.
+    let x = In-list_any (λ d. nat_lt b (f d)) xs (above_greatest f b xs ∙ e) in
+    both_ways (list_any (λ d. nat_lt b (f d)) ys) (In-any (λ d. nat_lt b (f d)) ys x.0 (fewer x.0 x.1) x.2) (above_greatest f b ys ∙ h))
+
+-- ---- what is reserved
 
 -- a node that is not served, and changes alone, changes nothing of what is reserved
 pub reserved_same : (f : Node → Node) (nodes : List Node) → ((n : Node) → In n nodes → (f n).gone ≡ n.gone) →

@@ -13,7 +13,7 @@ use Rattle.alloc_event.specs.Decisions.{is_left_of}
 use Rattle.alloc_event.specs.Forest.{Collection}
 use Rattle.alloc_event.specs.Kept.{Shelf, IsStored, forest_of, loses_left, nodes_with}
 use Rattle.alloc_event.specs.Nodes.{is_of}
-use Rattle.alloc_event.specs.Settling.{MayChange, collection_or_new}
+use Rattle.alloc_event.specs.Settling.{MayChange, collection_or_new, is_there}
 use Rattle.alloc_event.proofs.tables.Hanging.{in_all, looked_there}
 use Rattle.alloc_event.proofs.newborns.Newborn.{before_is, found_above}
 use Rattle.alloc_event.proofs.tables.Rooted.{left_in, left_node, left_parent}
@@ -53,20 +53,25 @@ module _ (t : Table Node) (ss : List Shelf) (ok : IsStored t ss) where
       ∙ ap (λ (o : Option Shelf). nodes_with t (option_map_or (λ (x : Shelf). x.keys) o [])) found in
       subst (λ (ns : List Node). In n ns) nodes (in_collection key n is)
 
-  -- the node that a change loses is left
-  pub loss_left : (id : ℕ) (change : Change) → MayChange (forest_of t ss) id change → (s : Shelf) →
-      find (λ (x : Shelf). x.id == id) ss ≡ Some s →
-      loses_left change (nodes_with t s.keys) ≡ true
-  loss_left id (Change.Loss origin cause) may s found =
-      by (node_at t origin) refl (ap (λ o. option_map_or (λ (n : Node). n.collection == id && not n.gone) o false)
-      (sym (node_is t ss ok origin)) ∙ may.named)
+  -- a node that is there and not gone is left
+  pub there_left : (id : ℕ) (s : Shelf) → find (λ (x : Shelf). x.id == id) ss ≡ Some s → (key : NodeKey) →
+      is_there (forest_of t ss) id key ≡ true → is_left_of (nodes_with t s.keys) key ≡ true
+  there_left id s found key there =
+      by (node_at t key) refl (ap (λ o. option_map_or (λ (n : Node). n.collection == id && not n.gone) o false)
+      (sym (node_is t ss ok key)) ∙ there)
     where
-      by : (o : Option Node) → node_at t origin ≡ o → option_map_or (λ (n : Node). n.collection == id && not n.gone) o false ≡ true →
-          is_left_of (nodes_with t s.keys) origin ≡ true
+      by : (o : Option Node) → node_at t key ≡ o → option_map_or (λ (n : Node). n.collection == id && not n.gone) o false ≡ true →
+          is_left_of (nodes_with t s.keys) key ≡ true
       by None is fit = absurd (false≢true fit)
       by (Some n) is fit =
           let own : n.collection ≡ id = eqb-true _ _ (and_left (n.collection == id) (not n.gone) fit) in
           let here : n.gone ≡ false = not-true n.gone (and_right (n.collection == id) (not n.gone) fit) in
-          let on : In n (nodes_with t s.keys) = in_shelf id s found origin n is own in
-          ap (is_left_of (nodes_with t s.keys)) (sym (ok.named origin n is)) ∙ left_in (nodes_with t s.keys) n on here
+          let on : In n (nodes_with t s.keys) = in_shelf id s found key n is own in
+          ap (is_left_of (nodes_with t s.keys)) (sym (ok.named key n is)) ∙ left_in (nodes_with t s.keys) n on here
+
+  -- so is the node that a change loses
+  pub loss_left : (id : ℕ) (change : Change) → MayChange (forest_of t ss) id change → (s : Shelf) →
+      find (λ (x : Shelf). x.id == id) ss ≡ Some s →
+      loses_left change (nodes_with t s.keys) ≡ true
+  loss_left id (Change.Loss origin cause) may s found = there_left id s found origin may.named
   loss_left id _ may s found = refl

@@ -12,6 +12,7 @@ use Rattle.sm_names.proofs.SamenessLaws.{and_both, and_left, and_right, both_way
 use Rattle.sm_names.proofs.StandingLaws.{In-any}
 use Rattle.sm_names.proofs.SizeLaws.{all_on}
 use Rattle.alloc_event.specs.declared.node.Node.{Node}
+pub use Rattle.alloc_event.specs.Counts.{hangs_in}
 use Rattle.alloc_event.specs.Decisions.{is_left_of}
 use Rattle.alloc_event.specs.Nodes.{above_among, is_of, node_of}
 use Rattle.alloc_event.specs.Questions.{is_below, is_deserted_node, is_live_node, lives_below}
@@ -21,10 +22,6 @@ use Rattle.alloc_event.specs.Units.{are_united, is_head, is_parent, shares_unit}
 use Rattle.alloc_event.proofs.tables.Chains.{one_line}
 use Rattle.alloc_event.proofs.tables.Rooted.{AreOne, distinct_one, left_in, left_node, left_parent, line_of}
 use Rattle.alloc_event.proofs.calm.Steps.{all-In, found_by_key}
-
--- the node's parent is in the unit with this head
-abbrev pub hangs_in : List Node → NodeKey → Node → Bool
-hangs_in nodes head n = option_map_or (λ p. list_any (λ q. is_of p q && same_key q.head head) nodes) n.parent false
 
 -- the node holds the unit with this head: it is a live node of it, or heads a unit right below it
 abbrev pub holds_unit : List Node → NodeKey → Node → Bool

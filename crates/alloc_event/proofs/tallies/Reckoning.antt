@@ -80,6 +80,7 @@ raised_is false count less = omega arith
 pub record Adds (old new : Unit) (head : NodeKey) (n : Node) : Type 0 where
   pub live : new.live ≡ old.live + bit (lives_in head n)
   pub unready : new.unready ≡ old.unready + bit (waits_in head n)
+  pub below : new.below ≡ old.below
 
 -- a node that is counted counts for its own unit, and no other
 pub with_node_adds : (n : Node) (us : List Unit) (k : NodeKey) → k.slot < length us → (n.head.slot ≡ k.slot → n.head ≡ k) →
@@ -97,6 +98,7 @@ with_node_adds n us k within one live unready = elim (either_way (n.head.slot ==
         unready = ap (λ (u : Unit). u.unready) (get_or-set_same us k.slot (more k) no_unit within)
             ∙ raised_is (is_unready n) (unit_at us k.slot).unready unready
             ∙ ap (λ (b : Bool). (unit_at us k.slot).unready + bit b) (sym (waits_own k n own));
+        below = ap (λ (u : Unit). u.below) (get_or-set_same us k.slot (more k) no_unit within);
       })
   | inr e ↦
       let differ : n.head.slot ≢ k.slot = eqb-false n.head.slot k.slot e in
@@ -107,11 +109,15 @@ with_node_adds n us k within one live unready = elim (either_way (n.head.slot ==
       let w : bit (waits_in k n) ≡ 0 = ap bit (waits_other k n other) in
       let a : (unit_at (with_node n us) k.slot).live ≡ (unit_at us k.slot).live = ap (λ (u : Unit). u.live) same in
       let b : (unit_at (with_node n us) k.slot).unready ≡ (unit_at us k.slot).unready = ap (λ (u : Unit). u.unready) same in
-      record { live = omega arith; unready = omega arith }
+      record { live = omega arith; unready = omega arith; below = ap (λ (u : Unit). u.below) same }
 ]
   where
     more : NodeKey → Unit
-    more h = record { live = raised (is_live_node n) (unit_at us h.slot).live; unready = raised (is_unready n) (unit_at us h.slot).unready }
+    more h = record {
+      live = raised (is_live_node n) (unit_at us h.slot).live;
+      unready = raised (is_unready n) (unit_at us h.slot).unready;
+      below = (unit_at us h.slot).below;
+    }
 
 pub with_node_other : (n : Node) (us : List Unit) (slot : ℕ) → n.head.slot ≢ slot → unit_at (with_node n us) slot ≡ unit_at us slot
 with_node_other n us slot differ = get_or-set_other us n.head.slot slot _ no_unit (λ h. differ (sym h))
@@ -132,7 +138,7 @@ one_adds n us k within one live unready = elim (either_way n.gone) [
       let l : bit (lives_in k n) ≡ 0 = ap bit (lives_gone k n e) in
       let w : bit (waits_in k n) ≡ 0 = ap bit (waits_gone k n e) in
       subst (λ (b : Bool). Adds (unit_at us k.slot) (unit_at (if b then us else with_node n us) k.slot) k n) (sym e)
-      (record { live = omega arith; unready = omega arith })
+      (record { live = omega arith; unready = omega arith; below = refl })
   | inr e ↦
       subst (λ (b : Bool). Adds (unit_at us k.slot) (unit_at (if b then us else with_node n us) k.slot) k n) (sym e)
       (with_node_adds n us k within (one e) live unready)
@@ -157,12 +163,13 @@ bit_few false = omega arith
 pub record AddsAll (old new : Unit) (head : NodeKey) (ns : List Node) : Type 0 where
   pub live : new.live ≡ old.live + times (lives_in head) ns
   pub unready : new.unready ≡ old.unready + times (waits_in head) ns
+  pub below : new.below ≡ old.below
 
 pub tallied_adds : (ns : List Node) (us : List Unit) (k : NodeKey) → k.slot < length us → ((n : Node) → In n ns → n.gone ≡ false →
     n.head.slot ≡ k.slot → n.head ≡ k) →
     (unit_at us k.slot).live + length ns ≤ 18446744073709551615 → (unit_at us k.slot).unready + length ns ≤ 18446744073709551615 →
     AddsAll (unit_at us k.slot) (unit_at (tallied ns us) k.slot) k ns
-tallied_adds [] us k within one live unready = record { live = omega arith; unready = omega arith }
+tallied_adds [] us k within one live unready = record { live = omega arith; unready = omega arith; below = refl }
 tallied_adds (n ∷ ns) us k within one live unready =
     let long = one_long n us in
     let first = one_adds n us k within (λ here slots. one n (inl refl) here slots) (omega arith) (omega arith) in
@@ -175,7 +182,7 @@ tallied_adds (n ∷ ns) us k within one live unready =
     let d = rest.unready in
     let e = times_more (lives_in k) n ns in
     let f = times_more (waits_in k) n ns in
-    record { live = omega arith; unready = omega arith }
+    record { live = omega arith; unready = omega arith; below = rest.below ∙ first.below }
 
 pub tallied_other : (ns : List Node) (us : List Unit) (slot : ℕ) → ((n : Node) → In n ns → n.gone ≡ false → n.head.slot ≢ slot) →
     unit_at (tallied ns us) slot ≡ unit_at us slot

@@ -1,5 +1,5 @@
 -- The counts in the slots of keys: which stay where others change.
-use Rattle.std.proofs.Common.{◌≡◌, ◌≢◌, ℕ, ◌+◌, ◌<◌, ◌≤◌, ◌==◌, nat_le, nat_lt, refl, ap, sym, ◌∙◌, subst, Bool, true, false, ◌&&◌, inl, inr, if◌then◌else◌, slice_index_or, List, [], ◌∷◌, ◌++◌, map, filter, length, Option, Some, None, option_map, not, arith}
+use Rattle.std.proofs.Common.{◌≡◌, ◌≢◌, ℕ, ◌+◌, ◌<◌, ◌≤◌, ◌==◌, nat_le, nat_lt, refl, ap, sym, ◌∙◌, subst, Bool, true, false, ◌&&◌, ◌⊎◌, inl, inr, if◌then◌else◌, slice_index_or, List, [], ◌∷◌, ◌++◌, map, filter, length, reverse, Option, Some, None, option_map, not, arith}
 use Rattle.std.proofs.lemmas.Bool.{eq-eqb, eqb-false, eqb-true}
 use Rattle.std.specs.List.{AllByRecursion, find, list_all, list_any}
 use Rattle.std.specs.Option.{option_map_or, unwrap_or}
@@ -8,26 +8,32 @@ use Rattle.sm_names.specs.declared.keys.NodeKey.{NodeKey}
 use Rattle.sm_names.specs.Marks.{Mark, Called, Loss, Allocated, Ended}
 use Rattle.sm_names.specs.Sameness.{same_key}
 use Rattle.sm_names.specs.Words.{times}
-use Rattle.sm_names.proofs.ListLaws.{In, In-filter, In-find, In-map, In-map-back, none-find}
-use Rattle.sm_names.proofs.SamenessLaws.{and_left, and_right, both_ways, either_way, or_left, same_key-refl}
+use Rattle.sm_names.proofs.ListLaws.{In, In-filter, In-filter-back, In-find, In-list_any, In-map, In-map-back, none-find}
+use Rattle.sm_names.proofs.SamenessLaws.{and_left, and_right, both_ways, either_way, false_if, or_left, same_key-refl, same_key-true}
 use Rattle.sm_names.proofs.StandingLaws.{In-any}
 use Rattle.node_table.specs.Table.{Row, Table, next_at, node_at, was_given}
 use Rattle.alloc_event.specs.declared.change.Change.{Change}
 use Rattle.alloc_event.specs.declared.node.Node.{Node}
 use Rattle.alloc_event.specs.declared.units.Unit.{Unit}
-use Rattle.alloc_event.specs.Counts.{AreUnits, AreUnitsBut, HasUnits, cleared, lives_in, no_unit, started, tallied, unit_at, unit_of, waits_in}
+use Rattle.alloc_event.specs.Counts.{AreUnits, AreUnitsBut, HasUnits, cleared, hangs_in, head_above, heads_below, lives_in, no_unit, reckoned, started, tallied, unit_at, unit_of, waits_in}
 use Rattle.alloc_event.specs.Forest.{Collection, Forest, beside, collection_at, is_left, tidied, with_nodes, without_over_in}
 use Rattle.alloc_event.specs.Kept.{AreRising, Finishes, Gives, IsStored, IsWhole, Shelf, are_filed, collection_in, forest_of, is_filed, nodes_with}
 use Rattle.alloc_event.specs.Nodes.{is_of, is_over, is_spent, new_child, node_of}
+use Rattle.alloc_event.specs.Scenes.{are_distinct}
 use Rattle.alloc_event.specs.Settling.{Forces, Handles, Rests, Settles, changed, collection_or_new, given_back, is_birth, is_root_of, made, put, with_birth}
+use Rattle.alloc_event.specs.Ties.{are_rooted}
 use Rattle.alloc_event.proofs.changes.Altering.{found_filed, found_id, found_whole, looked-of}
 use Rattle.alloc_event.proofs.calm.Calming.{times_map}
 use Rattle.alloc_event.proofs.changes.Finishing.{looked-keys}
 use Rattle.alloc_event.proofs.tables.Hanging.{all_in, in_all, looked_gone, looked_there}
 use Rattle.alloc_event.proofs.tallies.Holding.{head_there}
+use Rattle.alloc_event.proofs.tallies.Hung.{above_node, below_mapped, hung_hangs, hung_is, hung_long, hung_other, is_hung}
 use Rattle.alloc_event.proofs.tallies.Reckoning.{cleared_long, cleared_other, cleared_own, started_other, tallied_adds, tallied_long, tallied_other}
 use Rattle.alloc_event.proofs.shelves.Showing.{filed-length}
 use Rattle.alloc_event.proofs.calm.Steps.{all-In}
+use Rattle.alloc_event.proofs.tables.Rooted.{distinct_one, left_node, left_parent}
+use Rattle.alloc_event.proofs.tables.Writing.{IsSameNode}
+use Rattle.alloc_event.proofs.tallies.Untold.{times_same}
 
 -- ---- keys that have nodes
 
@@ -289,9 +295,59 @@ times_filter p test (n ∷ ns) none =
       | inr e ↦ rw (e, none n (inl refl) e) rest
     ]
 
-pub units_filter : (us : List Unit) (p : Node → Bool) (nodes : List Node) → ((n : Node) → In n nodes → p n ≡ false → n.gone ≡ true) →
+-- whose unit is right above stays so where nodes that are gone are forgotten
+hangs_filter : (p : Node → Bool) (nodes : List Node) → are_distinct nodes ≡ true → are_rooted (reverse nodes) ≡ true →
+    ((n : Node) → In n nodes → p n ≡ false → n.gone ≡ true) → (k : NodeKey) (n : Node) → In n nodes → n.gone ≡ false →
+    hangs_in (filter p nodes) k n ≡ hangs_in nodes k n
+hangs_filter p nodes distinct rooted over k n on here = by n.parent refl
+  where
+    by : (o : Option NodeKey) → n.parent ≡ o →
+        option_map_or (λ a. list_any (λ (q : Node). is_of a q && same_key q.head k) (filter p nodes)) o false
+        ≡ option_map_or (λ a. list_any (λ (q : Node). is_of a q && same_key q.head k) nodes) o false
+    by None up = refl
+    by (Some a) up = from (either_way (list_any test nodes))
+      where
+        test : Node → Bool
+        test q = is_of a q && same_key q.head k
+
+        -- the parent is there, and stays
+        stays : (q : Node) → In q nodes → test q ≡ true → In q (filter p nodes)
+        stays q there is =
+            let x = left_node nodes a (left_parent nodes rooted n a on here up) in
+            let one : q ≡ x.node =
+            distinct_one nodes distinct q x.node there x.on (same_key-true q.key a (and_left (is_of a q) _ is) ∙ sym x.is) in
+            elim (either_way (p q)) [
+              | inl e ↦ In-filter-back p nodes q there e
+              | inr e ↦ both_ways q.gone (over q there e) (ap (λ (m : Node). m.gone) one ∙ x.here)
+            ]
+
+        from : (list_any test nodes ≡ true) ⊎ (list_any test nodes ≡ false) → list_any test (filter p nodes) ≡ list_any test nodes
+        from (inl e) =
+            let q = In-list_any test nodes e in
+            In-any test (filter p nodes) q.0 (stays q.0 q.1 q.2) q.2 ∙ sym e
+        from (inr e) = false_if (list_any test (filter p nodes)) (λ h.
+            let q = In-list_any test (filter p nodes) h in
+            both_ways (list_any test nodes) (In-any test nodes q.0 (In-filter p nodes q.0 q.1).0 q.2) e) ∙ sym e
+
+below_filter : (p : Node → Bool) (nodes : List Node) → are_distinct nodes ≡ true → are_rooted (reverse nodes) ≡ true →
+    ((n : Node) → In n nodes → p n ≡ false → n.gone ≡ true) → (k : NodeKey) →
+    times (heads_below (filter p nodes) k) (filter p nodes) ≡ times (heads_below nodes k) nodes
+below_filter p nodes distinct rooted over k =
+    times_same (heads_below (filter p nodes) k) (heads_below nodes k) (filter p nodes) (λ n on.
+    one n (In-filter p nodes n on).0 (either_way n.gone))
+    ∙ times_filter p (heads_below nodes k) nodes (λ n on out.
+    ap (λ (b : Bool). not b && (n.attached && hangs_in nodes k n)) (over n on out))
+  where
+    one : (n : Node) → In n nodes → (n.gone ≡ true) ⊎ (n.gone ≡ false) → heads_below (filter p nodes) k n ≡ heads_below nodes k n
+    one n on (inl e) = (λ i. not (e i) && (n.attached && hangs_in (filter p nodes) k n))
+        ∙ sym (λ i. not (e i) && (n.attached && hangs_in nodes k n))
+    one n on (inr e) =
+        λ i. not n.gone && (n.attached && hangs_filter p nodes distinct rooted over k n on e i)
+
+pub units_filter : (us : List Unit) (p : Node → Bool) (nodes : List Node) → are_distinct nodes ≡ true →
+    are_rooted (reverse nodes) ≡ true → ((n : Node) → In n nodes → p n ≡ false → n.gone ≡ true) →
     HasUnits us nodes → HasUnits us (filter p nodes)
-units_filter us p nodes over has =
+units_filter us p nodes distinct rooted over has =
     all_in (λ (n : Node). n.key.slot < length us → unit_at us n.key.slot ≡ unit_of (filter p nodes) n.key) (filter p nodes) (λ n on within.
     in_all (λ (m : Node). m.key.slot < length us → unit_at us m.key.slot ≡ unit_of nodes m.key) nodes has n (In-filter p nodes n on).0
     within ∙ sym (same n.key))
@@ -302,7 +358,9 @@ units_filter us p nodes over has =
         times_filter p (lives_in k) nodes (λ n on out. rw (over n on out) refl) in
         let w : times (waits_in k) (filter p nodes) ≡ times (waits_in k) nodes =
         times_filter p (waits_in k) nodes (λ n on out. rw (over n on out) refl) in
-        λ i. record { live = l i; unready = w i }
+        let b : times (heads_below (filter p nodes) k) (filter p nodes) ≡ times (heads_below nodes k) nodes =
+        below_filter p nodes distinct rooted over k in
+        λ i. record { live = l i; unready = w i; below = b i }
 
 -- ---- counting anew
 
@@ -312,8 +370,11 @@ module _ (t : Table Node) (ss : List Shelf) (kept : IsStored t ss) (id : ℕ) (s
   abbrev nodes : List Node
   nodes = nodes_with t s.keys
 
+  abbrev own : List Unit
+  own = tallied nodes (cleared s.keys us)
+
   abbrev new : List Unit
-  new = tallied nodes (cleared s.keys us)
+  new = reckoned t nodes (cleared s.keys us)
 
   whole : IsWhole (collection_in t s)
   whole = found_whole t id ss s kept.whole found
@@ -329,7 +390,19 @@ module _ (t : Table Node) (ss : List Shelf) (kept : IsStored t ss) (id : ℕ) (s
       ∙ found_id id ss s found
 
   long : length new ≡ length us
-  long = tallied_long nodes (cleared s.keys us) ∙ cleared_long s.keys us
+  long = hung_long t nodes (tallied nodes (cleared s.keys us)) ∙ tallied_long nodes (cleared s.keys us) ∙ cleared_long s.keys us
+
+  -- the head of the unit of a node that is not gone
+  head_of : (m : Node) → In m nodes → m.gone ≡ false → (h : Node) × In h nodes × (h.key ≡ m.head)
+  head_of m there here =
+      let h = head_there nodes whole.sound.distinct whole.sound.heads whole.rooted whole.united m there here in (h.0, h.1, h.2)
+
+  -- and of the unit right above the one that it heads
+  above_of : (m : Node) → In m nodes → (h : NodeKey) → head_above t m ≡ Some h → (a : Node) × In a nodes × (a.key ≡ h)
+  above_of m there h is =
+      let x = above_node t nodes whole.sound.distinct whole.rooted at m there h is in
+      let a = head_of x.0 x.1 x.2 in
+      (a.0, a.1, a.2 ∙ x.3)
 
   -- each node's key has its unit's counts
   has : HasUnits new nodes
@@ -338,19 +411,32 @@ module _ (t : Table Node) (ss : List Shelf) (kept : IsStored t ss) (id : ℕ) (s
       subst (In n.key) (looked-keys t s.id kept.named s.keys filed) (In-map-back (λ (m : Node). m.key) nodes n on) in
       let short = cleared_long s.keys us in
       let same_long = long in
+      let own_long = tallied_long nodes (cleared s.keys us) in
       let zero : unit_at (cleared s.keys us) n.key.slot ≡ no_unit = cleared_own s.keys us n.key key (omega arith) in
       let l0 : (unit_at (cleared s.keys us) n.key.slot).live ≡ 0 = ap (λ (u : Unit). u.live) zero in
       let u0 : (unit_at (cleared s.keys us) n.key.slot).unready ≡ 0 = ap (λ (u : Unit). u.unready) zero in
+      let b0 : (unit_at (cleared s.keys us) n.key.slot).below ≡ 0 = ap (λ (u : Unit). u.below) zero in
       let count : length nodes ≡ length s.keys = filed-length t s.id s.keys filed in
       let adds = tallied_adds nodes (cleared s.keys us) n.key (omega arith)
-      (λ m there here slots. let h = head_there nodes whole.sound.distinct whole.sound.heads whole.rooted whole.united m there here in
+      (λ m there here slots. let h = head_of m there here in
       one_slot t m.head n.key h.0 n (ap (node_at t) (sym h.2) ∙ at h.0 h.1) (at n on) slots)
       (omega arith) (omega arith) in
       let a = adds.live in
       let b = adds.unready in
+      let d = adds.below in
+      let hangs = hung_hangs t nodes own n.key (omega arith)
+      (λ m there h is slots. let x = above_of m there h is in
+      one_slot t h n.key x.0 n (ap (node_at t) (sym x.2) ∙ at x.0 x.1) (at n on) slots)
+      (omega arith) in
+      let e = hangs.live in
+      let f = hangs.unready in
+      let g = hangs.below in
+      let told : times (is_hung t n.key) nodes ≡ times (heads_below nodes n.key) nodes =
+      times_same (is_hung t n.key) (heads_below nodes n.key) nodes (hung_is t nodes whole.sound.distinct whole.rooted at n.key) in
       let l : (unit_at new n.key.slot).live ≡ times (lives_in n.key) nodes = omega arith in
       let w : (unit_at new n.key.slot).unready ≡ times (waits_in n.key) nodes = omega arith in
-      λ i. record { live = l i; unready = w i })
+      let h : (unit_at new n.key.slot).below ≡ times (heads_below nodes n.key) nodes = omega arith in
+      λ i. record { live = l i; unready = w i; below = h i })
 
   filed_at : (k : NodeKey) → In k s.keys → (m : Node) × (node_at t k ≡ Some m) × (m.collection ≡ id)
   filed_at k on = from (node_at t k) refl (all-In (is_filed t s.id) s.keys k on filed)
@@ -373,8 +459,11 @@ module _ (t : Table Node) (ss : List Shelf) (kept : IsStored t ss) (id : ℕ) (s
   stays k n is differ within =
       let same_long = long in (
         omega arith,
-        tallied_other nodes (cleared s.keys us) k.slot (λ m there here.
-            let h = head_there nodes whole.sound.distinct whole.sound.heads whole.rooted whole.united m there here in
+        hung_other t nodes own k.slot (λ m there j above.
+            let h = above_of m there j above in
+            apart k j n h.0 is differ (ap (node_at t) (sym h.2) ∙ at h.0 h.1) (of h.0 h.1))
+            ∙ tallied_other nodes (cleared s.keys us) k.slot (λ m there here.
+            let h = head_of m there here in
             apart k m.head n h.0 is differ (ap (node_at t) (sym h.2) ∙ at h.0 h.1) (of h.0 h.1))
             ∙ cleared_other s.keys us k.slot (λ j on. let x = filed_at j on in apart k j n x.0 is differ x.1 x.2),
       )
@@ -396,36 +485,41 @@ recounted_none t ss id none us but = but_join us id (map (collection_in t) ss) b
 -- ---- forests whose nodes are changed or forgotten
 
 -- where each node is as f makes it, which keeps what is counted
-pub units_with : (us : List Unit) (f : Node → Node) → ((n : Node) → (f n).key ≡ n.key) →
+pub units_with : (us : List Unit) (f : Node → Node) → ((n : Node) → IsSameNode (f n) n) → ((n : Node) → (f n).gone ≡ n.gone) →
     ((k : NodeKey) (n : Node) → lives_in k (f n) ≡ lives_in k n) →
     ((k : NodeKey) (n : Node) → waits_in k (f n) ≡ waits_in k n) → (cs : List Collection) → AreUnits us cs →
     AreUnits us (map (with_nodes (map f)) cs)
-units_with us f keys lives waits [] all = tt
-units_with us f keys lives waits (c ∷ cs) all = (
-  units_mapped us f c.nodes keys (λ k.
+units_with us f same gone lives waits [] all = tt
+units_with us f same gone lives waits (c ∷ cs) all = (
+  units_mapped us f c.nodes (λ n. (same n).key) (λ k.
       let l = times_map (lives_in k) (lives_in k) f c.nodes (lives k) in
       let w = times_map (waits_in k) (waits_in k) f c.nodes (waits k) in
-      λ i. record { live = l i; unready = w i }) all.0,
-  units_with us f keys lives waits cs all.1,
+      let b = below_mapped f same c.nodes gone k in
+      λ i. record { live = l i; unready = w i; below = b i }) all.0,
+  units_with us f same gone lives waits cs all.1,
 )
 
 -- where a node that is gone is forgotten
 pub units_without : (t : Table Node) (us : List Unit) (key : NodeKey) → ((k : NodeKey) (n : Node) → node_at t k ≡ Some n → n.key ≡ k) →
-    ((m : Node) → node_at t key ≡ Some m → m.gone ≡ true) → (ss : List Shelf) → AreUnits us (map (collection_in t) ss) →
+    ((m : Node) → node_at t key ≡ Some m → m.gone ≡ true) → (ss : List Shelf) →
+    AllByRecursion (λ (s : Shelf). IsWhole (collection_in t s)) ss → AreUnits us (map (collection_in t) ss) →
     AreUnits us (map (with_nodes (filter (λ n. not (is_of key n)))) (map (collection_in t) ss))
-units_without t us key named goes [] all = tt
-units_without t us key named goes (s ∷ ss) all = (
-  units_filter us (λ n. not (is_of key n)) (nodes_with t s.keys) (looked_gone t named key goes s.keys) all.0,
-  units_without t us key named goes ss all.1,
+units_without t us key named goes [] formed all = tt
+units_without t us key named goes (s ∷ ss) formed all = (
+  units_filter us (λ n. not (is_of key n)) (nodes_with t s.keys) formed.0.sound.distinct formed.0.rooted
+      (looked_gone t named key goes s.keys) all.0,
+  units_without t us key named goes ss formed.1 all.1,
 )
 
 -- where all of a collection that are over are
-pub units_over : (us : List Unit) (id : ℕ) (cs : List Collection) → AreUnits us cs → AreUnits us (without_over_in id cs)
-units_over us id [] all = tt
-units_over us id (c ∷ cs) all = from (c.id == id) (is_left (tidied c)) (units_over us id cs all.1)
+pub units_over : (us : List Unit) (id : ℕ) (cs : List Collection) → AllByRecursion IsWhole cs → AreUnits us cs →
+    AreUnits us (without_over_in id cs)
+units_over us id [] formed all = tt
+units_over us id (c ∷ cs) formed all = from (c.id == id) (is_left (tidied c)) (units_over us id cs formed.1 all.1)
   where
     tidy : HasUnits us (tidied c).nodes
-    tidy = units_filter us (λ n. not (is_over n)) c.nodes (λ n on out. over n.gone (is_spent n.end) out) all.0
+    tidy = units_filter us (λ n. not (is_over n)) c.nodes formed.0.sound.distinct formed.0.rooted
+        (λ n on out. over n.gone (is_spent n.end) out) all.0
       where
         over : (g e : Bool) → not (g && e) ≡ false → g ≡ true
         over true e h = refl

@@ -34,6 +34,7 @@ lowered_is false count some = omega arith
 record Takes (old new : Unit) (head : NodeKey) (n : Node) : Type 0 where
   live : new.live + bit (lives_in head n) ≡ old.live
   unready : new.unready + bit (waits_in head n) ≡ old.unready
+  below : new.below ≡ old.below
 
 without_takes : (n : Node) (us : List Unit) (k : NodeKey) → k.slot < length us → (n.head.slot ≡ k.slot → n.head ≡ k) →
     bit (lives_in k n) ≤ (unit_at us k.slot).live → bit (waits_in k n) ≤ (unit_at us k.slot).unready →
@@ -52,6 +53,7 @@ without_takes n us k within one live unready = elim (either_way (n.head.slot == 
             ∙ lowered_is (is_live_node n) (unit_at us k.slot).live l;
         unready = (λ i. (get_or-set_same us k.slot (less k) no_unit within i).unready + bit (waits_own k n own i))
             ∙ lowered_is (is_unready n) (unit_at us k.slot).unready w;
+        below = ap (λ (u : Unit). u.below) (get_or-set_same us k.slot (less k) no_unit within);
       })
   | inr e ↦
       let differ : n.head.slot ≢ k.slot = eqb-false n.head.slot k.slot e in
@@ -62,13 +64,14 @@ without_takes n us k within one live unready = elim (either_way (n.head.slot == 
       let w : bit (waits_in k n) ≡ 0 = ap bit (waits_other k n other) in
       let a : (unit_at (without_node n us) k.slot).live ≡ (unit_at us k.slot).live = ap (λ (u : Unit). u.live) same in
       let b : (unit_at (without_node n us) k.slot).unready ≡ (unit_at us k.slot).unready = ap (λ (u : Unit). u.unready) same in
-      record { live = omega arith; unready = omega arith }
+      record { live = omega arith; unready = omega arith; below = ap (λ (u : Unit). u.below) same }
 ]
   where
     less : NodeKey → Unit
     less h = record {
       live = lowered (is_live_node n) (unit_at us h.slot).live;
       unready = lowered (is_unready n) (unit_at us h.slot).unready;
+      below = (unit_at us h.slot).below;
     }
 
 -- ---- all nodes
@@ -84,7 +87,7 @@ one_takes n us k within one live unready = elim (either_way n.gone) [
       let l : bit (lives_in k n) ≡ 0 = ap bit (lives_gone k n e) in
       let w : bit (waits_in k n) ≡ 0 = ap bit (waits_gone k n e) in
       subst (λ (b : Bool). Takes (unit_at us k.slot) (unit_at (if b then us else without_node n us) k.slot) k n) (sym e)
-      (record { live = omega arith; unready = omega arith })
+      (record { live = omega arith; unready = omega arith; below = refl })
   | inr e ↦
       subst (λ (b : Bool). Takes (unit_at us k.slot) (unit_at (if b then us else without_node n us) k.slot) k n) (sym e)
       (without_takes n us k within (one e) live unready)
@@ -105,12 +108,13 @@ untallied_long (n ∷ ns) us = untallied_long ns (one_less n us) ∙ one_long n 
 pub record TakesAll (old new : Unit) (head : NodeKey) (ns : List Node) : Type 0 where
   pub live : new.live + times (lives_in head) ns ≡ old.live
   pub unready : new.unready + times (waits_in head) ns ≡ old.unready
+  pub below : new.below ≡ old.below
 
 pub untallied_takes : (ns : List Node) (us : List Unit) (k : NodeKey) → k.slot < length us → ((n : Node) → In n ns → n.gone ≡ false →
     n.head.slot ≡ k.slot → n.head ≡ k) →
     times (lives_in k) ns ≤ (unit_at us k.slot).live → times (waits_in k) ns ≤ (unit_at us k.slot).unready →
     TakesAll (unit_at us k.slot) (unit_at (untallied ns us) k.slot) k ns
-untallied_takes [] us k within one live unready = record { live = omega arith; unready = omega arith }
+untallied_takes [] us k within one live unready = record { live = omega arith; unready = omega arith; below = refl }
 untallied_takes (n ∷ ns) us k within one live unready =
     let long = one_long n us in
     let e = times_more (lives_in k) n ns in
@@ -122,7 +126,7 @@ untallied_takes (n ∷ ns) us k within one live unready =
     (omega arith) in
     let c = rest.live in
     let d = rest.unready in
-    record { live = omega arith; unready = omega arith }
+    record { live = omega arith; unready = omega arith; below = rest.below ∙ first.below }
 
 pub untallied_other : (ns : List Node) (us : List Unit) (slot : ℕ) → ((n : Node) → In n ns → n.gone ≡ false → n.head.slot ≢ slot) →
     unit_at (untallied ns us) slot ≡ unit_at us slot
@@ -138,7 +142,7 @@ untallied_other (n ∷ ns) us slot differ =
 -- ---- counts of nodes with and without those of some keys
 
 -- as many pass as by a test that agrees
-times_same : (p q : Node → Bool) (ns : List Node) → ((n : Node) → In n ns → p n ≡ q n) → times p ns ≡ times q ns
+pub times_same : (p q : Node → Bool) (ns : List Node) → ((n : Node) → In n ns → p n ≡ q n) → times p ns ≡ times q ns
 times_same p q [] same = refl
 times_same p q (n ∷ ns) same =
     let a = times_more p n ns in

@@ -222,19 +222,34 @@ impl Ground {
         Ok(())
     }
 
-    /// Client 3 opens a strong handle of the collection's first buffer.
-    pub fn open(&mut self) -> Result<(), Fail> {
+    // Client 3 opens such a handle of the collection's first buffer.
+    fn open_as(&mut self, strength: Strength) -> Result<(), Fail> {
         for _ in 0..2 {
-            if let Ok(()) = self.holds.add(3, FIRST, Strength::Strong) {
+            if let Ok(()) = self.holds.add(3, FIRST, strength) {
                 return Ok(());
             }
         }
         Err(Fail::from("no handle"))
     }
 
+    /// Client 3 opens a strong handle of the collection's first buffer.
+    pub fn open(&mut self) -> Result<(), Fail> {
+        self.open_as(Strength::Strong)
+    }
+
     /// And closes it.
     pub fn close(&mut self) -> bool {
         self.holds.sub(3, FIRST, Strength::Strong)
+    }
+
+    /// A weak one.
+    pub fn open_weak(&mut self) -> Result<(), Fail> {
+        self.open_as(Strength::Weak)
+    }
+
+    /// And closes it.
+    pub fn close_weak(&mut self) -> bool {
+        self.holds.sub(3, FIRST, Strength::Weak)
     }
 
     /// The forest.

@@ -59,7 +59,7 @@ pub(super) fn is_allocated(ground: &Ground, key: NodeKey) -> bool {
 }
 
 // Whether each of them is allocated, or none.
-fn are_allocated(ground: &Ground, keys: &[NodeKey], yes: bool) -> bool {
+pub(super) fn are_allocated(ground: &Ground, keys: &[NodeKey], yes: bool) -> bool {
     for key in keys {
         if is_allocated(ground, *key) != yes {
             return false;
@@ -487,7 +487,7 @@ fn hold_from_below(ground: &mut Ground, near: &[NodeKey], heads: &[NodeKey]) -> 
 }
 
 // So many attached nodes below the node, each below the one before.
-fn hang_chain(
+pub(super) fn hang_chain(
     alloc: Global,
     ground: &mut Ground,
     top: NodeKey,

@@ -17,14 +17,14 @@ fn served_family(alloc: Global) -> Result<(Ground, NodeKey), Fail> {
 }
 
 // A unit of two nodes below the root.
-fn pair(ground: &mut Ground, root: NodeKey) -> Result<[NodeKey; 2], Fail> {
+pub(super) fn pair(ground: &mut Ground, root: NodeKey) -> Result<[NodeKey; 2], Fail> {
     let head = ground.bear(Some(root), true)?;
     let child = ground.bear(Some(head), false)?;
     Ok([head, child])
 }
 
 // Whether both nodes of the unit are allocated.
-fn are_served(ground: &Ground, unit: [NodeKey; 2]) -> bool {
+pub(super) fn are_served(ground: &Ground, unit: [NodeKey; 2]) -> bool {
     is_allocated(ground, unit[0]) && is_allocated(ground, unit[1])
 }
 

@@ -19,7 +19,7 @@ fn weak_family(alloc: Global) -> Result<(Ground, Vec<NodeKey>), Fail> {
     Ok((ground, keys))
 }
 
-fn root_of(keys: &[NodeKey]) -> Result<NodeKey, Fail> {
+pub(super) fn root_of(keys: &[NodeKey]) -> Result<NodeKey, Fail> {
     match keys.first() {
         Some(key) => Ok(*key),
         None => Err(Fail::from("no root")),

@@ -1,9 +1,8 @@
 -- The collection is worked on with the node that is born.
-use Rattle.std.proofs.Common.{◌≡◌, true, map, reverse, List, IfSome, IsSome, option_map, sym, ◌∙◌, ap, subst}
+use Rattle.std.proofs.Common.{◌≡◌, true, map, reverse, List, sym, ◌∙◌, ap, subst}
 use Rattle.sm_names.specs.declared.keys.HeldBuffer.{HeldBuffer}
 use Rattle.sm_names.specs.Words.{sorted_by}
 use Rattle.buffer_holds.specs.Counts.{total}
-use Rattle.node_table.specs.Table.{Table, row_at}
 use Rattle.alloc_event.specs.declared.node.Node.{Node}
 use Rattle.alloc_event.specs.Forest.{Collection, all_held}
 use Rattle.alloc_event.specs.Kept.{AreHeadsGiven, Gives, named, shelf_of, shelves_of, IsHung, IsStored, put_shelf, forest_of, all_of}

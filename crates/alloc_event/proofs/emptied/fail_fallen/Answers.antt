@@ -1,16 +1,19 @@
 -- The keys that fail are the same in order.
-use Rattle.std.proofs.Common.{sym, ◌∙◌}
+use Rattle.std.proofs.Common.{subst, sym, ◌∙◌}
 use Rattle.std.proofs.lemmas.Map.Views.{Contains-from_any, list_any-from_Contains}
 use Rattle.sm_names.proofs.SamenessLaws.{same_key-true}
+use Rattle.alloc_event.specs.Ties.{IsFall}
 use Rattle.alloc_event.proofs.failures.Ties.{key_equivalence}
 use Rattle.alloc_event.proofs.emptied.fail_fallen.Goals as goal
 
-pub lose_in_place-requires-clause-failing : goal.lose_in_place-requires-clause-failing
-lose_in_place-requires-clause-failing c key =
-    let old = c.args.keys.items in
-    let new = c.order.new.keys.items in (
+pub let_go-requires-2-clause-failing : goal.let_go-requires-2-clause-failing
+let_go-requires-2-clause-failing c s found =
+    let old = c.args.room.now.failing.items in
+    let new = c.order.new.keys.items in
+    let falls : IsFall c.args.table.now c.args.fault.origin new = λ key. (
       λ on. (c.requires.taken.fall key).0 (Contains-from_any same_key-true key old
           (sym (c.order.ensures.same key) ∙ list_any-from_Contains key_equivalence key new on)),
       λ h. Contains-from_any same_key-true key new
           (c.order.ensures.same key ∙ list_any-from_Contains key_equivalence key old ((c.requires.taken.fall key).1 h)),
-    )
+    ) in
+    subst (IsFall c.args.table.now c.args.fault.origin) (sym c.deref-4.ensures.value) falls

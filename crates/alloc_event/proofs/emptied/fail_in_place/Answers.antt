@@ -4,7 +4,6 @@ use Rattle.std.specs.Option.{option_map_or}
 use Rattle.node_table.specs.Table.{node_at}
 use Rattle.alloc_event.specs.declared.node.Node.{Node}
 use Rattle.alloc_event.specs.Kept.{shelves_of}
-use Rattle.alloc_event.proofs.intervals.Pools.{any_ok, pool_stays}
 use Rattle.alloc_event.proofs.shelves.Showing.{node_is}
 use Rattle.alloc_event.proofs.tables.Storing.{row_there}
 use Rattle.alloc_event.proofs.emptied.fail_in_place.Goals as goal
@@ -13,17 +12,10 @@ some_if : (p : Node → Bool) (o : Option Node) → option_map_or p o false ≡ 
 some_if p None h = cc
 some_if p (Some n) h = refl
 
-pub fall-requires : goal.fall-requires
-fall-requires c =
+pub fall_into-requires : goal.fall_into-requires
+fall_into-requires c =
     let t = c.args.table.now in
     let test : Node → Bool = λ n. n.collection == c.args.id && not n.gone in
     row_there t c.args.fault.origin (some_if test (node_at t c.args.fault.origin)
     (ap (λ (o : Option Node). option_map_or test o false) (sym (node_is t (shelves_of c.args.entries.now.items) c.requires.kept
     c.args.fault.origin)) ∙ c.requires.change.named))
-
--- the buffers stay where nothing is forced
-pub returns-clause-pool : goal.returns-clause-pool
-returns-clause-pool c =
-    any_ok c.fail_fallen.result (λ made is.
-    pool_stays c.args.pool.now.held c.args.table.now c.fail_fallen.new.table (shelves_of c.args.entries.now.items)
-    (shelves_of c.fail_fallen.new.entries.items) c.fail_fallen.ensures.shelves c.requires.pool)

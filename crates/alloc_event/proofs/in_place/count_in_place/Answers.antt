@@ -15,6 +15,7 @@ use Rattle.alloc_event.specs.InPlace.{IsMade, bit}
 use Rattle.alloc_event.specs.Kept.{is_strong, nodes_with}
 use Rattle.alloc_event.specs.Nodes.{affected}
 use Rattle.alloc_event.specs.Questions.{is_live_node}
+use Rattle.alloc_event.proofs.calm.Keeping.{either_holds}
 use Rattle.alloc_event.proofs.changes.Altering.{same_affected}
 use Rattle.alloc_event.proofs.changes.Effecting.{counted_made, less_is, live_before, live_is, strong_before, strong_is, unready_before, unready_is}
 use Rattle.alloc_event.proofs.in_place.count_in_place.Goals.{else-is_unready-via-then-is_unready+then-unready-eq0+else-is_due, else-is_unready-via-then-is_unready+else-unready-eq0, else-is_unready-via-else-is_unready}
@@ -67,6 +68,7 @@ returns-clause-some c ss s opens =
     ∙ ap (λ (u : Unit). u.unready + bit (is_unready (affected key effect n))) (sym unit)) in
     subst (λ (l : List Unit). IsMade t c.affect_at.new.table l ss s (Change.Effect key effect) c.less-left.result) (sym c.put_unit.ensures)
     (counted_made t c.affect_at.new.table us key effect n was becomes writes ss s c.args.strong opens within
-    (record { live = c.less-live.result; unready = c.less-unready.result }) live unready
-    c.less-left.result left (c.is_held.ensures c.if-not-is_held.false)
+    (record { live = c.less-live.result; unready = c.less-unready.result; below = c.unit_in-unit.result.below }) live unready
+    (ap (λ (u : Unit). u.below) unit) c.less-left.result left
+    (either_holds c.less-live.result c.unit_in-unit.result.below (sym c.is_held_by.ensures ∙ c.if-not-is_held_by.false))
     (guard c))

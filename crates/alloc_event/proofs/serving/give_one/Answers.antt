@@ -7,11 +7,11 @@ use Rattle.alloc_event.specs.declared.node.Node.{Node}
 use Rattle.alloc_event.proofs.serves.Giving.{given_written}
 use Rattle.alloc_event.proofs.serving.give_one.Goals as goal
 
-pub returns-then-eq : goal.returns-then-eq
-returns-then-eq c =
+pub returns-in-Some : goal.returns-in-Some
+returns-in-Some c =
     let n : Node = c.in-Some.node in
     let t = c.args.table.now in
     let was : node_at t c.args.key ≡ Some n = sym c.get.ensures ∙ sym c.copied.ensures ∙ c.in-Some.is in
-    given_written t c.requires.named c.args.head c.args.key c.write.new.table n was
+    given_written t c.requires.named c.args.heads.now c.args.key c.write.new.table n was
     (subst (λ (m : Node). c.write.new.table ≡ table_with_node t m.key m) c.given.ensures c.write.ensures.becomes)
     (subst (λ (m : Node). Writes t c.write.new.table m.key m) c.given.ensures c.write.ensures.writes)

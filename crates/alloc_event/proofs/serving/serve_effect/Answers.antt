@@ -7,8 +7,7 @@ use Rattle.alloc_event.specs.declared.node.Node.{Node}
 use Rattle.alloc_event.specs.declared.units.Unit.{Unit}
 use Rattle.alloc_event.specs.Falling.{IsTaken}
 use Rattle.alloc_event.specs.Kept.{shelf_of}
-use Rattle.alloc_event.specs.Nodes.{given_buffers}
-use Rattle.alloc_event.specs.Serving.{AreLess, IsDue, IsRoom, IsServed, IsServedAt, is_waiting_head}
+use Rattle.alloc_event.specs.Serving.{AreLess, IsDue, IsServed, IsServing, is_waiting_head}
 use Rattle.alloc_event.proofs.changes.Altering.{same_affected}
 use Rattle.alloc_event.proofs.serves.Served.{served_by}
 use Rattle.alloc_event.proofs.tables.Storing.{row_there}
@@ -19,14 +18,14 @@ some_if : (p : Node → Bool) (o : Option Node) (b : Bool) → (option_map_or p 
 some_if p None b h = cc
 some_if p (Some n) b h = refl
 
-pub keys_below-requires : goal.keys_below-requires
-keys_below-requires c =
+pub list_below-requires : goal.list_below-requires
+list_below-requires c =
     let t = c.args.table.now in
     let due : IsDue t c.args.entry.now.buffers c.in-Some.node c.in-Some-buffers_due.buffers = c.in-Some-buffers_due.ensures in
     row_there t c.in-Some.node.head (some_if is_waiting_head (node_at t c.in-Some.node.head) _ due.turn)
 
-pub serve-requires-clause-there : goal.serve-requires-clause-there
-serve-requires-clause-there c =
+pub serve_following-requires-clause-there : goal.serve_following-requires-clause-there
+serve_following-requires-clause-there c =
     let n : Node = c.in-Some.node in
     let was : node_at c.args.table.now c.args.key ≡ Some n = sym c.get.ensures ∙ sym c.copied.ensures ∙ c.in-Some.is in
     let own : c.affected_by-after.result.key ≡ c.args.key =
@@ -41,18 +40,18 @@ returns-clause-some c ss opens sum =
     let us = c.args.units.now.items in
     let after : Node = c.affected_by-after.result in
     let buffers = c.in-Some-buffers_due.buffers in
-    let keys = c.in-Some-keys_below.keys.items in
-    let reserved = c.in-Some-room_for.reserved in
+    let keys = c.list_below.new.keys.items in
+    let reserved = c.in-Some-serve_following.reserved in
     let was : node_at t c.args.key ≡ Some n = sym c.get.ensures ∙ sym c.copied.ensures ∙ c.in-Some.is in
     let due : IsDue t c.args.entry.now.buffers n buffers = c.in-Some-buffers_due.ensures in
     let less : AreLess us c.args.entry.now.strong n after c.in-Some-counts_with.left c.in-Some-counts_with.next =
     rw c.deref.ensures.value at c.in-Some-counts_with.ensures in
-    let taken : IsTaken t n.head keys = c.in-Some-keys_below.ensures in
-    let room : IsRoom t keys us c.args.entry.now.id c.args.entry.now.reserved buffers n.head after reserved =
-    rw (c.deref-2.ensures.value, c.deref-3.ensures.value) at c.in-Some-room_for.ensures in
-    let served : IsServedAt t c.serve.new.table n.head keys (given_buffers n.head after) = rw c.deref-4.ensures.value at c.serve.ensures in
-    subst (λ (l : List Unit). IsServed t c.serve.new.table l ss (shelf_of c.args.entry.now) (Change.Effect c.args.key c.args.effect.now)
-    c.in-Some-counts_with.left reserved) (sym c.put_unit.ensures)
-    (served_by t c.serve.new.table us c.args.key c.args.effect.now n was ss (shelf_of c.args.entry.now) c.args.entry.now.strong opens
-    c.in-Some-counts_with.next c.in-Some-counts_with.left after c.affected_by-after.ensures less c.args.entry.now.reserved sum buffers due
-    keys taken reserved room served)
+    let taken : IsTaken t n.head keys = c.list_below.ensures c.if-not-list_below.false in
+    let serving : IsServing t c.serve_following.new.table keys us c.args.entry.now.id c.args.entry.now.reserved buffers n.head after
+    reserved =
+    rw (c.deref-2.ensures.value, c.deref-3.ensures.value) at c.in-Some-serve_following.ensures.some in
+    subst (λ (l : List Unit). IsServed t c.serve_following.new.table l ss (shelf_of c.args.entry.now)
+    (Change.Effect c.args.key c.args.effect.now) c.in-Some-counts_with.left reserved) (sym c.put_unit.ensures)
+    (served_by t c.serve_following.new.table us c.args.key c.args.effect.now n was ss (shelf_of c.args.entry.now)
+    c.args.entry.now.strong opens c.in-Some-counts_with.next c.in-Some-counts_with.left after c.affected_by-after.ensures less
+    c.args.entry.now.reserved sum buffers due keys taken reserved serving)

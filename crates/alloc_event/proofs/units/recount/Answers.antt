@@ -9,10 +9,12 @@ pub returns-in-Some : goal.returns-in-Some
 returns-in-Some c =
     let entry = c.in-Some.entry.now in
     let found = shelf_found c.args.id c.args.entries.now ∙ ap (option_map shelf_of) (sym c.in-Some.ensures) in
-    let few : length entry.keys.items ≤ 18446744073709551615 = omega (arith, c.as_slice.ensures.few) in
-    let cleared_is = rw c.as_slice.ensures.items at c.clear.ensures in
-    let tallied_is = rw c.as_slice-in-Some.ensures.items at c.tally.ensures in
-    rw (tallied_is, cleared_is)
+    let few : length entry.keys.items ≤ 18446744073709551615 = omega (arith, c.as_slice-keys.ensures.few) in
+    let items = c.as_slice-keys.ensures.items in
+    let cleared_is = rw items at c.clear.ensures in
+    let tallied_is = rw items at c.tally.ensures in
+    let hung_is = rw items at c.hang.ensures in
+    rw (hung_is, tallied_is, cleared_is)
     (recounted_all c.args.table.now (shelves_of c.args.entries.now) c.requires.kept c.args.id (shelf_of entry) found c.args.units.now.items
     few c.requires.others)
 

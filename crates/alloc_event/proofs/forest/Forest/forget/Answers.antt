@@ -84,7 +84,7 @@ invariant_of-self c =
           c.args.key c.take_out-node.result out c.self.invariant.kept.named (shelves_of c.self.inside.entries.items)))
           (units_without c.self.inside.table c.self.inside.units.items c.args.key c.self.invariant.kept.named
           (goes c.self.inside.table c.take_out-node.new.table c.args.key c.take_out-node.result out (and_left _ _ over))
-          (shelves_of c.self.inside.entries.items) c.self.invariant.units));
+          (shelves_of c.self.inside.entries.items) c.self.invariant.kept.whole c.self.invariant.units));
     }
 
 pub invariant_of-self-in_default : goal.invariant_of-self-in_default

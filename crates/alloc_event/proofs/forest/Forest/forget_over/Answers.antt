@@ -2,6 +2,7 @@
 use Rattle.std.proofs.Common.{map, subst, sym}
 use Rattle.alloc_event.specs.Counts.{AreUnits}
 use Rattle.alloc_event.specs.Kept.{collection_in, shelves_of}
+use Rattle.alloc_event.proofs.changes.Finishing.{whole-map}
 use Rattle.alloc_event.proofs.tallies.Slots.{units_over}
 use Rattle.alloc_event.proofs.tables.TakingOut.{SameKeys-shown}
 use Rattle.alloc_event.proofs.forest.Forest.forget_over.Goals as goal
@@ -12,7 +13,7 @@ invariant_of-self c = record {
   counted = c.forget_over.ensures.counted;
   units = subst (AreUnits c.self.inside.units.items) (sym c.forget_over.ensures.collections)
       (units_over c.self.inside.units.items c.args.id (map (collection_in c.self.inside.table) (shelves_of c.self.inside.entries.items))
-      c.self.invariant.units);
+      (whole-map c.self.inside.table (shelves_of c.self.inside.entries.items) c.self.invariant.kept.whole) c.self.invariant.units);
 }
 
 pub returns-clause-keys : goal.returns-clause-keys

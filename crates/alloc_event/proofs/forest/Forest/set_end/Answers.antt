@@ -80,7 +80,9 @@ invariant_of-self c =
           (λ over. rw (id_is c) at (c.note_over.ensures.noted (over_is c ∙ over))))
           (c.note_over.ensures.counted c.self.inside.table c.self.invariant.counted);
       units = subst (AreUnits c.self.inside.units.items) (sym (ap (λ (f : Forest). f.collections) (shown c)))
-          (units_with c.self.inside.units.items (with_end c.args.key c.args.end) (λ n. refl) (λ k n. refl) (λ k n. refl)
+          (units_with c.self.inside.units.items (with_end c.args.key c.args.end)
+          (λ n. record { key = refl; parent = refl; attached = refl; collection = refl; head = refl }) (λ n. refl) (λ k n. refl)
+          (λ k n. refl)
           (map (collection_in c.self.inside.table) (shelves_of c.self.inside.entries.items)) c.self.invariant.units);
     }
 

@@ -1,0 +1,13 @@
+use Rattle.std.proofs.Common.{◌≡◌, map, take}
+use Rattle.std.specs.List.{list_any}
+use Rattle.alloc_event.specs.Falling.{gone_by}
+use Rattle.alloc_event.specs.Kept.{Stores, nodes_with}
+use Rattle.alloc_event.specs.Nodes.{is_over}
+use Rattle.alloc_event.proofs.surveying.go_all.Given as goal
+
+-- so far these nodes went
+abbrev pub invariant-loop-key : goal.invariant-loop-key
+invariant-loop-key l = record {
+  stores : Stores l.initial.table l.table (map (gone_by l.going) (nodes_with l.initial.table (take l.key-index l.keys)));
+  over : l.over ≡ list_any is_over (map (gone_by l.going) (nodes_with l.initial.table (take l.key-index l.keys)));
+}

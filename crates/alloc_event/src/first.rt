@@ -1,0 +1,176 @@
+//! The first allocation of a collection, made in its place.
+ghost use Rattle.std.specs.List.{list_any};
+ghost use Rattle.std.specs.Option.{option_map_or};
+ghost use Rattle.std.specs.Prelude.{◌≡◌, ◌≤◌, ◌^◌, max, Some, true, false, IfOk, IfSome, OnErr};
+ghost use Rattle.sm_names.specs.declared.keys.NodeKey.{NodeKey as Key};
+ghost use Rattle.node_table.specs.Table.{node_at};
+ghost use Rattle.alloc_event.specs.declared.change.Change.{Change as Changed};
+ghost use Rattle.alloc_event.specs.declared.node.Node.{Node as Kept};
+ghost use Rattle.alloc_event.specs.Calm.{AreCounted};
+ghost use Rattle.alloc_event.specs.Counts.{HaveUnits};
+ghost use Rattle.alloc_event.specs.First.{IsFirst, is_root_there};
+ghost use Rattle.alloc_event.specs.Forest.{IsPoolOf};
+ghost use Rattle.alloc_event.specs.Kept.{Finishes, IsStored, SameTable, forest_of, shelf_of, shelves_of};
+ghost use Rattle.alloc_event.specs.Questions.{is_root_left};
+ghost use Rattle.alloc_event.specs.Scenes.{has_tracker_room};
+ghost use Rattle.alloc_event.specs.Serving.{is_served_there};
+ghost use Rattle.alloc_event.specs.Settling.{Handles, MayChange, changed, collection_or_new, no_key};
+
+use crate::asks::Asks;
+use crate::change::Effect;
+use crate::entry::{Entry, place_of};
+use crate::finish::part;
+use crate::in_place::affected_by;
+use crate::node::Node;
+use crate::placing::lay_in;
+use crate::serving::{asks_with, counts_with, is_served_there, serve};
+use crate::units::{Unit, put_unit};
+use buffer_pool::Pool;
+use node_table::NodeTable;
+use sm_names::{Buffers, CollectionId, NoMemory, NodeKey};
+
+/// What the first allocation makes of a collection.
+#[derive(Clone, Copy)]
+pub(crate) struct Plan {
+    /// The node of the effect then.
+    pub(crate) after: Node,
+    /// How many strong nodes are live then.
+    pub(crate) left: usize,
+    /// The counts of the root's unit then.
+    pub(crate) next: Unit,
+    /// The buffers that it is given.
+    pub(crate) wants: Buffers,
+    /// How many of them are camped on.
+    pub(crate) camping: u128,
+}
+
+/// Whether the node with this key is a root that is not gone.
+fn is_root_there(table: &NodeTable<Node>, key: NodeKey) -> bool
+    ensures { result ≡ is_root_there table.now key }
+{
+    match table.get(key) {
+        Some(node) => node.parent.is_none() && !node.gone,
+        None => false,
+    }
+}
+
+/// Whether a node with one of these keys is of a unit with buffers, and not gone.
+fn is_some_served(table: &NodeTable<Node>, keys: &[NodeKey]) -> bool
+    ensures { result ≡ list_any (is_served_there table.now) keys.now }
+{
+    keys.iter().any(|key| is_served_there(table, *key))
+}
+
+/// The buffers that are wanted where so much is asked for, if they are some, and not too many.
+fn wanted(asks: &Asks) -> Option<Buffers>
+    ensures count { IfSome result (λ wants. wants.count ≡ max asks.now.camping asks.now.at_least) }
+    ensures size { IfSome result (λ wants. wants.size ≡ asks.now.size) }
+    ensures few { IfSome result (λ wants. (1 ≤ wants.count) × (wants.count ≤ 64)) }
+    ensures sized { IfSome result (λ wants. (1 ≤ wants.size) × (wants.size ≤ 2 ^ 30)) }
+{
+    let count = asks.camping.max(asks.at_least as u128);
+    if count == 0 || count > 64 || asks.size == 0 || asks.size > 1073741824 {
+        return None;
+    }
+    Some(Buffers {
+        count: count as u32,
+        size: asks.size,
+    })
+}
+
+/// What the first allocation comes to, if the effect makes the root's unit ready while the collection
+/// has no buffers, and nothing but that allocation is forced: a node of the unit is live then and a
+/// strong node of the collection, no attached unit right below is ready, and what is asked for is
+/// within the limits. A walk over the keys of the collection, where the unit is ready.
+fn planned(
+    table: &NodeTable<Node>,
+    units: &[Unit],
+    entry: &Entry,
+    key: NodeKey,
+    effect: &Effect,
+) -> Option<Plan>
+    requires room { (at : Key) (n : Kept) → node_at table.now at ≡ Some n → has_tracker_room key effect.now n ≡ true }
+    ensures { IfSome result (IsFirst table.now units.now (shelf_of entry.now) key effect.now entry.now.strong) }
+{
+    let node = table.get(key).copied()?;
+    if entry.buffers.is_some() || !is_root_there(table, node.head) {
+        return None;
+    }
+    let after = affected_by(&node, key, effect);
+    let (left, next) = counts_with(units, entry.strong, &node, &after)?;
+    let keys = entry.keys.as_slice();
+    if left == 0 || is_some_served(table, keys) {
+        return None;
+    }
+    let heads = [node.head];
+    let asks = asks_with(table, keys, units, entry.id, &heads, &after)?;
+    let wants = wanted(&asks)?;
+    Some(Plan {
+        after,
+        left,
+        next,
+        wants,
+        camping: asks.camping,
+    })
+}
+
+/// Makes an effect in its place by which the root's unit becomes ready while the collection has no
+/// buffers, and the first allocation with it, if the counts tell that nothing more is forced, and the
+/// pool has places. Answers whether it did; if not, nothing changed.
+///
+/// It costs a binary search and a constant; where the unit is ready, besides, a few reads of each node
+/// of the collection, a write of each node of the unit, and what the places of the buffers cost.
+/// `NoMemory` where the room is refused for what is held, or by the pool: then nothing changed.
+#[inline(never)]
+pub(crate) fn allocate_first(
+    table: &mut NodeTable<Node>,
+    entries: &mut Vec<Entry>,
+    units: &mut Vec<Unit>,
+    pool: &mut Pool,
+    id: CollectionId,
+    key: NodeKey,
+    effect: &Effect,
+) -> Result<bool, NoMemory>
+    requires kept { IsStored table.old (shelves_of entries.old.items) }
+    requires counted { AreCounted table.old entries.old.items }
+    requires units { HaveUnits units.old.items table.old entries.old.items }
+    requires change { MayChange (forest_of table.old (shelves_of entries.old.items)) id (Changed.Effect key effect.now) }
+    requires pool { IsPoolOf pool.old (forest_of table.old (shelves_of entries.old.items)) }
+    ensures err_table { OnErr result (table.new ≡ table.old) }
+    ensures err_entries { OnErr result (entries.new.items ≡ entries.old.items) }
+    ensures err_pool { OnErr result (pool.new ≡ pool.old) }
+    ensures no_table { IfOk result (λ made. made ≡ false → table.new ≡ table.old) }
+    ensures no_entries { IfOk result (λ made. made ≡ false → entries.new.items ≡ entries.old.items) }
+    ensures no_pool { IfOk result (λ made. made ≡ false → pool.new ≡ pool.old) }
+    ensures ok { IfOk result (λ made. made ≡ true → (handles : Handles) →
+        Finishes pool.old.size handles table.old (shelves_of entries.old.items) table.new (shelves_of entries.new.items)
+        (changed (Changed.Effect key effect.now) no_key (collection_or_new (forest_of table.old (shelves_of entries.old.items)) id))) }
+    ensures kept { IfOk result (λ made. made ≡ true → IsStored table.new (shelves_of entries.new.items)) }
+    ensures counted { IfOk result (λ made. made ≡ true → AreCounted table.new entries.new.items) }
+    ensures units { HaveUnits units.new.items table.new entries.new.items }
+    ensures pool { IfOk result (λ made. made ≡ true → IsPoolOf pool.new (forest_of table.new (shelves_of entries.new.items))) }
+    ensures size { pool.new.size ≡ pool.old.size }
+    ensures same { SameTable table.old table.new }
+{
+    let Some(at) = place_of(entries, id) else {
+        return Ok(false);
+    };
+    let entry = &entries[at];
+    let Some(plan) = planned(table, units, entry, key, effect) else {
+        return Ok(false);
+    };
+    part(pool);
+    let Some(held) = lay_in(pool, entry.id, plan.wants, &entry.held)? else {
+        return Ok(false);
+    };
+    part(pool);
+    let heads = [plan.after.head];
+    serve(table, entry.keys.as_slice(), &heads, &plan.after);
+    put_unit(units, plan.after.head.slot as usize, plan.next);
+    let entry = &mut entries[at];
+    entry.strong = plan.left;
+    entry.reserved = plan.camping;
+    entry.buffers = Some(plan.wants);
+    entry.held = held;
+    Ok(true)
+}

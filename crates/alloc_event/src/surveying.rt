@@ -1,0 +1,160 @@
+//! Nodes with some keys, as they stand in the table: what is asked of them before they go, and how they go.
+ghost use Rattle.std.specs.Prelude.{◌≡◌, ◌≢◌, ◌<◌, ◌&&◌, ◌||◌, ◌∷◌, [], Some, None, map, true, false};
+ghost use Rattle.std.specs.List.{AllPairs, list_any};
+ghost use Rattle.std.specs.Option.{option_map_or};
+ghost use Rattle.sm_names.specs.declared.keys.NodeKey.{NodeKey as Key};
+ghost use Rattle.node_table.specs.Changes.{Writes};
+ghost use Rattle.node_table.specs.Lending.{table_with_node};
+ghost use Rattle.node_table.specs.Table.{node_at};
+ghost use Rattle.alloc_event.specs.declared.node.Node.{Node as Kept};
+ghost use Rattle.alloc_event.specs.Calm.{strong_count};
+ghost use Rattle.alloc_event.specs.Falling.{IsOrdered, gone_by, stays_by, unhung, unreckoned, untallied};
+ghost use Rattle.alloc_event.specs.Kept.{Stores, all_of, nodes_with};
+ghost use Rattle.alloc_event.specs.Nodes.{is_over};
+ghost use Rattle.alloc_event.specs.Reserved.{camped, reserved_count};
+
+use crate::falling::{Going, go, stays_by, uncount, uncount_below};
+use crate::kept::{is_over, is_strong};
+use crate::node::Node;
+use crate::reserving::camped;
+use crate::units::{Unit, head_above};
+use node_table::NodeTable;
+use sm_names::{CollectionId, NodeKey};
+
+/// What is to be known of nodes before they go.
+#[derive(Clone, Copy)]
+pub(crate) struct Surveyed {
+    /// How many of them are strong and live.
+    pub strong: usize,
+    /// How many buffers they camp on that are reserved.
+    pub reserved: u128,
+    /// Whether all of them are of the collection.
+    pub own: bool,
+    /// Whether one of them stays live.
+    pub stays: bool,
+}
+
+/// What is to be known of the nodes with these keys. It costs their number.
+pub(crate) fn survey(
+    table: &NodeTable<Node>,
+    keys: &[NodeKey],
+    id: CollectionId,
+    going: &Going,
+) -> Surveyed
+    requires ordered { IsOrdered going.now }
+    ensures strong { result.strong ≡ strong_count (nodes_with table.now keys.now) }
+    ensures reserved { result.reserved ≡ reserved_count (nodes_with table.now keys.now) }
+    ensures own { result.own ≡ all_of id (nodes_with table.now keys.now) }
+    ensures stays { result.stays ≡ list_any (stays_by going.now) (nodes_with table.now keys.now) }
+{
+    let mut found = Surveyed {
+        strong: 0,
+        reserved: 0,
+        own: true,
+        stays: false,
+    };
+    for key in keys {
+        if let Some(node) = table.get(*key) {
+            found.strong += is_strong(node) as usize;
+            found.reserved += camped(node, node.constraints) as u128;
+            found.own = found.own && node.collection == id;
+            found.stays = found.stays || stays_by(node, going);
+        }
+    }
+    found
+}
+
+/// Whether the nodes with these keys are of this collection.
+pub(crate) fn are_of(table: &NodeTable<Node>, keys: &[NodeKey], id: CollectionId) -> bool
+    ensures { result ≡ all_of id (nodes_with table.now keys.now) }
+{
+    let mut rest = keys;
+    'on: while let Some((key, more)) = rest.split_first() {
+        match table.get(*key) {
+            Some(node) if node.collection != id => return false,
+            _ => rest = more,
+        }
+    }
+    true
+}
+
+/// Counts the node with this key no longer for its unit, if it is there and not gone.
+fn untally_one(table: &NodeTable<Node>, units: &mut Vec<Unit>, key: NodeKey)
+    ensures { units.new.items ≡ untallied (nodes_with table.now (key ∷ [])) units.old.items }
+{
+    if let Some(node) = table.get(key) {
+        if !node.gone {
+            uncount(units, node);
+        }
+    }
+}
+
+/// Counts the node with this key no longer for the unit right above the one that it heads, if it
+/// heads one and is not gone.
+fn unhang_one(table: &NodeTable<Node>, units: &mut Vec<Unit>, key: NodeKey)
+    ensures { units.new.items ≡ unhung table.now (nodes_with table.now (key ∷ [])) units.old.items }
+{
+    if let Some(node) = table.get(key) {
+        uncount_below(units, head_above(table, node));
+    }
+}
+
+/// Counts the nodes with these keys no longer for their units.
+fn untally_each(table: &NodeTable<Node>, units: &mut Vec<Unit>, keys: &[NodeKey])
+    ensures { units.new.items ≡ untallied (nodes_with table.now keys.now) units.old.items }
+{
+    for key in keys {
+        untally_one(table, units, *key);
+    }
+}
+
+/// Counts the nodes with these keys no longer for the units right above those that they head.
+fn unhang_each(table: &NodeTable<Node>, units: &mut Vec<Unit>, keys: &[NodeKey])
+    ensures { units.new.items ≡ unhung table.now (nodes_with table.now keys.now) units.old.items }
+{
+    for key in keys {
+        unhang_one(table, units, *key);
+    }
+}
+
+/// Counts the nodes with these keys no longer, for their units and for those right above.
+pub(crate) fn untally(table: &NodeTable<Node>, units: &mut Vec<Unit>, keys: &[NodeKey])
+    ensures { units.new.items ≡ unreckoned table.now (nodes_with table.now keys.now) units.old.items }
+{
+    untally_each(table, units, keys);
+    unhang_each(table, units, keys);
+}
+
+/// The node with this key goes, if it is there. Answers whether it is over then.
+fn go_one(table: &mut NodeTable<Node>, key: NodeKey, going: &Going) -> bool
+    requires ordered { IsOrdered going.now }
+    ensures none { node_at table.old key ≡ None → table.new ≡ table.old }
+    ensures becomes { (n : Kept) → node_at table.old key ≡ Some n → table.new ≡ table_with_node table.old key (gone_by going.now n) }
+    ensures writes { (n : Kept) → node_at table.old key ≡ Some n → Writes table.old table.new key (gone_by going.now n) }
+    ensures over { result ≡ option_map_or (λ n. is_over (gone_by going.now n)) (node_at table.old key) false }
+{
+    match table.get_mut(key) {
+        Some(node) => {
+            go(node, going);
+            is_over(node)
+        }
+        None => false,
+    }
+}
+
+/// The nodes with these keys go, each in its place. Answers whether one of them is over then. It
+/// costs their number.
+pub(crate) fn go_all(table: &mut NodeTable<Node>, keys: &[NodeKey], going: &Going) -> bool
+    requires named { (key : Key) (n : Kept) → node_at table.old key ≡ Some n → n.key ≡ key }
+    requires once { AllPairs (λ (a b : Key). a ≢ b) keys.now }
+    requires ordered { IsOrdered going.now }
+    ensures stores { Stores table.old table.new (map (gone_by going.now) (nodes_with table.old keys.now)) }
+    ensures over { result ≡ list_any is_over (map (gone_by going.now) (nodes_with table.old keys.now)) }
+{
+    let mut over = false;
+    for key in keys {
+        let one = go_one(table, *key, going);
+        over = over || one;
+    }
+    over
+}

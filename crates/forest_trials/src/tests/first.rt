@@ -1,0 +1,137 @@
+//! First allocations, made in their places.
+use super::ground::{Ground, HERE};
+use super::many::{are_allocated, ask_each, bear_each, is_allocated, release_each};
+use super::serving::{are_served, pair};
+use super::{demand, failed};
+use sm_names::{Buffers, Failure, NodeKey};
+use std::alloc::Global;
+use std::test::Fail;
+
+// A root and so many nodes of its unit, whose keys come last, beside ten attached units.
+fn root_beside(alloc: Global, count: usize) -> Result<(Ground, NodeKey, Vec<NodeKey>), Fail> {
+    let mut ground = Ground::new(alloc)?;
+    let root = ground.bear(None, false)?;
+    for _ in 0..10 {
+        pair(&mut ground, root)?;
+    }
+    let mut others = Vec::new(alloc);
+    bear_each(&mut ground, &mut others, root, count, false)?;
+    Ok((ground, root, others))
+}
+
+// Whether the collection was given these buffers, which are held, and so many pages are free.
+fn has_buffers(ground: &Ground, count: u32, size: u32, free: u32) -> bool {
+    match ground.forest().collection(HERE) {
+        Some(summary) => {
+            summary.buffers == Some(Buffers { count, size })
+                && summary.held == count as usize
+                && ground.free_pages() == free
+        }
+        None => false,
+    }
+}
+
+// Whether the root failed so, and no page is held.
+fn has_failed(ground: &Ground, root: NodeKey, why: Failure) -> bool {
+    match ground.forest().node(root) {
+        Some(node) => node.gone && node.fault == failed(why, root) && ground.free_pages() == 16,
+        None => false,
+    }
+}
+
+#[test]
+fn a_root_alone_is_given_what_it_asks_for(rt: HostRuntime) -> Result<(), Fail> {
+    let mut ground = Ground::new(rt.alloc())?;
+    let root = ground.bear(None, false)?;
+    ground.ask(root, demand(2, 3, 5000)?)?;
+    assert!(rt; is_allocated(&ground, root) && has_buffers(&ground, 3, 5000, 10));
+    let unit = pair(&mut ground, root)?;
+    ground.ask(unit[0], demand(1, 0, 4096)?)?;
+    ground.release(unit[1])?;
+    let over = pair(&mut ground, root)?;
+    ground.ask(over[0], demand(1, 0, 4096)?)?;
+    ground.release(over[1])?;
+    assert!(rt; are_served(&ground, unit) && !is_allocated(&ground, over[0]));
+    Ok(())
+}
+
+#[test]
+fn a_root_is_served_beside_units_that_wait(rt: HostRuntime) -> Result<(), Fail> {
+    let (mut ground, root, others) = root_beside(rt.alloc(), 20)?;
+    let unit = pair(&mut ground, root)?;
+    ask_each(&mut ground, &others)?;
+    assert!(rt; !is_allocated(&ground, root));
+    ground.ask(root, demand(0, 2, 4097)?)?;
+    assert!(rt; is_allocated(&ground, root) && are_allocated(&ground, &others, true));
+    assert!(rt; has_buffers(&ground, 2, 4097, 12) && !is_allocated(&ground, unit[0]));
+    ask_each(&mut ground, &unit)?;
+    assert!(rt; are_served(&ground, unit));
+    Ok(())
+}
+
+#[test]
+fn a_root_is_served_by_a_release(rt: HostRuntime) -> Result<(), Fail> {
+    let (mut ground, root, others) = root_beside(rt.alloc(), 20)?;
+    let Some((last, more)) = others.split_last() else {
+        return Err(Fail::from("no other node"));
+    };
+    ground.release(root)?;
+    ask_each(&mut ground, more)?;
+    assert!(rt; !is_allocated(&ground, root));
+    ground.release(*last)?;
+    assert!(rt; is_allocated(&ground, root) && has_buffers(&ground, 1, 4096, 15));
+    assert!(rt; ground.forest().strong_live(HERE));
+    release_each(&mut ground, more)?;
+    assert!(rt; is_allocated(&ground, root) && ground.forest().strong_live(HERE));
+    Ok(())
+}
+
+#[test]
+fn a_root_is_served_with_a_unit_that_is_ready(rt: HostRuntime) -> Result<(), Fail> {
+    let (mut ground, root, others) = root_beside(rt.alloc(), 5)?;
+    let unit = pair(&mut ground, root)?;
+    let low = pair(&mut ground, unit[1])?;
+    ask_each(&mut ground, &low)?;
+    ask_each(&mut ground, &others)?;
+    ask_each(&mut ground, &unit)?;
+    assert!(rt; !is_allocated(&ground, unit[0]));
+    ground.ask(root, demand(1, 1, 100)?)?;
+    assert!(rt; is_allocated(&ground, root) && has_buffers(&ground, 1, 4096, 15));
+    assert!(rt; are_served(&ground, unit) && are_served(&ground, low));
+    Ok(())
+}
+
+#[test]
+fn a_root_fails_where_the_pool_is_too_small(rt: HostRuntime) -> Result<(), Fail> {
+    let (mut ground, root, others) = root_beside(rt.alloc(), 5)?;
+    ask_each(&mut ground, &others)?;
+    ground.ask(root, demand(0, 17, 4096)?)?;
+    assert!(rt; has_failed(&ground, root, Failure::PoolFull));
+    let (mut ground, root, others) = root_beside(rt.alloc(), 5)?;
+    ask_each(&mut ground, &others)?;
+    ground.ask(root, demand(16, 3, 4096)?)?;
+    assert!(rt; is_allocated(&ground, root) && has_buffers(&ground, 16, 4096, 0));
+    Ok(())
+}
+
+#[test]
+fn a_root_fails_where_too_much_is_asked_for(rt: HostRuntime) -> Result<(), Fail> {
+    let (mut ground, root, others) = root_beside(rt.alloc(), 1)?;
+    let Some(other) = others.first().copied() else {
+        return Err(Fail::from("no other node"));
+    };
+    ground.ask(other, demand(40, 0, 4096)?)?;
+    ground.ask(root, demand(25, 0, 4096)?)?;
+    assert!(rt; has_failed(&ground, root, Failure::TooManyBuffers));
+    Ok(())
+}
+
+#[test]
+fn a_root_fails_where_nothing_is_asked_for(rt: HostRuntime) -> Result<(), Fail> {
+    let (mut ground, root, others) = root_beside(rt.alloc(), 1)?;
+    ground.weaken(root)?;
+    release_each(&mut ground, &others)?;
+    ground.ask(root, demand(0, 0, 4096)?)?;
+    assert!(rt; has_failed(&ground, root, Failure::NoBuffers));
+    Ok(())
+}
