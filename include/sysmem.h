@@ -39,8 +39,8 @@ typedef struct sysmem {
 enum {
     SYSMEM_DONE = 0,
     SYSMEM_NOT_OPEN = 1,     /* the handle has no core */
-    SYSMEM_ALREADY_OPEN = 2, /* sysmem_open: the handle has a core, which stays */
-    SYSMEM_BAD_LIMITS = 3,   /* sysmem_open: a number is out of its range */
+    SYSMEM_ALREADY_OPEN = 2, /* sysmem_open, _seeded: the handle has a core, which stays */
+    SYSMEM_BAD_LIMITS = 3,   /* sysmem_open, _seeded: a number is out of its range */
     SYSMEM_BAD_CALL = 4,     /* sysmem_step: the numbers say no call */
     SYSMEM_HISTORY_FULL = 5, /* sysmem_step: as many events were made as may be */
     SYSMEM_NO_MEMORY = 6,    /* memory was refused; the same call may succeed later */
@@ -185,6 +185,14 @@ typedef struct sysmem_fired_tracker {
  * strength. Not open: the handle is of zeros, or was closed. */
 uint32_t sysmem_open(sysmem *core, uint32_t pages, uint32_t events, uint32_t nodes,
                      uint32_t collections, uint32_t trackers, uint32_t handles);
+
+/* The same, where the core's counts of handles hash from these 16 bytes, as sysmem_open's do from
+ * zeros. Whoever doesn't know them can't choose clients and buffers whose counts collide, so that
+ * one call would cost the square of what it opens: take random bytes. They change no answer, and
+ * need not stay. */
+uint32_t sysmem_open_seeded(sysmem *core, uint32_t pages, uint32_t events, uint32_t nodes,
+                            uint32_t collections, uint32_t trackers, uint32_t handles,
+                            const uint8_t seed[16]);
 
 /* Makes one call as this client and writes its reply: one event, also where it is refused. */
 uint32_t sysmem_step(sysmem *core, uint64_t client, const sysmem_call *call, sysmem_reply *reply);

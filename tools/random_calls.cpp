@@ -34,6 +34,16 @@ static sysmem_call some_call(const std::vector<sysmem_key> &keys, uint64_t event
     return call;
 }
 
+// Opens a core, every second time with a seed of its own.
+static uint32_t open_one(sysmem &core, uint32_t events) {
+    uint32_t nodes = 1 + upto(24), collections = 1 + upto(6);
+    uint32_t trackers = 1 + upto(12), handles = 1 + upto(4);
+    if (upto(2) == 0) return sysmem_open(&core, 64, events, nodes, collections, trackers, handles);
+    uint8_t seed[16];
+    for (uint8_t &byte : seed) byte = static_cast<uint8_t>(upto(256));
+    return sysmem_open_seeded(&core, 64, events, nodes, collections, trackers, handles, seed);
+}
+
 static void look(sysmem &core, std::vector<sysmem_key> &keys) {
     sysmem_key live[5];
     sysmem_held_buffer held[5];
@@ -62,8 +72,7 @@ int main(int count, char **words) {
     while (left > 0) {
         sysmem core{};
         uint64_t events = 200 + upto(2000);
-        expect(sysmem_open(&core, 64, static_cast<uint32_t>(events), 1 + upto(24), 1 + upto(6),
-                           1 + upto(12), 1 + upto(4)) == SYSMEM_DONE, "open");
+        expect(open_one(core, static_cast<uint32_t>(events)) == SYSMEM_DONE, "open");
         std::vector<sysmem_key> keys(6);
         for (uint64_t event = 0; event <= events && left > 0; left--) {
             sysmem_call call = some_call(keys, event);

@@ -9,6 +9,7 @@ ghost use Rattle.buffer_holds.specs.Kinds.{same_hold};
 ghost use Rattle.buffer_holds.specs.Changes.{Sets, Tidies};
 
 use crate::fault::HoldFault;
+use crate::hashing::CountHash;
 use crate::kinds::{HandleKind, Hold};
 use crate::rows::{Rows, forget, lower, raise};
 use crate::spot::Spot;
@@ -57,15 +58,24 @@ impl Model for Holds {
 
 impl Holds {
     /// No handle is open. At most `limit` handles of one strength may be open on a buffer at a
-    /// time, those in parcels among them; with a limit of 0 none can be opened. Takes constant time
-    /// and no memory from the allocator.
+    /// time, those in parcels among them; with a limit of 0 none can be opened. The tables hash from
+    /// a seed that everybody knows. Takes constant time and no memory from the allocator.
     pub fn new(alloc: Global, limit: u32) -> Self
         ensures { result ≡ record { limit = limit; rows = []; parcels = [] } }
     {
+        Self::with_seed(alloc, limit, [0; 16])
+    }
+
+    /// Does what `new` does. The tables hash from this seed: with random bytes, whoever picks
+    /// clients and buffers can't make their counts collide. No count depends on it.
+    pub fn with_seed(alloc: Global, limit: u32, seed: [u8; 16]) -> Self
+        ensures { result ≡ record { limit = limit; rows = []; parcels = [] } }
+    {
+        let hash = CountHash::new(seed);
         Holds {
             limit,
-            rows: IndexMap::new(alloc),
-            tallies: IndexMap::new(alloc),
+            rows: IndexMap::with_hasher(alloc, hash),
+            tallies: IndexMap::with_hasher(alloc, hash),
         }
     }
 

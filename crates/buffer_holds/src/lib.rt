@@ -3,6 +3,7 @@
 #![tactic(auto)]
 
 mod fault;
+mod hashing;
 mod holds;
 mod kinds;
 mod rows;
@@ -10,6 +11,7 @@ mod spot;
 mod tally;
 
 pub use fault::HoldFault;
+pub use hashing::CountHash;
 pub use holds::Holds;
 pub use kinds::{HandleKind, Hold};
 pub use spot::Spot;

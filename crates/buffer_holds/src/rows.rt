@@ -4,12 +4,13 @@ ghost use Rattle.std.specs.Bool.{OnTrue, OnFalse};
 ghost use Rattle.buffer_holds.specs.Kinds.{same_hold};
 ghost use Rattle.buffer_holds.specs.Rows.{row_at, count_at, Resets, Raises, StandsAt};
 
+use crate::hashing::CountHash;
 use crate::kinds::Hold;
 use indexmap::IndexMap;
 use std::alloc::AllocError;
 
 // The rows of all clients.
-pub(crate) type Rows = IndexMap<Hold, u32>;
+pub(crate) type Rows = IndexMap<Hold, u32, CountHash>;
 
 // The place of this hold's row, by its hash.
 #[inline(never)]

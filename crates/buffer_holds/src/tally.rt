@@ -6,13 +6,14 @@ ghost use Rattle.buffer_holds.specs.Stored.{Opens};
 ghost use Rattle.buffer_holds.specs.Sound.{tally_row, tally_at, is_idle, without_client};
 
 use crate::fault::HoldFault;
+use crate::hashing::CountHash;
 use crate::kinds::{HandleKind, Hold};
 use crate::rows::{Rows, raise};
 use crate::spot::Spot;
 use indexmap::IndexMap;
 
 // The tallies of all kinds.
-pub(crate) type Tallies = IndexMap<HandleKind, Tally>;
+pub(crate) type Tallies = IndexMap<HandleKind, Tally, CountHash>;
 
 // What is known of a kind of handle without asking each client.
 #[derive(Clone, Copy)]

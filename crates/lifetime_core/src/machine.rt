@@ -133,11 +133,36 @@ const NO_KEY: NodeKey = NodeKey {
 
 impl Core {
     /// A core that has seen nothing, with a pool of `pages` pages of 4,096 bytes each, from 1 to
-    /// 1,048,576, and these limits.
+    /// 1,048,576, and these limits. The counts of handles hash from a seed that everybody knows.
     ///
     /// `NoMemory` where the pool's first list is refused. It costs the same for any size and any
     /// limits.
     pub fn new(alloc: Global, pages: u32, limits: Limits) -> Result<Core, NoMemory>
+        requires { (1 ≤ pages) × (pages ≤ 1048576) }
+        ensures state { IfOk result (λ core. core ≡ record {
+          pool = pages;
+          limits = limits;
+          events = 0;
+          clients = [];
+          forest = empty_forest limits.nodes;
+          holds = record { limit = limits.handles; rows = []; parcels = [] };
+          trackers = empty limits.trackers;
+        }) }
+        ensures shows { IfOk result (λ core. Shows core []) }
+    {
+        Core::with_seed(alloc, pages, limits, [0; 16])
+    }
+
+    /// Does what `new` does. The counts of handles hash from this seed: with random bytes, whoever
+    /// makes calls can't choose clients and buffers whose counts collide, so that one call would
+    /// cost the square of what it opens. The seed changes what calls cost, and nothing that is
+    /// answered.
+    pub fn with_seed(
+        alloc: Global,
+        pages: u32,
+        limits: Limits,
+        seed: [u8; 16],
+    ) -> Result<Core, NoMemory>
         requires { (1 ≤ pages) × (pages ≤ 1048576) }
         ensures state { IfOk result (λ core. core ≡ record {
           pool = pages;
@@ -158,7 +183,7 @@ impl Core {
                 clients: Vec::new(alloc),
                 forest: Forest::new(alloc, limits.nodes() as usize),
                 pool,
-                holds: Holds::new(alloc, limits.handles()),
+                holds: Holds::with_seed(alloc, limits.handles(), seed),
                 trackers: Trackers::new(alloc, limits.trackers()),
             },
         })

@@ -45,7 +45,8 @@ impl<E: Ledger, S: Ledger, W: Ledger> Drop for Guard<'_, E, S, W> {
 
 impl<E: Ledger, S: Ledger, W: Ledger> Service<E, S, W> {
     /// A service that has seen nothing, with a pool of `pages` pages of 4,096 bytes each, from 1 to
-    /// 1,048,576, these limits, and books of `PARTS` parts each.
+    /// 1,048,576, these limits, and books of `PARTS` parts each. The counts of handles hash from a
+    /// seed that everybody knows.
     ///
     /// `NoMemory` where the pool's first list is refused. It costs the same for any size and any
     /// limits.
@@ -58,8 +59,22 @@ impl<E: Ledger, S: Ledger, W: Ledger> Service<E, S, W> {
         requires pages { (1 ≤ pages) × (pages ≤ 1048576) }
         requires blanks { AreFor E.name E.parts S.name S.parts W.name W.parts blanks }
     {
+        Service::with_seed(alloc, blanks, pages, limits, [0; 16])
+    }
+
+    /// Does what `new` does. The counts of handles hash from this seed, as in `Core::with_seed`.
+    pub fn with_seed(
+        alloc: Global,
+        blanks: Blanks,
+        pages: u32,
+        limits: Limits,
+        seed: [u8; 16],
+    ) -> Result<Service<E, S, W>, NoMemory>
+        requires pages { (1 ≤ pages) × (pages ≤ 1048576) }
+        requires blanks { AreFor E.name E.parts S.name S.parts W.name W.parts blanks }
+    {
         Ok(Service {
-            state: Mutex::new(State::new(alloc, blanks, pages, limits)?),
+            state: Mutex::new(State::new(alloc, blanks, pages, limits, seed)?),
         })
     }
 

@@ -49,12 +49,13 @@ impl<E: Ledger, S: Ledger, W: Ledger> Model for State<E, S, W> {
 }
 
 impl<E: Ledger, S: Ledger, W: Ledger> State<E, S, W> {
-    /// What lies under the lock at first.
+    /// What lies under the lock at first: a core that hashes from this seed.
     pub(crate) fn new(
         alloc: Global,
         blanks: Blanks,
         pages: u32,
         limits: Limits,
+        seed: [u8; 16],
     ) -> Result<State<E, S, W>, NoMemory>
         requires pages { (1 ≤ pages) × (pages ≤ 1048576) }
         requires blanks { AreFor E.name E.parts S.name S.parts W.name W.parts blanks }
@@ -67,7 +68,7 @@ impl<E: Ledger, S: Ledger, W: Ledger> State<E, S, W> {
             weak,
         } = blanks;
         Ok(State {
-            core: Core::new(alloc, pages, limits)?,
+            core: Core::with_seed(alloc, pages, limits, seed)?,
             limits,
             log: Vec::new(alloc),
             events: Tally::new(events, PARTS),

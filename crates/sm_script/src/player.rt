@@ -8,7 +8,6 @@ use crate::fault::ScriptFault;
 use crate::session::Session;
 use crate::stop::Stop;
 use crate::writing::give_up;
-use script_lines::LabelHash;
 use script_runs::write_out;
 use sm_names::{Limits, NoMemory};
 use std::alloc::Global;
@@ -31,7 +30,7 @@ impl Player {
     // No line was answered.
     pub(crate) fn new(
         alloc: Global,
-        labels: LabelHash,
+        seed: [u8; 16],
         pages: u32,
         limits: Limits,
     ) -> Result<Player, NoMemory>
@@ -41,7 +40,7 @@ impl Player {
         ensures no_lines { IfOk result (λ player. player.lines ≡ 0) }
         ensures no_text { IfOk result (λ player. player.out.items ≡ []) }
     {
-        let session = Session::new(alloc, labels, pages, limits)?;
+        let session = Session::new(alloc, seed, pages, limits)?;
         Ok(Player {
             session,
             lines: 0,

@@ -4,7 +4,6 @@ ghost use Rattle.sm_script.specs.Endings.{Ends};
 
 use crate::fault::ScriptFault;
 use crate::run::run_script;
-use script_lines::LabelHash;
 use script_runs::{Pages, write_line};
 use sm_names::Limits;
 use std::alloc::Global;
@@ -16,7 +15,7 @@ use std::process::ExitCode;
 /// and else the status of the fault, which is told in one line on `faults`, as far as that takes it.
 pub fn run_to_exit<R: Read, W: Write, F: Write>(
     alloc: Global,
-    labels: LabelHash,
+    seed: [u8; 16],
     reader: &mut R,
     writer: &mut W,
     faults: &mut F,
@@ -36,7 +35,7 @@ pub fn run_to_exit<R: Read, W: Write, F: Write>(
         (W.contents writer.old) (W.contents writer.new)
         (F.contents faults.old) (F.contents faults.new) (exit_status result) }
 {
-    match run_script(alloc, labels, reader, writer, pages.count, Limits::full()) {
+    match run_script(alloc, seed, reader, writer, pages.count, Limits::full()) {
         Ok(()) => ExitCode::SUCCESS,
         Err(fault) => {
             let _ = write_line(faults, fault);

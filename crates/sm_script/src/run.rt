@@ -9,7 +9,7 @@ ghost use Rattle.sm_script.specs.Scenes.{Setting};
 use crate::fault::ScriptFault;
 use crate::player::Player;
 use crate::reading::take_piece;
-use script_lines::{LabelHash, MOST_BYTES};
+use script_lines::MOST_BYTES;
 use sm_names::Limits;
 use std::alloc::Global;
 use std::io::{Read, Write};
@@ -20,8 +20,9 @@ const BLOCK: usize = 65_536;
 /// Runs the script that the reader holds against a new core with a pool of `pages` pages, and
 /// writes one line for each call, poll and view. All whole lines that were read are answered before
 /// the next read, and the writer is flushed at the end. It keeps a reader of each tracker that is
-/// made; a poll tells what the reader knows, if the core knows it too. How labels are hashed changes
-/// what a line costs, and nothing that is written.
+/// made; a poll tells what the reader knows, if the core knows it too. Labels and the core's counts
+/// are hashed from the seed, best of random bytes: it changes what a line costs, and nothing that is
+/// written.
 ///
 /// What went out is the text of all lines where the run comes to the end of the script. Else:
 /// - `ReadFault`: the reader failed, or the script has more than `MOST_BYTES` bytes. What went out
@@ -39,7 +40,7 @@ const BLOCK: usize = 65_536;
 /// search among the firings.
 pub fn run_script<R: Read, W: Write>(
     alloc: Global,
-    labels: LabelHash,
+    seed: [u8; 16],
     reader: &mut R,
     writer: &mut W,
     pages: u32,
@@ -50,7 +51,7 @@ pub fn run_script<R: Read, W: Write>(
         (R.remaining reader.old) (R.remaining reader.new)
         (W.contents writer.old) (W.contents writer.new) result }
 {
-    let mut player = match Player::new(alloc, labels, pages, limits) {
+    let mut player = match Player::new(alloc, seed, pages, limits) {
         Ok(player) => player,
         Err(_) => return Err(ScriptFault::NoMemory),
     };

@@ -31,10 +31,10 @@ pub(crate) struct Session {
 }
 
 impl Session {
-    // A session that has seen no line.
+    // A session that has seen no line. Counts and labels hash from the seed.
     pub(crate) fn new(
         alloc: Global,
-        labels: LabelHash,
+        seed: [u8; 16],
         pages: u32,
         limits: Limits,
     ) -> Result<Session, NoMemory>
@@ -43,10 +43,10 @@ impl Session {
         ensures limits { IfOk result (λ session. session.core.limits ≡ limits) }
         ensures start { IfOk result (λ session. IsAt session first_scene) }
     {
-        let core = Core::new(alloc, pages, limits)?;
+        let core = Core::with_seed(alloc, pages, limits, seed)?;
         Ok(Session {
             core,
-            tables: Tables::new(alloc, labels),
+            tables: Tables::new(alloc, LabelHash::new(seed)),
             readers: HashMap::new(alloc),
         })
     }

@@ -20,7 +20,7 @@ mod words;
 
 pub use keeping::Handle;
 pub use names::sysmem_name;
-pub use opening::{sysmem_close, sysmem_open};
+pub use opening::{sysmem_close, sysmem_open, sysmem_open_seeded};
 pub use stepping::sysmem_step;
 pub use views::{
     FiredWords, HeldWords, KeyWords, sysmem_cause, sysmem_events, sysmem_fired, sysmem_free_pages,

@@ -9,7 +9,8 @@ use sm_names::Limits;
 use std::alloc::Global;
 
 /// Opens a core with a pool of `pages` pages of 4,096 bytes each and with these limits, on a
-/// handle of zeros or on one that was closed. The core has seen nothing.
+/// handle of zeros or on one that was closed. The core has seen nothing, and its counts of handles
+/// hash from a seed that everybody knows.
 ///
 /// `ALREADY_OPEN` where the handle has a core, `BAD_LIMITS` where a number is out of its range,
 /// and `NO_MEMORY` where memory is refused: the handle is then as it was. It costs the same for
@@ -34,6 +35,43 @@ pub extern "C" fn sysmem_open(
         ¬ IsInRange pages events nodes collections trackers handles → result ≡ 3 }
     ensures failed { result ≢ 0 → handle.new.place.core ≡ handle.old.place.core }
 {
+    let seed = [0; 16];
+    sysmem_open_seeded(
+        alloc,
+        handle,
+        pages,
+        events,
+        nodes,
+        collections,
+        trackers,
+        handles,
+        &seed,
+    )
+}
+
+/// Does what `sysmem_open` does. The core's counts of handles hash from this seed, as in
+/// `Core::with_seed`.
+#[unsafe(no_mangle)]
+pub extern "C" fn sysmem_open_seeded(
+    alloc: Global,
+    handle: &mut Handle,
+    pages: u32,
+    events: u32,
+    nodes: u32,
+    collections: u32,
+    trackers: u32,
+    handles: u32,
+    seed: &[u8; 16],
+) -> u32
+    ensures done { result ≡ 0 → IsSomeAnd handle.new.place.core
+        (IsNew pages events nodes collections trackers handles) }
+    ensures already { (result ≡ 2) ↔ (is_some handle.old.place.core ≡ true) }
+    ensures refused { result ≡ 3 →
+        ¬ IsInRange pages events nodes collections trackers handles }
+    ensures outside { handle.old.place.core ≡ None →
+        ¬ IsInRange pages events nodes collections trackers handles → result ≡ 3 }
+    ensures failed { result ≢ 0 → handle.new.place.core ≡ handle.old.place.core }
+{
     if is_open(handle) {
         return ALREADY_OPEN;
     }
@@ -43,7 +81,7 @@ pub extern "C" fn sysmem_open(
     let Some(limits) = Limits::new(events, nodes, collections, trackers, handles) else {
         return BAD_LIMITS;
     };
-    let Ok(core) = Core::new(alloc, pages, limits) else {
+    let Ok(core) = Core::with_seed(alloc, pages, limits, *seed) else {
         return NO_MEMORY;
     };
     match Box::new(alloc, core) {

@@ -10,7 +10,6 @@ mod words;
 
 use clap::Error;
 use clap::error::ErrorKind;
-use script_lines::LabelHash;
 use sm_script::run_to_exit;
 use std::process::ExitCode;
 use std::random::RandomSource;
@@ -58,12 +57,12 @@ fn unread(rt: &impl Eprint, error: &io::Error) -> ExitCode {
     ExitCode::from(2)
 }
 
-// How labels are hashed: from random bytes. Where there are none, all runs hash alike, as they
-// answer alike.
-fn label_hash(rt: &impl RandomSource) -> LabelHash {
+// What labels and counts are hashed from: random bytes. Where there are none, all runs hash alike,
+// as they answer alike.
+fn random_seed(rt: &impl RandomSource) -> [u8; 16] {
     let mut seed = [0; 16];
     let _ = rt.fill_bytes(&mut seed);
-    LabelHash::new(seed)
+    seed
 }
 
 fn main(rt: HostRuntime) -> ExitCode {
@@ -87,12 +86,12 @@ fn main(rt: HostRuntime) -> ExitCode {
         let _ = rt.eprintln("the pool has from 1 to 1048576 pages");
         return ExitCode::from(2);
     };
-    let labels = label_hash(&rt);
+    let seed = random_seed(&rt);
     if asks_for_threads(&matches) {
         return run_threads_to_exit(
             &rt,
             alloc,
-            labels,
+            seed,
             &mut rt.reader(),
             &mut io::writer(&rt),
             &mut io::writer(&rt.stderr()),
@@ -101,7 +100,7 @@ fn main(rt: HostRuntime) -> ExitCode {
     }
     run_to_exit(
         alloc,
-        labels,
+        seed,
         &mut rt.reader(),
         &mut io::writer(&rt),
         &mut io::writer(&rt.stderr()),

@@ -3,7 +3,6 @@ ghost use Rattle.std.specs.Process.{exit_status};
 ghost use Rattle.thread_runs.specs.Endings.{Ends};
 
 use crate::run::run_threads;
-use script_lines::LabelHash;
 use script_runs::{Pages, write_line};
 use sm_names::Limits;
 use std::alloc::Global;
@@ -20,7 +19,7 @@ use std::time::Clock;
 pub fn run_threads_to_exit<I: Read, O: Write, F: Write, R: Threads + Wait + Clock + Sync>(
     rt: &R,
     alloc: Global,
-    labels: LabelHash,
+    seed: [u8; 16],
     reader: &mut I,
     writer: &mut O,
     faults: &mut F,
@@ -30,15 +29,7 @@ pub fn run_threads_to_exit<I: Read, O: Write, F: Write, R: Threads + Wait + Cloc
         (O.contents writer.old) (O.contents writer.new)
         (F.contents faults.old) (F.contents faults.new) (exit_status result) }
 {
-    match run_threads(
-        rt,
-        alloc,
-        labels,
-        reader,
-        writer,
-        pages.count,
-        Limits::full(),
-    ) {
+    match run_threads(rt, alloc, seed, reader, writer, pages.count, Limits::full()) {
         Ok(()) => ExitCode::SUCCESS,
         Err(fault) => {
             let _ = write_line(faults, fault);

@@ -37,12 +37,13 @@ use std::time::Clock;
 /// - `WriteFault`: the writer failed, or took nothing, or could not be flushed. What went out is a
 ///   first part of the report.
 ///
-/// Costs what `read_actors`, `run_actors`, `gather` and `push_report` do. How labels are hashed changes
-/// what the reading costs, and nothing that is written.
+/// Costs what `read_actors`, `run_actors`, `gather` and `push_report` do. Labels and the
+/// service's counts are hashed from the seed, best of random bytes: it changes what the run costs,
+/// and nothing that is written.
 pub fn run_threads<I: Read, O: Write, R: Threads + Wait + Clock + Sync>(
     rt: &R,
     alloc: Global,
-    labels: LabelHash,
+    seed: [u8; 16],
     reader: &mut I,
     writer: &mut O,
     pages: u32,
@@ -52,11 +53,11 @@ pub fn run_threads<I: Read, O: Write, R: Threads + Wait + Clock + Sync>(
     ensures { Runs (I.remaining reader.old) (I.remaining reader.new)
         (O.contents writer.old) (O.contents writer.new) result }
 {
-    let cast = match read_actors(alloc, labels, reader) {
+    let cast = match read_actors(alloc, LabelHash::new(seed), reader) {
         Ok(cast) => cast,
         Err(fault) => return Err(ThreadsFault::from(fault)),
     };
-    match report(rt, alloc, &cast, pages, limits) {
+    match report(rt, alloc, seed, &cast, pages, limits) {
         Ok(text) => put_out(writer, text.as_slice()),
         Err(fault) => Err(fault),
     }

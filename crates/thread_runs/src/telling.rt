@@ -142,6 +142,7 @@ fn run_on<
     rt: &R,
     alloc: Global,
     blanks: Blanks,
+    seed: [u8; 16],
     cast: &Cast,
     pages: u32,
     limits: Limits,
@@ -151,7 +152,7 @@ fn run_on<
     ensures ok { IfOk result (λ text. IsReport (company_of cast.now) text.items) }
     ensures late { IfErr result IsLate }
 {
-    match Service::<E, S, W>::new(alloc, blanks, pages, limits) {
+    match Service::<E, S, W>::with_seed(alloc, blanks, pages, limits, seed) {
         Ok(service) => {
             let (parts, told) = run_all(rt, alloc, &service, cast);
             end_service(service, parts);
@@ -165,6 +166,7 @@ fn run_on<
 pub(crate) fn report<R: Threads + Wait + Clock + Sync>(
     rt: &R,
     alloc: Global,
+    seed: [u8; 16],
     cast: &Cast,
     pages: u32,
     limits: Limits,
@@ -178,5 +180,5 @@ pub(crate) fn report<R: Threads + Wait + Clock + Sync>(
         strong: Blank::new(PARTS),
         weak: Blank::new(PARTS),
     };
-    run_on::<Brand, Brand, Brand, _>(rt, alloc, blanks, cast, pages, limits)
+    run_on::<Brand, Brand, Brand, _>(rt, alloc, blanks, seed, cast, pages, limits)
 }

@@ -27,7 +27,7 @@ fn fresh(alloc: Global, limits: Limits, refused: bool) -> Option<Player> {
     let nodes = Vec::with_capacity(alloc, ROOM).ok()?;
     let holdings = Holdings::new(alloc)?;
     let log = Log::new(alloc)?;
-    let core = Core::new(alloc, 16, limits).ok()?;
+    let core = Core::with_seed(alloc, 16, limits, [3; 16]).ok()?;
     Some(Player {
         core,
         nodes,

@@ -78,6 +78,13 @@ module _ (client : ℕ) where
       omega arith))
       (λ _. eq-eqb (get_or rows at d).id client here)
 
+  -- where a row of the client stands is its place
+  pub stands_at : (rows : List Client) (at : ℕ) (d : Client) → AreRising rows → at < length rows → (get_or rows at d).id ≡ client →
+      Some at ≡ position is_its rows
+  stands_at rows at d rise within here =
+      let first : position_or_len is_its rows ≡ at = first_place rows at d rise within here in
+      sym (rw first (grind (arith, common_steps)))
+
   -- no row of the client stands where a search for it ends elsewhere
   not_apart : (rows : List Client) (k at : ℕ) (d : Client) → k < length rows → (get_or rows k d).id ≡ client →
       IsPartitionPoint (λ (c : Client). nat_cmp c.id client ≡ Less) (λ c. nat_cmp c.id client ≡ Greater) rows at → ⊥
@@ -92,10 +99,7 @@ module _ (client : ℕ) where
   -- a binary search by the id finds the row of the client
   pub search_places : (rows : List Client) (r : Result ℕ ℕ) → AreRising rows → IsSearchInRange r (length rows) →
       IsBinarySearchResult (λ (c : Client). nat_cmp c.id client) rows r → result_ok r ≡ position is_its rows
-  search_places rows (Ok at) rise within found =
-      let first : position_or_len is_its rows ≡ at =
-      first_place rows at (new_client 0) rise within (ranked _ client _ (sym (found (new_client 0)))) in
-      sym (rw first (grind (arith, common_steps)))
+  search_places rows (Ok at) rise within found = stands_at rows at (new_client 0) rise within (ranked _ client _ (sym (found (new_client 0))))
   search_places rows (Err at) rise within found =
       let sides = found (comparisons_rise rows rise) in
       let past : length rows ≤ position_or_len is_its rows = elim (cases_lt (position_or_len is_its rows) (length rows)) [

@@ -53,7 +53,7 @@ fn play<
         Some(limits) => limits,
         None => panic!(rt; "limits"),
     };
-    let service = match Service::<E, S, W>::new(alloc, blanks, 16, limits) {
+    let service = match Service::<E, S, W>::with_seed(alloc, blanks, 16, limits, [3; 16]) {
         Ok(service) => service,
         Err(_) => panic!(rt; "service"),
     };

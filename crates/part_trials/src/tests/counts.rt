@@ -1,6 +1,7 @@
 //! What no contract says: that calls succeed, and that the counts are those of a plain tally.
-use buffer_holds::{HoldFault, Holds, Spot};
+use buffer_holds::{CountHash, HandleKind, Hold, HoldFault, Holds, Spot};
 use sm_names::{BufferName, ClientId, Strength};
+use std::hash::{BuildHasher, Hash, Hasher};
 
 const FIRST: BufferName = BufferName {
     collection: 7,
@@ -180,22 +181,62 @@ fn counts_are_those_of_a_plain_tally(rt: HostRuntime) {
         (Act::Sub, 2, FIRST, Strength::Strong),
         (Act::Tidy, 2, FIRST, Strength::Strong),
     ];
-    let mut open = Vec::new(rt.alloc());
-    let mut holds = Holds::new(rt.alloc(), 9);
-    let mut near = Spot::new();
-    for (act, client, buffer, strength) in acts.iter().copied() {
-        assert!(rt;
-            acts_alike(
-                &mut holds,
-                &mut open,
-                act,
-                (client, buffer, strength),
-                &mut near
-            )
-        );
-        for buffer in [FIRST, SECOND] {
-            assert!(rt; counts_alike(&holds, &open, buffer, Strength::Strong, &mut near));
-            assert!(rt; counts_alike(&holds, &open, buffer, Strength::Weak, &mut near));
+    for seed in [[0; 16], [3; 16]] {
+        let mut open = Vec::new(rt.alloc());
+        let mut holds = Holds::with_seed(rt.alloc(), 9, seed);
+        let mut near = Spot::new();
+        for (act, client, buffer, strength) in acts.iter().copied() {
+            let handle = (client, buffer, strength);
+            assert!(rt; acts_alike(&mut holds, &mut open, act, handle, &mut near));
+            for buffer in [FIRST, SECOND] {
+                assert!(rt; counts_alike(&holds, &open, buffer, Strength::Strong, &mut near));
+                assert!(rt; counts_alike(&holds, &open, buffer, Strength::Weak, &mut near));
+            }
+        }
+    }
+}
+
+// The client's hold on a buffer whose collection undoes what the client made of the hash, so that all
+// of these hash alike under the seed of zeros.
+fn colliding(client: ClientId) -> Hold {
+    let mut hasher = CountHash::new([0; 16]).build_hasher();
+    client.hash(&mut hasher);
+    let buffer = BufferName {
+        collection: hasher.finish() ^ 7,
+        index: 0,
+    };
+    Hold {
+        client,
+        kind: HandleKind {
+            buffer,
+            strength: Strength::Strong,
+        },
+    }
+}
+
+// How many of the forty holds hash as the first one does.
+fn alike_under(seed: [u8; 16]) -> usize {
+    let hash = CountHash::new(seed);
+    let first = hash.hash_one(&colliding(1));
+    (1..=40)
+        .filter(|client| hash.hash_one(&colliding(*client)) == first)
+        .count()
+}
+
+#[test]
+fn another_seed_parts_what_collides(rt: HostRuntime) {
+    assert_eq!(rt; alike_under([0; 16]), 40);
+    assert_eq!(rt; alike_under([3; 16]), 1);
+    for seed in [[0; 16], [3; 16]] {
+        let mut holds = Holds::with_seed(rt.alloc(), 9, seed);
+        for client in 1..=40 {
+            let buffer = colliding(client).kind.buffer;
+            assert_eq!(rt; holds.add(client, buffer, Strength::Strong), Ok(()));
+        }
+        for client in 1..=40 {
+            let buffer = colliding(client).kind.buffer;
+            assert_eq!(rt; holds.of(client, buffer, Strength::Strong), 1);
+            assert_eq!(rt; holds.total(buffer, Strength::Strong), 1);
         }
     }
 }

@@ -1,5 +1,4 @@
 //! The status that a program ends with, and what it tells.
-use script_lines::LabelHash;
 use script_runs::Pages;
 use sm_script::run_to_exit;
 use std::alloc::Global;
@@ -22,14 +21,7 @@ fn check_exit(
     let mut reader = script.as_bytes();
     let mut out = Vec::new(alloc);
     let mut faults = Vec::new(alloc);
-    let ended = run_to_exit(
-        alloc,
-        LabelHash::new([3; 16]),
-        &mut reader,
-        &mut out,
-        &mut faults,
-        pages,
-    );
+    let ended = run_to_exit(alloc, [3; 16], &mut reader, &mut out, &mut faults, pages);
     assert!(rt; ended == ExitCode::from(status), "{script}");
     assert_eq!(rt; out.as_slice(), replies.as_bytes(), "{script}");
     assert_eq!(rt; faults.as_slice(), told.as_bytes(), "{script}");
@@ -66,14 +58,7 @@ fn streams_that_fail_end_with_1(rt: HostRuntime) -> Result<(), Fail> {
         let mut writer = Sink::new(alloc);
         writer.fails = write_fails;
         let mut faults = Sink::new(alloc);
-        let ended = run_to_exit(
-            alloc,
-            LabelHash::new([3; 16]),
-            &mut reader,
-            &mut writer,
-            &mut faults,
-            pages,
-        );
+        let ended = run_to_exit(alloc, [3; 16], &mut reader, &mut writer, &mut faults, pages);
         assert!(rt; ended == ExitCode::from(1), "{told}");
         assert_eq!(rt; faults.bytes.as_slice(), told.as_bytes());
     }
@@ -91,14 +76,7 @@ fn a_fault_that_nobody_hears_keeps_its_status(rt: HostRuntime) -> Result<(), Fai
     let mut out = Vec::new(alloc);
     let mut faults = Sink::new(alloc);
     faults.fails = 4;
-    let ended = run_to_exit(
-        alloc,
-        LabelHash::new([3; 16]),
-        &mut reader,
-        &mut out,
-        &mut faults,
-        pages,
-    );
+    let ended = run_to_exit(alloc, [3; 16], &mut reader, &mut out, &mut faults, pages);
     assert!(rt; ended == ExitCode::from(3));
     assert_eq!(rt; faults.bytes.as_slice(), b"bad".as_slice());
     Ok(())

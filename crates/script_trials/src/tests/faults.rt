@@ -1,6 +1,5 @@
 //! Scripts that stop before their end.
 use crate::tests::fixture::{check, play};
-use script_lines::LabelHash;
 use sm_names::Limits;
 use sm_script::{ScriptFault, run_script};
 use std::alloc::Global;
@@ -254,7 +253,7 @@ fn refused_memory_leaves_the_text_of_the_first_lines(rt: HostRuntime) {
     let mut reader = SHORT.as_bytes();
     let ended = run_script(
         rt.alloc(),
-        LabelHash::new([3; 16]),
+        [3; 16],
         &mut reader,
         &mut writer,
         16,

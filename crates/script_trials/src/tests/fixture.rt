@@ -1,7 +1,6 @@
 //! Runs of scripts.
 ghost use Rattle.std.specs.Prelude.{◌≤◌};
 
-use script_lines::LabelHash;
 use sm_names::Limits;
 use sm_script::{ScriptFault, run_script};
 use std::alloc::Global;
@@ -23,14 +22,7 @@ pub fn play(
         reads: 0,
         fails: read_fails,
     };
-    run_script(
-        alloc,
-        LabelHash::new([3; 16]),
-        &mut reader,
-        writer,
-        16,
-        Limits::full(),
-    )
+    run_script(alloc, [3; 16], &mut reader, writer, 16, Limits::full())
 }
 
 /// Asserts what a script gives, whose lines and replies end in `; `, and how it ends, whatever the
@@ -49,10 +41,9 @@ pub fn check(
     let script = script.replace(alloc, "; ", "\n")?;
     let replies = replies.replace(alloc, "; ", "\n")?;
     for seed in [[0; 16], [3; 16]] {
-        let labels = LabelHash::new(seed);
         let mut reader = script.as_bytes();
         let mut out = Vec::new(alloc);
-        let ended = run_script(alloc, labels, &mut reader, &mut out, pages, limits);
+        let ended = run_script(alloc, seed, &mut reader, &mut out, pages, limits);
         assert_eq!(rt; ended, outcome, "{script}");
         assert_eq!(rt; out.as_slice(), replies.as_bytes(), "{script}");
     }

@@ -1,5 +1,5 @@
 //! The status that a program ends with, and what it tells.
-use crate::tests::fixture::{TWO, TWO_REPORT, labels};
+use crate::tests::fixture::{SEED, TWO, TWO_REPORT};
 use script_runs::Pages;
 use std::alloc::Global;
 use std::process::{Abort, ExitCode};
@@ -31,15 +31,7 @@ fn check_exit<R: Threads + Wait + Clock + Abort + Sync>(
     let mut out = Vec::new(alloc);
     let mut faults = Vec::new(alloc);
     let pages = pages(rt);
-    let ended = run_threads_to_exit(
-        rt,
-        alloc,
-        labels(),
-        &mut reader,
-        &mut out,
-        &mut faults,
-        pages,
-    );
+    let ended = run_threads_to_exit(rt, alloc, SEED, &mut reader, &mut out, &mut faults, pages);
     assert!(rt; ended == ExitCode::from(status), "{script}");
     assert_eq!(rt; out.as_slice(), report.as_bytes(), "{script}");
     assert_eq!(rt; faults.as_slice(), told.as_bytes(), "{script}");
@@ -75,7 +67,7 @@ fn streams_that_fail_end_with_1(rt: HostRuntime) {
         let ended = run_threads_to_exit(
             &rt,
             rt.alloc(),
-            labels(),
+            SEED,
             &mut reader,
             &mut writer,
             &mut faults,
@@ -97,7 +89,7 @@ fn a_fault_that_nobody_hears_keeps_its_status(rt: HostRuntime) {
     let ended = run_threads_to_exit(
         &rt,
         rt.alloc(),
-        labels(),
+        SEED,
         &mut reader,
         &mut out,
         &mut faults,

@@ -1,7 +1,6 @@
 //! Runs of actors.
 ghost use Rattle.std.specs.Prelude.{◌≤◌};
 
-use script_lines::LabelHash;
 use sm_names::Limits;
 use std::alloc::Global;
 use std::process::Abort;
@@ -20,10 +19,8 @@ a constrain r 1 0 4096\nb constrain s 1 0 4096\na take r\nb take s\n";
 pub const TWO_REPORT: &str =
     "events 16\na events 7 strong 0 weak 0\nb events 7 strong 0 weak 0\ngather ok\n";
 
-/// How labels are hashed.
-pub fn labels() -> LabelHash {
-    LabelHash::new([3; 16])
-}
+/// What labels and counts are hashed from.
+pub const SEED: [u8; 16] = [3; 16];
 
 /// Limits of so many events, and else the greatest.
 pub fn events<R: Abort>(rt: &R, most: u32) -> Limits {
@@ -47,7 +44,7 @@ pub fn check<R: Threads + Wait + Clock + Abort + Sync>(
     let report = report.replace(alloc, "; ", "\n")?;
     let mut reader = script.as_bytes();
     let mut out = Vec::new(alloc);
-    let ended = run_threads(rt, alloc, labels(), &mut reader, &mut out, 16, limits);
+    let ended = run_threads(rt, alloc, SEED, &mut reader, &mut out, 16, limits);
     assert_eq!(rt; ended, outcome, "{script}");
     assert_eq!(rt; out.as_slice(), report.as_bytes(), "{script}");
     Ok(())
@@ -67,7 +64,7 @@ pub fn run_two<R: Threads + Wait + Clock + Sync>(
         reads: 0,
         fails: read_fails,
     };
-    run_threads(rt, alloc, labels(), &mut reader, writer, 16, Limits::full())
+    run_threads(rt, alloc, SEED, &mut reader, writer, 16, Limits::full())
 }
 
 // Whether the line is that of an actor that has no handle open.
@@ -85,15 +82,7 @@ pub fn check_gathered<R: Threads + Wait + Clock + Abort + Sync>(
 ) {
     let mut reader = script;
     let mut out = Vec::new(alloc);
-    let ended = run_threads(
-        rt,
-        alloc,
-        labels(),
-        &mut reader,
-        &mut out,
-        16,
-        Limits::full(),
-    );
+    let ended = run_threads(rt, alloc, SEED, &mut reader, &mut out, 16, Limits::full());
     assert_eq!(rt; ended, Ok(()));
     let report = out.as_slice();
     let lines = report.split(|byte| *byte == b'\n');

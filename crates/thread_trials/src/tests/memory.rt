@@ -1,5 +1,5 @@
 //! Two actors where memory is refused.
-use crate::tests::fixture::{TWO, TWO_REPORT, labels};
+use crate::tests::fixture::{SEED, TWO, TWO_REPORT};
 use sm_names::Limits;
 use thread_runs::{ThreadsFault, run_threads};
 use trial_streams::Slate;
@@ -16,7 +16,7 @@ fn refused_memory_leaves_the_whole_report_or_none(rt: HostRuntime) {
     let ended = run_threads(
         &rt,
         rt.alloc(),
-        labels(),
+        SEED,
         &mut reader,
         &mut writer,
         16,

@@ -1,11 +1,12 @@
-use Rattle.std.proofs.Common.{rules, ◌∙◌}
-use Rattle.std.proofs.lemmas.List.Sorted.{answers_always}
-use Rattle.lifetime_core.proofs.joined.Rows.{search_places}
+use Rattle.std.proofs.Common.{◌≡◌, ◌∙◌, ap, sym}
+use Rattle.lifetime_core.specs.State.{Client}
+use Rattle.lifetime_core.proofs.joined.Rows.{stands_at}
 use Rattle.lifetime_core.proofs.clients.place_of.Goals as goal
 
--- the closure gives a client's id, and the ids rise
-pub returns : goal.returns
-returns c =
-    let facts = c.binary_search_by_key.ensures in
-    let by_id = facts.position (λ client. client.id) (answers_always _ _ _ (λ f a r g called. search rules)) in
-    c.ok.ensures.value ∙ search_places c.args.client c.args.clients.now _ c.requires facts.bound by_id
+-- the row at the guess is the client's
+pub returns-then-row-client : goal.returns-then-row-client
+returns-then-row-client c =
+    let row = c.in-Some.row.now in
+    let item = c.in-Some.ensures.lookup in
+    let its : row.id ≡ c.args.client = sym (ap (λ (r : Client). r.id) c.row.view_is) ∙ c.if-row-client.true in
+    stands_at c.args.client c.args.clients.now _ row c.requires item.3.0 (ap (λ (r : Client). r.id) (sym item.1) ∙ its)

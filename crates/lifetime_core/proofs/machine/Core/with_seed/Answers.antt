@@ -1,5 +1,5 @@
 use Rattle.lifetime_core.proofs.theorem.GoesOn.{shows_nothing}
-use Rattle.lifetime_core.proofs.machine.Core.new.Goals as goal
+use Rattle.lifetime_core.proofs.machine.Core.with_seed.Goals as goal
 
 -- nothing happened yet
 pub returns-clause-shows : goal.returns-clause-shows
@@ -9,8 +9,8 @@ returns-clause-shows c =
       c.new-2.ensures.items,
       c.new-3.ensures,
       c.nodes.ensures.value,
-      c.new-4.ensures,
+      c.with_seed.ensures,
       c.handles.ensures.value,
-      c.new-5.ensures,
+      c.new-4.ensures,
       c.trackers.ensures.value,
     ) (shows_nothing c.args.pages c.args.limits)

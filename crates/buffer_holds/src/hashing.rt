@@ -1,0 +1,35 @@
+//! How the tables of counts hash.
+ghost use Rattle.std.specs.Prelude.{◌≡◌};
+ghost use Rattle.std.specs.Hash.FoldHasher as fold;
+
+use std::hash::{BuildHasher, FoldHasher, Hasher};
+
+/// How the tables of counts hash: from a seed, best one that whoever makes calls does not know. Who
+/// does not know the seed can't know which counts fall into one place of a table; who knows it can
+/// pick such clients and buffers. That is meant, and not proved: the hash is fast, and no cipher.
+/// The seed changes what a look-up costs, and no count.
+#[derive(Clone, Copy)]
+pub struct CountHash {
+    start: FoldHasher,
+}
+
+impl CountHash {
+    /// Hashes from this seed, best of random bytes. Takes a constant time.
+    pub fn new(seed: [u8; 16]) -> CountHash
+        ensures { result.start ≡ fold.write fold.initial seed }
+    {
+        let mut start = FoldHasher::default();
+        start.write(&seed);
+        CountHash { start }
+    }
+}
+
+impl BuildHasher for CountHash {
+    type Hasher = FoldHasher;
+
+    ghost build_hasher = { λ counts. counts.start };
+
+    fn build_hasher(&self) -> FoldHasher {
+        self.start
+    }
+}
