@@ -5,6 +5,7 @@ use super::serving::{are_served, pair};
 use super::{demand, failed as fault};
 use sm_names::{Failure, NodeKey};
 use std::alloc::Global;
+use std::process::Abort;
 use std::test::Fail;
 
 // A root that was given ten buffers of 4,096 bytes, and 300 nodes of its unit.
@@ -39,10 +40,20 @@ fn served_with(ground: &mut Ground, unit: [NodeKey; 2], below: &[NodeKey]) -> Re
 #[test]
 fn a_chain_of_ready_units_is_served_with_the_one_above(rt: HostRuntime) -> Result<(), Fail> {
     let (mut ground, root) = ten_buffers(rt.alloc())?;
-    let unit = pair(&mut ground, root)?;
-    let below = hang_chain(rt.alloc(), &mut ground, unit[1], 400)?;
-    ask_each(&mut ground, &below)?;
-    assert!(rt; served_with(&mut ground, unit, &below)?);
+    a_chain_of_ready_units_is_served_with_the_one_above_on(&rt, rt.alloc(), &mut ground, root)
+}
+
+// The same, on this ground.
+fn a_chain_of_ready_units_is_served_with_the_one_above_on(
+    rt: &impl Abort,
+    alloc: Global,
+    ground: &mut Ground,
+    root: NodeKey,
+) -> Result<(), Fail> {
+    let unit = pair(ground, root)?;
+    let below = hang_chain(alloc, ground, unit[1], 400)?;
+    ask_each(ground, &below)?;
+    assert!(rt; served_with(ground, unit, &below)?);
     assert!(rt; ground.forest().strong_live(HERE));
     Ok(())
 }
@@ -51,14 +62,24 @@ fn a_chain_of_ready_units_is_served_with_the_one_above(rt: HostRuntime) -> Resul
 #[test]
 fn the_buffers_are_enough_for_a_chain(rt: HostRuntime) -> Result<(), Fail> {
     let (mut ground, root) = ten_buffers(rt.alloc())?;
-    let unit = pair(&mut ground, root)?;
-    let below = hang_chain(rt.alloc(), &mut ground, unit[0], 10)?;
-    camp_each(&mut ground, &below, 1)?;
-    assert!(rt; served_with(&mut ground, unit, &below)?);
-    let next = pair(&mut ground, root)?;
+    the_buffers_are_enough_for_a_chain_on(&rt, rt.alloc(), &mut ground, root)
+}
+
+// The same, on this ground.
+fn the_buffers_are_enough_for_a_chain_on(
+    rt: &impl Abort,
+    alloc: Global,
+    ground: &mut Ground,
+    root: NodeKey,
+) -> Result<(), Fail> {
+    let unit = pair(ground, root)?;
+    let below = hang_chain(alloc, ground, unit[0], 10)?;
+    camp_each(ground, &below, 1)?;
+    assert!(rt; served_with(ground, unit, &below)?);
+    let next = pair(ground, root)?;
     ground.ask(next[0], demand(1, 0, 4096)?)?;
     ground.release(next[1])?;
-    assert!(rt; failed(&ground, next[0]) && are_allocated(&ground, &below, true));
+    assert!(rt; failed(ground, next[0]) && are_allocated(ground, &below, true));
     Ok(())
 }
 
@@ -101,18 +122,28 @@ fn ready_each(ground: &mut Ground, units: &[[NodeKey; 2]]) -> Result<(), Fail> {
 #[test]
 fn a_tree_of_ready_units_is_served_as_a_node_is_released(rt: HostRuntime) -> Result<(), Fail> {
     let (mut ground, root) = ten_buffers(rt.alloc())?;
-    let top = pair(&mut ground, root)?;
-    let first = branch(rt.alloc(), &mut ground, &[top])?;
-    let second = branch(rt.alloc(), &mut ground, &first)?;
-    let third = branch(rt.alloc(), &mut ground, &second)?;
-    ready_each(&mut ground, &third)?;
-    ready_each(&mut ground, &first)?;
-    ready_each(&mut ground, &second)?;
+    a_tree_of_ready_units_is_served_as_a_node_is_released_on(&rt, rt.alloc(), &mut ground, root)
+}
+
+// The same, on this ground.
+fn a_tree_of_ready_units_is_served_as_a_node_is_released_on(
+    rt: &impl Abort,
+    alloc: Global,
+    ground: &mut Ground,
+    root: NodeKey,
+) -> Result<(), Fail> {
+    let top = pair(ground, root)?;
+    let first = branch(alloc, ground, &[top])?;
+    let second = branch(alloc, ground, &first)?;
+    let third = branch(alloc, ground, &second)?;
+    ready_each(ground, &third)?;
+    ready_each(ground, &first)?;
+    ready_each(ground, &second)?;
     ground.ask(top[0], demand(0, 1, 4096)?)?;
-    assert!(rt; all_served(&ground, &first, false) && all_served(&ground, &third, false));
+    assert!(rt; all_served(ground, &first, false) && all_served(ground, &third, false));
     ground.release(top[1])?;
-    assert!(rt; are_served(&ground, top) && all_served(&ground, &first, true));
-    assert!(rt; all_served(&ground, &second, true) && all_served(&ground, &third, true));
+    assert!(rt; are_served(ground, top) && all_served(ground, &first, true));
+    assert!(rt; all_served(ground, &second, true) && all_served(ground, &third, true));
     Ok(())
 }
 
@@ -129,14 +160,24 @@ fn serves_up_to(ground: &Ground, below: &[NodeKey], at: usize) -> bool {
 #[test]
 fn a_unit_that_waits_stops_those_below_it(rt: HostRuntime) -> Result<(), Fail> {
     let (mut ground, root) = ten_buffers(rt.alloc())?;
-    let unit = pair(&mut ground, root)?;
-    let below = hang_chain(rt.alloc(), &mut ground, unit[1], 40)?;
+    a_unit_that_waits_stops_those_below_it_on(&rt, rt.alloc(), &mut ground, root)
+}
+
+// The same, on this ground.
+fn a_unit_that_waits_stops_those_below_it_on(
+    rt: &impl Abort,
+    alloc: Global,
+    ground: &mut Ground,
+    root: NodeKey,
+) -> Result<(), Fail> {
+    let unit = pair(ground, root)?;
+    let below = hang_chain(alloc, ground, unit[1], 40)?;
     let waiting = ground.bear(below.get(20).copied(), false)?;
-    ask_each(&mut ground, &below)?;
-    ask_each(&mut ground, &unit)?;
-    assert!(rt; are_served(&ground, unit) && serves_up_to(&ground, &below, 20));
+    ask_each(ground, &below)?;
+    ask_each(ground, &unit)?;
+    assert!(rt; are_served(ground, unit) && serves_up_to(ground, &below, 20));
     ground.release(waiting)?;
-    assert!(rt; serves_up_to(&ground, &below, 40));
+    assert!(rt; serves_up_to(ground, &below, 40));
     Ok(())
 }
 

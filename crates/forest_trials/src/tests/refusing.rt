@@ -4,6 +4,7 @@ use super::many::{family, is_allocated, release_each};
 use super::{demand, failed};
 use sm_names::{Cause, Failure, Fault, NodeKey};
 use std::alloc::Global;
+use std::process::Abort;
 use std::test::Fail;
 
 // A root that has three buffers of 4,096 bytes and camps on one of them, beside 300 nodes of its
@@ -69,171 +70,270 @@ fn are_served(ground: &Ground, keys: &[NodeKey]) -> bool {
 #[test]
 fn units_are_refused_more_than_is_left(rt: HostRuntime) -> Result<(), Fail> {
     let (mut ground, root) = served_root(rt.alloc())?;
-    let first = pair(&mut ground, root)?;
-    let second = pair(&mut ground, root)?;
-    let third = pair(&mut ground, root)?;
+    units_are_refused_more_than_is_left_on(&rt, &mut ground, root)
+}
+
+// The same, on this ground.
+fn units_are_refused_more_than_is_left_on(
+    rt: &impl Abort,
+    ground: &mut Ground,
+    root: NodeKey,
+) -> Result<(), Fail> {
+    let first = pair(ground, root)?;
+    let second = pair(ground, root)?;
+    let third = pair(ground, root)?;
     ground.ask(first[0], demand(1, 1, 4096)?)?;
     ground.ask(first[1], demand(0, 1, 4096)?)?;
     ground.ask(second[0], demand(1, 1, 4096)?)?;
     ground.ask(second[1], demand(1, 1, 4096)?)?;
-    assert!(rt; went(&ground, &second, failed(Failure::TooFew, second[0])));
-    assert!(rt; are_served(&ground, &first) && !is_allocated(&ground, third[0]));
+    assert!(rt; went(ground, &second, failed(Failure::TooFew, second[0])));
+    assert!(rt; are_served(ground, &first) && !is_allocated(ground, third[0]));
     ground.ask(third[1], demand(1, 1, 4096)?)?;
     ground.ask(third[0], demand(0, 3, 4096)?)?;
-    assert!(rt; are_served(&ground, &third) && ground.forest().strong_live(HERE));
+    assert!(rt; are_served(ground, &third) && ground.forest().strong_live(HERE));
     Ok(())
 }
 
 #[test]
 fn a_unit_is_refused_more_at_least(rt: HostRuntime) -> Result<(), Fail> {
     let (mut ground, root) = served_root(rt.alloc())?;
-    let unit = pair(&mut ground, root)?;
+    a_unit_is_refused_more_at_least_on(&rt, &mut ground, root)
+}
+
+// The same, on this ground.
+fn a_unit_is_refused_more_at_least_on(
+    rt: &impl Abort,
+    ground: &mut Ground,
+    root: NodeKey,
+) -> Result<(), Fail> {
+    let unit = pair(ground, root)?;
     ground.release(unit[1])?;
     ground.ask(unit[0], demand(0, 4, 4096)?)?;
-    assert!(rt; went(&ground, &unit, failed(Failure::TooFew, unit[0])));
-    assert!(rt; is_allocated(&ground, root));
+    assert!(rt; went(ground, &unit, failed(Failure::TooFew, unit[0])));
+    assert!(rt; is_allocated(ground, root));
     Ok(())
 }
 
 #[test]
 fn a_unit_is_refused_larger_buffers_as_a_node_leaves(rt: HostRuntime) -> Result<(), Fail> {
     let (mut ground, root) = served_root(rt.alloc())?;
-    let unit = pair(&mut ground, root)?;
+    a_unit_is_refused_larger_buffers_as_a_node_leaves_on(&rt, &mut ground, root)
+}
+
+// The same, on this ground.
+fn a_unit_is_refused_larger_buffers_as_a_node_leaves_on(
+    rt: &impl Abort,
+    ground: &mut Ground,
+    root: NodeKey,
+) -> Result<(), Fail> {
+    let unit = pair(ground, root)?;
     ground.ask(unit[0], demand(2, 3, 4097)?)?;
     ground.release(unit[1])?;
-    assert!(rt; went(&ground, &unit, failed(Failure::TooSmall, unit[0])));
-    let unit = pair(&mut ground, root)?;
+    assert!(rt; went(ground, &unit, failed(Failure::TooSmall, unit[0])));
+    let unit = pair(ground, root)?;
     ground.ask(unit[1], demand(0, 0, 9000)?)?;
     ground.release(unit[0])?;
-    assert!(rt; went(&ground, &unit, failed(Failure::TooSmall, unit[0])));
-    assert!(rt; is_allocated(&ground, root));
+    assert!(rt; went(ground, &unit, failed(Failure::TooSmall, unit[0])));
+    assert!(rt; is_allocated(ground, root));
     Ok(())
 }
 
 #[test]
 fn too_few_is_told_before_too_small(rt: HostRuntime) -> Result<(), Fail> {
     let (mut ground, root) = served_root(rt.alloc())?;
-    let unit = pair(&mut ground, root)?;
+    too_few_is_told_before_too_small_on(&rt, &mut ground, root)
+}
+
+// The same, on this ground.
+fn too_few_is_told_before_too_small_on(
+    rt: &impl Abort,
+    ground: &mut Ground,
+    root: NodeKey,
+) -> Result<(), Fail> {
+    let unit = pair(ground, root)?;
     ground.ask(unit[0], demand(0, 4, 4096)?)?;
     ground.ask(unit[1], demand(0, 0, 9000)?)?;
-    assert!(rt; went(&ground, &unit, failed(Failure::TooFew, unit[0])));
-    let unit = pair(&mut ground, root)?;
+    assert!(rt; went(ground, &unit, failed(Failure::TooFew, unit[0])));
+    let unit = pair(ground, root)?;
     ground.ask(unit[0], demand(3, 0, 9000)?)?;
     ground.release(unit[1])?;
-    assert!(rt; went(&ground, &unit, failed(Failure::TooFew, unit[0])));
+    assert!(rt; went(ground, &unit, failed(Failure::TooFew, unit[0])));
     Ok(())
 }
 
 #[test]
 fn what_is_below_goes_with_a_unit_that_is_refused(rt: HostRuntime) -> Result<(), Fail> {
     let (mut ground, root) = served_root(rt.alloc())?;
-    let unit = pair(&mut ground, root)?;
-    let waiting = pair(&mut ground, unit[1])?;
-    let ready = pair(&mut ground, unit[0])?;
-    let low = pair(&mut ground, ready[1])?;
+    what_is_below_goes_with_a_unit_that_is_refused_on(&rt, &mut ground, root)
+}
+
+// The same, on this ground.
+fn what_is_below_goes_with_a_unit_that_is_refused_on(
+    rt: &impl Abort,
+    ground: &mut Ground,
+    root: NodeKey,
+) -> Result<(), Fail> {
+    let unit = pair(ground, root)?;
+    let waiting = pair(ground, unit[1])?;
+    let ready = pair(ground, unit[0])?;
+    let low = pair(ground, ready[1])?;
     ground.ask(ready[0], demand(0, 1, 4096)?)?;
     ground.ask(ready[1], demand(0, 1, 4096)?)?;
     ground.ask(unit[0], demand(3, 0, 4096)?)?;
     ground.ask(unit[1], demand(0, 0, 4096)?)?;
     let fault = failed(Failure::TooFew, unit[0]);
-    assert!(rt; went(&ground, &unit, fault) && went(&ground, &waiting, fault));
-    assert!(rt; went(&ground, &ready, fault) && went(&ground, &low, fault));
-    assert!(rt; is_allocated(&ground, root) && ground.forest().strong_live(HERE));
+    assert!(rt; went(ground, &unit, fault) && went(ground, &waiting, fault));
+    assert!(rt; went(ground, &ready, fault) && went(ground, &low, fault));
+    assert!(rt; is_allocated(ground, root) && ground.forest().strong_live(HERE));
     Ok(())
 }
 
 #[test]
 fn a_unit_that_is_held_by_one_below_alone_is_refused(rt: HostRuntime) -> Result<(), Fail> {
     let (mut ground, root) = served_root(rt.alloc())?;
-    let unit = pair(&mut ground, root)?;
-    let low = pair(&mut ground, unit[1])?;
+    a_unit_that_is_held_by_one_below_alone_is_refused_on(&rt, &mut ground, root)
+}
+
+// The same, on this ground.
+fn a_unit_that_is_held_by_one_below_alone_is_refused_on(
+    rt: &impl Abort,
+    ground: &mut Ground,
+    root: NodeKey,
+) -> Result<(), Fail> {
+    let unit = pair(ground, root)?;
+    let low = pair(ground, unit[1])?;
     ground.ask(unit[0], demand(0, 9, 4096)?)?;
     ground.release(unit[0])?;
     ground.release(unit[1])?;
     let fault = failed(Failure::TooFew, unit[0]);
-    assert!(rt; went(&ground, &unit, fault) && went(&ground, &low, fault));
-    assert!(rt; is_allocated(&ground, root) && ground.forest().strong_live(HERE));
+    assert!(rt; went(ground, &unit, fault) && went(ground, &low, fault));
+    assert!(rt; is_allocated(ground, root) && ground.forest().strong_live(HERE));
     Ok(())
 }
 
 #[test]
 fn a_unit_above_one_that_is_refused_stays(rt: HostRuntime) -> Result<(), Fail> {
     let (mut ground, root) = served_root(rt.alloc())?;
-    let upper = served_pair(&mut ground, root)?;
-    let lower = pair(&mut ground, upper[1])?;
+    a_unit_above_one_that_is_refused_stays_on(&rt, &mut ground, root)
+}
+
+// The same, on this ground.
+fn a_unit_above_one_that_is_refused_stays_on(
+    rt: &impl Abort,
+    ground: &mut Ground,
+    root: NodeKey,
+) -> Result<(), Fail> {
+    let upper = served_pair(ground, root)?;
+    let lower = pair(ground, upper[1])?;
     ground.release(upper[1])?;
     ground.ask(lower[0], demand(0, 9, 4096)?)?;
     ground.release(lower[1])?;
-    assert!(rt; went(&ground, &lower, failed(Failure::TooFew, lower[0])));
-    assert!(rt; are_served(&ground, &upper));
+    assert!(rt; went(ground, &lower, failed(Failure::TooFew, lower[0])));
+    assert!(rt; are_served(ground, &upper));
     ground.release(upper[0])?;
-    assert!(rt; left(&ground, &upper) && is_allocated(&ground, root));
+    assert!(rt; left(ground, &upper) && is_allocated(ground, root));
     Ok(())
 }
 
 #[test]
 fn units_above_one_that_is_refused_end(rt: HostRuntime) -> Result<(), Fail> {
     let (mut ground, root) = served_root(rt.alloc())?;
-    let upper = served_pair(&mut ground, root)?;
-    let middle = served_pair(&mut ground, upper[0])?;
-    let lower = pair(&mut ground, middle[1])?;
-    let beside = pair(&mut ground, middle[0])?;
-    release_each(&mut ground, &upper)?;
-    release_each(&mut ground, &middle)?;
-    assert!(rt; are_served(&ground, &upper) && are_served(&ground, &middle));
-    release_each(&mut ground, &beside)?;
+    units_above_one_that_is_refused_end_on(&rt, &mut ground, root)
+}
+
+// The same, on this ground.
+fn units_above_one_that_is_refused_end_on(
+    rt: &impl Abort,
+    ground: &mut Ground,
+    root: NodeKey,
+) -> Result<(), Fail> {
+    let upper = served_pair(ground, root)?;
+    let middle = served_pair(ground, upper[0])?;
+    let lower = pair(ground, middle[1])?;
+    let beside = pair(ground, middle[0])?;
+    release_each(ground, &upper)?;
+    release_each(ground, &middle)?;
+    assert!(rt; are_served(ground, &upper) && are_served(ground, &middle));
+    release_each(ground, &beside)?;
     ground.ask(lower[0], demand(0, 0, 9000)?)?;
-    assert!(rt; are_served(&ground, &upper) && are_served(&ground, &middle));
+    assert!(rt; are_served(ground, &upper) && are_served(ground, &middle));
     ground.ask(lower[1], demand(0, 1, 4096)?)?;
-    assert!(rt; went(&ground, &lower, failed(Failure::TooSmall, lower[0])));
-    assert!(rt; left(&ground, &upper) && left(&ground, &middle));
-    assert!(rt; is_allocated(&ground, root) && ground.forest().strong_live(HERE));
+    assert!(rt; went(ground, &lower, failed(Failure::TooSmall, lower[0])));
+    assert!(rt; left(ground, &upper) && left(ground, &middle));
+    assert!(rt; is_allocated(ground, root) && ground.forest().strong_live(HERE));
     Ok(())
 }
 
 #[test]
 fn a_chain_above_one_that_is_refused_ends(rt: HostRuntime) -> Result<(), Fail> {
     let (mut ground, root) = served_root(rt.alloc())?;
+    a_chain_above_one_that_is_refused_ends_on(&rt, &mut ground, root)
+}
+
+// The same, on this ground.
+fn a_chain_above_one_that_is_refused_ends_on(
+    rt: &impl Abort,
+    ground: &mut Ground,
+    root: NodeKey,
+) -> Result<(), Fail> {
     let upper = ground.bear(Some(root), true)?;
     let middle = ground.bear(Some(upper), true)?;
-    let lower = pair(&mut ground, middle)?;
+    let lower = pair(ground, middle)?;
     ground.ask(upper, demand(1, 1, 100)?)?;
     ground.ask(middle, demand(0, 1, 100)?)?;
     ground.release(upper)?;
     ground.release(middle)?;
-    assert!(rt; are_served(&ground, &[root, upper, middle]));
+    assert!(rt; are_served(ground, &[root, upper, middle]));
     ground.ask(lower[0], demand(2, 0, 100)?)?;
     ground.release(lower[1])?;
-    assert!(rt; went(&ground, &lower, failed(Failure::TooFew, lower[0])));
-    assert!(rt; left(&ground, &[upper, middle]) && is_allocated(&ground, root));
-    let unit = pair(&mut ground, root)?;
+    assert!(rt; went(ground, &lower, failed(Failure::TooFew, lower[0])));
+    assert!(rt; left(ground, &[upper, middle]) && is_allocated(ground, root));
+    let unit = pair(ground, root)?;
     ground.ask(unit[0], demand(2, 0, 100)?)?;
     ground.release(unit[1])?;
-    assert!(rt; are_served(&ground, &unit));
+    assert!(rt; are_served(ground, &unit));
     Ok(())
 }
 
 #[test]
 fn nothing_is_left_where_the_last_unit_is_refused(rt: HostRuntime) -> Result<(), Fail> {
     let (mut ground, root) = served_root(rt.alloc())?;
-    let unit = pair(&mut ground, root)?;
+    nothing_is_left_where_the_last_unit_is_refused_on(&rt, &mut ground, root)
+}
+
+// The same, on this ground.
+fn nothing_is_left_where_the_last_unit_is_refused_on(
+    rt: &impl Abort,
+    ground: &mut Ground,
+    root: NodeKey,
+) -> Result<(), Fail> {
+    let unit = pair(ground, root)?;
     ground.release(root)?;
     ground.ask(unit[0], demand(3, 0, 4096)?)?;
     assert!(rt; ground.free_pages() == 13);
     ground.ask(unit[1], demand(0, 0, 4096)?)?;
-    assert!(rt; went(&ground, &unit, failed(Failure::TooFew, unit[0])));
-    assert!(rt; left(&ground, &[root]) && ground.free_pages() == 16);
+    assert!(rt; went(ground, &unit, failed(Failure::TooFew, unit[0])));
+    assert!(rt; left(ground, &[root]) && ground.free_pages() == 16);
     Ok(())
 }
 
 #[test]
 fn no_strong_node_is_left_where_the_last_is_refused(rt: HostRuntime) -> Result<(), Fail> {
     let (mut ground, root) = served_root(rt.alloc())?;
-    let unit = pair(&mut ground, root)?;
+    no_strong_node_is_left_where_the_last_is_refused_on(&rt, &mut ground, root)
+}
+
+// The same, on this ground.
+fn no_strong_node_is_left_where_the_last_is_refused_on(
+    rt: &impl Abort,
+    ground: &mut Ground,
+    root: NodeKey,
+) -> Result<(), Fail> {
+    let unit = pair(ground, root)?;
     ground.weaken(root)?;
     ground.ask(unit[1], demand(0, 4, 4096)?)?;
     ground.release(unit[0])?;
-    assert!(rt; went(&ground, &unit, failed(Failure::TooFew, unit[0])));
+    assert!(rt; went(ground, &unit, failed(Failure::TooFew, unit[0])));
     match ground.forest().node(root) {
         Some(node) => {
             let cause = Cause::NoStrong;
@@ -255,12 +355,21 @@ fn no_strong_node_is_left_where_the_last_is_refused(rt: HostRuntime) -> Result<(
 #[test]
 fn an_open_handle_keeps_what_a_refused_unit_leaves(rt: HostRuntime) -> Result<(), Fail> {
     let (mut ground, root) = served_root(rt.alloc())?;
-    let unit = pair(&mut ground, root)?;
+    an_open_handle_keeps_what_a_refused_unit_leaves_on(&rt, &mut ground, root)
+}
+
+// The same, on this ground.
+fn an_open_handle_keeps_what_a_refused_unit_leaves_on(
+    rt: &impl Abort,
+    ground: &mut Ground,
+    root: NodeKey,
+) -> Result<(), Fail> {
+    let unit = pair(ground, root)?;
     ground.weaken(root)?;
     ground.open()?;
     ground.ask(unit[1], demand(0, 4, 4096)?)?;
     ground.release(unit[0])?;
-    assert!(rt; went(&ground, &unit, failed(Failure::TooFew, unit[0])));
-    assert!(rt; is_allocated(&ground, root) && !ground.forest().strong_live(HERE));
+    assert!(rt; went(ground, &unit, failed(Failure::TooFew, unit[0])));
+    assert!(rt; is_allocated(ground, root) && !ground.forest().strong_live(HERE));
     Ok(())
 }
