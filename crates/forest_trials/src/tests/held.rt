@@ -2,6 +2,8 @@
 use super::ground::Ground;
 use super::many::{failed, left};
 use sm_names::NodeKey;
+use std::alloc::Global;
+use std::process::Abort;
 use std::test::Fail;
 
 /// The head of a unit, and its first child, which is of the unit.
@@ -66,20 +68,38 @@ fn leaves_with(ground: &mut Ground, unit: Pair, below: NodeKey) -> Result<bool, 
 #[test]
 fn a_head_that_is_no_first_child_holds_a_unit(rt: HostRuntime) -> Result<(), Fail> {
     let (mut ground, root) = new_ground(rt)?;
-    let unit = bear_pair(&mut ground, root)?;
+    a_head_that_is_no_first_child_holds_a_unit_on(&rt, &mut ground, root)
+}
+
+// The same, on this ground.
+fn a_head_that_is_no_first_child_holds_a_unit_on(
+    rt: &impl Abort,
+    ground: &mut Ground,
+    root: NodeKey,
+) -> Result<(), Fail> {
+    let unit = bear_pair(ground, root)?;
     let below = ground.bear(Some(unit.head), true)?;
-    assert!(rt; leaves_with(&mut ground, unit, below)?);
-    assert!(rt; !left(&ground, root));
+    assert!(rt; leaves_with(ground, unit, below)?);
+    assert!(rt; !left(ground, root));
     Ok(())
 }
 
 #[test]
 fn a_head_under_another_node_holds_a_unit(rt: HostRuntime) -> Result<(), Fail> {
     let (mut ground, root) = new_ground(rt)?;
-    let unit = bear_pair(&mut ground, root)?;
+    a_head_under_another_node_holds_a_unit_on(&rt, &mut ground, root)
+}
+
+// The same, on this ground.
+fn a_head_under_another_node_holds_a_unit_on(
+    rt: &impl Abort,
+    ground: &mut Ground,
+    root: NodeKey,
+) -> Result<(), Fail> {
+    let unit = bear_pair(ground, root)?;
     let below = ground.bear(Some(unit.near), true)?;
-    assert!(rt; leaves_with(&mut ground, unit, below)?);
-    assert!(rt; !left(&ground, root));
+    assert!(rt; leaves_with(ground, unit, below)?);
+    assert!(rt; !left(ground, root));
     Ok(())
 }
 
@@ -113,11 +133,20 @@ fn climbs(ground: &mut Ground, high: Pair, low: Pair, last: NodeKey) -> Result<b
 #[test]
 fn an_end_goes_up_over_units_that_nothing_else_holds(rt: HostRuntime) -> Result<(), Fail> {
     let (mut ground, root) = new_ground(rt)?;
-    let high = bear_pair(&mut ground, root)?;
-    let low = bear_pair(&mut ground, high.near)?;
+    an_end_goes_up_over_units_that_nothing_else_holds_on(&rt, &mut ground, root)
+}
+
+// The same, on this ground.
+fn an_end_goes_up_over_units_that_nothing_else_holds_on(
+    rt: &impl Abort,
+    ground: &mut Ground,
+    root: NodeKey,
+) -> Result<(), Fail> {
+    let high = bear_pair(ground, root)?;
+    let low = bear_pair(ground, high.near)?;
     let last = ground.bear(Some(low.near), true)?;
-    assert!(rt; climbs(&mut ground, high, low, last)?);
-    assert!(rt; !left(&ground, root));
+    assert!(rt; climbs(ground, high, low, last)?);
+    assert!(rt; !left(ground, root));
     Ok(())
 }
 
@@ -134,11 +163,20 @@ fn stops_at(ground: &mut Ground, high: Pair, low: Held, other: NodeKey) -> Resul
 #[test]
 fn an_end_stops_at_a_unit_that_another_holds(rt: HostRuntime) -> Result<(), Fail> {
     let (mut ground, root) = new_ground(rt)?;
-    let high = bear_pair(&mut ground, root)?;
-    let low = bear_held(&mut ground, high.head)?;
+    an_end_stops_at_a_unit_that_another_holds_on(&rt, &mut ground, root)
+}
+
+// The same, on this ground.
+fn an_end_stops_at_a_unit_that_another_holds_on(
+    rt: &impl Abort,
+    ground: &mut Ground,
+    root: NodeKey,
+) -> Result<(), Fail> {
+    let high = bear_pair(ground, root)?;
+    let low = bear_held(ground, high.head)?;
     let other = ground.bear(Some(high.near), true)?;
-    assert!(rt; stops_at(&mut ground, high, low, other)?);
-    assert!(rt; !left(&ground, root));
+    assert!(rt; stops_at(ground, high, low, other)?);
+    assert!(rt; !left(ground, root));
     Ok(())
 }
 
@@ -163,13 +201,23 @@ fn end_each(ground: &mut Ground, units: &[Held]) -> Result<bool, Fail> {
 #[test]
 fn many_units_end_as_those_that_hold_them_fail(rt: HostRuntime) -> Result<(), Fail> {
     let (mut ground, root) = new_ground(rt)?;
-    let mut units = Vec::new(rt.alloc());
+    many_units_end_as_those_that_hold_them_fail_on(&rt, rt.alloc(), &mut ground, root)
+}
+
+// The same, on this ground.
+fn many_units_end_as_those_that_hold_them_fail_on(
+    rt: &impl Abort,
+    alloc: Global,
+    ground: &mut Ground,
+    root: NodeKey,
+) -> Result<(), Fail> {
+    let mut units = Vec::new(alloc);
     for _ in 0..60 {
-        let held = bear_held(&mut ground, root)?;
+        let held = bear_held(ground, root)?;
         units.push(held)?;
     }
-    assert!(rt; end_each(&mut ground, &units)?);
-    assert!(rt; !left(&ground, root));
-    assert!(rt; !failed(&ground, root));
+    assert!(rt; end_each(ground, &units)?);
+    assert!(rt; !left(ground, root));
+    assert!(rt; !failed(ground, root));
     Ok(())
 }
