@@ -79,9 +79,9 @@ fn wanted(asks: &Asks) -> Option<Buffers>
 }
 
 /// What the first allocation comes to, if the effect makes the root's unit ready while the collection
-/// has no buffers, and nothing but that allocation is forced: a node of the unit is live then and a
-/// strong node of the collection, no attached unit right below is ready, and what is asked for is
-/// within the limits. A walk over the keys of the collection, where the unit is ready.
+/// has no buffers, and nothing but that allocation is forced: something holds the unit then and a
+/// strong node of the collection is live, no attached unit right below is ready, and what is asked
+/// for is within the limits. A walk over the keys of the collection, where the unit is ready.
 fn planned(
     table: &NodeTable<Node>,
     units: &[Unit],
