@@ -1,5 +1,5 @@
 -- A walk down from a top: each step appends the children of one key, and no key comes twice.
-use Rattle.std.proofs.Common.{◌≡◌, ◌≢◌, ℕ, ◌+◌, ◌-◌, ◌<◌, ◌≤◌, inl, inr, List, [], ◌∷◌, ◌++◌, length, get_or, take, All, Contains, Some, arith, refl, sym, ap, ◌∙◌, subst}
+use Rattle.std.proofs.Common.{◌≡◌, ◌≢◌, ℕ, ◌+◌, ◌-◌, ◌<◌, ◌≤◌, inl, inr, List, [], ◌∷◌, ◌++◌, length, get_or, take, All, AllPairs, Contains, Some, arith, refl, sym, ap, ◌∙◌, subst}
 use Rattle.std.specs.List.{flat_map}
 use Rattle.std.proofs.lemmas.Bool.{cases_lt}
 use Rattle.std.proofs.lemmas.List.{flat_map_more, take_more, take-append-le, take_all, length-append, get_or_append_left, get_or-append_right, get_or-take, length-take-le, get_or_default}
@@ -7,31 +7,46 @@ use Rattle.std.proofs.lemmas.List.Elements.{All-append, All-contains, Contains-g
 use Rattle.sm_names.specs.declared.keys.NodeKey.{NodeKey}
 use Rattle.node_table.specs.Table.{Table, parent_at, children_at}
 use Rattle.node_table.specs.Forest.{IsForest, depth_at}
+use Rattle.failure_domains.specs.Falls.{IsByLayers}
 use Rattle.failure_domains.specs.Walks.{IsWalk}
 use Rattle.failure_domains.proofs.Lists.{AllPairs-append, Contains-cases, flat_map_source}
 
-module _ {N : Type 0} (t : Table N) (top : NodeKey) where
+-- A walk may leave out the children of some keys: those that it goes to are children, and each is one.
+module _ {N : Type 0} (t : Table N) (top : NodeKey) (down : NodeKey → List NodeKey) where
   abbrev Walk : ℕ → List NodeKey → Type 0
-  Walk taken keys = IsWalk (children_at t) (depth_at t) top taken keys
+  Walk taken keys = IsWalk (down) (depth_at t) top taken keys
 
-  module _ (forest : IsForest t) where
+  -- a walk that took all of its keys has the children of each
+  pub walk_ends : (taken : ℕ) (keys : List NodeKey) → Walk taken keys → length keys ≤ taken → keys ≡ top ∷ flat_map down keys
+  walk_ends taken keys walk all = walk.layers ∙ ap (λ ks. top ∷ flat_map down ks) (take_all taken keys all)
+
+  -- so it has them layer by layer
+  pub walk_by_layers : (keys : List NodeKey) → Walk (length keys) keys → IsByLayers down keys
+  walk_by_layers keys walk =
+      let whole : keys ≡ top ∷ flat_map down keys = walk_ends (length keys) keys walk (omega arith) in
+      subst (IsByLayers down) (sym whole) (ap (flat_map down) whole)
+
+  module _ (forest : IsForest t) (fewer : (parent child : NodeKey) → Contains (down parent) child → Contains (children_at t parent) child)
+      (apart : (key : NodeKey) → AllPairs (λ (a b : NodeKey). a ≢ b) (down key)) where
+    -- a key hangs on the one whose child it is
+    child_linked : (parent child : NodeKey) → Contains (down parent) child → parent_at t child ≡ Some parent
+    child_linked parent child there = (forest.linked parent child).1 (fewer parent child there)
+
     -- a child lies one layer below its parent
-    child_depth : (parent child : NodeKey) → Contains (children_at t parent) child →
-        depth_at t child ≡ depth_at t parent + 1
-    child_depth parent child there = forest.deeper parent child ((forest.linked parent child).1 there)
+    child_depth : (parent child : NodeKey) → Contains (down parent) child → depth_at t child ≡ depth_at t parent + 1
+    child_depth parent child there = forest.deeper parent child (child_linked parent child there)
 
     -- two parents of one child are one
-    same_parent : (one other child : NodeKey) → Contains (children_at t one) child →
-        Contains (children_at t other) child → one ≡ other
+    same_parent : (one other child : NodeKey) → Contains (down one) child → Contains (down other) child → one ≡ other
     same_parent one other child there elsewhere =
-        let first : parent_at t child ≡ Some one = (forest.linked one child).1 there in
-        let second : parent_at t child ≡ Some other = (forest.linked other child).1 elsewhere in
+        let first : parent_at t child ≡ Some one = child_linked one child there in
+        let second : parent_at t child ≡ Some other = child_linked other child elsewhere in
         cc
 
     module _ (taken : ℕ) (keys : List NodeKey) (walk : Walk taken keys) (more : taken < length keys) (key : NodeKey)
         (is : get_or keys taken key ≡ key) where
       abbrev children : List NodeKey
-      children = children_at t key
+      children = down key
 
       -- the key lies no higher than the top, and at most as many layers below it as keys were taken
       above_low : depth_at t top ≤ depth_at t key
@@ -43,7 +58,7 @@ module _ {N : Type 0} (t : Table N) (top : NodeKey) where
       -- a child of the key is not in the list: only the key itself could have brought it
       child_is_new : (child : NodeKey) → Contains children child → Contains keys child → ⊥
       child_is_new child below there =
-          elim (Contains-cases top child (flat_map (children_at t) (take taken keys))
+          elim (Contains-cases top child (flat_map down (take taken keys))
           (subst (λ ks. Contains ks child) walk.layers there)) [
             | inl first ↦
                 let deeper : depth_at t child ≡ depth_at t key + 1 = child_depth key child below in
@@ -51,8 +66,8 @@ module _ {N : Type 0} (t : Table N) (top : NodeKey) where
                 let low : depth_at t top ≤ depth_at t key = above_low in
                 absurd (omega arith)
             | inr brought ↦
-                let source : (x : NodeKey) × Contains (take taken keys) x × Contains (children_at t x) child =
-                flat_map_source (children_at t) (take taken keys) child brought in
+                let source : (x : NodeKey) × Contains (take taken keys) x × Contains (down x) child =
+                flat_map_source down (take taken keys) child brought in
                 earlier source.0 source.1.0 source.1.1 source.1.2 (same_parent source.0 key child source.2 below)
           ]
         where
@@ -66,18 +81,18 @@ module _ {N : Type 0} (t : Table N) (top : NodeKey) where
               walk.once place taken other before more (here ∙ (same ∙ sym now))
 
       -- they follow the children of the keys before
-      step_layers : keys ++ children ≡ top ∷ flat_map (children_at t) (take (taken + 1) (keys ++ children))
+      step_layers : keys ++ children ≡ top ∷ flat_map down (take (taken + 1) (keys ++ children))
       step_layers =
           let first : take (taken + 1) (keys ++ children) ≡ take (taken + 1) keys =
           take-append-le (taken + 1) keys children (omega arith) in
           let last : take (taken + 1) keys ≡ take taken keys ++ get_or keys taken key ∷ [] =
           take_more keys taken key more in
-          let so_far : keys ++ children ≡ (top ∷ flat_map (children_at t) (take taken keys)) ++ children =
+          let so_far : keys ++ children ≡ (top ∷ flat_map down (take taken keys)) ++ children =
           ap (λ ks. ks ++ children) walk.layers in
-          let on : (top ∷ flat_map (children_at t) (take taken keys)) ++ children
-          ≡ top ∷ flat_map (children_at t) (take taken keys ++ key ∷ []) =
-          flat_map_more (children_at t) (top ∷ []) (take taken keys) key in
-          so_far ∙ (on ∙ ap (λ ks. top ∷ flat_map (children_at t) ks)
+          let on : (top ∷ flat_map down (take taken keys)) ++ children
+          ≡ top ∷ flat_map down (take taken keys ++ key ∷ []) =
+          flat_map_more down (top ∷ []) (take taken keys) key in
+          so_far ∙ (on ∙ ap (λ ks. top ∷ flat_map down ks)
           (sym (first ∙ (last ∙ ap (λ k. take taken keys ++ k ∷ []) is))))
 
       -- and each lies at most one layer below the place before
@@ -111,13 +126,8 @@ module _ {N : Type 0} (t : Table N) (top : NodeKey) where
           record {
             layers = step_layers;
             within = omega (arith, length-append keys children);
-            once = AllPairs-append (λ (a b : NodeKey). a ≢ b) keys children walk.once (forest.once key)
+            once = AllPairs-append (λ (a b : NodeKey). a ≢ b) keys children walk.once (apart key)
                 (λ a b in_keys below same. child_is_new b below (subst (λ k. Contains keys k) same in_keys));
             low = All-append (λ k. depth_at t top ≤ depth_at t k) keys children walk.low children_low;
             high = step_high;
           }
-
-    -- a walk that took all of its keys has the children of each
-    pub walk_ends : (taken : ℕ) (keys : List NodeKey) → Walk taken keys → length keys ≤ taken →
-        keys ≡ top ∷ flat_map (children_at t) keys
-    walk_ends taken keys walk all = walk.layers ∙ ap (λ ks. top ∷ flat_map (children_at t) ks) (take_all taken keys all)

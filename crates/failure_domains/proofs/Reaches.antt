@@ -7,7 +7,7 @@ use Rattle.node_table.specs.Table.{Table, parent_at, children_at}
 use Rattle.node_table.specs.Forest.{IsForest, depth_at}
 use Rattle.failure_domains.specs.Falls.{blocked_at, way_up}
 use Rattle.failure_domains.specs.Walks.{Climb, IsWalk}
-use Rattle.failure_domains.proofs.Lists.{Contains-head, Contains-tail, Contains-cases, Contains-flat_map, flat_map_source}
+use Rattle.failure_domains.proofs.Layers.{begins, brings, source}
 use Rattle.failure_domains.proofs.Climbs.{climb_depth, climb_reaches, climb_descends, way_up-open}
 use Rattle.failure_domains.proofs.Descents.{walk_ends}
 
@@ -16,33 +16,24 @@ module _ {N : Type 0} (blocks : N → Bool) (t : Table N) (forest : IsForest t)
     (keys : List NodeKey) (walk : IsWalk (children_at t) (depth_at t) top (length keys) keys) where
   -- the keys are the top and the children of each
   whole : keys ≡ top ∷ flat_map (children_at t) keys
-  whole = walk_ends t top forest (length keys) keys walk (omega arith)
-
-  -- the top is a key
-  has_top : Contains keys top
-  has_top = subst (λ ks. Contains ks top) (sym whole) (Contains-head top (flat_map (children_at t) keys))
+  whole = walk_ends t top (children_at t) (length keys) keys walk (omega arith)
 
   -- a child of a key is a key
   has_child : (above child : NodeKey) → Contains keys above → parent_at t child ≡ Some above → Contains keys child
-  has_child above child there parent =
-      subst (λ ks. Contains ks child) (sym whole)
-      (Contains-tail top child (flat_map (children_at t) keys)
-      (Contains-flat_map (children_at t) keys above child there ((forest.linked above child).0 parent)))
+  has_child above child there parent = brings (children_at t) top keys whole above child there ((forest.linked above child).0 parent)
 
   -- so is the origin, which lies below the top
   has_origin : Contains keys origin
-  has_origin = climb_descends blocks t forest origin (Contains keys) has_child top steps climb has_top
+  has_origin = climb_descends blocks t forest origin (Contains keys) has_child top steps climb
+      (begins (children_at t) top keys whole)
 
   -- a key is the top, or a child of a key
   key_source : (key : NodeKey) → Contains keys key →
       (top ≡ key) ⊎ ((above : NodeKey) × Contains keys above × (parent_at t key ≡ Some above))
   key_source key there =
-      elim (Contains-cases top key (flat_map (children_at t) keys) (subst (λ ks. Contains ks key) whole there)) [
+      elim (source (children_at t) top keys whole key there) [
         | inl first ↦ inl first
-        | inr brought ↦
-            let source : (x : NodeKey) × Contains keys x × Contains (children_at t x) key =
-            flat_map_source (children_at t) keys key brought in
-            inr (source.0, source.1, (forest.linked source.0 key).1 source.2)
+        | inr x ↦ inr (x.0, x.1, (forest.linked x.0 key).1 x.2)
       ]
 
   -- each key is taken: the top by the climb, and the others with their parents
@@ -53,9 +44,9 @@ module _ {N : Type 0} (blocks : N → Bool) (t : Table N) (forest : IsForest t)
       elim (key_source key there) [
         | inl first ↦ subst (λ k. Reach (parent_at t) (blocked_at blocks t) origin k) first
             (climb_reaches blocks t forest origin top steps climb)
-        | inr source ↦
-            let deeper : depth_at t key ≡ depth_at t source.0 + 1 = forest.deeper source.0 key source.2 in
-            Down source.0 key (key_is_taken most source.0 (omega arith) source.1) source.2
+        | inr x ↦
+            let deeper : depth_at t key ≡ depth_at t x.0 + 1 = forest.deeper x.0 key x.2 in
+            Down x.0 key (key_is_taken most x.0 (omega arith) x.1) x.2
       ]
 
   -- the climb is shorter than the list
@@ -80,10 +71,10 @@ module _ {N : Type 0} (blocks : N → Bool) (t : Table N) (forest : IsForest t)
               way_up-open blocks t forest child above open_link parent in
               let stays : way_up blocks t child ≡ None = subst (λ k. way_up blocks t k ≡ None) first ends in
               absurd (let no : None ≡ Some above = sym stays ∙ goes in cc)
-          | inr source ↦
-              let same : Some source.0 ≡ Some above = sym source.2 ∙ parent in
-              let one : source.0 ≡ above = cc in
-              subst (λ k. Contains keys k) one source.1
+          | inr x ↦
+              let same : Some x.0 ≡ Some above = sym x.2 ∙ parent in
+              let one : x.0 ≡ above = cc in
+              subst (λ k. Contains keys k) one x.1
         ]
     taken_is_key _ (Down above child reach parent) = has_child above child (taken_is_key above reach) parent
 

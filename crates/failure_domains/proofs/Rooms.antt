@@ -1,5 +1,5 @@
 -- A list of nodes, none of which stands twice, is no longer than the table.
-use Rattle.std.proofs.Common.{◌≡◌, ◌≢◌, ℕ, zero, suc, ◌+◌, ◌≤◌, ◌==◌, Bool, true, false, cond, List, [], ◌∷◌, length, get_or, slice_index_or, count_by, All, AllPairs, Option, None, is_some, IsSome, arith, refl, sym, ap, subst}
+use Rattle.std.proofs.Common.{◌≡◌, ◌≢◌, ℕ, zero, suc, ◌+◌, ◌≤◌, ◌==◌, Bool, true, false, cond, List, [], ◌∷◌, length, get_or, slice_index_or, count_by, All, AllPairs, Contains, Option, None, is_some, IsSome, arith, refl, sym, ap, subst}
 use Rattle.std.proofs.lemmas.List.Sums.{sum_by-cons}
 use Rattle.std.proofs.lemmas.Bool.{eqb-true}
 use Rattle.std.proofs.lemmas.List.Elements.{Contains-get_or}
@@ -84,7 +84,8 @@ module _ {N : Type 0} (t : Table N) where
       (slice_index_or t.rows (get_or keys i d).slot None) (there i d within))
 
   -- children are there
-  pub children_there : IsForest t → (key : NodeKey) → All (λ k. IsSome (row_at t k)) (children_at t key)
-  children_there forest key i d within =
-      there-above (row_at t (get_or (children_at t key) i d)) key
-      ((forest.linked key (get_or (children_at t key) i d)).1 (Contains-get_or (children_at t key) i d within))
+  pub children_there : IsForest t → (key : NodeKey) (ks : List NodeKey) →
+      ((child : NodeKey) → Contains ks child → Contains (children_at t key) child) → All (λ k. IsSome (row_at t k)) ks
+  children_there forest key ks fewer i d within =
+      let child : NodeKey = get_or ks i d in
+      there-above (row_at t child) key ((forest.linked key child).1 (fewer child (Contains-get_or ks i d within)))

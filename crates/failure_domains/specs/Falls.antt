@@ -1,10 +1,11 @@
 -- How a failure goes through the nodes of a table: up over the links that do not block, and down to every child.
 -- What it takes is the least set `Reach` of sm_names, over the table's links and `blocked_at`.
-use Rattle.std.specs.Prelude.{◌≡◌, ℕ, zero, suc, Bool, false, List, [], ◌∷◌, Option, None, if◌then◌else◌}
+use Rattle.std.specs.Prelude.{◌≡◌, ℕ, zero, suc, Bool, false, ◌&&◌, not, List, [], ◌∷◌, Option, Some, None, if◌then◌else◌}
 use Rattle.std.specs.List.{flat_map}
 use Rattle.std.specs.Option.{option_map_or}
 use Rattle.sm_names.specs.declared.keys.NodeKey.{NodeKey}
-use Rattle.node_table.specs.Table.{Table, node_at, parent_at}
+use Rattle.sm_names.specs.Sameness.{same_key}
+use Rattle.node_table.specs.Table.{Table, node_at, parent_at, children_at}
 use Rattle.node_table.specs.Forest.{depth_at}
 
 module _ {N : Type 0} (blocks : N → Bool) (t : Table N) where
@@ -24,6 +25,21 @@ module _ {N : Type 0} (blocks : N → Bool) (t : Table N) where
   -- how many links a failure of the origin goes up, one after the other: no more than lie above it
   abbrev pub links_climbed : NodeKey → ℕ
   links_climbed origin = links_within (depth_at t origin) origin
+
+module _ {N : Type 0} (stops : N → Bool) (t : Table N) (top : NodeKey) where
+  -- the key is not the top, and its node stops a walk down from there
+  abbrev pub stopped_at : NodeKey → Bool
+  stopped_at key = not (same_key key top) && option_map_or stops (node_at t key) false
+
+  -- the children that such a walk goes to from the key
+  abbrev pub children_within : NodeKey → List NodeKey
+  children_within key = if stopped_at key then [] else children_at t key
+
+-- what lies at or below the top within a bound: the top, and each child of what does and is not stopped at
+pub data Within (parent : NodeKey → Option NodeKey) (stopped : NodeKey → Bool) (top : NodeKey) : NodeKey → Type 0 where
+  Top : Within parent stopped top top
+  Below : (above child : NodeKey) → Within parent stopped top above → stopped above ≡ false → parent child ≡ Some above →
+      Within parent stopped top child
 
 -- the first key, then the children of each key in turn: layer by layer
 abbrev pub IsByLayers : (NodeKey → List NodeKey) → List NodeKey → Type 0

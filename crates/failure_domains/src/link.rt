@@ -1,5 +1,5 @@
 //! What the walks ask of a node.
-ghost use Rattle.std.specs.Prelude.{◌≡◌, Bool};
+ghost use Rattle.std.specs.Prelude.{◌≡◌, Bool, false};
 
 /// A node as it hangs on its parent.
 pub trait Link {
@@ -11,4 +11,25 @@ pub trait Link {
     /// case. `fall` asks once for each node of its climb, and counts on a constant time.
     fn blocks(&self) -> bool
         ensures { result ≡ blocks self.now };
+}
+
+/// Where a walk down ends.
+pub trait Bound<N> {
+    ghost stops: { Self → N → Bool };
+
+    /// Whether a walk that comes to the node leaves out all below it. `walk_within` asks once for
+    /// each node that it lists below its top, and counts on a constant time.
+    fn stops(&self, node: &N) -> bool
+        ensures { result ≡ stops self.now node.now };
+}
+
+/// No end: the walk takes all that is below.
+pub(crate) struct Unbounded;
+
+impl<N> Bound<N> for Unbounded {
+    ghost stops = { λ _ _. false };
+
+    fn stops(&self, _node: &N) -> bool {
+        false
+    }
 }

@@ -1,14 +1,15 @@
-//! The two walks of a failure: up from its origin, and then down to all that lies below.
-ghost use Rattle.std.specs.Prelude.{◌≡◌, ◌≢◌, ◌↔◌, ◌+◌, ◌^◌, ◌<◌, ◌≤◌, None, IsSome, OnSome, OnOk, IfOk, AllPairs, IsOk, Contains, length, vec_len, vec_capacity};
+//! The two walks of a failure: up from its origin, and then down to all that lies below. And a walk
+//! down within a bound.
+ghost use Rattle.std.specs.Prelude.{◌≡◌, ◌≢◌, ◌↔◌, ◌+◌, ◌++◌, ◌^◌, ◌<◌, ◌≤◌, None, false, IsSome, OnSome, OnOk, IfOk, AllPairs, IsOk, Contains, length, vec_len, vec_capacity};
 ghost use Rattle.sm_names.specs.declared.keys.NodeKey.{NodeKey as Key};
 ghost use Rattle.sm_names.specs.Losses.{Reach};
 ghost use Rattle.node_table.specs.Table.{row_at, parent_at, children_at, table_len};
 ghost use Rattle.node_table.specs.Forest.{IsForest, depth_at};
-ghost use Rattle.failure_domains.specs.Falls.{blocked_at, way_up, links_climbed, IsByLayers};
+ghost use Rattle.failure_domains.specs.Falls.{blocked_at, way_up, links_climbed, stopped_at, children_within, Within, IsByLayers};
 ghost use Rattle.failure_domains.specs.Walks.{Climb, IsWalk};
 
 use crate::found::Fall;
-use crate::link::Link;
+use crate::link::{Bound, Link, Unbounded};
 use node_table::NodeTable;
 use sm_names::{NoMemory, NodeKey};
 use std::alloc::Global;
@@ -62,7 +63,7 @@ pub fn fall_into<N: Link>(
     ensures capacity { vec_capacity keys.old ≤ vec_capacity keys.new }
 {
     let (top, steps) = climb(table, origin);
-    let below = walk(table, top, keys)?;
+    let below = walk(table, top, keys, &Unbounded)?;
     Ok(steps + below)
 }
 
@@ -96,11 +97,42 @@ fn way_up<N: Link>(table: &NodeTable<N>, key: NodeKey) -> Option<NodeKey>
     }
 }
 
-/// The node and all below it, in the place of what stands in the list. Each of them is taken once
-/// from the list, which is a visit: how many there were.
-fn walk<N>(table: &NodeTable<N>, top: NodeKey, keys: &mut Vec<NodeKey>) -> Result<u64, NoMemory>
+/// The top node and what lies below it within the bound: every child of the top, and of each node
+/// that it takes and that doesn't stop it. Written into this list in the place of what stands there:
+/// the top first, and then such children of each key in turn, by birth.
+///
+/// It takes a constant time for each key, and none for what lies below a node that stops it. Where
+/// the list has room for as many keys as there are nodes, it takes no memory and never fails. It
+/// never loses room. On `NoMemory`, which comes only where it was refused more, it has a first part
+/// of the keys. The table stays as it is.
+pub fn walk_within<N, B: Bound<N>>(
+    table: &NodeTable<N>,
+    top: NodeKey,
+    keys: &mut Vec<NodeKey>,
+    bound: &B,
+) -> Result<(), NoMemory>
     requires { IsSome (row_at table.now top) }
-    ensures keys { OnOk result (IsWalk (children_at table.now) (depth_at table.now)
+
+    ensures keys { OnOk result ((key : Key) → Contains keys.new.items key
+        ↔ Within (parent_at table.now) (stopped_at (B.stops bound.now) table.now top) top key) }
+    ensures once { OnOk result (AllPairs (λ (a b : Key). a ≢ b) keys.new.items) }
+    ensures layers { OnOk result (IsByLayers (children_within (B.stops bound.now) table.now top) keys.new.items) }
+    ensures room { table_len table.now ≤ vec_capacity keys.old → IsOk result }
+    ensures capacity { vec_capacity keys.old ≤ vec_capacity keys.new }
+{
+    walk(table, top, keys, bound)?;
+    Ok(())
+}
+
+/// The same. Each key is taken once from the list, which is a visit: how many there were.
+fn walk<N, B: Bound<N>>(
+    table: &NodeTable<N>,
+    top: NodeKey,
+    keys: &mut Vec<NodeKey>,
+    bound: &B,
+) -> Result<u64, NoMemory>
+    requires { IsSome (row_at table.now top) }
+    ensures keys { OnOk result (IsWalk (children_within (B.stops bound.now) table.now top) (depth_at table.now)
         top (length keys.new.items) keys.new.items) }
     ensures visits { IfOk result (λ visits. visits ≡ length keys.new.items) }
     ensures few { IfOk result (λ visits. visits < 2 ^ 63) }
@@ -114,8 +146,41 @@ fn walk<N>(table: &NodeTable<N>, top: NodeKey, keys: &mut Vec<NodeKey>) -> Resul
     }
     let mut visits = 0;
     'down: while visits < keys.len() {
-        table.append_children(keys[visits], keys)?;
+        append_within(table, top, keys[visits], keys, bound)?;
         visits += 1;
     }
     Ok(visits as u64)
+}
+
+/// Appends the children of the key to the list, if it is the top or its node doesn't stop the walk.
+fn append_within<N, B: Bound<N>>(
+    table: &NodeTable<N>,
+    top: NodeKey,
+    key: NodeKey,
+    keys: &mut Vec<NodeKey>,
+    bound: &B,
+) -> Result<(), NoMemory>
+    ensures ok { OnOk result (keys.new.items ≡ keys.old.items ++ children_within (B.stops bound.now) table.now top key) }
+    ensures room { vec_len keys.old + length (children_within (B.stops bound.now) table.now top key) ≤ vec_capacity keys.old
+        → IsOk result }
+    ensures capacity { vec_capacity keys.old ≤ vec_capacity keys.new }
+    ensures forest { stopped_at (B.stops bound.now) table.now top key ≡ false → IsForest table.now }
+{
+    if stops_at(table, top, key, bound) {
+        return Ok(());
+    }
+    table.append_children(key, keys)
+}
+
+/// Whether the key is not the top, and its node stops the walk.
+fn stops_at<N, B: Bound<N>>(table: &NodeTable<N>, top: NodeKey, key: NodeKey, bound: &B) -> bool
+    ensures { result ≡ stopped_at (B.stops bound.now) table.now top key }
+{
+    if key == top {
+        return false;
+    }
+    match table.get(key) {
+        Some(node) => bound.stops(node),
+        None => false,
+    }
 }

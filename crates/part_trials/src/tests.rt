@@ -3,3 +3,4 @@ mod counts;
 mod falls;
 mod pages;
 mod slots;
+mod walks;

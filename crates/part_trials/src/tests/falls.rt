@@ -7,8 +7,8 @@ use std::process::Abort;
 use std::test::Fail;
 
 #[derive(Clone, Copy, Debug, PartialEq, Eq)]
-struct Node {
-    blocks: bool,
+pub(super) struct Node {
+    pub(super) blocks: bool,
 }
 
 impl Link for Node {
@@ -20,7 +20,11 @@ impl Link for Node {
 }
 
 // Inserts a node without a parent. One refused growth is tried again.
-fn put(rt: &impl Print, table: &mut NodeTable<Node>, blocks: bool) -> Result<NodeKey, Fail> {
+pub(super) fn put(
+    rt: &impl Print,
+    table: &mut NodeTable<Node>,
+    blocks: bool,
+) -> Result<NodeKey, Fail> {
     for _ in 0..2 {
         if let Ok(key) = table.insert(None, Node { blocks }) {
             return Ok(key);
@@ -31,7 +35,7 @@ fn put(rt: &impl Print, table: &mut NodeTable<Node>, blocks: bool) -> Result<Nod
 }
 
 // The same below a parent.
-fn put_below(
+pub(super) fn put_below(
     rt: &impl Print,
     table: &mut NodeTable<Node>,
     above: NodeKey,

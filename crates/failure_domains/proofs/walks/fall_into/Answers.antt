@@ -1,9 +1,20 @@
-use Rattle.std.proofs.Common.{◌≡◌, ◌+◌, ◌<◌, ◌≤◌, length, arith}
+use Rattle.std.proofs.Common.{◌≡◌, ◌+◌, ◌<◌, ◌≤◌, false, List, length, arith, subst}
+use Rattle.sm_names.specs.declared.keys.NodeKey.{NodeKey}
+use Rattle.node_table.specs.Table.{Table, children_at}
 use Rattle.node_table.specs.Forest.{depth_at}
-use Rattle.failure_domains.specs.Falls.{links_climbed}
+use Rattle.failure_domains.specs.Falls.{children_within, links_climbed}
+use Rattle.failure_domains.specs.Walks.{IsWalk}
+use Rattle.failure_domains.proofs.Bounds.{all_within}
 use Rattle.failure_domains.proofs.Climbs.{climb_links, links_climbed-top, links_within-most}
+use Rattle.failure_domains.proofs.Descents.{walk_by_layers}
 use Rattle.failure_domains.proofs.Reaches.{climb_is_short, keys_are_taken}
 use Rattle.failure_domains.proofs.walks.fall_into.Goals as goal
+
+-- a walk without a bound
+whole_walk : {N : Type 0} (t : Table N) (top : NodeKey) (keys : List NodeKey) →
+    IsWalk (children_within (λ _. false) t top) (depth_at t) top (length keys) keys →
+    IsWalk (children_at t) (depth_at t) top (length keys) keys
+whole_walk t top keys walk = subst (λ d. IsWalk d (depth_at t) top (length keys) keys) (all_within t top) walk
 
 -- the climb is shorter than the list, and a list is short
 pub overflow_add-result : goal.overflow_add-result
@@ -12,7 +23,8 @@ overflow_add-result g c =
     let walk = c.in_ok-below in
     let short : climb.result.1 < length c.walk.new.keys.items =
     climb_is_short g.N.Link.blocks c.args.table.now walk.ensures.forest c.args.origin
-    climb.result.0 climb.result.1 climb.ensures.path c.walk.new.keys.items walk.ensures.keys in
+    climb.result.0 climb.result.1 climb.ensures.path c.walk.new.keys.items
+    (whole_walk c.args.table.now climb.result.0 c.walk.new.keys.items walk.ensures.keys) in
     omega (arith, walk.ensures.visits, walk.ensures.few)
 
 -- the climb and the walk find what the failure takes
@@ -21,7 +33,8 @@ returns-clause-keys g c =
     let climb = c.climb-steps in
     let walk = c.in_ok-below in
     keys_are_taken g.N.Link.blocks c.args.table.now walk.ensures.forest c.args.origin
-    climb.result.0 climb.result.1 climb.ensures.path c.walk.new.keys.items walk.ensures.keys climb.ensures.top
+    climb.result.0 climb.result.1 climb.ensures.path c.walk.new.keys.items
+    (whole_walk c.args.table.now climb.result.0 c.walk.new.keys.items walk.ensures.keys) climb.ensures.top
 
 -- the climb counts its links, and none is left above its top
 pub returns-clause-visits : goal.returns-clause-visits
@@ -44,3 +57,11 @@ returns-clause-few_visits g c =
     let few : links_climbed g.N.Link.blocks t c.args.origin ≤ depth_at t c.args.origin =
     links_within-most g.N.Link.blocks t c.in_ok-below.ensures.forest (depth_at t c.args.origin) c.args.origin in
     omega (arith, visits)
+
+-- the keys stand by layers
+pub returns-clause-layers : goal.returns-clause-layers
+returns-clause-layers g c =
+    let t = c.args.table.now in
+    let top : NodeKey = c.climb-steps.result.0 in
+    walk_by_layers t top (children_at t) c.walk.new.keys.items
+    (whole_walk t top c.walk.new.keys.items c.in_ok-below.ensures.keys)
