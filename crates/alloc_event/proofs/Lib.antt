@@ -1,3 +1,4 @@
+pub mod Outcomes
 pub mod calm
 pub mod changes
 pub mod failures

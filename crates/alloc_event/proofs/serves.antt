@@ -1,14 +1,15 @@
 -- Attached units that become ready and are allocated in their places.
 pub mod Allocated
 pub mod Next
-pub mod InOrder
 pub mod Rounds
 pub mod Enough
 pub mod Giving
 pub mod Sums
 pub mod Before
 pub mod Chains
+pub mod Gathered
 pub mod Below
+pub mod Between
 pub mod Served
 pub mod RootUnit
 pub mod First

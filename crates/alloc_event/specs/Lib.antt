@@ -16,6 +16,7 @@ pub mod Keys
 pub mod Marks
 pub mod Progress
 pub mod Nodes
+pub mod Outcomes
 pub mod Parted
 pub mod Questions
 pub mod Refusing

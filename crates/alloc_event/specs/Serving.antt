@@ -1,5 +1,5 @@
 -- An attached unit that becomes ready and is allocated in its place, and those below it that follow. No public clause cites this module.
-use Rattle.std.specs.Prelude.{◌≡◌, ℕ, ◌+◌, ◌<◌, Bool, true, false, ◌||◌, ◌&&◌, ◌==◌, not, nat_lt, if◌then◌else◌, List, [], ◌∷◌, length, Option, Some, None, option_map, ◌⊎◌}
+use Rattle.std.specs.Prelude.{◌≡◌, ◌≢◌, ◌↔◌, ℕ, ◌+◌, ◌<◌, Bool, true, false, ◌||◌, ◌&&◌, ◌==◌, not, nat_lt, if◌then◌else◌, List, [], ◌∷◌, length, filter, AllPairs, Contains, Option, Some, None, option_map, ◌⊎◌}
 use Rattle.std.specs.List.{filter_map, list_any, sum_by}
 use Rattle.std.specs.Option.{option_and_then, option_map_or}
 use Rattle.sm_names.specs.declared.keys.NodeKey.{NodeKey}
@@ -10,6 +10,7 @@ use Rattle.sm_names.specs.Sameness.{same_key}
 use Rattle.node_table.specs.Changes.{Writes}
 use Rattle.node_table.specs.Lending.{table_with_node}
 use Rattle.node_table.specs.Table.{Table, node_at, parent_at}
+use Rattle.failure_domains.specs.Falls.{Within, stopped_at}
 use Rattle.alloc_event.specs.declared.change.Change.{Change}
 use Rattle.alloc_event.specs.declared.node.Node.{Node}
 use Rattle.alloc_event.specs.declared.units.Unit.{Unit}
@@ -59,20 +60,34 @@ bars_at t units id heads key = option_map_or (λ (n : Node). not (n.collection =
 
 -- ---- which units are allocated with it
 
--- the node heads such a unit below those with these heads, and is of the collection and counted
-abbrev pub is_following : Table Node → List Unit → ℕ → List NodeKey → Node → Bool
-is_following t units id heads n = n.collection == id && (nat_lt n.key.slot (length units) && hangs_below t units heads n)
+-- the node heads a unit of the collection that is attached, has no buffers, and waits for no node, by the counts
+abbrev pub is_ready_head : List Unit → ℕ → Node → Bool
+is_ready_head units id n =
+    n.collection == id && (nat_lt n.key.slot (length units) && (is_waiting_head n && (unit_at units n.key.slot).unready == 0))
 
--- the node with this key does
-abbrev pub is_following_at : Table Node → List Unit → ℕ → List NodeKey → NodeKey → Bool
-is_following_at t units id heads key = option_map_or (is_following t units id heads) (node_at t key) false
+-- the node with this key is this head, or does
+abbrev pub is_head_at : Table Node → List Unit → ℕ → NodeKey → NodeKey → Bool
+is_head_at t units id head key = same_key key head || option_map_or (is_ready_head units id) (node_at t key) false
 
--- this head, and those of units that follow, each on those before it
-pub data Follows (t : Table Node) (units : List Unit) (id : ℕ) (head : NodeKey) : List NodeKey → Type 0 where
-  Alone : Follows t units id head (head ∷ [])
-  With : (heads more : List NodeKey) (key : NodeKey) → Follows t units id head heads → is_following_at t units id heads key ≡ true →
-      ((other : NodeKey) → list_any (same_key other) more ≡ (same_key other key || list_any (same_key other) heads)) →
-      Follows t units id head more
+-- the node heads a unit that is attached and is not such a one
+abbrev pub is_outside : List Unit → ℕ → Node → Bool
+is_outside units id n = n.attached && not (is_ready_head units id n)
+
+-- the keys are those of what lies at and below this head within the units that may be allocated with its own: of all their nodes, and
+-- of the heads right below them
+pub record IsWalked (t : Table Node) (units : List Unit) (id : ℕ) (head : NodeKey) (keys : List NodeKey) : Type 0 where
+  pub within : (key : NodeKey) → Contains keys key ↔ Within (parent_at t) (stopped_at (is_outside units id) t head) head key
+  pub once : AllPairs (λ (a b : NodeKey). a ≢ b) keys
+
+-- the others are those of these keys that head such a unit
+abbrev pub AreHeads : Table Node → List Unit → ℕ → NodeKey → List NodeKey → List NodeKey → Type 0
+AreHeads t units id head keys heads =
+    (key : NodeKey) → list_any (same_key key) heads ≡ list_any (same_key key) (filter (is_head_at t units id head) keys)
+
+-- the keys are so, and the heads are those of all these units, or this one alone
+pub record IsGathered (t : Table Node) (units : List Unit) (id : ℕ) (head : NodeKey) (heads keys : List NodeKey) : Type 0 where
+  pub walked : IsWalked t units id head keys
+  pub are : (heads ≡ head ∷ []) ⊎ AreHeads t units id head keys heads
 
 -- ---- what they ask for
 
@@ -150,7 +165,7 @@ pub record IsServedAt (old new : Table Node) (heads keys : List NodeKey) (n : No
 pub record IsServing (old new : Table Node) (keys : List NodeKey) (units : List Unit) (id reserved : ℕ) (buffers : Buffers)
     (head : NodeKey) (after : Node) (sum : ℕ) : Type 0 where
   pub heads : List NodeKey
-  pub follows : Follows old units id head heads
+  pub gathered : IsGathered old units id head heads keys
   pub room : IsRoom old keys units id reserved buffers heads after sum
   pub served : IsServedAt old new heads keys (given_all heads after)
 

@@ -1,14 +1,13 @@
 //! All that is left of a collection goes, in its place.
-ghost use Rattle.std.specs.Prelude.{◌≡◌, List, true, false};
+ghost use Rattle.std.specs.Prelude.{◌≡◌, List, true};
 ghost use Rattle.std.specs.List.{list_any};
 ghost use Rattle.buffer_holds.specs.Counts.{total};
 ghost use Rattle.alloc_event.specs.declared.node.Node.{Node as Kept};
-ghost use Rattle.alloc_event.specs.Calm.{AreCounted};
 ghost use Rattle.alloc_event.specs.Counts.{HaveUnits};
 ghost use Rattle.alloc_event.specs.Falling.{AreFailing, IsOrdered, IsTaken, change_of, is_root_at, may_all, stays_by, takes_root};
 ghost use Rattle.alloc_event.specs.Forest.{IsPoolOf};
-ghost use Rattle.alloc_event.specs.Kept.{Finishes, IsStored, SameTable, forest_of, shelves_of};
-ghost use Rattle.alloc_event.specs.Settling.{MayChange, changed, collection_or_new, no_key};
+ghost use Rattle.alloc_event.specs.Kept.{forest_of, shelves_of};
+ghost use Rattle.alloc_event.specs.Outcomes.{IsOutcomeIn, IsReady};
 
 use crate::entry::{Entry, place_of};
 use crate::falling::{Going, go_in_place, note_gone};
@@ -74,27 +73,15 @@ fn all_go(
     keys: &[NodeKey],
     going: &Going,
 ) -> bool
-    requires kept { IsStored table.old (shelves_of entries.old.items) }
-    requires counted { AreCounted table.old entries.old.items }
-    requires units { HaveUnits units.old.items table.old entries.old.items }
-    requires change { MayChange (forest_of table.old (shelves_of entries.old.items)) id (change_of going.now) }
+    requires ready { IsReady table.old entries.old.items units.old.items id (change_of going.now) }
     requires pool { IsPoolOf pool.old (forest_of table.old (shelves_of entries.old.items)) }
     requires taken { IsTaken table.old origin keys.now }
     requires root { takes_root table.old keys.now ≡ true }
     requires ordered { IsOrdered going.now }
     requires failing { AreFailing table.old (shelves_of entries.old.items) id going.now }
-    ensures no_table { result ≡ false → table.new ≡ table.old }
-    ensures no_entries { result ≡ false → entries.new.items ≡ entries.old.items }
-    ensures no_pool { result ≡ false → pool.new ≡ pool.old }
-    ensures ok { result ≡ true → Finishes pool.old.size (total holds.now) table.old (shelves_of entries.old.items)
-        table.new (shelves_of entries.new.items)
-        (changed (change_of going.now) no_key (collection_or_new (forest_of table.old (shelves_of entries.old.items)) id)) }
-    ensures kept { result ≡ true → IsStored table.new (shelves_of entries.new.items) }
-    ensures counted { result ≡ true → AreCounted table.new entries.new.items }
+    ensures outcome { IsOutcomeIn result (total holds.now) pool.old pool.new table.old table.new
+        entries.old.items entries.new.items id (change_of going.now) }
     ensures units { HaveUnits units.new.items table.new entries.new.items }
-    ensures pool { result ≡ true → IsPoolOf pool.new (forest_of table.new (shelves_of entries.new.items)) }
-    ensures size { pool.new.size ≡ pool.old.size }
-    ensures same { SameTable table.old table.new }
 {
     let found = survey(table, keys, id, going);
     if !found.own || !may_all(going, origin, found.stays) {
@@ -131,26 +118,14 @@ pub(crate) fn let_go(
     keys: &[NodeKey],
     going: &Going,
 ) -> bool
-    requires kept { IsStored table.old (shelves_of entries.old.items) }
-    requires counted { AreCounted table.old entries.old.items }
-    requires units { HaveUnits units.old.items table.old entries.old.items }
-    requires change { MayChange (forest_of table.old (shelves_of entries.old.items)) id (change_of going.now) }
+    requires ready { IsReady table.old entries.old.items units.old.items id (change_of going.now) }
     requires pool { IsPoolOf pool.old (forest_of table.old (shelves_of entries.old.items)) }
     requires taken { IsTaken table.old origin keys.now }
     requires ordered { IsOrdered going.now }
     requires failing { AreFailing table.old (shelves_of entries.old.items) id going.now }
-    ensures no_table { result ≡ false → table.new ≡ table.old }
-    ensures no_entries { result ≡ false → entries.new.items ≡ entries.old.items }
-    ensures no_pool { result ≡ false → pool.new ≡ pool.old }
-    ensures ok { result ≡ true → Finishes pool.old.size (total holds.now) table.old (shelves_of entries.old.items)
-        table.new (shelves_of entries.new.items)
-        (changed (change_of going.now) no_key (collection_or_new (forest_of table.old (shelves_of entries.old.items)) id)) }
-    ensures kept { result ≡ true → IsStored table.new (shelves_of entries.new.items) }
-    ensures counted { result ≡ true → AreCounted table.new entries.new.items }
+    ensures outcome { IsOutcomeIn result (total holds.now) pool.old pool.new table.old table.new
+        entries.old.items entries.new.items id (change_of going.now) }
     ensures units { HaveUnits units.new.items table.new entries.new.items }
-    ensures pool { result ≡ true → IsPoolOf pool.new (forest_of table.new (shelves_of entries.new.items)) }
-    ensures size { pool.new.size ≡ pool.old.size }
-    ensures same { SameTable table.old table.new }
 {
     if takes_root(table, keys) {
         return all_go(table, entries, units, pool, holds, id, origin, keys, going);

@@ -1,5 +1,5 @@
 //! The births of nodes, where nothing else changes with them.
-ghost use Rattle.std.specs.Prelude.{◌≡◌, ◌≤◌, ◌+◌, ◌<◌, vec_len, vec_capacity, if◌then◌else◌, None, IfOk, IfSome, IsSome, OnOk, OnErr, length, option_copied};
+ghost use Rattle.std.specs.Prelude.{◌≡◌, ◌≤◌, ◌+◌, ◌<◌, vec_len, vec_capacity, if◌then◌else◌, IfOk, IfSome, IsSome, OnOk, OnErr, length};
 ghost use Rattle.std.specs.Option.{option_and_then};
 ghost use Rattle.node_table.specs.Changes.{Births, Writes};
 ghost use Rattle.node_table.specs.Lending.{table_with_node};

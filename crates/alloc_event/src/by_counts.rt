@@ -1,12 +1,10 @@
 //! A change in its place, where the counts tell that it forces nothing.
-ghost use Rattle.std.specs.Prelude.{◌≡◌, ℕ, false, true, IfOk, OnErr};
 ghost use Rattle.buffer_holds.specs.Counts.{total};
 ghost use Rattle.alloc_event.specs.declared.change.Change.{Change as Changed};
-ghost use Rattle.alloc_event.specs.Calm.{AreCounted};
 ghost use Rattle.alloc_event.specs.Counts.{HaveUnits};
 ghost use Rattle.alloc_event.specs.Forest.{IsPoolOf};
-ghost use Rattle.alloc_event.specs.Kept.{IsStored, Finishes, SameTable, shelves_of, forest_of};
-ghost use Rattle.alloc_event.specs.Settling.{MayChange, changed, collection_or_new, no_key};
+ghost use Rattle.alloc_event.specs.Kept.{shelves_of, forest_of};
+ghost use Rattle.alloc_event.specs.Outcomes.{IsOutcome, IsOutcomeIn, IsReady, was_made};
 
 use crate::change::{Change, Effect};
 use crate::emptied::{fail_in_place, leave_in_place};
@@ -24,7 +22,8 @@ use node_table::NodeTable;
 use sm_names::{CollectionId, Fault, NoMemory, NodeKey};
 
 /// Makes the change to a collection in its place, if it is none of nodes, or an effect, and nothing is
-/// forced by it, as `settle_in_place` tells, or `settle_resting`.
+/// forced by it, as `settle_in_place` tells, or `settle_resting`. Answers whether it did; if not, the
+/// table and the entries are as they were.
 #[inline(always)]
 fn settle_still(
     table: &mut NodeTable<Node>,
@@ -34,20 +33,9 @@ fn settle_still(
     id: CollectionId,
     change: &Change,
 ) -> bool
-    requires kept { IsStored table.old (shelves_of entries.old.items) }
-    requires counted { AreCounted table.old entries.old.items }
-    requires units { HaveUnits units.old.items table.old entries.old.items }
-    requires change { MayChange (forest_of table.old (shelves_of entries.old.items)) id change.now }
-    ensures no_table { result ≡ false → table.new ≡ table.old }
-    ensures no_entries { result ≡ false → entries.new.items ≡ entries.old.items }
-    ensures ok { result ≡ true → (pool : ℕ) →
-        Finishes pool (total holds.now) table.old (shelves_of entries.old.items) table.new (shelves_of entries.new.items)
-        (changed change.now no_key (collection_or_new (forest_of table.old (shelves_of entries.old.items)) id)) }
-    ensures shelves { shelves_of entries.new.items ≡ shelves_of entries.old.items }
-    ensures kept { result ≡ true → IsStored table.new (shelves_of entries.old.items) }
-    ensures counted { result ≡ true → AreCounted table.new entries.new.items }
+    requires { IsReady table.old entries.old.items units.old.items id change.now }
+    ensures outcome { IsOutcome result (total holds.now) table.old table.new entries.old.items entries.new.items id change.now }
     ensures units { HaveUnits units.new.items table.new entries.new.items }
-    ensures same { SameTable table.old table.new }
 {
     if settle_in_place(table, entries, units, id, change) {
         return true;
@@ -68,20 +56,10 @@ fn make_effect(
     effect: &Effect,
     room: &mut Room,
 ) -> bool
-    requires kept { IsStored table.old (shelves_of entries.old.items) }
-    requires counted { AreCounted table.old entries.old.items }
-    requires units { HaveUnits units.old.items table.old entries.old.items }
-    requires change { MayChange (forest_of table.old (shelves_of entries.old.items)) id (Changed.Effect key effect.now) }
-    ensures no_table { result ≡ false → table.new ≡ table.old }
-    ensures no_entries { result ≡ false → entries.new.items ≡ entries.old.items }
-    ensures ok { result ≡ true → (pool : ℕ) →
-        Finishes pool (total holds.now) table.old (shelves_of entries.old.items) table.new (shelves_of entries.new.items)
-        (changed (Changed.Effect key effect.now) no_key (collection_or_new (forest_of table.old (shelves_of entries.old.items)) id)) }
-    ensures shelves { shelves_of entries.new.items ≡ shelves_of entries.old.items }
-    ensures kept { result ≡ true → IsStored table.new (shelves_of entries.old.items) }
-    ensures counted { result ≡ true → AreCounted table.new entries.new.items }
+    requires { IsReady table.old entries.old.items units.old.items id (Changed.Effect key effect.now) }
+    ensures outcome { IsOutcome result (total holds.now) table.old table.new entries.old.items entries.new.items
+        id (Changed.Effect key effect.now) }
     ensures units { HaveUnits units.new.items table.new entries.new.items }
-    ensures same { SameTable table.old table.new }
 {
     let change = Change::Effect(key, *effect);
     if settle_still(table, entries, units, holds, id, &change) {
@@ -105,22 +83,10 @@ fn make_or_refuse(
     effect: &Effect,
     room: &mut Room,
 ) -> Result<bool, NoMemory>
-    requires kept { IsStored table.old (shelves_of entries.old.items) }
-    requires counted { AreCounted table.old entries.old.items }
-    requires units { HaveUnits units.old.items table.old entries.old.items }
-    requires change { MayChange (forest_of table.old (shelves_of entries.old.items)) id (Changed.Effect key effect.now) }
-    ensures err_table { OnErr result (table.new ≡ table.old) }
-    ensures err_entries { OnErr result (entries.new.items ≡ entries.old.items) }
-    ensures no_table { IfOk result (λ made. made ≡ false → table.new ≡ table.old) }
-    ensures no_entries { IfOk result (λ made. made ≡ false → entries.new.items ≡ entries.old.items) }
-    ensures ok { IfOk result (λ made. made ≡ true → (pool : ℕ) →
-        Finishes pool (total holds.now) table.old (shelves_of entries.old.items) table.new (shelves_of entries.new.items)
-        (changed (Changed.Effect key effect.now) no_key (collection_or_new (forest_of table.old (shelves_of entries.old.items)) id))) }
-    ensures shelves { shelves_of entries.new.items ≡ shelves_of entries.old.items }
-    ensures kept { IfOk result (λ made. made ≡ true → IsStored table.new (shelves_of entries.old.items)) }
-    ensures counted { IfOk result (λ made. made ≡ true → AreCounted table.new entries.new.items) }
+    requires { IsReady table.old entries.old.items units.old.items id (Changed.Effect key effect.now) }
+    ensures outcome { IsOutcome (was_made result) (total holds.now) table.old table.new entries.old.items entries.new.items
+        id (Changed.Effect key effect.now) }
     ensures units { HaveUnits units.new.items table.new entries.new.items }
-    ensures same { SameTable table.old table.new }
 {
     if make_effect(table, entries, units, holds, id, key, effect, room) {
         return Ok(true);
@@ -130,8 +96,9 @@ fn make_or_refuse(
 
 /// Makes an effect in its place, if the counts tell that nothing is forced by it, or nothing but
 /// the allocation of the node's unit or its failure, or that it is a release by which the unit
-/// ends, or all that is left, and no more is forced. Answers whether it did; if not, the table, the
-/// entries and the pool are as they were. `NoMemory` where the room for what goes is refused.
+/// ends, or all that is left, and no more is forced. Answers whether it did; if not, and with
+/// `NoMemory`, the table, the entries and the pool are as they were. `NoMemory` where the room for what
+/// goes is refused.
 fn settle_effect(
     table: &mut NodeTable<Node>,
     entries: &mut Vec<Entry>,
@@ -143,26 +110,11 @@ fn settle_effect(
     effect: &Effect,
     room: &mut Room,
 ) -> Result<bool, NoMemory>
-    requires kept { IsStored table.old (shelves_of entries.old.items) }
-    requires counted { AreCounted table.old entries.old.items }
-    requires units { HaveUnits units.old.items table.old entries.old.items }
-    requires change { MayChange (forest_of table.old (shelves_of entries.old.items)) id (Changed.Effect key effect.now) }
+    requires ready { IsReady table.old entries.old.items units.old.items id (Changed.Effect key effect.now) }
     requires pool { IsPoolOf pool.old (forest_of table.old (shelves_of entries.old.items)) }
-    ensures err_table { OnErr result (table.new ≡ table.old) }
-    ensures err_entries { OnErr result (entries.new.items ≡ entries.old.items) }
-    ensures err_pool { OnErr result (pool.new ≡ pool.old) }
-    ensures no_table { IfOk result (λ made. made ≡ false → table.new ≡ table.old) }
-    ensures no_entries { IfOk result (λ made. made ≡ false → entries.new.items ≡ entries.old.items) }
-    ensures no_pool { IfOk result (λ made. made ≡ false → pool.new ≡ pool.old) }
-    ensures ok { IfOk result (λ made. made ≡ true → Finishes pool.old.size (total holds.now) table.old (shelves_of entries.old.items)
-        table.new (shelves_of entries.new.items)
-        (changed (Changed.Effect key effect.now) no_key (collection_or_new (forest_of table.old (shelves_of entries.old.items)) id))) }
-    ensures kept { IfOk result (λ made. made ≡ true → IsStored table.new (shelves_of entries.new.items)) }
-    ensures counted { IfOk result (λ made. made ≡ true → AreCounted table.new entries.new.items) }
+    ensures outcome { IsOutcomeIn (was_made result) (total holds.now) pool.old pool.new table.old table.new
+        entries.old.items entries.new.items id (Changed.Effect key effect.now) }
     ensures units { HaveUnits units.new.items table.new entries.new.items }
-    ensures pool { IfOk result (λ made. made ≡ true → IsPoolOf pool.new (forest_of table.new (shelves_of entries.new.items))) }
-    ensures size { pool.new.size ≡ pool.old.size }
-    ensures same { SameTable table.old table.new }
 {
     if make_or_refuse(table, entries, units, holds, id, key, effect, room)? {
         return Ok(true);
@@ -180,8 +132,9 @@ fn settle_effect(
 }
 
 /// Makes a change to a collection that is there in its place, if it is no birth and no loss, and
-/// the counts tell that nothing is forced. Answers whether it did; if not, the table, the entries
-/// and the pool are as they were. `NoMemory` where the room is refused for what an end takes.
+/// the counts tell that nothing is forced. Answers whether it did; if not, and with `NoMemory`, the
+/// table, the entries and the pool are as they were. `NoMemory` where the room is refused for what an
+/// end takes.
 #[inline(always)]
 fn settle_counted(
     table: &mut NodeTable<Node>,
@@ -193,26 +146,11 @@ fn settle_counted(
     change: &Change,
     room: &mut Room,
 ) -> Result<bool, NoMemory>
-    requires kept { IsStored table.old (shelves_of entries.old.items) }
-    requires counted { AreCounted table.old entries.old.items }
-    requires units { HaveUnits units.old.items table.old entries.old.items }
-    requires change { MayChange (forest_of table.old (shelves_of entries.old.items)) id change.now }
+    requires ready { IsReady table.old entries.old.items units.old.items id change.now }
     requires pool { IsPoolOf pool.old (forest_of table.old (shelves_of entries.old.items)) }
-    ensures err_table { OnErr result (table.new ≡ table.old) }
-    ensures err_entries { OnErr result (entries.new.items ≡ entries.old.items) }
-    ensures err_pool { OnErr result (pool.new ≡ pool.old) }
-    ensures no_table { IfOk result (λ made. made ≡ false → table.new ≡ table.old) }
-    ensures no_entries { IfOk result (λ made. made ≡ false → entries.new.items ≡ entries.old.items) }
-    ensures no_pool { IfOk result (λ made. made ≡ false → pool.new ≡ pool.old) }
-    ensures ok { IfOk result (λ made. made ≡ true → Finishes pool.old.size (total holds.now) table.old (shelves_of entries.old.items)
-        table.new (shelves_of entries.new.items)
-        (changed change.now no_key (collection_or_new (forest_of table.old (shelves_of entries.old.items)) id))) }
-    ensures kept { IfOk result (λ made. made ≡ true → IsStored table.new (shelves_of entries.new.items)) }
-    ensures counted { IfOk result (λ made. made ≡ true → AreCounted table.new entries.new.items) }
+    ensures outcome { IsOutcomeIn (was_made result) (total holds.now) pool.old pool.new table.old table.new
+        entries.old.items entries.new.items id change.now }
     ensures units { HaveUnits units.new.items table.new entries.new.items }
-    ensures pool { IfOk result (λ made. made ≡ true → IsPoolOf pool.new (forest_of table.new (shelves_of entries.new.items))) }
-    ensures size { pool.new.size ≡ pool.old.size }
-    ensures same { SameTable table.old table.new }
 {
     match *change {
         Change::Effect(key, effect) => settle_effect(
@@ -224,8 +162,8 @@ fn settle_counted(
 
 /// Makes a change to a collection that is there in its place, if it is no birth and no loss, as
 /// `settle_counted` does, or an effect with the first allocation, as `allocate_first` does. Answers
-/// whether it did; if not, the table, the entries and the pool are as they were. `NoMemory` where room
-/// is refused for what an end takes, or for the buffers.
+/// whether it did; if not, and with `NoMemory`, the table, the entries and the pool are as they were.
+/// `NoMemory` where room is refused for what an end takes, or for the buffers.
 #[inline(always)]
 fn settle_or_place(
     table: &mut NodeTable<Node>,
@@ -237,26 +175,11 @@ fn settle_or_place(
     change: &Change,
     room: &mut Room,
 ) -> Result<bool, NoMemory>
-    requires kept { IsStored table.old (shelves_of entries.old.items) }
-    requires counted { AreCounted table.old entries.old.items }
-    requires units { HaveUnits units.old.items table.old entries.old.items }
-    requires change { MayChange (forest_of table.old (shelves_of entries.old.items)) id change.now }
+    requires ready { IsReady table.old entries.old.items units.old.items id change.now }
     requires pool { IsPoolOf pool.old (forest_of table.old (shelves_of entries.old.items)) }
-    ensures err_table { OnErr result (table.new ≡ table.old) }
-    ensures err_entries { OnErr result (entries.new.items ≡ entries.old.items) }
-    ensures err_pool { OnErr result (pool.new ≡ pool.old) }
-    ensures no_table { IfOk result (λ made. made ≡ false → table.new ≡ table.old) }
-    ensures no_entries { IfOk result (λ made. made ≡ false → entries.new.items ≡ entries.old.items) }
-    ensures no_pool { IfOk result (λ made. made ≡ false → pool.new ≡ pool.old) }
-    ensures ok { IfOk result (λ made. made ≡ true → Finishes pool.old.size (total holds.now) table.old (shelves_of entries.old.items)
-        table.new (shelves_of entries.new.items)
-        (changed change.now no_key (collection_or_new (forest_of table.old (shelves_of entries.old.items)) id))) }
-    ensures kept { IfOk result (λ made. made ≡ true → IsStored table.new (shelves_of entries.new.items)) }
-    ensures counted { IfOk result (λ made. made ≡ true → AreCounted table.new entries.new.items) }
+    ensures outcome { IsOutcomeIn (was_made result) (total holds.now) pool.old pool.new table.old table.new
+        entries.old.items entries.new.items id change.now }
     ensures units { HaveUnits units.new.items table.new entries.new.items }
-    ensures pool { IfOk result (λ made. made ≡ true → IsPoolOf pool.new (forest_of table.new (shelves_of entries.new.items))) }
-    ensures size { pool.new.size ≡ pool.old.size }
-    ensures same { SameTable table.old table.new }
 {
     if settle_counted(table, entries, units, pool, holds, id, change, room)? {
         return Ok(true);
@@ -271,8 +194,8 @@ fn settle_or_place(
 
 /// Makes a change to a collection that is there in its place, if it is no birth, and either a loss of
 /// all that is left, or the counts tell that nothing is forced, or nothing but allocations. Answers
-/// whether it did; if not, the table, the entries and the pool are as they were. `NoMemory` where the
-/// room is refused for what a loss or an end takes, or for the buffers.
+/// whether it did; if not, and with `NoMemory`, the table, the entries and the pool are as they were.
+/// `NoMemory` where the room is refused for what a loss or an end takes, or for the buffers.
 #[inline(always)]
 pub(crate) fn settle_there(
     table: &mut NodeTable<Node>,
@@ -284,26 +207,11 @@ pub(crate) fn settle_there(
     change: &Change,
     room: &mut Room,
 ) -> Result<bool, NoMemory>
-    requires kept { IsStored table.old (shelves_of entries.old.items) }
-    requires counted { AreCounted table.old entries.old.items }
-    requires units { HaveUnits units.old.items table.old entries.old.items }
-    requires change { MayChange (forest_of table.old (shelves_of entries.old.items)) id change.now }
+    requires ready { IsReady table.old entries.old.items units.old.items id change.now }
     requires pool { IsPoolOf pool.old (forest_of table.old (shelves_of entries.old.items)) }
-    ensures err_table { OnErr result (table.new ≡ table.old) }
-    ensures err_entries { OnErr result (entries.new.items ≡ entries.old.items) }
-    ensures err_pool { OnErr result (pool.new ≡ pool.old) }
-    ensures no_table { IfOk result (λ made. made ≡ false → table.new ≡ table.old) }
-    ensures no_entries { IfOk result (λ made. made ≡ false → entries.new.items ≡ entries.old.items) }
-    ensures no_pool { IfOk result (λ made. made ≡ false → pool.new ≡ pool.old) }
-    ensures ok { IfOk result (λ made. made ≡ true → Finishes pool.old.size (total holds.now) table.old (shelves_of entries.old.items)
-        table.new (shelves_of entries.new.items)
-        (changed change.now no_key (collection_or_new (forest_of table.old (shelves_of entries.old.items)) id))) }
-    ensures kept { IfOk result (λ made. made ≡ true → IsStored table.new (shelves_of entries.new.items)) }
-    ensures counted { IfOk result (λ made. made ≡ true → AreCounted table.new entries.new.items) }
+    ensures outcome { IsOutcomeIn (was_made result) (total holds.now) pool.old pool.new table.old table.new
+        entries.old.items entries.new.items id change.now }
     ensures units { HaveUnits units.new.items table.new entries.new.items }
-    ensures pool { IfOk result (λ made. made ≡ true → IsPoolOf pool.new (forest_of table.new (shelves_of entries.new.items))) }
-    ensures size { pool.new.size ≡ pool.old.size }
-    ensures same { SameTable table.old table.new }
 {
     if let Change::Loss(origin, cause) = *change {
         let fault = Fault { cause, origin };

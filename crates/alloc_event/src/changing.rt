@@ -1,20 +1,16 @@
 //! Changes to a collection that is there, and the births of nodes.
-ghost use Rattle.std.specs.Prelude.{◌≡◌, ℕ, ◌≤◌, ◌+◌, ◌==◌, ◌<◌, nat_lt, vec_len, vec_capacity, if◌then◌else◌, false, true, None, Some, IfOk, IfSome, IsSome, OnOk, OnErr, length, option_copied, option_map, [], ◌∷◌, ◌++◌};
+ghost use Rattle.std.specs.Prelude.{◌≡◌, ◌+◌, ◌==◌, false, is_ok, true, IfOk, OnOk, OnErr, [], ◌∷◌, ◌++◌};
 ghost use Rattle.std.specs.List.{find};
-ghost use Rattle.std.specs.Option.{option_and_then, option_map_or};
-ghost use Rattle.sm_names.specs.declared.keys.NodeKey.{NodeKey as Key};
-ghost use Rattle.node_table.specs.Table.{row_at, node_at};
-ghost use Rattle.node_table.specs.Changes.{Births};
-ghost use Rattle.alloc_event.specs.declared.entry.Entry.{Entry as Kept};
+ghost use Rattle.std.specs.Option.{option_map_or};
 ghost use Rattle.buffer_holds.specs.Counts.{total};
-ghost use Rattle.alloc_event.specs.Calm.{AreCounted, put_in};
+ghost use Rattle.alloc_event.specs.Calm.{AreCounted};
 ghost use Rattle.alloc_event.specs.Counts.{HaveUnits};
 ghost use Rattle.alloc_event.specs.Forest.{IsPoolOf};
-ghost use Rattle.alloc_event.specs.Kept.{AreRising, IsStored, Bears, Gives, Finishes, SameTable, born, put_shelf, shelf_of, shelves_of, forest_of, has_room_for_tracker, loses_left};
+ghost use Rattle.alloc_event.specs.Kept.{AreRising, IsStored, Gives, Finishes, SameTable, shelf_of, shelves_of, forest_of, has_room_for_tracker, loses_left};
+ghost use Rattle.alloc_event.specs.Outcomes.{IsOutcomeIn, IsReady};
 ghost use Rattle.alloc_event.specs.Resting.{is_kept_by};
 ghost use Rattle.alloc_event.specs.Scenes.{collection_of};
-ghost use Rattle.alloc_event.specs.Settling.{Handles, MayChange, changed, with_birth, collection_or_new, is_birth, no_key};
-ghost use Rattle.alloc_event.specs.Still.{IsStill, no_shelf, shelf_before, shelf_with};
+ghost use Rattle.alloc_event.specs.Settling.{MayChange, changed, with_birth, collection_or_new, is_birth, no_key};
 ghost use Rattle.alloc_event.specs.Ties.{IsTied};
 
 use crate::bearing::{bear, bear_counted, bear_still, drafted, named};
@@ -117,24 +113,12 @@ pub(crate) fn settle_change(
     change: &Change,
     room: &mut Room,
 ) -> Result<(), NoMemory>
-    requires kept { IsStored table.old (shelves_of entries.old.items) }
-    requires counted { AreCounted table.old entries.old.items }
-    requires units { HaveUnits units.old.items table.old entries.old.items }
-    requires change { MayChange (forest_of table.old (shelves_of entries.old.items)) id change.now }
+    requires ready { IsReady table.old entries.old.items units.old.items id change.now }
     requires birth { is_birth change.now ≡ false }
     requires pool { IsPoolOf pool.old (forest_of table.old (shelves_of entries.old.items)) }
-    ensures ok { OnOk result (Finishes pool.old.size (total holds.now) table.old (shelves_of entries.old.items)
-        table.new (shelves_of entries.new.items)
-        (changed change.now no_key (collection_or_new (forest_of table.old (shelves_of entries.old.items)) id))) }
-    ensures kept { OnOk result (IsStored table.new (shelves_of entries.new.items)) }
-    ensures counted { OnOk result (AreCounted table.new entries.new.items) }
+    ensures outcome { IsOutcomeIn (is_ok result) (total holds.now) pool.old pool.new table.old table.new
+        entries.old.items entries.new.items id change.now }
     ensures units { HaveUnits units.new.items table.new entries.new.items }
-    ensures pool { OnOk result (IsPoolOf pool.new (forest_of table.new (shelves_of entries.new.items))) }
-    ensures size { pool.new.size ≡ pool.old.size }
-    ensures same { SameTable table.old table.new }
-    ensures err_table { OnErr result (table.new ≡ table.old) }
-    ensures err_entries { OnErr result (entries.new.items ≡ entries.old.items) }
-    ensures err_pool { OnErr result (pool.new ≡ pool.old) }
 {
     if settle_there(table, entries, units, pool, holds, id, change, room)? {
         return Ok(());

@@ -1,6 +1,6 @@
 //! A handle that is dropped: no other buffer can be home by that, and no step is forced by it but
 //! that the buffers are abandoned.
-ghost use Rattle.std.specs.Prelude.{◌≡◌, ◌&&◌, ◌++◌, List, not, true, false, slice_get, OnOk, OnErr};
+ghost use Rattle.std.specs.Prelude.{◌≡◌, ◌&&◌, ◌++◌, List, is_ok, not, true, false};
 ghost use Rattle.std.specs.List.{filter};
 ghost use Rattle.std.specs.Option.{option_map_or};
 ghost use Rattle.sm_names.specs.declared.keys.Interval.{Interval};
@@ -9,11 +9,12 @@ ghost use Rattle.sm_names.specs.Handles.{is_home};
 ghost use Rattle.buffer_holds.specs.Counts.{total};
 ghost use Rattle.alloc_event.specs.declared.change.Change.{Change as Changed};
 ghost use Rattle.alloc_event.specs.declared.units.Unit.{Unit as Counts};
-ghost use Rattle.alloc_event.specs.Calm.{AreCounted};
+ghost use Rattle.alloc_event.specs.Calm.{AreCounted, IsForest};
 ghost use Rattle.alloc_event.specs.Counts.{HaveUnits};
 ghost use Rattle.alloc_event.specs.Dropped.{are_others_out, are_rest_out, has_given_root, is_given_root};
 ghost use Rattle.alloc_event.specs.Forest.{IsPoolOf, collection_at};
-ghost use Rattle.alloc_event.specs.Kept.{Finishes, IsStored, SameTable, forest_of, shelves_of};
+ghost use Rattle.alloc_event.specs.Kept.{Finishes, IsStored, forest_of, shelves_of};
+ghost use Rattle.alloc_event.specs.Outcomes.{IsOutcomeIn};
 ghost use Rattle.alloc_event.specs.Scenes.{by_page, given_few, is_held_strongly, is_out, pages_held};
 ghost use Rattle.alloc_event.specs.Settling.{collection_or_new};
 
@@ -155,24 +156,13 @@ pub(crate) fn settle_dropped(
     buffer: BufferName,
     room: &mut Room,
 ) -> Result<(), NoMemory>
-    requires kept { IsStored table.old (shelves_of entries.old.items) }
-    requires counted { AreCounted table.old entries.old.items }
-    requires units { HaveUnits units.old.items table.old entries.old.items }
+    requires forest { IsForest table.old entries.old.items units.old.items }
     requires others { option_map_or (are_others_out (total holds.now) buffer)
         (collection_at (forest_of table.old (shelves_of entries.old.items)) buffer.collection) false ≡ true }
     requires pool { IsPoolOf pool.old (forest_of table.old (shelves_of entries.old.items)) }
-    ensures ok { OnOk result (Finishes pool.old.size (total holds.now) table.old (shelves_of entries.old.items)
-        table.new (shelves_of entries.new.items)
-        (collection_or_new (forest_of table.old (shelves_of entries.old.items)) buffer.collection)) }
-    ensures kept { OnOk result (IsStored table.new (shelves_of entries.new.items)) }
-    ensures counted { OnOk result (AreCounted table.new entries.new.items) }
+    ensures outcome { IsOutcomeIn (is_ok result) (total holds.now) pool.old pool.new table.old table.new
+        entries.old.items entries.new.items buffer.collection Changed.Nothing }
     ensures units { HaveUnits units.new.items table.new entries.new.items }
-    ensures pool { OnOk result (IsPoolOf pool.new (forest_of table.new (shelves_of entries.new.items))) }
-    ensures size { pool.new.size ≡ pool.old.size }
-    ensures same { SameTable table.old table.new }
-    ensures err_table { OnErr result (table.new ≡ table.old) }
-    ensures err_entries { OnErr result (entries.new.items ≡ entries.old.items) }
-    ensures err_pool { OnErr result (pool.new ≡ pool.old) }
 {
     if drop_in_place(table, entries, pool, holds, buffer) {
         return Ok(());

@@ -1,16 +1,15 @@
 //! Losses and releases after which nothing holds some units, made in their places with the ends of
 //! those.
-ghost use Rattle.std.specs.Prelude.{◌≡◌, ℕ, Some, None, true, false, IfOk, IfSome, IsSome, OnErr};
+ghost use Rattle.std.specs.Prelude.{IfSome, IsSome};
 ghost use Rattle.node_table.specs.Table.{row_at};
 ghost use Rattle.buffer_holds.specs.Counts.{total};
 ghost use Rattle.alloc_event.specs.declared.change.Change.{Change as Changed};
 ghost use Rattle.alloc_event.specs.declared.change.Effect.{Effect as Effected};
-ghost use Rattle.alloc_event.specs.Calm.{AreCounted};
 ghost use Rattle.alloc_event.specs.Counts.{HaveUnits};
 ghost use Rattle.alloc_event.specs.Falling.{IsTaken};
 ghost use Rattle.alloc_event.specs.Forest.{IsPoolOf};
-ghost use Rattle.alloc_event.specs.Kept.{Finishes, IsStored, SameTable, forest_of, shelves_of};
-ghost use Rattle.alloc_event.specs.Settling.{MayChange, changed, collection_or_new, no_key};
+ghost use Rattle.alloc_event.specs.Kept.{forest_of, shelves_of};
+ghost use Rattle.alloc_event.specs.Outcomes.{IsOutcomeIn, IsReady, was_made};
 
 use crate::all_gone::let_go;
 use crate::entry::Entry;
@@ -120,27 +119,12 @@ fn fail_fallen(
     fault: Fault,
     room: &mut Room,
 ) -> Result<bool, NoMemory>
-    requires kept { IsStored table.old (shelves_of entries.old.items) }
-    requires counted { AreCounted table.old entries.old.items }
-    requires units { HaveUnits units.old.items table.old entries.old.items }
-    requires change { MayChange (forest_of table.old (shelves_of entries.old.items)) id (Changed.Loss fault.origin fault.cause) }
+    requires ready { IsReady table.old entries.old.items units.old.items id (Changed.Loss fault.origin fault.cause) }
     requires pool { IsPoolOf pool.old (forest_of table.old (shelves_of entries.old.items)) }
     requires taken { IsTaken table.old fault.origin room.old.failing.items }
-    ensures err_table { OnErr result (table.new ≡ table.old) }
-    ensures err_entries { OnErr result (entries.new.items ≡ entries.old.items) }
-    ensures err_pool { OnErr result (pool.new ≡ pool.old) }
-    ensures no_table { IfOk result (λ made. made ≡ false → table.new ≡ table.old) }
-    ensures no_entries { IfOk result (λ made. made ≡ false → entries.new.items ≡ entries.old.items) }
-    ensures no_pool { IfOk result (λ made. made ≡ false → pool.new ≡ pool.old) }
-    ensures ok { IfOk result (λ made. made ≡ true → Finishes pool.old.size (total holds.now) table.old (shelves_of entries.old.items)
-        table.new (shelves_of entries.new.items)
-        (changed (Changed.Loss fault.origin fault.cause) no_key (collection_or_new (forest_of table.old (shelves_of entries.old.items)) id))) }
-    ensures kept { IfOk result (λ made. made ≡ true → IsStored table.new (shelves_of entries.new.items)) }
-    ensures counted { IfOk result (λ made. made ≡ true → AreCounted table.new entries.new.items) }
+    ensures outcome { IsOutcomeIn (was_made result) (total holds.now) pool.old pool.new table.old table.new
+        entries.old.items entries.new.items id (Changed.Loss fault.origin fault.cause) }
     ensures units { HaveUnits units.new.items table.new entries.new.items }
-    ensures pool { IfOk result (λ made. made ≡ true → IsPoolOf pool.new (forest_of table.new (shelves_of entries.new.items))) }
-    ensures size { pool.new.size ≡ pool.old.size }
-    ensures same { SameTable table.old table.new }
 {
     let Some(head) = unit_emptied(table, units, &room.failing) else {
         return Ok(let_go(
@@ -184,26 +168,11 @@ pub(crate) fn fail_in_place(
     fault: Fault,
     room: &mut Room,
 ) -> Result<bool, NoMemory>
-    requires kept { IsStored table.old (shelves_of entries.old.items) }
-    requires counted { AreCounted table.old entries.old.items }
-    requires units { HaveUnits units.old.items table.old entries.old.items }
-    requires change { MayChange (forest_of table.old (shelves_of entries.old.items)) id (Changed.Loss fault.origin fault.cause) }
+    requires ready { IsReady table.old entries.old.items units.old.items id (Changed.Loss fault.origin fault.cause) }
     requires pool { IsPoolOf pool.old (forest_of table.old (shelves_of entries.old.items)) }
-    ensures err_table { OnErr result (table.new ≡ table.old) }
-    ensures err_entries { OnErr result (entries.new.items ≡ entries.old.items) }
-    ensures err_pool { OnErr result (pool.new ≡ pool.old) }
-    ensures no_table { IfOk result (λ made. made ≡ false → table.new ≡ table.old) }
-    ensures no_entries { IfOk result (λ made. made ≡ false → entries.new.items ≡ entries.old.items) }
-    ensures no_pool { IfOk result (λ made. made ≡ false → pool.new ≡ pool.old) }
-    ensures ok { IfOk result (λ made. made ≡ true → Finishes pool.old.size (total holds.now) table.old (shelves_of entries.old.items)
-        table.new (shelves_of entries.new.items)
-        (changed (Changed.Loss fault.origin fault.cause) no_key (collection_or_new (forest_of table.old (shelves_of entries.old.items)) id))) }
-    ensures kept { IfOk result (λ made. made ≡ true → IsStored table.new (shelves_of entries.new.items)) }
-    ensures counted { IfOk result (λ made. made ≡ true → AreCounted table.new entries.new.items) }
+    ensures outcome { IsOutcomeIn (was_made result) (total holds.now) pool.old pool.new table.old table.new
+        entries.old.items entries.new.items id (Changed.Loss fault.origin fault.cause) }
     ensures units { HaveUnits units.new.items table.new entries.new.items }
-    ensures pool { IfOk result (λ made. made ≡ true → IsPoolOf pool.new (forest_of table.new (shelves_of entries.new.items))) }
-    ensures size { pool.new.size ≡ pool.old.size }
-    ensures same { SameTable table.old table.new }
 {
     fall_into(table, fault.origin, &mut room.failing)?;
     fail_fallen(table, entries, units, pool, holds, id, fault, room)
@@ -238,26 +207,11 @@ pub(crate) fn leave_in_place(
     key: NodeKey,
     room: &mut Room,
 ) -> Result<bool, NoMemory>
-    requires kept { IsStored table.old (shelves_of entries.old.items) }
-    requires counted { AreCounted table.old entries.old.items }
-    requires units { HaveUnits units.old.items table.old entries.old.items }
-    requires change { MayChange (forest_of table.old (shelves_of entries.old.items)) id (Changed.Effect key Effected.Released) }
+    requires ready { IsReady table.old entries.old.items units.old.items id (Changed.Effect key Effected.Released) }
     requires pool { IsPoolOf pool.old (forest_of table.old (shelves_of entries.old.items)) }
-    ensures err_table { OnErr result (table.new ≡ table.old) }
-    ensures err_entries { OnErr result (entries.new.items ≡ entries.old.items) }
-    ensures err_pool { OnErr result (pool.new ≡ pool.old) }
-    ensures no_table { IfOk result (λ made. made ≡ false → table.new ≡ table.old) }
-    ensures no_entries { IfOk result (λ made. made ≡ false → entries.new.items ≡ entries.old.items) }
-    ensures no_pool { IfOk result (λ made. made ≡ false → pool.new ≡ pool.old) }
-    ensures ok { IfOk result (λ made. made ≡ true → Finishes pool.old.size (total holds.now) table.old (shelves_of entries.old.items)
-        table.new (shelves_of entries.new.items)
-        (changed (Changed.Effect key Effected.Released) no_key (collection_or_new (forest_of table.old (shelves_of entries.old.items)) id))) }
-    ensures kept { IfOk result (λ made. made ≡ true → IsStored table.new (shelves_of entries.new.items)) }
-    ensures counted { IfOk result (λ made. made ≡ true → AreCounted table.new entries.new.items) }
+    ensures outcome { IsOutcomeIn (was_made result) (total holds.now) pool.old pool.new table.old table.new
+        entries.old.items entries.new.items id (Changed.Effect key Effected.Released) }
     ensures units { HaveUnits units.new.items table.new entries.new.items }
-    ensures pool { IfOk result (λ made. made ≡ true → IsPoolOf pool.new (forest_of table.new (shelves_of entries.new.items))) }
-    ensures size { pool.new.size ≡ pool.old.size }
-    ensures same { SameTable table.old table.new }
 {
     let Some(head) = unit_left(table, units, key) else {
         return Ok(false);

@@ -1,20 +1,20 @@
 //! Losses and ends in their places: what goes is found first, and then each node goes.
-ghost use Rattle.std.specs.Prelude.{◌≡◌, ◌⊎◌, ◌+◌, ℕ, List, Some, None, true, false, IfSome, map};
+ghost use Rattle.std.specs.Prelude.{◌≡◌, ◌⊎◌, ◌+◌, List, Some, None, true, false, IfSome, map};
 ghost use Rattle.std.specs.List.{list_any};
 ghost use Rattle.sm_names.specs.declared.keys.NodeKey.{NodeKey as Key};
 ghost use Rattle.buffer_holds.specs.Counts.{total};
 ghost use Rattle.node_table.specs.Table.{node_at};
 ghost use Rattle.alloc_event.specs.declared.node.Node.{Node as Kept};
-ghost use Rattle.alloc_event.specs.Calm.{AreCounted, over_but, strong_count};
+ghost use Rattle.alloc_event.specs.Calm.{over_but, strong_count};
 ghost use Rattle.alloc_event.specs.Counts.{AreUnitsBut, HaveUnits, unit_at};
 ghost use Rattle.alloc_event.specs.Falling.{AreFailing, AreNamed, IsFailing, IsLost, IsOrdered, IsTaken, IsTop, change_of, gone_by, is_first, is_kept_up, lowered, may_go, stays_by, unreckoned, without_below, without_node};
 ghost use Rattle.alloc_event.specs.InPlace.{IsOpen};
-ghost use Rattle.alloc_event.specs.Kept.{Finishes, IsStored, SameTable, Shelf, all_of, collection_in, forest_of, nodes_with, shelf_of, shelves_of};
+ghost use Rattle.alloc_event.specs.Kept.{Shelf, all_of, collection_in, nodes_with, shelf_of, shelves_of};
 ghost use Rattle.alloc_event.specs.Nodes.{is_over};
+ghost use Rattle.alloc_event.specs.Outcomes.{IsOutcome, IsReady};
 ghost use Rattle.alloc_event.specs.Reserved.{reserved_count};
 ghost use Rattle.alloc_event.specs.Resting.{is_kept_by};
 ghost use Rattle.alloc_event.specs.Scenes.{given_few};
-ghost use Rattle.alloc_event.specs.Settling.{MayChange, changed, collection_or_new, no_key};
 
 use crate::change::Effect;
 use crate::effects::affect_one;
@@ -326,23 +326,13 @@ pub(crate) fn go_in_place(
     keys: &[NodeKey],
     going: &Going,
 ) -> bool
-    requires kept { IsStored table.old (shelves_of entries.old.items) }
-    requires counted { AreCounted table.old entries.old.items }
-    requires units { HaveUnits units.old.items table.old entries.old.items }
-    requires change { MayChange (forest_of table.old (shelves_of entries.old.items)) id (change_of going.now) }
+    requires ready { IsReady table.old entries.old.items units.old.items id (change_of going.now) }
     requires taken { IsTaken table.old origin keys.now }
     requires ordered { IsOrdered going.now }
     requires failing { AreFailing table.old (shelves_of entries.old.items) id going.now }
-    ensures no_table { result ≡ false → table.new ≡ table.old }
-    ensures no_entries { result ≡ false → entries.new.items ≡ entries.old.items }
-    ensures ok { result ≡ true → (pool : ℕ) →
-        Finishes pool (total holds.now) table.old (shelves_of entries.old.items) table.new (shelves_of entries.new.items)
-        (changed (change_of going.now) no_key (collection_or_new (forest_of table.old (shelves_of entries.old.items)) id)) }
-    ensures shelves { shelves_of entries.new.items ≡ shelves_of entries.old.items }
-    ensures kept { result ≡ true → IsStored table.new (shelves_of entries.old.items) }
-    ensures counted { result ≡ true → AreCounted table.new entries.new.items }
+    ensures outcome { IsOutcome result (total holds.now) table.old table.new entries.old.items entries.new.items
+        id (change_of going.now) }
     ensures units { HaveUnits units.new.items table.new entries.new.items }
-    ensures same { SameTable table.old table.new }
 {
     let Some(at) = place_of(entries, id) else {
         return false;

@@ -1,20 +1,18 @@
 //! The first allocation of a collection, made in its place.
 ghost use Rattle.std.specs.List.{list_any};
-ghost use Rattle.std.specs.Option.{option_map_or};
-ghost use Rattle.std.specs.Prelude.{◌≡◌, ◌≤◌, ◌^◌, max, Some, true, false, IfOk, IfSome, OnErr};
+ghost use Rattle.std.specs.Prelude.{◌≡◌, ◌≤◌, ◌^◌, max, Some, true, IfSome};
 ghost use Rattle.sm_names.specs.declared.keys.NodeKey.{NodeKey as Key};
 ghost use Rattle.node_table.specs.Table.{node_at};
 ghost use Rattle.alloc_event.specs.declared.change.Change.{Change as Changed};
 ghost use Rattle.alloc_event.specs.declared.node.Node.{Node as Kept};
-ghost use Rattle.alloc_event.specs.Calm.{AreCounted};
 ghost use Rattle.alloc_event.specs.Counts.{HaveUnits};
 ghost use Rattle.alloc_event.specs.First.{IsFirst, is_root_there};
 ghost use Rattle.alloc_event.specs.Forest.{IsPoolOf};
-ghost use Rattle.alloc_event.specs.Kept.{Finishes, IsStored, SameTable, forest_of, shelf_of, shelves_of};
-ghost use Rattle.alloc_event.specs.Questions.{is_root_left};
+ghost use Rattle.alloc_event.specs.Kept.{forest_of, shelf_of, shelves_of};
+ghost use Rattle.alloc_event.specs.Outcomes.{IsOutcomeIn, IsReady, was_made};
 ghost use Rattle.alloc_event.specs.Scenes.{has_tracker_room};
 ghost use Rattle.alloc_event.specs.Serving.{is_served_there};
-ghost use Rattle.alloc_event.specs.Settling.{Handles, MayChange, changed, collection_or_new, no_key};
+ghost use Rattle.alloc_event.specs.Settling.{Handles};
 
 use crate::asks::Asks;
 use crate::change::Effect;
@@ -131,26 +129,11 @@ pub(crate) fn allocate_first(
     key: NodeKey,
     effect: &Effect,
 ) -> Result<bool, NoMemory>
-    requires kept { IsStored table.old (shelves_of entries.old.items) }
-    requires counted { AreCounted table.old entries.old.items }
-    requires units { HaveUnits units.old.items table.old entries.old.items }
-    requires change { MayChange (forest_of table.old (shelves_of entries.old.items)) id (Changed.Effect key effect.now) }
+    requires ready { IsReady table.old entries.old.items units.old.items id (Changed.Effect key effect.now) }
     requires pool { IsPoolOf pool.old (forest_of table.old (shelves_of entries.old.items)) }
-    ensures err_table { OnErr result (table.new ≡ table.old) }
-    ensures err_entries { OnErr result (entries.new.items ≡ entries.old.items) }
-    ensures err_pool { OnErr result (pool.new ≡ pool.old) }
-    ensures no_table { IfOk result (λ made. made ≡ false → table.new ≡ table.old) }
-    ensures no_entries { IfOk result (λ made. made ≡ false → entries.new.items ≡ entries.old.items) }
-    ensures no_pool { IfOk result (λ made. made ≡ false → pool.new ≡ pool.old) }
-    ensures ok { IfOk result (λ made. made ≡ true → (handles : Handles) →
-        Finishes pool.old.size handles table.old (shelves_of entries.old.items) table.new (shelves_of entries.new.items)
-        (changed (Changed.Effect key effect.now) no_key (collection_or_new (forest_of table.old (shelves_of entries.old.items)) id))) }
-    ensures kept { IfOk result (λ made. made ≡ true → IsStored table.new (shelves_of entries.new.items)) }
-    ensures counted { IfOk result (λ made. made ≡ true → AreCounted table.new entries.new.items) }
+    ensures outcome { (handles : Handles) → IsOutcomeIn (was_made result) handles pool.old pool.new table.old table.new
+        entries.old.items entries.new.items id (Changed.Effect key effect.now) }
     ensures units { HaveUnits units.new.items table.new entries.new.items }
-    ensures pool { IfOk result (λ made. made ≡ true → IsPoolOf pool.new (forest_of table.new (shelves_of entries.new.items))) }
-    ensures size { pool.new.size ≡ pool.old.size }
-    ensures same { SameTable table.old table.new }
 {
     let Some(at) = place_of(entries, id) else {
         return Ok(false);

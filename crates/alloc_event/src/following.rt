@@ -1,15 +1,16 @@
 //! Which attached units are allocated with the one above them, since they are ready.
 ghost use Rattle.std.specs.List.{list_any};
 ghost use Rattle.std.specs.List.Sorted.{IsSorted};
-ghost use Rattle.std.specs.Prelude.{◌≡◌, ◌||◌, ◌∷◌, [], true};
+ghost use Rattle.std.specs.Prelude.{◌≡◌, ◌++◌, ◌∷◌, [], true, filter, IsSome};
 ghost use Rattle.sm_names.specs.Sameness.{same_key};
-ghost use Rattle.sm_names.specs.declared.keys.NodeKey.{NodeKey as Key};
+ghost use Rattle.node_table.specs.Table.{row_at};
 ghost use Rattle.alloc_event.specs.Falling.{key_order};
-ghost use Rattle.alloc_event.specs.Serving.{Follows, hangs_below, is_following, is_following_at, is_of_some, is_waiting_head};
+ghost use Rattle.alloc_event.specs.Serving.{AreHeads, IsWalked, hangs_below, is_head_at, is_of_some, is_outside, is_ready_head, is_waiting_head};
 
-use crate::losses::is_among;
+use crate::losses::{is_among, order};
 use crate::node::Node;
 use crate::units::{Unit, unit_in};
+use failure_domains::{Bound, walk_within};
 use node_table::NodeTable;
 use sm_names::{CollectionId, NodeKey};
 
@@ -63,87 +64,73 @@ pub(crate) fn hangs_below(
     }
 }
 
-/// Whether the node does, and is of this collection and counted.
-fn is_following(
-    table: &NodeTable<Node>,
-    units: &[Unit],
-    id: CollectionId,
-    heads: &[NodeKey],
-    node: &Node,
-) -> bool
-    requires { IsSorted key_order heads.now }
-    ensures { result ≡ is_following table.now units.now id heads.now node.now }
+/// Whether the node heads a unit of this collection that is attached, has no buffers, and waits for
+/// no node, by the counts.
+fn is_ready_head(units: &[Unit], id: CollectionId, node: &Node) -> bool
+    ensures { result ≡ is_ready_head units.now id node.now }
 {
     node.collection == id
         && (node.key.slot as usize) < units.len()
-        && hangs_below(table, units, heads, node)
+        && is_waiting_head(node)
+        && unit_in(units, node.key.slot as usize).unready == 0
 }
 
-/// Whether the node with this key does.
-fn is_following_at(
+/// Whether the node with this key is this head, or does.
+fn is_head_at(
     table: &NodeTable<Node>,
     units: &[Unit],
     id: CollectionId,
-    heads: &[NodeKey],
+    head: NodeKey,
     key: NodeKey,
 ) -> bool
-    requires { IsSorted key_order heads.now }
-    ensures { result ≡ is_following_at table.now units.now id heads.now key }
+    ensures { result ≡ is_head_at table.now units.now id head key }
 {
+    if key == head {
+        return true;
+    }
     match table.get(key) {
-        Some(node) => is_following(table, units, id, heads, node),
+        Some(node) => is_ready_head(units, id, node),
         None => false,
     }
 }
 
-/// Puts the key in its place among these, which stand in order, unless it is one of them. Answers
-/// whether it is one then; if not, the room for it was refused.
-fn keep_in_order(keys: &mut Vec<NodeKey>, key: NodeKey) -> bool
-    requires { IsSorted key_order keys.old.items }
-    ensures sorted { result ≡ true → IsSorted key_order keys.new.items }
-    ensures more { result ≡ true → (other : Key) →
-        list_any (same_key other) keys.new.items ≡ (same_key other key || list_any (same_key other) keys.old.items) }
-{
-    match keys.binary_search(&key) {
-        Ok(_) => true,
-        Err(at) => keys.insert(at, key).is_ok(),
+/// The units that are allocated together, by the counts of their collection: a walk down from one of
+/// them takes the attached nodes right below them, and nothing below those that head none of them.
+#[derive(Drop)]
+struct Together<'a> {
+    units: &'a [Unit],
+    id: CollectionId,
+}
+
+impl<'a> Bound<Node> for Together<'a> {
+    ghost stops = { λ together n. is_outside together.units.now together.id n };
+
+    fn stops(&self, node: &Node) -> bool {
+        node.attached && !is_ready_head(self.units, self.id, node)
     }
 }
 
-/// Puts the key among these heads, if its node heads a unit that follows those with them. Answers
-/// `false` where the room for it was refused.
-fn follow(
+/// Lists the keys of the unit with this head, and of those that may be allocated with it: of all their
+/// nodes, and of the attached nodes right below them. Such a unit is attached, has no buffers, waits
+/// for no node, and hangs right below another of them. Answers whether it did; if not, the room for
+/// them was refused. It costs their number, and nothing for what lies deeper.
+pub(crate) fn walk_units(
     table: &NodeTable<Node>,
     units: &[Unit],
     id: CollectionId,
-    heads: &mut Vec<NodeKey>,
-    key: NodeKey,
+    head: NodeKey,
+    keys: &mut Vec<NodeKey>,
 ) -> bool
-    requires { IsSorted key_order heads.old.items }
-    ensures sorted { result ≡ true → IsSorted key_order heads.new.items }
-    ensures follows { result ≡ true → (head : Key) → Follows table.now units.now id head heads.old.items →
-        Follows table.now units.now id head heads.new.items }
+    requires { IsSome (row_at table.now head) }
+    ensures { result ≡ true → IsWalked table.now units.now id head keys.new.items }
 {
-    if is_following_at(table, units, id, heads, key) {
-        return keep_in_order(heads, key);
-    }
-    true
+    walk_within(table, head, keys, &Together { units, id }).is_ok()
 }
 
-/// Lists this head alone. Answers whether it did; if not, the room for it was refused.
-fn begin(heads: &mut Vec<NodeKey>, head: NodeKey) -> bool
-    ensures { result ≡ true → heads.new.items ≡ head ∷ [] }
-{
-    heads.clear();
-    heads.push(head).is_ok()
-}
-
-/// Lists the heads of the units that are allocated with the one with this head, and that head itself,
-/// in order: of each attached unit that has no buffers and waits for no node, right below one of them,
-/// as far as their keys are among these, each behind its parent's. Answers whether it did; if not,
-/// the room for them was refused. It costs the number of the keys, with a logarithm of the number of the heads, and a
-/// move of some heads for each that is found.
-pub(crate) fn following(
+/// Lists the heads of those units, of which these are the keys, in order. Answers whether it did; if
+/// not, the room for them was refused. It costs the number of the keys, and the number of the heads
+/// times its logarithm.
+pub(crate) fn heads_among(
     table: &NodeTable<Node>,
     keys: &[NodeKey],
     units: &[Unit],
@@ -152,15 +139,47 @@ pub(crate) fn following(
     heads: &mut Vec<NodeKey>,
 ) -> bool
     ensures sorted { result ≡ true → IsSorted key_order heads.new.items }
-    ensures follows { result ≡ true → Follows table.now units.now id head heads.new.items }
+    ensures are { result ≡ true → AreHeads table.now units.now id head keys.now heads.new.items }
 {
-    if !begin(heads, head) {
+    if !list_heads(table, keys, units, id, head, heads) {
         return false;
     }
+    order(heads);
+    true
+}
+
+/// Lists this head and each of these keys that heads such a unit. Answers whether it did; if not, the
+/// room for them was refused.
+fn list_heads(
+    table: &NodeTable<Node>,
+    keys: &[NodeKey],
+    units: &[Unit],
+    id: CollectionId,
+    head: NodeKey,
+    heads: &mut Vec<NodeKey>,
+) -> bool
+    ensures { result ≡ true → heads.new.items ≡ filter (is_head_at table.now units.now id head) keys.now }
+{
+    heads.clear();
     for key in keys {
-        if !follow(table, units, id, heads, *key) {
+        if !list_head(table, *key, units, id, head, heads) {
             return false;
         }
     }
     true
+}
+
+/// Puts the key behind these, if it is this head or heads such a unit. Answers `false` where the room
+/// for it was refused.
+fn list_head(
+    table: &NodeTable<Node>,
+    key: NodeKey,
+    units: &[Unit],
+    id: CollectionId,
+    head: NodeKey,
+    heads: &mut Vec<NodeKey>,
+) -> bool
+    ensures { result ≡ true → heads.new.items ≡ heads.old.items ++ filter (is_head_at table.now units.now id head) (key ∷ []) }
+{
+    !is_head_at(table, units, id, head, key) || heads.push(key).is_ok()
 }

@@ -1,7 +1,6 @@
 //! The forest: the collections with their nodes and buffers.
 ghost use Rattle.std.specs.Prelude.{◌≡◌, ◌≤◌, false, true, None, IfOk, IfSome, OnErr, OnOk, map, length, not, is_some, option_copied, ◌==◌};
 ghost use Rattle.std.specs.List.{filter};
-ghost use Rattle.sm_names.specs.declared.keys.BufferName.{BufferName};
 ghost use Rattle.buffer_holds.specs.Counts.{total};
 ghost use Rattle.std.specs.Option.{option_map, option_map_or};
 ghost use Rattle.sm_names.specs.Members.{some_strong_live};
@@ -83,10 +82,11 @@ impl Forest {
     ///
     /// Where that unit is attached, it is allocated in its place, and with it each attached unit that
     /// is ready below it, as far as one hangs right below another of them, if the buffers are enough
-    /// for all of them. That costs some reads of each node at and below its head, and a write of each
-    /// node of the units; where others are ready below it, also a logarithm of their number for each
-    /// node, and a move of some keys for each of them. Where the buffers are too few or too small for
-    /// it, it fails in its place, at the cost of those reads and of a loss.
+    /// for all of them. That costs some reads of each node of these units and of each attached node
+    /// right below them, and a write of each node of the units; where others are ready below it, also
+    /// a logarithm of their number for each node. What lies deeper costs nothing. Where the buffers
+    /// are too few or too small for it, it fails in its place, at the cost of those reads and of a
+    /// loss.
     ///
     /// Where it is the root's and the collection has no buffers, something holds it and a strong node
     /// stays live, no unit right below it is ready, what is asked for is some and within the limits,

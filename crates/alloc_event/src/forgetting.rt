@@ -1,6 +1,6 @@
 //! Forgetting: nodes that are taken out of the table with their keys, and collections of which
 //! nothing is left.
-ghost use Rattle.std.specs.Prelude.{IfSome, Some, None, not, ◌≡◌, ◌==◌, [], map, IsSome, is_some, MatchOption, length, nat_lt, ◌≤◌, List, true, false};
+ghost use Rattle.std.specs.Prelude.{IfSome, Some, None, ◌≡◌, ◌==◌, [], map, IsSome, MatchOption, length, nat_lt, ◌≤◌, List, true, false};
 ghost use Rattle.std.specs.List.{filter, find, list_any, AllByRecursion};
 ghost use Rattle.std.specs.Option.{option_map_or};
 ghost use Rattle.sm_names.specs.declared.keys.NodeKey.{NodeKey as Key};

@@ -14,12 +14,13 @@ ghost use Rattle.alloc_event.specs.Calm.{AreCounted};
 ghost use Rattle.alloc_event.specs.Counts.{HaveUnits, is_unready};
 ghost use Rattle.alloc_event.specs.Due.{is_due_at};
 ghost use Rattle.alloc_event.specs.InPlace.{IsMade, IsOpen, bit, is_plain as is_plain_effect};
-ghost use Rattle.alloc_event.specs.Kept.{Finishes, IsStored, SameTable, Shelf, forest_of, is_strong, shelves_of};
+ghost use Rattle.alloc_event.specs.Kept.{Finishes, IsStored, SameTable, Shelf, is_strong, shelves_of};
 ghost use Rattle.alloc_event.specs.Nodes.{affected};
+ghost use Rattle.alloc_event.specs.Outcomes.{IsOutcome, IsReady, IsUnchanged, changed_in};
 ghost use Rattle.alloc_event.specs.Questions.{is_live_node};
 ghost use Rattle.alloc_event.specs.Resting.{rests_at};
 ghost use Rattle.alloc_event.specs.Scenes.{has_tracker_room};
-ghost use Rattle.alloc_event.specs.Settling.{Handles, MayChange, changed, collection_or_new, no_key};
+ghost use Rattle.alloc_event.specs.Settling.{Handles};
 
 use crate::change::{Change, Effect};
 use crate::effects::affect_one;
@@ -301,16 +302,12 @@ fn settle_so(
     change: &Change,
     rests: bool,
 ) -> bool
-    requires kept { IsStored table.old (shelves_of entries.old.items) }
-    requires counted { AreCounted table.old entries.old.items }
-    requires units { HaveUnits units.old.items table.old entries.old.items }
-    requires change { MayChange (forest_of table.old (shelves_of entries.old.items)) id change.now }
-    ensures no_table { result ≡ false → table.new ≡ table.old }
-    ensures no_entries { result ≡ false → entries.new.items ≡ entries.old.items }
+    requires { IsReady table.old entries.old.items units.old.items id change.now }
+    ensures unchanged { result ≡ false → IsUnchanged table.old table.new entries.old.items entries.new.items }
     ensures ok { result ≡ true → (pool : ℕ) (handles : Handles) →
         (rests ≡ true → rests_at handles table.old (shelves_of entries.old.items) id ≡ true) →
         Finishes pool handles table.old (shelves_of entries.old.items) table.new (shelves_of entries.new.items)
-        (changed change.now no_key (collection_or_new (forest_of table.old (shelves_of entries.old.items)) id)) }
+        (changed_in table.old entries.old.items id change.now) }
     ensures shelves { shelves_of entries.new.items ≡ shelves_of entries.old.items }
     ensures kept { result ≡ true → IsStored table.new (shelves_of entries.old.items) }
     ensures counted { result ≡ true → AreCounted table.new entries.new.items }
@@ -347,20 +344,10 @@ pub(crate) fn settle_in_place(
     id: CollectionId,
     change: &Change,
 ) -> bool
-    requires kept { IsStored table.old (shelves_of entries.old.items) }
-    requires counted { AreCounted table.old entries.old.items }
-    requires units { HaveUnits units.old.items table.old entries.old.items }
-    requires change { MayChange (forest_of table.old (shelves_of entries.old.items)) id change.now }
-    ensures no_table { result ≡ false → table.new ≡ table.old }
-    ensures no_entries { result ≡ false → entries.new.items ≡ entries.old.items }
-    ensures ok { result ≡ true → (pool : ℕ) (handles : Handles) →
-        Finishes pool handles table.old (shelves_of entries.old.items) table.new (shelves_of entries.new.items)
-        (changed change.now no_key (collection_or_new (forest_of table.old (shelves_of entries.old.items)) id)) }
-    ensures shelves { shelves_of entries.new.items ≡ shelves_of entries.old.items }
-    ensures kept { result ≡ true → IsStored table.new (shelves_of entries.old.items) }
-    ensures counted { result ≡ true → AreCounted table.new entries.new.items }
+    requires { IsReady table.old entries.old.items units.old.items id change.now }
+    ensures outcome { (handles : Handles) → IsOutcome result handles table.old table.new entries.old.items entries.new.items
+        id change.now }
     ensures units { HaveUnits units.new.items table.new entries.new.items }
-    ensures same { SameTable table.old table.new }
 {
     settle_so(table, entries, units, id, change, false)
 }
@@ -376,20 +363,9 @@ pub(crate) fn settle_resting(
     id: CollectionId,
     change: &Change,
 ) -> bool
-    requires kept { IsStored table.old (shelves_of entries.old.items) }
-    requires counted { AreCounted table.old entries.old.items }
-    requires units { HaveUnits units.old.items table.old entries.old.items }
-    requires change { MayChange (forest_of table.old (shelves_of entries.old.items)) id change.now }
-    ensures no_table { result ≡ false → table.new ≡ table.old }
-    ensures no_entries { result ≡ false → entries.new.items ≡ entries.old.items }
-    ensures ok { result ≡ true → (pool : ℕ) →
-        Finishes pool (total holds.now) table.old (shelves_of entries.old.items) table.new (shelves_of entries.new.items)
-        (changed change.now no_key (collection_or_new (forest_of table.old (shelves_of entries.old.items)) id)) }
-    ensures shelves { shelves_of entries.new.items ≡ shelves_of entries.old.items }
-    ensures kept { result ≡ true → IsStored table.new (shelves_of entries.old.items) }
-    ensures counted { result ≡ true → AreCounted table.new entries.new.items }
+    requires { IsReady table.old entries.old.items units.old.items id change.now }
+    ensures outcome { IsOutcome result (total holds.now) table.old table.new entries.old.items entries.new.items id change.now }
     ensures units { HaveUnits units.new.items table.new entries.new.items }
-    ensures same { SameTable table.old table.new }
 {
     if !is_resting(table, entries, id, holds) {
         return false;

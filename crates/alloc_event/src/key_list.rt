@@ -1,5 +1,5 @@
 //! The keys of a collection's nodes.
-ghost use Rattle.std.specs.Prelude.{◌≡◌, ◌+◌, ◌-◌, ◌++◌, ◌∷◌, ◌<◌, ◌≤◌, ◌^◌, [], length, not, drop, vec_capacity, OnOk, OnErr};
+ghost use Rattle.std.specs.Prelude.{◌≡◌, ◌+◌, ◌-◌, ◌++◌, ◌∷◌, ◌<◌, ◌≤◌, ◌^◌, [], length, not, drop, vec_capacity, OnOk};
 ghost use Rattle.std.specs.List.{filter, remove};
 ghost use Rattle.sm_names.specs.Sameness.{same_key};
 ghost use Rattle.alloc_event.specs.Forgetting.{is_found};

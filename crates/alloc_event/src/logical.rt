@@ -1,5 +1,5 @@
 //! The allocation of an attached unit, out of the buffers that there are.
-ghost use Rattle.std.specs.Prelude.{◌≡◌, ◌&&◌};
+ghost use Rattle.std.specs.Prelude.{◌≡◌};
 ghost use Rattle.std.specs.List.{find};
 ghost use Rattle.std.specs.Option.{option_map};
 ghost use Rattle.alloc_event.specs.Decisions.{late_failure};

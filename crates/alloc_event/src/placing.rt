@@ -1,6 +1,6 @@
 //! The buffers of a root unit, placed in the pool.
 ghost use Rattle.std.specs.Prelude.{◌≡◌, ◌≤◌, ◌+◌, ◌^◌, ◌++◌, [], IfOk, IfSome, None, OnErr, OnOk, length, true, vec_capacity};
-ghost use Rattle.sm_names.specs.Pages.{pages_of as pages_taken};
+ghost use Rattle.sm_names.specs.Pages.{pages_of as pages_taken, places};
 ghost use Rattle.alloc_event.specs.Decisions.{is_unplaced, IsMadeBy, IsPlacing};
 ghost use Rattle.alloc_event.specs.declared.decision.Decision.{Decision};
 ghost use Rattle.alloc_event.specs.First.{IsLaid};
@@ -44,19 +44,14 @@ pub fn place_first(
     ensures few { OnOk result (given_few scene.new.buffers ≡ true) }
     ensures id { OnOk result (scene.new.id ≡ scene.old.id) }
 {
-    let pages = pages_of(wants.size);
-    let room = wants.count as usize + scene.held.len();
-    let Ok(held) = Vec::with_capacity(*scene.held.allocator(), room) else {
-        return Err(NoMemory);
-    };
-    match pool.place(wants.count, pages) {
-        Ok(placed) => {
-            scene.held = lay_out(held, scene.id, pages, &placed.starts, &scene.held);
+    match lay_in(pool, scene.id, wants, &scene.held)? {
+        Some(held) => {
+            scene.held = held;
             scene.buffers = Some(wants);
             allocate(&mut scene.nodes, head);
             Ok(())
         }
-        Err(PoolFault::PoolFull) => {
+        None => {
             let cause = Cause::Failed(Failure::PoolFull);
             lose(
                 &mut scene.nodes,
@@ -68,7 +63,6 @@ pub fn place_first(
             );
             Ok(())
         }
-        Err(PoolFault::NoMemory) => Err(NoMemory),
     }
 }
 
@@ -84,6 +78,8 @@ pub(crate) fn lay_in(
     requires sized { (1 ≤ wants.size) × (wants.size ≤ 2 ^ 30) }
     ensures err { OnErr result (pool.new ≡ pool.old) }
     ensures none { IfOk result (λ held. held ≡ None → pool.new ≡ pool.old) }
+    ensures full { IfOk result (λ held. held ≡ None →
+        places pool.old.size (pages_taken wants.size) wants.count pool.old.held ≡ None) }
     ensures some { IfOk result (λ held. IfSome held (λ held.
         IsLaid pool.old pool.new collection wants others.now.items held.items)) }
     ensures size { pool.new.size ≡ pool.old.size }

@@ -1,5 +1,5 @@
 //! Questions on the nodes of a collection. None of them takes memory.
-ghost use Rattle.std.specs.Prelude.{◌≡◌, ◌&&◌, ◌||◌, not, true};
+ghost use Rattle.std.specs.Prelude.{◌≡◌, ◌&&◌, not, true};
 ghost use Rattle.std.specs.List.{list_any, list_all, find};
 ghost use Rattle.alloc_event.specs.Nodes.{is_of};
 ghost use Rattle.alloc_event.specs.Questions.{is_below, lives_below, is_live_at, is_live_node, is_root_left, is_ready_node, is_allocated_node, blocks_here};

@@ -1,22 +1,21 @@
 //! Attached units that become ready by an effect, and for which the buffers are too few or too small:
 //! they fail in their places.
 ghost use Rattle.std.specs.List.{filter_map, sum_by};
-ghost use Rattle.std.specs.Prelude.{◌≡◌, ℕ, Some, None, true, false, IfOk, IfSome, OnErr};
+ghost use Rattle.std.specs.Prelude.{◌≡◌, Some, true, false, IfSome, IsSome};
 ghost use Rattle.buffer_holds.specs.Counts.{total};
-ghost use Rattle.node_table.specs.Table.{node_at};
+ghost use Rattle.node_table.specs.Table.{node_at, row_at};
 ghost use Rattle.sm_names.specs.Demands.{Demand};
 ghost use Rattle.sm_names.specs.Members.{greatest};
 ghost use Rattle.sm_names.specs.declared.keys.NodeKey.{NodeKey as Key};
 ghost use Rattle.alloc_event.specs.declared.change.Change.{Change as Changed};
 ghost use Rattle.alloc_event.specs.declared.falling.Going.{Going as Goes};
 ghost use Rattle.alloc_event.specs.declared.node.Node.{Node as Kept};
-ghost use Rattle.alloc_event.specs.Calm.{AreCounted};
 ghost use Rattle.alloc_event.specs.Counts.{HaveUnits};
 ghost use Rattle.alloc_event.specs.Falling.{AreFailing, IsTaken};
 ghost use Rattle.alloc_event.specs.InPlace.{is_plain as is_plain_effect};
-ghost use Rattle.alloc_event.specs.Kept.{Finishes, IsStored, SameTable, forest_of, shelves_of};
+ghost use Rattle.alloc_event.specs.Kept.{shelves_of};
+ghost use Rattle.alloc_event.specs.Outcomes.{IsOutcome, IsReady, was_made};
 ghost use Rattle.alloc_event.specs.Refusing.{IsRefusedBelow, demand_at, refusal as why};
-ghost use Rattle.alloc_event.specs.Settling.{MayChange, changed, collection_or_new, no_key};
 
 use crate::asks::{Asks, unit_demand};
 use crate::change::Effect;
@@ -27,7 +26,7 @@ use crate::in_place::{affected_by, is_plain};
 use crate::losses::order;
 use crate::node::Node;
 use crate::room::Room;
-use crate::serving::{buffers_due, counts_with, list_below};
+use crate::serving::{buffers_due, counts_with};
 use crate::surveying::are_of;
 use crate::units::Unit;
 use buffer_holds::Holds;
@@ -97,6 +96,15 @@ fn demand_after(
     unit_demand(&affected_by(node, key, effect), head)
 }
 
+/// Lists the keys of the node with this key and of all below it, if it is attached. Answers whether
+/// it did; if not, the room for them was refused. It costs their number.
+fn list_below(table: &NodeTable<Node>, head: NodeKey, keys: &mut Vec<NodeKey>) -> bool
+    requires { IsSome (row_at table.now head) }
+    ensures { result ≡ true → IsTaken table.now head keys.new.items }
+{
+    fall_into(table, head, keys).is_ok()
+}
+
 /// The fault by which the unit of the node with this key fails once the effect is made: where it
 /// becomes ready by it, as the counts tell, and something holds it, it is due, and the buffers are
 /// not enough for what its nodes ask for. The list then has the keys of what lies at and below the
@@ -152,25 +160,13 @@ fn fail_refused(
     fault: Fault,
     room: &mut Room,
 ) -> Result<bool, NoMemory>
-    requires kept { IsStored table.old (shelves_of entries.old.items) }
-    requires counted { AreCounted table.old entries.old.items }
-    requires units { HaveUnits units.old.items table.old entries.old.items }
+    requires ready { IsReady table.old entries.old.items units.old.items id (Changed.Effect key effect.now) }
     requires effect { is_plain_effect effect.now ≡ false }
     requires refused { AreFailing table.old (shelves_of entries.old.items) id (Goes.Refused key effect.now fault) }
     requires taken { IsTaken table.old fault.origin room.old.failing.items }
-    requires change { MayChange (forest_of table.old (shelves_of entries.old.items)) id (Changed.Effect key effect.now) }
-    ensures err_table { OnErr result (table.new ≡ table.old) }
-    ensures err_entries { OnErr result (entries.new.items ≡ entries.old.items) }
-    ensures no_table { IfOk result (λ made. made ≡ false → table.new ≡ table.old) }
-    ensures no_entries { IfOk result (λ made. made ≡ false → entries.new.items ≡ entries.old.items) }
-    ensures ok { IfOk result (λ made. made ≡ true → (pool : ℕ) →
-        Finishes pool (total holds.now) table.old (shelves_of entries.old.items) table.new (shelves_of entries.new.items)
-        (changed (Changed.Effect key effect.now) no_key (collection_or_new (forest_of table.old (shelves_of entries.old.items)) id))) }
-    ensures shelves { shelves_of entries.new.items ≡ shelves_of entries.old.items }
-    ensures kept { IfOk result (λ made. made ≡ true → IsStored table.new (shelves_of entries.old.items)) }
-    ensures counted { IfOk result (λ made. made ≡ true → AreCounted table.new entries.new.items) }
+    ensures outcome { IsOutcome (was_made result) (total holds.now) table.old table.new entries.old.items entries.new.items
+        id (Changed.Effect key effect.now) }
     ensures units { HaveUnits units.new.items table.new entries.new.items }
-    ensures same { SameTable table.old table.new }
 {
     let Some(head) = unit_emptied(table, units, &room.failing) else {
         return Ok(go_in_place(
@@ -216,22 +212,10 @@ pub(crate) fn refuse_in_place(
     effect: &Effect,
     room: &mut Room,
 ) -> Result<bool, NoMemory>
-    requires kept { IsStored table.old (shelves_of entries.old.items) }
-    requires counted { AreCounted table.old entries.old.items }
-    requires units { HaveUnits units.old.items table.old entries.old.items }
-    requires change { MayChange (forest_of table.old (shelves_of entries.old.items)) id (Changed.Effect key effect.now) }
-    ensures err_table { OnErr result (table.new ≡ table.old) }
-    ensures err_entries { OnErr result (entries.new.items ≡ entries.old.items) }
-    ensures no_table { IfOk result (λ made. made ≡ false → table.new ≡ table.old) }
-    ensures no_entries { IfOk result (λ made. made ≡ false → entries.new.items ≡ entries.old.items) }
-    ensures ok { IfOk result (λ made. made ≡ true → (pool : ℕ) →
-        Finishes pool (total holds.now) table.old (shelves_of entries.old.items) table.new (shelves_of entries.new.items)
-        (changed (Changed.Effect key effect.now) no_key (collection_or_new (forest_of table.old (shelves_of entries.old.items)) id))) }
-    ensures shelves { shelves_of entries.new.items ≡ shelves_of entries.old.items }
-    ensures kept { IfOk result (λ made. made ≡ true → IsStored table.new (shelves_of entries.old.items)) }
-    ensures counted { IfOk result (λ made. made ≡ true → AreCounted table.new entries.new.items) }
+    requires { IsReady table.old entries.old.items units.old.items id (Changed.Effect key effect.now) }
+    ensures outcome { IsOutcome (was_made result) (total holds.now) table.old table.new entries.old.items entries.new.items
+        id (Changed.Effect key effect.now) }
     ensures units { HaveUnits units.new.items table.new entries.new.items }
-    ensures same { SameTable table.old table.new }
 {
     if is_plain(effect) {
         return Ok(false);

@@ -9,22 +9,23 @@ ghost use Rattle.buffer_holds.specs.Counts.{total};
 ghost use Rattle.node_table.specs.Table.{node_at, row_at};
 ghost use Rattle.alloc_event.specs.declared.change.Change.{Change as Changed};
 ghost use Rattle.alloc_event.specs.declared.node.Node.{Node as Kept};
-ghost use Rattle.alloc_event.specs.Calm.{AreCounted};
 ghost use Rattle.alloc_event.specs.Counts.{HaveUnits};
-ghost use Rattle.alloc_event.specs.Falling.{IsTaken, key_order};
+ghost use Rattle.alloc_event.specs.Falling.{key_order};
 ghost use Rattle.alloc_event.specs.Falls.{given_all};
 ghost use Rattle.alloc_event.specs.InPlace.{IsOpen};
-ghost use Rattle.alloc_event.specs.Kept.{Finishes, IsStored, SameTable, Shelf, forest_of, nodes_with, shelf_of, shelves_of};
+ghost use Rattle.alloc_event.specs.Kept.{Shelf, nodes_with, shelf_of};
+ghost use Rattle.alloc_event.specs.Outcomes.{IsOutcome, IsReady};
 ghost use Rattle.alloc_event.specs.Reserved.{reserved_count};
 ghost use Rattle.alloc_event.specs.Resting.{is_kept_by};
 ghost use Rattle.alloc_event.specs.Scenes.{given_few, has_tracker_room};
 ghost use Rattle.alloc_event.specs.Serving.{AreLess, IsDue, IsGivenAt, IsRoom, IsServed, IsServedAt, IsServing, asked_at, asked_with, bars_at, has_turn_at, is_in_some, is_left_out, is_served_there};
-ghost use Rattle.alloc_event.specs.Settling.{MayChange, changed, collection_or_new, no_key};
 
 use crate::asks::Asks;
 use crate::change::Effect;
 use crate::entry::{Entry, place_of};
-use crate::following::{following, hangs_below, is_of_some, is_one_of, is_waiting_head};
+use crate::following::{
+    hangs_below, heads_among, is_of_some, is_one_of, is_waiting_head, walk_units,
+};
 use crate::in_place::{affected_by, less};
 use crate::kept::is_strong;
 use crate::node::Node;
@@ -34,7 +35,6 @@ use crate::room::Room;
 use crate::store::write;
 use crate::units::{Unit, is_held_by, is_unready, put_unit, unit_in};
 use buffer_holds::Holds;
-use failure_domains::fall_into;
 use node_table::NodeTable;
 use sm_names::{Buffers, CollectionId, Constraints, NodeKey};
 
@@ -239,15 +239,6 @@ pub(crate) fn buffers_due(
     }
 }
 
-/// Lists the keys of the node with this key and of all below it, if it is attached. Answers whether
-/// it did; if not, the room for them was refused. It costs their number.
-pub(crate) fn list_below(table: &NodeTable<Node>, head: NodeKey, keys: &mut Vec<NodeKey>) -> bool
-    requires { IsSome (row_at table.now head) }
-    ensures { result ≡ true → IsTaken table.now head keys.new.items }
-{
-    fall_into(table, head, keys).is_ok()
-}
-
 /// The nodes with these keys that are of the units with these heads, which stand in order, have
 /// their buffers then.
 fn give(table: &mut NodeTable<Node>, keys: &[NodeKey], heads: &[NodeKey])
@@ -330,28 +321,33 @@ fn serve_with_room(
 }
 
 /// The unit with this head and those that follow it are allocated so, if there is room for all of
-/// them. Their heads are listed only where some are ready below it, or there is no room.
+/// them. Their keys are listed in the one list, and in the other one their heads, but only where some
+/// are ready below it, or there is no room.
 fn serve_following(
     table: &mut NodeTable<Node>,
-    keys: &[NodeKey],
     units: &[Unit],
     id: CollectionId,
     reserved: u128,
     buffers: Buffers,
     head: NodeKey,
     after: &Node,
+    keys: &mut Vec<NodeKey>,
     heads: &mut Vec<NodeKey>,
 ) -> Option<u128>
     requires named { (key : Key) (n : Kept) → node_at table.old key ≡ Some n → n.key ≡ key }
+    requires head { IsSome (row_at table.old head) }
     requires there { IsSome (node_at table.old after.now.key) }
     ensures none { result ≡ None → table.new ≡ table.old }
-    ensures some { IfSome result (λ sum. IsServing table.old table.new keys.now units.now id reserved buffers head after.now sum) }
+    ensures some { IfSome result (λ sum. IsServing table.old table.new keys.new.items units.now id reserved buffers head after.now sum) }
 {
+    if !walk_units(table, units, id, head, keys) {
+        return None;
+    }
     let one = [head];
     if let Some(sum) = serve_with_room(table, keys, units, id, reserved, buffers, &one, after) {
         return Some(sum);
     }
-    if !following(table, keys, units, id, head, heads) || heads.len() < 2 {
+    if !heads_among(table, keys, units, id, head, heads) || heads.len() < 2 {
         return None;
     }
     serve_with_room(table, keys, units, id, reserved, buffers, heads, after)
@@ -395,18 +391,15 @@ fn serve_effect(
     if !is_kept_by(table, entry, holds, left) {
         return None;
     }
-    if !list_below(table, node.head, &mut room.going) {
-        return None;
-    }
     let Some(reserved) = serve_following(
         table,
-        &room.going,
         units,
         entry.id,
         entry.reserved,
         buffers,
         node.head,
         &after,
+        &mut room.going,
         &mut room.failing,
     ) else {
         return None;
@@ -421,11 +414,11 @@ fn serve_effect(
 /// forced: a strong node of the collection is live after it, or it rests without one, and something
 /// holds the unit.
 /// Answers whether it did; if not, nothing changed. It costs a binary search and a constant; where
-/// the unit is ready and due, besides, some reads of each node at and below its head, and a write of
-/// each node of the units; where other units are ready below it or the buffers are too few, also a
-/// logarithm of the number of those for each node, and a move of some keys for each of them. It takes
-/// memory only where the lists have less room than there are nodes; where that is refused, it does
-/// nothing.
+/// the unit is ready and due, besides, some reads of each node of these units and of each attached
+/// node right below them, and a write of each node of the units; where other units are ready below it
+/// or the buffers are too few, also a logarithm of the number of those for each node. What lies deeper
+/// costs nothing. It takes memory only where the lists have less room than there are nodes; where that
+/// is refused, it does nothing.
 pub(crate) fn serve_in_place(
     table: &mut NodeTable<Node>,
     entries: &mut Vec<Entry>,
@@ -436,20 +429,10 @@ pub(crate) fn serve_in_place(
     effect: &Effect,
     room: &mut Room,
 ) -> bool
-    requires kept { IsStored table.old (shelves_of entries.old.items) }
-    requires counted { AreCounted table.old entries.old.items }
-    requires units { HaveUnits units.old.items table.old entries.old.items }
-    requires change { MayChange (forest_of table.old (shelves_of entries.old.items)) id (Changed.Effect key effect.now) }
-    ensures no_table { result ≡ false → table.new ≡ table.old }
-    ensures no_entries { result ≡ false → entries.new.items ≡ entries.old.items }
-    ensures ok { result ≡ true → (pool : ℕ) →
-        Finishes pool (total holds.now) table.old (shelves_of entries.old.items) table.new (shelves_of entries.new.items)
-        (changed (Changed.Effect key effect.now) no_key (collection_or_new (forest_of table.old (shelves_of entries.old.items)) id)) }
-    ensures shelves { shelves_of entries.new.items ≡ shelves_of entries.old.items }
-    ensures kept { result ≡ true → IsStored table.new (shelves_of entries.old.items) }
-    ensures counted { result ≡ true → AreCounted table.new entries.new.items }
+    requires { IsReady table.old entries.old.items units.old.items id (Changed.Effect key effect.now) }
+    ensures outcome { IsOutcome result (total holds.now) table.old table.new entries.old.items entries.new.items
+        id (Changed.Effect key effect.now) }
     ensures units { HaveUnits units.new.items table.new entries.new.items }
-    ensures same { SameTable table.old table.new }
 {
     let Some(at) = place_of(entries, id) else {
         return false;

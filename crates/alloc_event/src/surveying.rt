@@ -1,5 +1,5 @@
 //! Nodes with some keys, as they stand in the table: what is asked of them before they go, and how they go.
-ghost use Rattle.std.specs.Prelude.{◌≡◌, ◌≢◌, ◌<◌, ◌&&◌, ◌||◌, ◌∷◌, [], Some, None, map, true, false};
+ghost use Rattle.std.specs.Prelude.{◌≡◌, ◌≢◌, ◌∷◌, [], Some, None, map, false};
 ghost use Rattle.std.specs.List.{AllPairs, list_any};
 ghost use Rattle.std.specs.Option.{option_map_or};
 ghost use Rattle.sm_names.specs.declared.keys.NodeKey.{NodeKey as Key};
@@ -11,7 +11,7 @@ ghost use Rattle.alloc_event.specs.Calm.{strong_count};
 ghost use Rattle.alloc_event.specs.Falling.{IsOrdered, gone_by, stays_by, unhung, unreckoned, untallied};
 ghost use Rattle.alloc_event.specs.Kept.{Stores, all_of, nodes_with};
 ghost use Rattle.alloc_event.specs.Nodes.{is_over};
-ghost use Rattle.alloc_event.specs.Reserved.{camped, reserved_count};
+ghost use Rattle.alloc_event.specs.Reserved.{reserved_count};
 
 use crate::falling::{Going, go, stays_by, uncount, uncount_below};
 use crate::kept::{is_over, is_strong};

@@ -10,6 +10,7 @@ use Rattle.sm_names.specs.Members.{some_strong_live}
 use Rattle.sm_names.specs.Words.{sorted_by}
 use Rattle.sm_names.proofs.ListLaws.{In, In-find, In-map}
 use Rattle.sm_names.proofs.SamenessLaws.{both_ways}
+use Rattle.buffer_pool.specs.Holdings.{Holdings}
 use Rattle.node_table.specs.Table.{Table, parent_at, was_given}
 use Rattle.alloc_event.specs.declared.entry.Entry.{Entry}
 use Rattle.alloc_event.specs.declared.falling.Going.{Going}
@@ -23,6 +24,7 @@ use Rattle.alloc_event.specs.Forest.{Collection, all_held, beside, pages_in, wit
 use Rattle.alloc_event.specs.InPlace.{IsOpen}
 use Rattle.alloc_event.specs.Kept.{AreHeadsGiven, Finishes, IsStored, IsWhole, Shelf, Stores, all_of, collection_in, forest_of, is_filed, nodes_with, place_in, put_shelf, shelf_of, shelves_of}
 use Rattle.alloc_event.specs.Nodes.{members_of}
+use Rattle.alloc_event.specs.Outcomes.{IsOutcomeIn}
 use Rattle.alloc_event.specs.Parted.{are_parted}
 use Rattle.alloc_event.specs.Reserved.{reserved_count}
 use Rattle.alloc_event.specs.Scenes.{by_page, is_held_strongly, is_out, pages_held}
@@ -242,7 +244,7 @@ module _ (handles : Handles) (t : Table Node) (es : List Entry) (id at : ℕ) (o
         ∙ ap (option_map (mark_of pool (pages_in (given_back handles lost) ++ others)))
         (none_now (is_held_strongly handles old.id old.buffers))
 
-    pub finishes_all : (pool : ℕ) → Finishes pool handles t (shelves_of es) now (shelves_of (set es at new))
+    finishes_all : (pool : ℕ) → Finishes pool handles t (shelves_of es) now (shelves_of (set es at new))
         (changed (change_of going) no_key (collection_or_new (forest_of t (shelves_of es)) id))
     finishes_all pool =
         let led : IsLed t ss s (change_of going) (with_nodes (map goes) (collection_in t s)) =
@@ -265,7 +267,7 @@ module _ (handles : Handles) (t : Table Node) (es : List Entry) (id at : ℕ) (o
           rests = rests_in pool (beside (forest_of now (shelves_of (set es at new))) old.id);
         }))
 
-    pub stored_all : IsStored now (shelves_of (set es at new))
+    stored_all : IsStored now (shelves_of (set es at new))
     stored_all =
         let before : AllByRecursion IsWhole (put (collection_in t s) (map (collection_in t) ss)) =
         subst (AllByRecursion IsWhole) (put-map t s ss) (whole-map t (put_shelf s ss) (rw put_same kept.whole)) in
@@ -276,7 +278,7 @@ module _ (handles : Handles) (t : Table Node) (es : List Entry) (id at : ℕ) (o
         (whole-put (given_back handles lost) (collection_in t s) (map (collection_in t) ss) refl (whole_back handles lost whole_lost)
         before))))
 
-    pub counted_all : AreCounted now (set es at new)
+    counted_all : AreCounted now (set es at new)
     counted_all =
         let new_nodes : nodes_with now new.keys.items ≡ nodes_with now old.keys.items = ap (λ ks. nodes_with now ks.items) r.keys in
         subst (AreCounted now) (sym put_in_place)
@@ -296,10 +298,26 @@ module _ (handles : Handles) (t : Table Node) (es : List Entry) (id at : ℕ) (o
         units_set (unreckoned t (nodes_with t keys) us) now es at new
         (λ within. r.keys ∙ ap (λ (e : Entry). e.keys) (is ∙ get_or_default es at old new within)) units_then
 
-    pub pages_all : (held : List Interval) → are_parted held ≡ true →
+    pages_all : (held : List Interval) → are_parted held ≡ true →
         held ≡ by_page (pages_held new.held.items ++ beside (forest_of t (shelves_of es)) old.id) →
         held ≡ sorted_by start_of (map (λ (h : HeldBuffer). h.pages) (all_held (forest_of now (shelves_of (set es at new)))))
     pages_all held parted of =
         pool_back held t now (given_back handles lost) (shelf_of new) ss kept.rising collections_are parted
         (of ∙ ap (λ (x : Collection). sorted_by start_of (pages_in x ++ beside (forest_of t ss) old.id)) shown)
         ∙ ap (λ (xs : List Shelf). sorted_by start_of (map (λ (h : HeldBuffer). h.pages) (all_held (forest_of now xs)))) (sym set_is)
+
+    pub outcome_all : (pool after : Holdings) → are_parted after.held ≡ true →
+        after.held ≡ by_page (pages_held new.held.items ++ beside (forest_of t (shelves_of es)) old.id) → after.size ≡ pool.size →
+        IsOutcomeIn true handles pool after t now es (set es at new) id (change_of going)
+    outcome_all pool after parted of size = record {
+      settled = λ h. record {
+        finishes = finishes_all pool.size;
+        kept = stored_all;
+        counted = counted_all;
+        holds = pages_all after.held parted of;
+      };
+      unchanged = λ h. cc;
+      same_pool = λ h. cc;
+      same = stores.same;
+      size = size;
+    }

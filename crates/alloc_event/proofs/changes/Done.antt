@@ -16,6 +16,7 @@ use Rattle.alloc_event.specs.Dropped.{has_given_root}
 use Rattle.alloc_event.specs.Forest.{Collection, beside}
 use Rattle.alloc_event.specs.InPlace.{IsDone, IsOpen}
 use Rattle.alloc_event.specs.Kept.{Finishes, IsStored, Shelf, Stores, are_filed, collection_in, forest_of, is_filed, nodes_with, place_in, put_shelf, shelf_of, shelves_of}
+use Rattle.alloc_event.specs.Outcomes.{IsOutcome, changed_in}
 use Rattle.alloc_event.specs.Reserved.{reserved_count}
 use Rattle.alloc_event.specs.Resting.{is_at_rest, is_kept_by, rests_at}
 use Rattle.alloc_event.specs.Scenes.{given_few}
@@ -154,3 +155,18 @@ module _ (t : Table Node) (es : List Entry) (id at : ℕ) (old : Entry) (place :
           reserved = reserved ∙ ap (λ (s : Shelf). reserved_count (nodes_with now s.keys)) (sym same);
           tidy = λ h. ap (λ (s : Shelf). list_any (over_but new.one) (nodes_with now s.keys)) same ∙ tidy h;
         }))
+
+    -- so that it was made
+    pub outcome_at : (handles : Handles) → is_kept_by handles t (shelf_of old) left ≡ true → place_in id es ≡ Some at →
+        new.reserved ≡ reserved_count (nodes_with now old.keys.items) → IsOutcome true handles t now es (set es at new) id change
+    outcome_at handles by told reserved = record {
+      settled = λ h. record {
+        finishes = λ pool. subst (λ (ss : List Shelf). Finishes pool handles t (shelves_of es) now ss (changed_in t es id change))
+            (sym shelves_at) (finishes_at pool handles by);
+        shelves = shelves_at;
+        kept = made.kept;
+        counted = counted_at told reserved;
+      };
+      unchanged = λ h. cc;
+      same = made.same;
+    }

@@ -32,8 +32,9 @@ use Rattle.alloc_event.specs.Falls.{given_all}
 use Rattle.alloc_event.specs.First.{IsFirst, IsLaid, wanted_of}
 use Rattle.alloc_event.specs.Forest.{Collection, all_held, beside, pages_in, with_nodes}
 use Rattle.alloc_event.specs.InPlace.{IsOpen}
-use Rattle.alloc_event.specs.Kept.{AreRising, Finishes, IsStored, IsWhole, SameTable, Shelf, collection_in, forest_of, is_filed, nodes_with, place_in, put_shelf, shelf_of, shelves_of}
+use Rattle.alloc_event.specs.Kept.{AreRising, Finishes, IsStored, IsWhole, Shelf, collection_in, forest_of, is_filed, nodes_with, place_in, put_shelf, shelf_of, shelves_of}
 use Rattle.alloc_event.specs.Nodes.{affected, given_buffers}
+use Rattle.alloc_event.specs.Outcomes.{IsOutcomeIn}
 use Rattle.alloc_event.specs.Parted.{are_parted}
 use Rattle.alloc_event.specs.Questions.{is_live_node, is_ready_node}
 use Rattle.alloc_event.specs.Reserved.{reserved_count}
@@ -372,7 +373,7 @@ module _ (handles : Handles) (t : Table Node) (es : List Entry) (id at : ℕ) (o
           (subst (λ (i : ℕ). place_in i es ≡ Some at) (sym (ap (λ (x : Shelf). x.id) shelf ∙ id_is)) told))
           ∙ (shelves_put new es ∙ ap (λ (x : Shelf). put_shelf x ss) shelf)
 
-      pub finishes_first : Finishes before.size handles t (shelves_of es) now (shelves_of (set es at new))
+      finishes_first : Finishes before.size handles t (shelves_of es) now (shelves_of (set es at new))
           (changed (Change.Effect key effect) no_key (collection_or_new (forest_of t (shelves_of es)) id))
       finishes_first =
           subst (λ (i : ℕ). Finishes before.size handles t ss now (shelves_of (set es at new)) (changed change no_key
@@ -389,7 +390,7 @@ module _ (handles : Handles) (t : Table Node) (es : List Entry) (id at : ℕ) (o
                 ∙ rests (beside (forest_of now (shelves_of (set es at new))) old.id);
           }))
 
-      pub pool_first : are_parted after.held ≡ true →
+      pool_first : are_parted after.held ≡ true →
           after.held ≡ sorted_by start_of (map (λ (h : HeldBuffer). h.pages) (all_held (forest_of now (shelves_of (set es at new)))))
       pool_first parted' =
           pool_back after.held t now (collection_in now s') s' ss kept.rising collections_are parted'
@@ -408,14 +409,14 @@ module _ (handles : Handles) (t : Table Node) (es : List Entry) (id at : ℕ) (o
     shelves_are : shelves_of (set es at new) ≡ ss'
     shelves_are = ap shelves_of put_in_place ∙ (shelves_put new es ∙ ap (λ (x : Shelf). put_shelf x ss) shelf)
 
-    pub stored_first : IsStored now (shelves_of (set es at new))
+    stored_first : IsStored now (shelves_of (set es at new))
     stored_first = subst (IsStored now) (sym shelves_are) done.kept
 
     pub units_first : HaveUnits (set us first.node.head.slot plan.next) now (set es at new)
     units_first = subst (λ (xs : List Shelf). AreUnits (set us first.node.head.slot plan.next) (map (collection_in now) xs)) (sym shelves_are)
         done.units
 
-    pub counted_first : new.strong ≡ plan.left → new.reserved ≡ plan.camping → new.tidy ≡ old.tidy → new.one ≡ old.one →
+    counted_first : new.strong ≡ plan.left → new.reserved ≡ plan.camping → new.tidy ≡ old.tidy → new.one ≡ old.one →
         AreCounted now (set es at new)
     counted_first strong reserved tidy noted =
         subst (AreCounted now) (sym put_in_place)
@@ -435,5 +436,21 @@ module _ (handles : Handles) (t : Table Node) (es : List Entry) (id at : ℕ) (o
               ∙ tidy_at t es id at old place is kept all us units (Change.Effect key effect) may (sym tidy ∙ h)));
         }))
 
-    pub same_first : SameTable t now
-    same_first = done.same
+    pub outcome_first : (before after : Holdings) → IsLaid before after old.id plan.wants old.held.items held →
+        are_parted before.held ≡ true →
+        before.held ≡ sorted_by start_of (map (λ (h : HeldBuffer). h.pages) (all_held (forest_of t (shelves_of es)))) →
+        new.strong ≡ plan.left → new.reserved ≡ plan.camping → new.tidy ≡ old.tidy → new.one ≡ old.one →
+        are_parted after.held ≡ true → after.size ≡ before.size →
+        IsOutcomeIn true handles before after t now es (set es at new) id (Change.Effect key effect)
+    outcome_first before after laid_are parted of strong reserved tidy noted parted' size = record {
+      settled = λ h. record {
+        finishes = finishes_first before after laid_are parted of new shelf;
+        kept = stored_first;
+        counted = counted_first strong reserved tidy noted;
+        holds = pool_first before after laid_are parted of new shelf parted';
+      };
+      unchanged = λ h. cc;
+      same_pool = λ h. cc;
+      same = done.same;
+      size = size;
+    }

@@ -16,35 +16,36 @@ use Rattle.sm_names.proofs.ListLaws.{In, In-find, In-list_any, In-map-back}
 use Rattle.sm_names.proofs.SamenessLaws.{and_left, and_right, both_ways, either_way, false_if, same_key-refl, same_key-true}
 use Rattle.sm_names.proofs.StandingLaws.{In-any, both_tests}
 use Rattle.node_table.specs.Table.{Table, node_at}
+use Rattle.failure_domains.specs.Falls.{blocked_at}
 use Rattle.alloc_event.specs.declared.change.Change.{Change}
 use Rattle.alloc_event.specs.declared.change.Effect.{Effect}
 use Rattle.alloc_event.specs.declared.falling.Going.{Going}
 use Rattle.alloc_event.specs.declared.node.Node.{Node}
 use Rattle.alloc_event.specs.declared.units.Unit.{Unit}
 use Rattle.alloc_event.specs.Counts.{HasUnits, heads_below, lives_in, is_unready, unit_at, unit_of, waits_in}
-use Rattle.alloc_event.specs.Decisions.{late_failure}
+use Rattle.alloc_event.specs.Decisions.{is_left_of, late_failure}
 use Rattle.alloc_event.specs.Falling.{IsRefused, IsTaken}
 use Rattle.alloc_event.specs.InPlace.{IsOpen, bit}
 use Rattle.alloc_event.specs.Kept.{IsWhole, Shelf, all_of, collection_in, nodes_with}
 use Rattle.alloc_event.specs.Nodes.{affected}
-use Rattle.alloc_event.specs.Questions.{demands_of, is_in_unit, is_live_node, is_served}
+use Rattle.alloc_event.specs.Questions.{demands_of, is_below, is_in_unit, is_live_node, is_served}
 use Rattle.alloc_event.specs.Refusing.{IsRefusedBelow, refused_for}
 use Rattle.alloc_event.specs.Reserved.{reserved_count}
-use Rattle.alloc_event.specs.Serving.{Alone}
+use Rattle.alloc_event.specs.Ties.{is_blocking}
 use Rattle.alloc_event.proofs.calm.Calming.{any_map}
 use Rattle.alloc_event.proofs.calm.Steps.{all-In}
 use Rattle.alloc_event.proofs.changes.Altering.{found_whole, same_affected}
 use Rattle.alloc_event.proofs.changes.Effecting.{alone_affected, live_before, remains_affected, unready_before}
 use Rattle.alloc_event.proofs.failures.Fallen.{in_looked}
+use Rattle.alloc_event.proofs.failures.Ties.{fall_below}
 use Rattle.alloc_event.proofs.lists.Filters.{above_greatest}
 use Rattle.alloc_event.proofs.serves.Before.{IsDueHead, due_head}
-use Rattle.alloc_event.proofs.serves.Below.{of_unit}
 use Rattle.alloc_event.proofs.serves.Sums.{reserved_same}
-use Rattle.alloc_event.proofs.tables.Hanging.{in_all, looked_there}
+use Rattle.alloc_event.proofs.tables.Hanging.{in_all, looked_hung, looked_there, looked_tied}
 use Rattle.alloc_event.proofs.tables.LeftParents.{in_shelf, loss_left}
-use Rattle.alloc_event.proofs.tables.Rooted.{IsLeft, distinct_one, left_node}
+use Rattle.alloc_event.proofs.tables.Rooted.{IsLeft, distinct_one, left_in, left_node}
 use Rattle.alloc_event.proofs.tallies.Amounts.{times_changed}
-use Rattle.alloc_event.proofs.tallies.Holding.{head_there}
+use Rattle.alloc_event.proofs.tallies.Holding.{head_there, in_unit_below}
 use Rattle.alloc_event.proofs.tallies.Hung.{below_mapped}
 use Rattle.alloc_event.proofs.tallies.Reckoning.{lives_own, waits_own}
 use Rattle.alloc_event.proofs.tallies.Reserved.{amount_map, amount_within, camped_if, camped_sum}
@@ -165,13 +166,29 @@ module _ (t : Table Node) (us : List Unit) (ss : List Shelf) (s : Shelf) (key : 
         (eqb-true m.collection s.id (all-In (λ (x : Node). x.collection == s.id) (nodes_with t ks) m there own_nodes))
 
     module _ (due : IsDueHead t nodes k) (taken : IsTaken t k ks) where
+      -- a failure of the head goes no higher
+      blocks : blocked_at is_blocking t k ≡ true
+      blocks =
+          let there : node_at t k ≡ Some due.head = ap (node_at t) (sym due.key) ∙ at due.head due.on in
+          let is : due.head.attached ≡ true = due.attached in
+          ap (λ (o : Option Node). option_map_or is_blocking o false) there ∙ rw is refl
+
+      -- so it takes each node of the unit
+      of_unit : (m : Node) → In m nodes → m.gone ≡ false → same_key m.head k ≡ true → list_any (same_key m.key) ks ≡ true
+      of_unit m there stays unit =
+          fall_below t nodes
+          (looked_tied t opens.kept.named s.keys (looked_hung t opens.kept.named opens.kept.linked s.keys whole.rooted)) k
+          (subst (λ (j : NodeKey). is_left_of nodes j ≡ true) due.key (left_in nodes due.head due.on due.here)) blocks ks taken.fall
+          m there stays
+          ∙ subst (λ (j : NodeKey). is_below nodes j m.key ≡ true) (same_key-true m.head k unit)
+          (in_unit_below nodes whole.sound.distinct whole.sound.heads whole.rooted whole.united m there stays)
+
       outside : (m : Node) → In m nodes → list_any (same_key m.key) ks ≡ false → is_in_unit k (f m) ≡ false
       outside m there out =
           (λ i. not ((remains_affected key effect m).gone i) && same_key ((same_affected key effect m).head i) k)
           ∙ false_if (is_in_unit k m) (λ h.
           both_ways (list_any (same_key m.key) ks)
-          (of_unit t ss opens.kept s opens.found us unit_has k due (k ∷ []) Alone ks taken m there
-          (not-true m.gone (and_left (not m.gone) _ h)) (ap (λ (b : Bool). b || false) (and_right (not m.gone) _ h))) out)
+          (of_unit m there (not-true m.gone (and_left (not m.gone) _ h)) (and_right (not m.gone) _ h)) out)
 
       sum_then : sum_by (λ (d : Demand). d.camping) (demands_of (is_in_unit k) (map f (nodes_with t ks)))
           ≡ sum_by (λ (d : Demand). d.camping) (demands_of (is_in_unit k) (map f nodes))

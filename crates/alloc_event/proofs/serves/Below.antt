@@ -1,4 +1,4 @@
--- What lies below the head of a unit that is to be allocated, as a list of keys: all of the unit, and of those that follow it.
+-- The nodes of the units that are allocated together, among the keys that are listed for them.
 use Rattle.std.proofs.Common.{◌≡◌, ℕ, ◌+◌, nat_lt, ◌==◌, refl, ap, sym, ◌∙◌, subst, Bool, true, false, not, ◌||◌, if◌then◌else◌, inl, inr, List, map, Option, Some, None, option_map}
 use Rattle.std.proofs.lemmas.Bool.{eqb-true, not-true}
 use Rattle.std.specs.List.{find, list_any, sum_by}
@@ -12,80 +12,35 @@ use Rattle.sm_names.proofs.ListLaws.{In, In-list_any, In-map, In-map-back}
 use Rattle.sm_names.proofs.SamenessLaws.{and_left, and_right, both_ways, either_way, false_if, or_none_left, or_none_right, same_key-refl}
 use Rattle.sm_names.proofs.StandingLaws.{In-any}
 use Rattle.node_table.specs.Table.{Table, node_at}
-use Rattle.failure_domains.specs.Falls.{blocked_at}
 use Rattle.alloc_event.specs.declared.falling.Going.{Going}
 use Rattle.alloc_event.specs.declared.node.Node.{Node}
 use Rattle.alloc_event.specs.declared.units.Unit.{Unit}
-use Rattle.alloc_event.specs.Counts.{HasUnits, unit_at}
-use Rattle.alloc_event.specs.Decisions.{is_left_of}
-use Rattle.alloc_event.specs.Falling.{IsTaken}
+use Rattle.alloc_event.specs.Counts.{HasUnits}
 use Rattle.alloc_event.specs.Falls.{given_all}
 use Rattle.alloc_event.specs.Kept.{IsStored, IsWhole, Shelf, collection_in, nodes_with, written}
-use Rattle.alloc_event.specs.Questions.{demands_of, is_below}
-use Rattle.alloc_event.specs.Serving.{Follows, IsGivenAt, are_enough, asked_with, bars_at, given_at, hangs_below, is_in_some, is_left_out, is_of_some, is_waiting_head, left_out_at}
-use Rattle.alloc_event.specs.Ties.{IsTied, is_blocking}
+use Rattle.alloc_event.specs.Questions.{demands_of}
+use Rattle.alloc_event.specs.Serving.{IsGathered, IsGivenAt, are_enough, asked_with, bars_at, given_at, hangs_below, is_in_some, is_left_out, left_out_at}
 use Rattle.alloc_event.proofs.failures.Fallen.{in_looked}
-use Rattle.alloc_event.proofs.failures.Ties.{fall_below}
-use Rattle.alloc_event.proofs.serves.Before.{IsDueHead, any_key, at_key, key_listed, node_there, some_there, whole_before}
-use Rattle.alloc_event.proofs.serves.Chains.{units_below, unitwide}
+use Rattle.alloc_event.proofs.serves.Before.{IsDueHead, any_key, at_key, key_listed, node_there, whole_before}
+use Rattle.alloc_event.proofs.serves.Chains.{unitwide}
+use Rattle.alloc_event.proofs.serves.Gathered.{follows, hangs_inside, of_unit}
 use Rattle.alloc_event.proofs.serves.Giving.{given_in, given_out}
 use Rattle.alloc_event.proofs.serves.Sums.{asked_back, asked_is, asked_of, asks_passes, greatest_fewer}
-use Rattle.alloc_event.proofs.tables.Hanging.{in_all, looked_hung, looked_there, looked_tied}
+use Rattle.alloc_event.proofs.tables.Hanging.{in_all, looked_there}
 use Rattle.alloc_event.proofs.tables.LeftParents.{in_shelf}
-use Rattle.alloc_event.proofs.tables.Rooted.{left_in, left_node, left_parent}
-use Rattle.alloc_event.proofs.tallies.Holding.{below_parent}
 use Rattle.alloc_event.proofs.tallies.Reserved.{amount_map, amount_within, camped_if, camped_sum}
 
 module _ (t : Table Node) (ss : List Shelf) (kept : IsStored t ss) (s : Shelf) (found : find (λ (x : Shelf). x.id == s.id) ss ≡ Some s)
     (us : List Unit) (counts : HasUnits us (nodes_with t s.keys)) (k : NodeKey) (due : IsDueHead t (nodes_with t s.keys) k)
-    (hs : List NodeKey) (follows : Follows t us s.id k hs) (ks : List NodeKey) (taken : IsTaken t k ks) where
+    (hs : List NodeKey) (ks : List NodeKey) (gathered : IsGathered t us s.id k hs ks) where
   abbrev nodes : List Node
   nodes = nodes_with t s.keys
 
   whole : IsWhole (collection_in t s)
   whole = whole_before t ss kept s found k
 
-  tied : IsTied t nodes
-  tied = looked_tied t kept.named s.keys (looked_hung t kept.named kept.linked s.keys whole.rooted)
-
   at : (m : Node) → In m nodes → node_at t m.key ≡ Some m
   at m on = at_key t ss kept s found k m on
-
-  left : is_left_of nodes k ≡ true
-  left = subst (λ (j : NodeKey). is_left_of nodes j ≡ true) due.key (left_in nodes due.head due.on due.here)
-
-  blocks : blocked_at is_blocking t k ≡ true
-  blocks =
-      let there : node_at t k ≡ Some due.head = ap (node_at t) (sym due.key) ∙ at due.head due.on in
-      let is : due.head.attached ≡ true = due.attached in
-      ap (λ (o : Option Node). option_map_or is_blocking o false) there ∙ rw is refl
-
-  inside : (n : Node) → In n nodes → n.gone ≡ false → is_below nodes k n.key ≡ true → list_any (same_key n.key) ks ≡ true
-  inside n on here below = fall_below t nodes tied k left blocks ks taken.fall n on here ∙ below
-
-  -- a node of one of the units
-  pub of_unit : (n : Node) → In n nodes → n.gone ≡ false → list_any (same_key n.head) hs ≡ true → list_any (same_key n.key) ks ≡ true
-  of_unit n on here own = inside n on here (units_below t ss kept s found us counts k due hs follows n on here own)
-
-  one_node : (a b : Node) → Some a ≡ Some b → a ≡ b
-  one_node a b e = cc
-
-  -- a head right below one of the units
-  hangs_inside : (m : Node) → In m nodes → hangs_below t us hs m ≡ true → list_any (same_key m.key) ks ≡ true
-  hangs_inside m on h =
-      let waits : is_waiting_head m ≡ true = and_left (is_waiting_head m) _ h in
-      let here : m.gone ≡ false = not-true m.gone (and_left (not m.gone) _ (and_right m.attached _ waits)) in
-      let p = some_there (is_of_some t hs) m.parent
-      (and_right ((unit_at us m.key.slot).unready == 0) _ (and_right (is_waiting_head m) _ h)) in
-      let q = node_there (λ (x : Node). list_any (same_key x.head) hs) (node_at t p.0) p.2 in
-      let x = left_node nodes p.0 (left_parent nodes whole.rooted m p.0 on here p.1) in
-      let same : q.0 ≡ x.node = one_node q.0 x.node (sym q.1 ∙ (ap (node_at t) (sym x.is) ∙ at x.node x.on)) in
-      let own : list_any (same_key x.node.head) hs ≡ true = ap (λ (y : Node). list_any (same_key y.head) hs) (sym same) ∙ q.2 in
-      let above : is_below nodes k p.0 ≡ true =
-      subst (λ (j : NodeKey). is_below nodes k j ≡ true) x.is
-      (units_below t ss kept s found us counts k due hs follows x.node x.on x.here own) in
-      inside m on here
-      (below_parent nodes whole.sound.distinct whole.sound.heads whole.rooted whole.united k m on here p.0 p.1 above)
 
   module _ (clear : list_any (bars_at t us s.id hs) ks ≡ false) where
     -- what is found by the keys doesn't bar
@@ -122,7 +77,7 @@ module _ (t : Table Node) (ss : List Shelf) (kept : IsStored t ss) (s : Shelf) (
         let on : In m.0 nodes = in_looked t kept.named (Going.Leaves k) s.keys m.0 is listed in
         both_ways (is_left_out t us hs m.0) m.2
         (or_none_right (not (m.0.collection == s.id)) (is_left_out t us hs m.0)
-        (free m.0 is (hangs_inside m.0 on (and_left (hangs_below t us hs m.0) _ m.2)))))
+        (free m.0 is (hangs_inside t ss kept s found us counts k due hs ks gathered m.0 on (and_left (hangs_below t us hs m.0) _ m.2)))))
 
     -- ---- what the units ask for
 
@@ -141,7 +96,7 @@ module _ (t : Table Node) (ss : List Shelf) (kept : IsStored t ss) (s : Shelf) (
           ap (sum_by (λ (d : Demand). d.camping)) below_asks
           ∙ (camped_sum (is_in_some hs) (map (written after) (nodes_with t ks))
           ∙ (amount_map (camped_if (is_in_some hs)) (written after) (nodes_with t ks)
-          ∙ (amount_within t nodes whole.sound.distinct at kept.named (λ n. camped_if (is_in_some hs) (written after n)) ks taken.once
+          ∙ (amount_within t nodes whole.sound.distinct at kept.named (λ n. camped_if (is_in_some hs) (written after n)) ks gathered.walked.once
           within
           (λ n on out. none n (outside n on out))
           ∙ (sym (amount_map (camped_if (is_in_some hs)) (written after) nodes)
@@ -213,7 +168,8 @@ module _ (t : Table Node) (ss : List Shelf) (kept : IsStored t ss) (s : Shelf) (
                 let on : In n nodes = in_looked t kept.named (Going.Leaves k) s.keys n is e in
                 let apart : list_any (same_key n.head) hs ≡ false = false_if (list_any (same_key n.head) hs) (λ own.
                 both_ways (list_any (same_key n.key) ks)
-                (of_unit n on (unitwide t ss kept s found us counts k due hs follows n on own).1 own) h) in
+                (of_unit t ss kept s found us counts k due hs ks gathered n on
+                (unitwide t ss kept s found k due hs (follows t ss kept s found us counts k due hs ks gathered) n on own).1 own) h) in
                 given_out hs ks n h ∙ (other n apart ∙ sym (given_in hs s.keys n e))
           ]
           | inr e ↦

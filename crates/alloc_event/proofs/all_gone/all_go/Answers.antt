@@ -10,7 +10,7 @@ use Rattle.alloc_event.specs.Counts.{HaveUnits}
 use Rattle.alloc_event.specs.Falling.{gone_by, may_all}
 use Rattle.alloc_event.specs.Forest.{beside}
 use Rattle.alloc_event.specs.Kept.{Stores, all_of, forest_of, nodes_with, place_in, shelves_of}
-use Rattle.alloc_event.proofs.changes.AllGone.{IsEmptied, counted_all, finishes_all, pages_all, pages_at, stored_all, tidy_now, units_all}
+use Rattle.alloc_event.proofs.changes.AllGone.{IsEmptied, outcome_all, pages_at, tidy_now, units_all}
 use Rattle.alloc_event.proofs.failures.Written.{gone_named}
 use Rattle.alloc_event.proofs.shelves.Entries.{place_is}
 use Rattle.alloc_event.proofs.all_gone.all_go.Goals as goal
@@ -26,16 +26,17 @@ send_home-requires c =
     let t = c.args.table.now in
     let told : place_in c.args.id c.args.entries.now.items ≡ Some c.in-Some.at =
     sym (rw c.deref.ensures.value at c.place_of.ensures) ∙ c.in-Some.is in
-    let own : all_of c.args.id (nodes_with t c.args.keys.now) ≡ true = sym c.survey-found.ensures.own ∙ not-false _ c.if-not-found.false in
+    let own : all_of c.args.id (nodes_with t c.args.keys.now) ≡ true = sym c.survey-found.ensures.own ∙ not-false _ c.if-not-found.false
+    in
     let so : may_all c.args.going.now c.args.origin (nodes_with t c.args.keys.now) ≡ true =
     sym (c.may_all.ensures (nodes_with t c.args.keys.now) c.survey-found.ensures.stays) ∙ c.if-not-may_all.false in
     let stores : Stores t c.go_all-over.new.table (map (gone_by c.args.going.now) (nodes_with t c.args.keys.now)) =
     c.go_all-over.ensures.stores in (
       beside (forest_of t (shelves_of c.args.entries.now.items)) c.index_mut-entry.result.now.id,
       pages_at (total c.args.holds.now) t c.args.entries.now.items c.args.id c.in-Some.at c.index_mut-entry.result.now told
-          c.index_mut-entry.ensures.value c.requires.kept c.requires.counted c.args.units.now.items c.requires.units c.args.going.now
-          c.requires.change c.args.origin c.args.keys.now c.requires.taken own c.requires.root so c.requires.failing
-          c.go_all-over.new.table stores c.args.pool.now.held
+          c.index_mut-entry.ensures.value c.requires.ready.kept c.requires.ready.counted c.args.units.now.items c.requires.ready.units
+          c.args.going.now c.requires.ready.change c.args.origin c.args.keys.now c.requires.taken own c.requires.root so
+          c.requires.failing c.go_all-over.new.table stores c.args.pool.now.held
           c.part.ensures c.requires.pool,
     )
 
@@ -83,56 +84,34 @@ module _ (c : goal.After-part-2) where
     held = c.send_home.ensures.held;
     strong = refl;
     reserved = refl;
-    tidy = tidy_now (total c.args.holds.now) t es c.args.id c.in-Some.at old told c.index_mut-entry.ensures.value c.requires.kept
-        c.requires.counted c.args.units.now.items c.requires.units c.args.going.now c.requires.change c.args.origin c.args.keys.now
-        c.requires.taken own
+    tidy = tidy_now (total c.args.holds.now) t es c.args.id c.in-Some.at old told c.index_mut-entry.ensures.value c.requires.ready.kept
+        c.requires.ready.counted c.args.units.now.items c.requires.ready.units c.args.going.now c.requires.ready.change c.args.origin
+        c.args.keys.now c.requires.taken own
         c.requires.root so c.requires.failing c.go_all-over.new.table stores c.note_gone-tidy.result.0 c.note_gone-tidy.result.1
         c.note_gone-tidy.ensures.tidy
         c.note_gone-tidy.ensures.one
         (λ h. c.note_gone-tidy.ensures.over h (map (gone_by c.args.going.now) (nodes_with t c.args.keys.now))
-        c.go_all-over.ensures.over (gone_named t c.requires.kept.named c.args.going.now c.args.keys.now));
+        c.go_all-over.ensures.over (gone_named t c.requires.ready.kept.named c.args.going.now c.args.keys.now));
   }
-
-pub returns-clause-ok : goal.returns-clause-ok
-returns-clause-ok c h =
-    finishes_all (total c.args.holds.now) (t c) (es c) c.args.id c.in-Some.at (old c) (told c) c.index_mut-entry.ensures.value
-    c.requires.kept c.requires.counted c.args.units.now.items c.requires.units c.args.going.now c.requires.change c.args.origin
-    c.args.keys.now
-    c.requires.taken (own c) c.requires.root (so c) c.requires.failing c.go_all-over.new.table (stores c) (new c) (emptied c)
-    c.args.pool.now.size
-
-pub returns-clause-kept : goal.returns-clause-kept
-returns-clause-kept c h =
-    stored_all (total c.args.holds.now) (t c) (es c) c.args.id c.in-Some.at (old c) (told c) c.index_mut-entry.ensures.value
-    c.requires.kept c.requires.counted c.args.units.now.items c.requires.units c.args.going.now c.requires.change c.args.origin
-    c.args.keys.now
-    c.requires.taken (own c) c.requires.root (so c) c.requires.failing c.go_all-over.new.table (stores c) (new c) (emptied c)
-
-pub returns-clause-counted : goal.returns-clause-counted
-returns-clause-counted c h =
-    counted_all (total c.args.holds.now) (t c) (es c) c.args.id c.in-Some.at (old c) (told c) c.index_mut-entry.ensures.value
-    c.requires.kept c.requires.counted c.args.units.now.items c.requires.units c.args.going.now c.requires.change c.args.origin
-    c.args.keys.now
-    c.requires.taken (own c) c.requires.root (so c) c.requires.failing c.go_all-over.new.table (stores c) (new c) (emptied c)
 
 pub returns-clause-units : goal.returns-clause-units
 returns-clause-units c =
     subst (λ (us : List Unit). HaveUnits us c.go_all-over.new.table (set (es c) c.in-Some.at (new c))) (sym c.untally.ensures)
     (units_all (total c.args.holds.now) (t c) (es c) c.args.id c.in-Some.at (old c) (told c) c.index_mut-entry.ensures.value
-    c.requires.kept c.requires.counted c.args.units.now.items c.requires.units c.args.going.now c.requires.change c.args.origin
-    c.args.keys.now
+    c.requires.ready.kept c.requires.ready.counted c.args.units.now.items c.requires.ready.units c.args.going.now c.requires.ready.change
+    c.args.origin c.args.keys.now
     c.requires.taken (own c) c.requires.root (so c) c.requires.failing c.go_all-over.new.table (stores c) (new c) (emptied c))
 
-pub returns-clause-pool : goal.returns-clause-pool
-returns-clause-pool c h =
+pub returns-clause-outcome : goal.returns-clause-outcome
+returns-clause-outcome c =
     let before =
-    pages_at (total c.args.holds.now) (t c) (es c) c.args.id c.in-Some.at (old c) (told c) c.index_mut-entry.ensures.value c.requires.kept
-    c.requires.counted c.args.units.now.items c.requires.units c.args.going.now c.requires.change c.args.origin c.args.keys.now
-    c.requires.taken (own c)
-    c.requires.root (so c) c.requires.failing c.go_all-over.new.table (stores c) c.args.pool.now.held c.part.ensures c.requires.pool in
-    pages_all (total c.args.holds.now) (t c) (es c) c.args.id c.in-Some.at (old c) (told c) c.index_mut-entry.ensures.value
-    c.requires.kept c.requires.counted c.args.units.now.items c.requires.units c.args.going.now c.requires.change c.args.origin
-    c.args.keys.now
-    c.requires.taken (own c) c.requires.root (so c) c.requires.failing c.go_all-over.new.table (stores c) (new c) (emptied c)
-    c.send_home.new.pool.held c.part-2.ensures
+    pages_at (total c.args.holds.now) (t c) (es c) c.args.id c.in-Some.at (old c) (told c) c.index_mut-entry.ensures.value
+    c.requires.ready.kept c.requires.ready.counted c.args.units.now.items c.requires.ready.units c.args.going.now
+    c.requires.ready.change c.args.origin c.args.keys.now c.requires.taken (own c) c.requires.root (so c) c.requires.failing
+    c.go_all-over.new.table (stores c) c.args.pool.now.held c.part.ensures c.requires.pool in
+    outcome_all (total c.args.holds.now) (t c) (es c) c.args.id c.in-Some.at (old c) (told c) c.index_mut-entry.ensures.value
+    c.requires.ready.kept c.requires.ready.counted c.args.units.now.items c.requires.ready.units c.args.going.now
+    c.requires.ready.change c.args.origin c.args.keys.now c.requires.taken (own c) c.requires.root (so c) c.requires.failing
+    c.go_all-over.new.table (stores c) (new c) (emptied c) c.args.pool.now c.send_home.new.pool c.part-2.ensures
     (c.send_home.ensures.pool (beside (forest_of (t c) (shelves_of (es c))) c.index_mut-entry.result.now.id) before)
+    c.send_home.ensures.size

@@ -1,8 +1,11 @@
+-- Where the first did nothing, the second begins as it did.
+use Rattle.alloc_event.proofs.Outcomes.{later, still_ready}
 use Rattle.alloc_event.proofs.by_counts.make_or_refuse.Goals as goal
 
--- where the first did nothing, the second begins as it did
-pub returns-clause-ok : goal.returns-clause-ok
-returns-clause-ok c =
-    let same = c.make_effect.ensures.no_table c.if-make_effect.false in
-    let entries = c.make_effect.ensures.no_entries c.if-make_effect.false in
-    rw (same, entries) at c.refuse_in_place.ensures.ok
+pub refuse_in_place-requires : goal.refuse_in_place-requires
+refuse_in_place-requires c =
+    still_ready (c.make_effect.ensures.outcome.unchanged c.if-make_effect.false) c.requires c.make_effect.ensures.units
+
+pub returns-clause-outcome : goal.returns-clause-outcome
+returns-clause-outcome c =
+    later (c.make_effect.ensures.outcome.unchanged c.if-make_effect.false) c.refuse_in_place.ensures.outcome

@@ -1,19 +1,24 @@
 -- Where no unit ends by a release the buffers stay.
-use Rattle.alloc_event.specs.Kept.{shelves_of}
-use Rattle.alloc_event.proofs.intervals.Pools.{pool_stays}
+use Rattle.std.proofs.Common.{refl}
+use Rattle.alloc_event.proofs.Outcomes.{in_pool, later_in, still_ready, unmade}
 use Rattle.alloc_event.proofs.by_counts.settle_effect.Goals as goal
 
-pub returns-then-branch-clause-ok : goal.returns-then-branch-clause-ok
-returns-then-branch-clause-ok c is = c.in_ok-make_or_refuse.ensures.ok c.if-branch.true c.args.pool.now.size
+pub returns-in_err-make_or_refuse-clause-outcome : goal.returns-in_err-make_or_refuse-clause-outcome
+returns-in_err-make_or_refuse-clause-outcome c =
+    rw (unmade c.from_residual.result c.from_residual.ensures.0)
+    (in_pool {pool = c.args.pool.now} c.requires.pool c.in_err-make_or_refuse.ensures.outcome)
 
-pub returns-then-branch-clause-pool : goal.returns-then-branch-clause-pool
-returns-then-branch-clause-pool c is =
-    pool_stays c.args.pool.now.held c.args.table.now c.make_or_refuse.new.table (shelves_of c.args.entries.now.items)
-    (shelves_of c.make_or_refuse.new.entries.items) c.make_or_refuse.ensures.shelves c.requires.pool
+pub returns-then-branch-clause-outcome : goal.returns-then-branch-clause-outcome
+returns-then-branch-clause-outcome c =
+    in_pool c.requires.pool (rw c.if-branch.true at c.in_ok-make_or_refuse.ensures.outcome)
 
 -- where the first did nothing, the second begins as it did
-pub returns-in-Released-clause-ok : goal.returns-in-Released-clause-ok
-returns-in-Released-clause-ok c =
-    let same = c.in_ok-make_or_refuse.ensures.no_table c.if-branch.false in
-    let entries = c.in_ok-make_or_refuse.ensures.no_entries c.if-branch.false in
-    rw (same, entries, ← c.in-Released.is) at c.leave_in_place.ensures.ok
+pub leave_in_place-requires-clause-ready : goal.leave_in_place-requires-clause-ready
+leave_in_place-requires-clause-ready c =
+    rw c.in-Released.is at (still_ready (c.in_ok-make_or_refuse.ensures.outcome.unchanged c.if-branch.false) c.requires.ready
+    c.make_or_refuse.ensures.units)
+
+pub returns-in-Released-clause-outcome : goal.returns-in-Released-clause-outcome
+returns-in-Released-clause-outcome c =
+    later_in (c.in_ok-make_or_refuse.ensures.outcome.unchanged c.if-branch.false) refl
+    (rw (← c.in-Released.is) at c.leave_in_place.ensures.outcome)

@@ -17,5 +17,5 @@ fall_into-requires c =
     let t = c.args.table.now in
     let test : Node → Bool = λ n. n.collection == c.args.id && not n.gone in
     row_there t c.args.fault.origin (some_if test (node_at t c.args.fault.origin)
-    (ap (λ (o : Option Node). option_map_or test o false) (sym (node_is t (shelves_of c.args.entries.now.items) c.requires.kept
-    c.args.fault.origin)) ∙ c.requires.change.named))
+    (ap (λ (o : Option Node). option_map_or test o false) (sym (node_is t (shelves_of c.args.entries.now.items) c.requires.ready.kept
+    c.args.fault.origin)) ∙ c.requires.ready.change.named))

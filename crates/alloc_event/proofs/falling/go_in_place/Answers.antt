@@ -9,14 +9,13 @@ use Rattle.alloc_event.specs.declared.units.Unit.{Unit}
 use Rattle.alloc_event.specs.Counts.{AreUnits}
 use Rattle.alloc_event.specs.Falling.{IsLost, change_of, gone_by}
 use Rattle.alloc_event.specs.InPlace.{IsOpen}
-use Rattle.alloc_event.specs.Kept.{Finishes, Shelf, all_of, collection_in, nodes_with, place_in, shelf_of, shelves_of, forest_of}
+use Rattle.alloc_event.specs.Kept.{Shelf, all_of, collection_in, nodes_with, place_in, shelf_of, shelves_of}
 use Rattle.sm_names.specs.declared.keys.NodeKey.{NodeKey}
 use Rattle.alloc_event.specs.Calm.{over_but}
 use Rattle.alloc_event.specs.Reserved.{reserved_count}
 use Rattle.alloc_event.specs.Resting.{is_kept_by}
 use Rattle.alloc_event.proofs.leaving.Noted.{fewer_over}
-use Rattle.alloc_event.specs.Settling.{changed, collection_or_new, no_key}
-use Rattle.alloc_event.proofs.changes.Done.{counted_at, few_at, finishes_at, opens_at, own_id, reserved_at, shelves_at, tidy_at}
+use Rattle.alloc_event.proofs.changes.Done.{few_at, opens_at, outcome_at, own_id, reserved_at, shelves_at, tidy_at}
 use Rattle.alloc_event.proofs.failures.Written.{gone_named}
 use Rattle.alloc_event.proofs.shelves.Entries.{IsPlace, place_is}
 use Rattle.alloc_event.proofs.falling.go_in_place.Goals as goal
@@ -50,8 +49,8 @@ fell-requires-clause-few c =
     let told : place_in c.args.id c.args.entries.now.items ≡ Some c.in-Some.at =
     sym (rw c.deref.ensures.value at c.place_of.ensures) ∙ c.in-Some.is in
     few_at c.args.table.now c.args.entries.now.items c.args.id c.in-Some.at c.index.result.now
-    (place_is c.args.id c.args.entries.now.items c.in-Some.at told) c.index.ensures c.requires.kept c.requires.counted
-    c.args.units.now.items c.requires.units (change_of c.args.going.now) c.requires.change
+    (place_is c.args.id c.args.entries.now.items c.in-Some.at told) c.index.ensures c.requires.ready.kept c.requires.ready.counted
+    c.args.units.now.items c.requires.ready.units (change_of c.args.going.now) c.requires.ready.change
 
 pub fell-requires-clause-own : goal.fell-requires-clause-own
 fell-requires-clause-own c =
@@ -59,7 +58,8 @@ fell-requires-clause-own c =
     let told : place_in c.args.id es ≡ Some c.in-Some.at = sym (rw c.deref.ensures.value at c.place_of.ensures) ∙ c.in-Some.is in
     let own : c.index.result.now.id ≡ c.args.id =
     own_id c.args.table.now es c.args.id c.in-Some.at c.index.result.now (place_is c.args.id es c.in-Some.at told) c.index.ensures
-    c.requires.kept c.requires.counted c.args.units.now.items c.requires.units (change_of c.args.going.now) c.requires.change in
+    c.requires.ready.kept c.requires.ready.counted c.args.units.now.items c.requires.ready.units (change_of c.args.going.now)
+    c.requires.ready.change in
     c.survey-found.ensures.own
     ∙ ap (λ (i : ℕ). all_of i (nodes_with c.args.table.now c.args.keys.now)) (sym own)
 
@@ -72,11 +72,11 @@ recount-requires-clause-others c =
     let told : place_in c.args.id es ≡ Some c.in-Some.at = sym (rw c.deref.ensures.value at c.place_of.ensures) ∙ c.in-Some.is in
     let place : IsPlace c.args.id es c.in-Some.at = place_is c.args.id es c.in-Some.at told in
     let opens : IsOpen c.args.table.now us (shelves_of es) (shelf_of old) loss old.strong =
-    opens_at c.args.table.now es c.args.id c.in-Some.at old place c.index.ensures c.requires.kept c.requires.counted us c.requires.units
-    loss c.requires.change in
+    opens_at c.args.table.now es c.args.id c.in-Some.at old place c.index.ensures c.requires.ready.kept c.requires.ready.counted us
+    c.requires.ready.units loss c.requires.ready.change in
     let own : old.id ≡ c.args.id =
-    own_id c.args.table.now es c.args.id c.in-Some.at old place c.index.ensures c.requires.kept c.requires.counted us c.requires.units loss
-    c.requires.change in
+    own_id c.args.table.now es c.args.id c.in-Some.at old place c.index.ensures c.requires.ready.kept c.requires.ready.counted us
+    c.requires.ready.units loss c.requires.ready.change in
     rw (c.deref-in_default-fell.ensures.value, c.fell.ensures.none c.in_default-fell.is)
     (rw own at (c.fell.ensures.none_units c.in_default-fell.is (shelves_of es) (shelf_of old) opens refl))
 
@@ -125,12 +125,12 @@ module _ (c : goal.After-entries-1) where
   thrice = c.index-3.ensures ∙ get_or_default es c.in-Some.at c.index-3.result.now old place.within ∙ sym is
 
   opens : IsOpen c.args.table.now us (shelves_of es) (shelf_of old) loss old.strong
-  opens = opens_at c.args.table.now es c.args.id c.in-Some.at old place is c.requires.kept c.requires.counted us c.requires.units loss
-      c.requires.change
+  opens = opens_at c.args.table.now es c.args.id c.in-Some.at old place is c.requires.ready.kept c.requires.ready.counted us
+      c.requires.ready.units loss c.requires.ready.change
 
   own : old.id ≡ c.args.id
-  own = own_id c.args.table.now es c.args.id c.in-Some.at old place is c.requires.kept c.requires.counted us c.requires.units loss
-      c.requires.change
+  own = own_id c.args.table.now es c.args.id c.in-Some.at old place is c.requires.ready.kept c.requires.ready.counted us
+      c.requires.ready.units loss c.requires.ready.change
 
   lost : IsLost c.args.table.now c.fell.new.table c.fell.new.units.items (shelves_of es) (shelf_of old) loss c.in-Some-fell.left
       (map (gone_by c.args.going.now) (nodes_with c.args.table.now c.args.keys.now))
@@ -141,11 +141,12 @@ module _ (c : goal.After-entries-1) where
   tidies : new.tidy ≡ true → list_any (over_but new.one) (nodes_with c.fell.new.table old.keys.items) ≡ false
   tidies h =
       let was : list_any (over_but old.one) (nodes_with c.args.table.now old.keys.items) ≡ false =
-      tidy_at c.args.table.now es c.args.id c.in-Some.at old place is c.requires.kept c.requires.counted us c.requires.units loss
-      c.requires.change
+      tidy_at c.args.table.now es c.args.id c.in-Some.at old place is c.requires.ready.kept c.requires.ready.counted us
+      c.requires.ready.units loss c.requires.ready.change
       (ap (λ (x : Entry). x.tidy) (sym twice) ∙ c.note_gone-tidy.ensures.tidy h) in
-      lost.over (over_but new.one) (c.note_gone-tidy.ensures.over h (map (gone_by c.args.going.now) (nodes_with c.args.table.now c.args.keys.now))
-      c.in-Some-fell.ensures.over (gone_named c.args.table.now c.requires.kept.named c.args.going.now c.args.keys.now)) (elim (c.note_gone-tidy.ensures.one h) [
+      lost.over (over_but new.one) (c.note_gone-tidy.ensures.over h (map (gone_by c.args.going.now)
+      (nodes_with c.args.table.now c.args.keys.now)) c.in-Some-fell.ensures.over
+      (gone_named c.args.table.now c.requires.ready.kept.named c.args.going.now c.args.keys.now)) (elim (c.note_gone-tidy.ensures.one h) [
         | inl same ↦ ap (λ (o : Option NodeKey). list_any (over_but o) (nodes_with c.args.table.now old.keys.items)) (same
             ∙ ap (λ (x : Entry). x.one) thrice) ∙ was
         | inr none ↦
@@ -158,44 +159,24 @@ module _ (c : goal.After-entries-1) where
   reserved_now = c.without-entry.ensures (reserved_count (nodes_with c.fell.new.table old.keys.items))
       (ap (λ (x : ℕ). reserved_count (nodes_with c.fell.new.table old.keys.items) + x) c.survey-found.ensures.reserved
       ∙ (c.in-Some-fell.ensures.reserved (shelves_of es) (shelf_of old) opens refl
-      ∙ (sym (reserved_at c.args.table.now es c.args.id c.in-Some.at old place is c.requires.kept c.requires.counted us c.requires.units
-      loss c.requires.change)
+      ∙ (sym (reserved_at c.args.table.now es c.args.id c.in-Some.at old place is c.requires.ready.kept c.requires.ready.counted us
+      c.requires.ready.units loss c.requires.ready.change)
       ∙ sym (ap (λ (x : Entry). x.reserved) again))))
 
   same_shelves : shelves_of (set es c.in-Some.at new) ≡ shelves_of es
-  same_shelves = shelves_at c.args.table.now es c.args.id c.in-Some.at old place is c.requires.kept c.requires.counted us c.requires.units
-      loss c.requires.change
+  same_shelves = shelves_at c.args.table.now es c.args.id c.in-Some.at old place is c.requires.ready.kept c.requires.ready.counted us
+      c.requires.ready.units loss c.requires.ready.change
       c.fell.new.table c.fell.new.units.items c.in-Some-fell.left lost.done new (ap shelf_of again) refl tidies
 
   rests : is_kept_by (total c.args.holds.now) c.args.table.now (shelf_of old) c.in-Some-fell.left ≡ true
   rests = c.in-Some-fell.ensures.rests
 
-pub returns-clause-ok : goal.returns-clause-ok
-returns-clause-ok c h pool =
-    subst (λ (ss : List Shelf). Finishes pool (total c.args.holds.now) c.args.table.now (shelves_of c.args.entries.now.items)
-    c.fell.new.table ss
-    (changed (loss c) no_key (collection_or_new (forest_of c.args.table.now (shelves_of c.args.entries.now.items)) c.args.id)))
-    (sym (same_shelves c))
-    (finishes_at c.args.table.now c.args.entries.now.items c.args.id c.in-Some.at (old c) (place c) (is c) c.requires.kept
-    c.requires.counted (us c) c.requires.units (loss c) c.requires.change
-    c.fell.new.table c.fell.new.units.items c.in-Some-fell.left (lost c).done (new c) (ap shelf_of (again c)) refl (tidies c) pool
-    (total c.args.holds.now) (rests c))
-
-pub returns-clause-shelves : goal.returns-clause-shelves
-returns-clause-shelves c = same_shelves c
-
-pub returns-clause-kept : goal.returns-clause-kept
-returns-clause-kept c h = (lost c).done.kept
-
-pub returns-clause-counted : goal.returns-clause-counted
-returns-clause-counted c h =
-    counted_at c.args.table.now c.args.entries.now.items c.args.id c.in-Some.at (old c) (place c) (is c) c.requires.kept c.requires.counted
-    (us c) c.requires.units (loss c) c.requires.change
-    c.fell.new.table c.fell.new.units.items c.in-Some-fell.left (lost c).done (new c) (ap shelf_of (again c)) refl (tidies c) (told c)
-    (reserved_now c)
-
-pub returns-clause-same : goal.returns-clause-same
-returns-clause-same c = (lost c).done.same
+pub returns-clause-outcome : goal.returns-clause-outcome
+returns-clause-outcome c =
+    outcome_at c.args.table.now c.args.entries.now.items c.args.id c.in-Some.at (old c) (place c) (is c) c.requires.ready.kept
+    c.requires.ready.counted (us c) c.requires.ready.units (loss c) c.requires.ready.change
+    c.fell.new.table c.fell.new.units.items c.in-Some-fell.left (lost c).done (new c) (ap shelf_of (again c)) refl (tidies c)
+    (total c.args.holds.now) (rests c) (told c) (reserved_now c)
 
 pub returns-clause-units : goal.returns-clause-units
 returns-clause-units c = subst (λ (ss : List Shelf). AreUnits c.fell.new.units.items (map (collection_in c.fell.new.table) ss))

@@ -15,7 +15,7 @@ use Rattle.alloc_event.specs.First.{IsFirst, IsLaid}
 use Rattle.alloc_event.specs.Kept.{place_in, shelf_of, shelves_of}
 use Rattle.alloc_event.specs.Serving.{IsServedAt}
 use Rattle.alloc_event.proofs.changes.Altering.{same_affected, tracker_room}
-use Rattle.alloc_event.proofs.changes.FirstAllocated.{counted_first, finishes_first, head_is, pool_first, stored_first, units_first}
+use Rattle.alloc_event.proofs.changes.FirstAllocated.{head_is, outcome_first, units_first}
 use Rattle.alloc_event.proofs.shelves.Entries.{IsPlace, place_is}
 use Rattle.alloc_event.proofs.first.allocate_first.Goals as goal
 
@@ -33,9 +33,9 @@ index_mut-entry-requires c =
 
 pub planned-requires : goal.planned-requires
 planned-requires c = record {
-  room = λ at n found. tracker_room c.args.table.now (shelves_of c.args.entries.now.items) c.requires.kept c.args.key
+  room = λ at n found. tracker_room c.args.table.now (shelves_of c.args.entries.now.items) c.requires.ready.kept c.args.key
       c.args.effect.now
-      (λ m e there. c.requires.change.trackers c.args.key m (ap (Change.Effect c.args.key) e) there) at n found;
+      (λ m e there. c.requires.ready.change.trackers c.args.key m (ap (Change.Effect c.args.key) e) there) at n found;
 }
 
 pub serve-requires-clause-there : goal.serve-requires-clause-there
@@ -45,7 +45,7 @@ serve-requires-clause-there c =
     c.index-entry.result.now.strong c.in-Some-planned.plan = rw c.deref-2.ensures.value at c.in-Some-planned.ensures in
     let own : c.in-Some-planned.plan.after.key ≡ c.args.key =
     ap (λ (m : Node). m.key) first.after_is ∙ (same_affected c.args.key c.args.effect.now first.node).key
-    ∙ c.requires.kept.named c.args.key first.node first.was in
+    ∙ c.requires.ready.kept.named c.args.key first.node first.was in
     ap is_some (ap (node_at t) own ∙ first.was)
 
 -- the entry at its place
@@ -110,37 +110,20 @@ module _ (c : goal.After-drop-entry) where
   }
   shelf = λ i. record { id = (again i).id; keys = (again i).keys.items; buffers = Some plan.wants; held = held }
 
-pub returns-clause-ok : goal.returns-clause-ok
-returns-clause-ok c h handles =
-    finishes_first handles (t c) (es c) c.args.id c.in-Some.at (old c) (told c) c.index-entry.ensures c.requires.kept c.requires.counted
-    (us c) c.requires.units c.args.key c.args.effect.now c.requires.change (plan c) (first c) (held c) c.serve.new.table (served c)
-    c.args.pool.now c.lay_in.new.pool (laid c) c.part.ensures c.requires.pool (new c) (shelf c)
-
-pub returns-clause-kept : goal.returns-clause-kept
-returns-clause-kept c h =
-    stored_first (λ b s. 0) (t c) (es c) c.args.id c.in-Some.at (old c) (told c) c.index-entry.ensures c.requires.kept c.requires.counted
-    (us c) c.requires.units c.args.key c.args.effect.now c.requires.change (plan c) (first c) (held c) c.serve.new.table (served c)
-    (new c) (shelf c)
-
-pub returns-clause-counted : goal.returns-clause-counted
-returns-clause-counted c h =
-    counted_first (λ b s. 0) (t c) (es c) c.args.id c.in-Some.at (old c) (told c) c.index-entry.ensures c.requires.kept c.requires.counted
-    (us c) c.requires.units c.args.key c.args.effect.now c.requires.change (plan c) (first c) (held c) c.serve.new.table (served c)
-    (new c) (shelf c) refl refl (ap (λ (e : Entry). e.tidy) (again c)) (ap (λ (e : Entry). e.one) (again c))
-
 pub returns-clause-units : goal.returns-clause-units
 returns-clause-units c =
-    let slot = head_is (λ b s. 0) (t c) (es c) c.args.id c.in-Some.at (old c) (told c) c.index-entry.ensures c.requires.kept
-    c.requires.counted (us c) c.requires.units c.args.key c.args.effect.now c.requires.change (plan c) (first c) (held c)
-    c.serve.new.table (served c) in
+    let slot = head_is (λ b s. 0) (t c) (es c) c.args.id c.in-Some.at (old c) (told c) c.index-entry.ensures c.requires.ready.kept
+    c.requires.ready.counted (us c) c.requires.ready.units c.args.key c.args.effect.now c.requires.ready.change (plan c) (first c)
+    (held c) c.serve.new.table (served c) in
     subst (λ (l : List Unit). HaveUnits l c.serve.new.table (set (es c) c.in-Some.at (new c)))
     (sym (c.put_unit.ensures ∙ ap (λ (k : NodeKey). set (us c) k.slot c.in-Some-planned.plan.next) slot))
-    (units_first (λ b s. 0) (t c) (es c) c.args.id c.in-Some.at (old c) (told c) c.index-entry.ensures c.requires.kept
-    c.requires.counted (us c) c.requires.units c.args.key c.args.effect.now c.requires.change (plan c) (first c) (held c)
-    c.serve.new.table (served c) (new c) (shelf c))
+    (units_first (λ b s. 0) (t c) (es c) c.args.id c.in-Some.at (old c) (told c) c.index-entry.ensures c.requires.ready.kept
+    c.requires.ready.counted (us c) c.requires.ready.units c.args.key c.args.effect.now c.requires.ready.change (plan c) (first c)
+    (held c) c.serve.new.table (served c) (new c) (shelf c))
 
-pub returns-clause-pool : goal.returns-clause-pool
-returns-clause-pool c h =
-    pool_first (λ b s. 0) (t c) (es c) c.args.id c.in-Some.at (old c) (told c) c.index-entry.ensures c.requires.kept c.requires.counted
-    (us c) c.requires.units c.args.key c.args.effect.now c.requires.change (plan c) (first c) (held c) c.serve.new.table (served c)
-    c.args.pool.now c.lay_in.new.pool (laid c) c.part.ensures c.requires.pool (new c) (shelf c) c.part-2.ensures
+pub returns-clause-outcome : goal.returns-clause-outcome
+returns-clause-outcome c handles =
+    outcome_first handles (t c) (es c) c.args.id c.in-Some.at (old c) (told c) c.index-entry.ensures c.requires.ready.kept
+    c.requires.ready.counted (us c) c.requires.ready.units c.args.key c.args.effect.now c.requires.ready.change (plan c) (first c)
+    (held c) c.serve.new.table (served c) (new c) (shelf c) c.args.pool.now c.lay_in.new.pool (laid c) c.part.ensures c.requires.pool
+    refl refl (ap (λ (e : Entry). e.tidy) (again c)) (ap (λ (e : Entry). e.one) (again c)) c.part-2.ensures c.lay_in.ensures.size

@@ -7,11 +7,12 @@ use Rattle.alloc_event.specs.declared.change.Change.{Change}
 use Rattle.alloc_event.specs.declared.entry.Entry.{Entry}
 use Rattle.alloc_event.specs.Counts.{AreUnits}
 use Rattle.alloc_event.specs.InPlace.{IsMade, IsOpen}
-use Rattle.alloc_event.specs.Kept.{Finishes, Shelf, collection_in, nodes_with, place_in, shelf_of, shelves_of, forest_of}
+use Rattle.alloc_event.specs.Kept.{Finishes, Shelf, collection_in, nodes_with, place_in, shelf_of, shelves_of}
+use Rattle.alloc_event.specs.Outcomes.{changed_in}
 use Rattle.alloc_event.specs.Calm.{over_but}
 use Rattle.alloc_event.specs.Reserved.{reserved_count}
 use Rattle.alloc_event.specs.Resting.{is_at_rest, is_kept_by, rests_at}
-use Rattle.alloc_event.specs.Settling.{Handles, changed, collection_or_new, no_key}
+use Rattle.alloc_event.specs.Settling.{Handles}
 use Rattle.alloc_event.proofs.changes.Altering.{tracker_room}
 use Rattle.alloc_event.proofs.changes.Done.{counted_at, finishes_at, opens_at, reserved_at, rest_at, shelves_at, tidy_at}
 use Rattle.alloc_event.proofs.shelves.Entries.{IsPlace, place_is}
@@ -106,7 +107,7 @@ pub returns-clause-ok : goal.returns-clause-ok
 returns-clause-ok c h pool handles why =
     subst (λ (ss : List Shelf). Finishes pool handles c.args.table.now (shelves_of c.args.entries.now.items)
     c.change_in_place.new.table ss
-    (changed c.args.change.now no_key (collection_or_new (forest_of c.args.table.now (shelves_of c.args.entries.now.items)) c.args.id)))
+    (changed_in c.args.table.now c.args.entries.now.items c.args.id c.args.change.now))
     (sym (same_shelves c))
     (finishes_at c.args.table.now c.args.entries.now.items c.args.id c.in-Some.at (old c) (place c) (is c) c.requires.kept
     c.requires.counted c.args.units.now.items c.requires.units c.args.change.now c.requires.change
@@ -121,7 +122,8 @@ returns-clause-kept c h = (made c).done.kept
 
 pub returns-clause-counted : goal.returns-clause-counted
 returns-clause-counted c h =
-    counted_at c.args.table.now c.args.entries.now.items c.args.id c.in-Some.at (old c) (place c) (is c) c.requires.kept c.requires.counted
+    counted_at c.args.table.now c.args.entries.now.items c.args.id c.in-Some.at (old c) (place c) (is c) c.requires.kept
+    c.requires.counted
     c.args.units.now.items c.requires.units c.args.change.now c.requires.change
     c.change_in_place.new.table c.change_in_place.new.units.items c.in-Some-change_in_place.left (made c).done (new c)
     (ap shelf_of (again c)) refl (tidies c) (told c) (reserved_now c)

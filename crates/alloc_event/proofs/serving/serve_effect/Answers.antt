@@ -5,7 +5,6 @@ use Rattle.node_table.specs.Table.{node_at}
 use Rattle.alloc_event.specs.declared.change.Change.{Change}
 use Rattle.alloc_event.specs.declared.node.Node.{Node}
 use Rattle.alloc_event.specs.declared.units.Unit.{Unit}
-use Rattle.alloc_event.specs.Falling.{IsTaken}
 use Rattle.alloc_event.specs.Kept.{shelf_of}
 use Rattle.alloc_event.specs.Serving.{AreLess, IsDue, IsServed, IsServing, is_waiting_head}
 use Rattle.alloc_event.proofs.changes.Altering.{same_affected}
@@ -18,8 +17,8 @@ some_if : (p : Node → Bool) (o : Option Node) (b : Bool) → (option_map_or p 
 some_if p None b h = cc
 some_if p (Some n) b h = refl
 
-pub list_below-requires : goal.list_below-requires
-list_below-requires c =
+pub serve_following-requires-clause-head : goal.serve_following-requires-clause-head
+serve_following-requires-clause-head c =
     let t = c.args.table.now in
     let due : IsDue t c.args.entry.now.buffers c.in-Some.node c.in-Some-buffers_due.buffers = c.in-Some-buffers_due.ensures in
     row_there t c.in-Some.node.head (some_if is_waiting_head (node_at t c.in-Some.node.head) _ due.turn)
@@ -40,18 +39,17 @@ returns-clause-some c ss opens sum =
     let us = c.args.units.now.items in
     let after : Node = c.affected_by-after.result in
     let buffers = c.in-Some-buffers_due.buffers in
-    let keys = c.list_below.new.keys.items in
+    let keys = c.serve_following.new.keys.items in
     let reserved = c.in-Some-serve_following.reserved in
     let was : node_at t c.args.key ≡ Some n = sym c.get.ensures ∙ sym c.copied.ensures ∙ c.in-Some.is in
     let due : IsDue t c.args.entry.now.buffers n buffers = c.in-Some-buffers_due.ensures in
     let less : AreLess us c.args.entry.now.strong n after c.in-Some-counts_with.left c.in-Some-counts_with.next =
     rw c.deref.ensures.value at c.in-Some-counts_with.ensures in
-    let taken : IsTaken t n.head keys = c.list_below.ensures c.if-not-list_below.false in
     let serving : IsServing t c.serve_following.new.table keys us c.args.entry.now.id c.args.entry.now.reserved buffers n.head after
     reserved =
-    rw (c.deref-2.ensures.value, c.deref-3.ensures.value) at c.in-Some-serve_following.ensures.some in
+    rw c.deref-2.ensures.value at c.in-Some-serve_following.ensures.some in
     subst (λ (l : List Unit). IsServed t c.serve_following.new.table l ss (shelf_of c.args.entry.now)
     (Change.Effect c.args.key c.args.effect.now) c.in-Some-counts_with.left reserved) (sym c.put_unit.ensures)
     (served_by t c.serve_following.new.table us c.args.key c.args.effect.now n was ss (shelf_of c.args.entry.now)
     c.args.entry.now.strong opens c.in-Some-counts_with.next c.in-Some-counts_with.left after c.affected_by-after.ensures less
-    c.args.entry.now.reserved sum buffers due keys taken reserved serving)
+    c.args.entry.now.reserved sum buffers due keys reserved serving)

@@ -7,14 +7,13 @@ use Rattle.alloc_event.specs.declared.change.Change.{Change}
 use Rattle.alloc_event.specs.declared.entry.Entry.{Entry}
 use Rattle.alloc_event.specs.Counts.{AreUnits}
 use Rattle.alloc_event.specs.InPlace.{IsOpen}
-use Rattle.alloc_event.specs.Kept.{Finishes, Shelf, collection_in, nodes_with, place_in, shelf_of, shelves_of, forest_of}
+use Rattle.alloc_event.specs.Kept.{Shelf, collection_in, nodes_with, place_in, shelf_of, shelves_of}
 use Rattle.alloc_event.specs.Calm.{over_but}
 use Rattle.alloc_event.specs.Reserved.{reserved_count}
 use Rattle.alloc_event.specs.Resting.{is_kept_by}
 use Rattle.alloc_event.specs.Serving.{IsServed}
-use Rattle.alloc_event.specs.Settling.{changed, collection_or_new, no_key}
 use Rattle.alloc_event.proofs.changes.Altering.{tracker_room}
-use Rattle.alloc_event.proofs.changes.Done.{counted_at, few_at, finishes_at, opens_at, reserved_at, shelves_at, tidy_at}
+use Rattle.alloc_event.proofs.changes.Done.{few_at, opens_at, outcome_at, reserved_at, shelves_at, tidy_at}
 use Rattle.alloc_event.proofs.shelves.Entries.{IsPlace, place_is}
 use Rattle.alloc_event.proofs.serving.serve_in_place.Goals as goal
 
@@ -104,33 +103,12 @@ module _ (c : goal.After-entries-1) where
   rests : is_kept_by (total c.args.holds.now) c.args.table.now (shelf_of old) c.in-Some-serve_effect.left ≡ true
   rests = c.in-Some-serve_effect.ensures.rests
 
-pub returns-clause-ok : goal.returns-clause-ok
-returns-clause-ok c h pool =
-    subst (λ (ss : List Shelf). Finishes pool (total c.args.holds.now) c.args.table.now (shelves_of c.args.entries.now.items)
-    c.serve_effect.new.table ss
-    (changed (Change.Effect c.args.key c.args.effect.now) no_key
-    (collection_or_new (forest_of c.args.table.now (shelves_of c.args.entries.now.items)) c.args.id)))
-    (sym (same_shelves c))
-    (finishes_at c.args.table.now c.args.entries.now.items c.args.id c.in-Some.at (old c) (place c) (is c) c.requires.kept
+pub returns-clause-outcome : goal.returns-clause-outcome
+returns-clause-outcome c =
+    outcome_at c.args.table.now c.args.entries.now.items c.args.id c.in-Some.at (old c) (place c) (is c) c.requires.kept
     c.requires.counted c.args.units.now.items c.requires.units (Change.Effect c.args.key c.args.effect.now) c.requires.change
     c.serve_effect.new.table c.serve_effect.new.units.items c.in-Some-serve_effect.left (made c).done (new c)
-    (ap shelf_of (again c)) refl (tidies c) pool (total c.args.holds.now) (rests c))
-
-pub returns-clause-shelves : goal.returns-clause-shelves
-returns-clause-shelves c = same_shelves c
-
-pub returns-clause-kept : goal.returns-clause-kept
-returns-clause-kept c h = (made c).done.kept
-
-pub returns-clause-counted : goal.returns-clause-counted
-returns-clause-counted c h =
-    counted_at c.args.table.now c.args.entries.now.items c.args.id c.in-Some.at (old c) (place c) (is c) c.requires.kept c.requires.counted
-    c.args.units.now.items c.requires.units (Change.Effect c.args.key c.args.effect.now) c.requires.change
-    c.serve_effect.new.table c.serve_effect.new.units.items c.in-Some-serve_effect.left (made c).done (new c)
-    (ap shelf_of (again c)) refl (tidies c) (told c) (reserved_now c)
-
-pub returns-clause-same : goal.returns-clause-same
-returns-clause-same c = (made c).done.same
+    (ap shelf_of (again c)) refl (tidies c) (total c.args.holds.now) (rests c) (told c) (reserved_now c)
 
 pub returns-clause-units : goal.returns-clause-units
 returns-clause-units c =

@@ -1,5 +1,5 @@
 -- What was finished is told of the forest.
-use Rattle.std.proofs.Common.{Some, None, sym, subst}
+use Rattle.std.proofs.Common.{Some, None, refl, sym, subst}
 use Rattle.buffer_holds.specs.Counts.{total}
 use Rattle.alloc_event.specs.declared.change.Change.{Change}
 use Rattle.alloc_event.specs.Forest.{Forest}
@@ -23,13 +23,15 @@ returns-in-Birth-clause-ok c =
 
 pub returns : goal.returns
 returns c =
+    let outcome = c.in_ok-settle_change.ensures.outcome in
+    let made = outcome.settled refl in
     let settled = settled_change c.args.pool.now.size (total c.args.holds.now) c.self.inside.table c.settle_change.new.table
     (shelves_of c.self.inside.entries.items) (shelves_of c.settle_change.new.entries.items) c.self.invariant.kept c.args.collection
-    c.args.change (no_birth c.args.change c.in_default.not-Birth) c.in_ok-settle_change.ensures.ok c.settle_change.ensures.same in
+    c.args.change (no_birth c.args.change c.in_default.not-Birth) made.finishes outcome.same in
     record {
       ok = subst (λ (f : Forest). Settled c.args.pool.now.size (total c.args.holds.now) f (forest_of c.settle_change.new.table
           (shelves_of c.settle_change.new.entries.items)) c.args.collection c.args.change None) c.self.view_is settled;
-      pool = c.in_ok-settle_change.ensures.pool;
-      size = c.settle_change.ensures.size;
+      pool = made.holds;
+      size = outcome.size;
       kept = tt;
     }

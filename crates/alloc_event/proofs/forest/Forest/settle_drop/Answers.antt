@@ -1,19 +1,19 @@
 -- What was finished is told of the forest.
 use Rattle.std.proofs.Common.{None, refl, subst}
-use Rattle.std.proofs.lemmas.Result.{on_ok_weaker}
 use Rattle.buffer_holds.specs.Counts.{total}
 use Rattle.alloc_event.specs.declared.change.Change.{Change}
 use Rattle.alloc_event.specs.Forest.{Forest}
 use Rattle.alloc_event.specs.Kept.{forest_of, shelves_of}
 use Rattle.alloc_event.specs.Settling.{Settled}
+use Rattle.alloc_event.proofs.Outcomes.{on_ok}
 use Rattle.alloc_event.proofs.changes.Tellings.{settled_change}
 use Rattle.alloc_event.proofs.forest.Forest.settle_drop.Goals as goal
 
 pub returns-clause-ok : goal.returns-clause-ok
-returns-clause-ok c = on_ok_weaker c.settle_dropped.result (λ finishes.
+returns-clause-ok c = on_ok c.settle_dropped.result (λ made.
     subst (λ (f : Forest). Settled c.args.pool.now.size (total c.args.holds.now) f (forest_of c.settle_dropped.new.table
     (shelves_of c.settle_dropped.new.entries.items)) c.args.buffer.collection Change.Nothing None) c.self.view_is
     (settled_change c.args.pool.now.size (total c.args.holds.now) c.self.inside.table c.settle_dropped.new.table
     (shelves_of c.self.inside.entries.items) (shelves_of c.settle_dropped.new.entries.items) c.self.invariant.kept
-    c.args.buffer.collection Change.Nothing refl finishes c.settle_dropped.ensures.same))
-    c.settle_dropped.ensures.ok
+    c.args.buffer.collection Change.Nothing refl (c.settle_dropped.ensures.outcome.settled made).finishes
+    c.settle_dropped.ensures.outcome.same))

@@ -1,0 +1,63 @@
+-- How one try to make a change in its place follows another.
+use Rattle.std.proofs.Common.{◌≡◌, ℕ, Bool, true, false, List, Result, Ok, Err, IsErr, OnOk, is_ok, refl}
+use Rattle.buffer_pool.specs.Holdings.{Holdings}
+use Rattle.node_table.specs.Table.{Table}
+use Rattle.alloc_event.specs.declared.change.Change.{Change}
+use Rattle.alloc_event.specs.declared.entry.Entry.{Entry}
+use Rattle.alloc_event.specs.declared.node.Node.{Node}
+use Rattle.alloc_event.specs.declared.units.Unit.{Unit}
+use Rattle.alloc_event.specs.Counts.{HaveUnits}
+use Rattle.alloc_event.specs.Forest.{IsPoolOf}
+use Rattle.alloc_event.specs.Kept.{forest_of, shelves_of}
+use Rattle.alloc_event.specs.Outcomes.{IsOutcome, IsOutcomeIn, IsReady, IsUnchanged, was_made}
+use Rattle.alloc_event.specs.Settling.{Handles}
+use Rattle.alloc_event.proofs.intervals.Pools.{pool_stays}
+
+-- where nothing changed, the change may still be made
+pub still_ready : {t now : Table Node} {es behind : List Entry} {us next : List Unit} {id : ℕ} {change : Change} →
+    IsUnchanged t now es behind → IsReady t es us id change → HaveUnits next now behind → IsReady now behind next id change
+still_ready same ready units = record {
+  kept = rw (same.table, same.entries) ready.kept;
+  counted = rw (same.table, same.entries) ready.counted;
+  units = units;
+  change = rw (same.table, same.entries) ready.change;
+}
+
+-- a pool is left as it is by what needs none
+pub in_pool : {made : Bool} {handles : Handles} {pool : Holdings} {t now : Table Node} {es behind : List Entry} {id : ℕ}
+    {change : Change} → IsPoolOf pool (forest_of t (shelves_of es)) → IsOutcome made handles t now es behind id change →
+    IsOutcomeIn made handles pool pool t now es behind id change
+in_pool {pool = pool} {t = t} {now = now} {es = es} {behind = behind} held outcome = record {
+  settled = λ h. let made = outcome.settled h in record {
+    finishes = made.finishes pool.size;
+    kept = rw made.shelves made.kept;
+    counted = made.counted;
+    holds = pool_stays pool.held t now (shelves_of es) (shelves_of behind) made.shelves held;
+  };
+  unchanged = outcome.unchanged;
+  same_pool = λ h. refl;
+  same = outcome.same;
+  size = refl;
+}
+
+module _ {t now last : Table Node} {es behind final : List Entry} (same : IsUnchanged t now es behind) where
+  -- what comes of the change then comes of it
+  pub later : {made : Bool} {handles : Handles} {id : ℕ} {change : Change} →
+      IsOutcome made handles now last behind final id change → IsOutcome made handles t last es final id change
+  later outcome = rw (same.table, same.entries) at outcome
+
+  -- and where the pool is the same too
+  pub later_in : {made : Bool} {handles : Handles} {pool between after : Holdings} {id : ℕ} {change : Change} → between ≡ pool →
+      IsOutcomeIn made handles between after now last behind final id change →
+      IsOutcomeIn made handles pool after t last es final id change
+  later_in pool outcome = rw (same.table, same.entries, pool) at outcome
+
+-- where it could not be, it was not made
+pub unmade : {E : Type 0} (r : Result Bool E) → IsErr r → was_made r ≡ false
+unmade (Ok made) h = cc
+unmade (Err e) h = refl
+
+-- what an answer tells where it was made
+pub on_ok : {T E : Type 0} {P : Type 0} (r : Result T E) → (is_ok r ≡ true → P) → OnOk r P
+on_ok (Ok x) told = told refl
+on_ok (Err e) told = tt
