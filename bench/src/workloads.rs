@@ -45,6 +45,8 @@ pub const ALL: &[Row] = &[
     sized("b2 wide loss {} /node", FALL, &[10, 100, 1000], trees::wide_loss),
     sized("b3 husks closed {}", SIBLINGS, &[10, 100, 1000], trees::husks),
     sized("b4 attach, close among {}", SIBLINGS, &[10, 100, 900], trees::attach_among),
+    sized("b5 pairs closed among {}", SIBLINGS, &[10, 100, 900], trees::pairs_closed),
+    sized("b6 pairs released among {}", SIBLINGS, &[10, 100, 900], trees::pairs_released),
     sized("c1 chain births {}", SIBLINGS, &[10, 100, 1000], trees::chain_births),
     sized("c2 chain loss {} /node", FALL, &[10, 100, 1000], trees::chain_loss),
     sized("d1 take dup drop x{}", "buffers of a Take", &[1, 4, 64], handles::turns),
