@@ -46,60 +46,52 @@ pub fn husks(n: u32) -> Stream {
     d.end()
 }
 
-/// A root with so many children, allocated.
-fn wide_allocated(d: &mut Driver, n: u32) -> NodeKey {
-    let (r, children) = wide(d, n);
+/// Beside a root with so many children, which are allocated, the same again and again.
+fn among(n: u32, again: fn(&mut Driver, NodeKey)) -> Stream {
+    let mut d = Driver::new(16, FULL);
+    let (r, children) = wide(&mut d, n);
     for x in children {
         d.done(Call::Bind(x));
         d.done(Call::SetConstraints(x, k(0, 0, 1)));
     }
     d.done(Call::Bind(r));
     d.done(Call::SetConstraints(r, k(1, 0, 1)));
-    r
+    d.timed(|d| (0..500).for_each(|_| again(d, r)));
+    d.end()
 }
 
 pub fn attach_among(n: u32) -> Stream {
-    let mut d = Driver::new(16, FULL);
-    let r = wide_allocated(&mut d, n);
-    d.timed(|d| {
-        for _ in 0..500 {
-            let (x, _) = d.token(Call::AttachToken(r));
-            d.done(Call::Close(x));
-        }
-    });
-    d.end()
+    among(n, |d, r| {
+        let (x, _) = d.token(Call::AttachToken(r));
+        d.done(Call::Close(x));
+    })
 }
 
-/// Attached units of two nodes, of which the upper one is closed, and then what is left of the other.
+/// Two nodes of an attached unit.
+fn pair(d: &mut Driver, r: NodeKey) -> (NodeKey, NodeKey) {
+    let (x, _) = d.token(Call::AttachToken(r));
+    let (y, _) = d.token(Call::Duplicate(x));
+    (x, y)
+}
+
+/// The upper one is closed, and then what is left of the other.
 pub fn pairs_closed(n: u32) -> Stream {
-    let mut d = Driver::new(16, FULL);
-    let r = wide_allocated(&mut d, n);
-    d.timed(|d| {
-        for _ in 0..500 {
-            let (x, _) = d.token(Call::AttachToken(r));
-            let (y, _) = d.token(Call::Duplicate(x));
-            d.done(Call::Close(x));
-            d.call(Call::Close(y));
-        }
-    });
-    d.end()
+    among(n, |d, r| {
+        let (x, y) = pair(d, r);
+        d.done(Call::Close(x));
+        d.call(Call::Close(y));
+    })
 }
 
-/// Attached units of two nodes that leave one after the other.
+/// They leave one after the other.
 pub fn pairs_released(n: u32) -> Stream {
-    let mut d = Driver::new(16, FULL);
-    let r = wide_allocated(&mut d, n);
-    d.timed(|d| {
-        for _ in 0..500 {
-            let (x, _) = d.token(Call::AttachToken(r));
-            let (y, _) = d.token(Call::Duplicate(x));
-            d.done(Call::Bind(x));
-            d.done(Call::Bind(y));
-            d.done(Call::Release(x));
-            d.done(Call::Release(y));
-        }
-    });
-    d.end()
+    among(n, |d, r| {
+        let (x, y) = pair(d, r);
+        d.done(Call::Bind(x));
+        d.done(Call::Bind(y));
+        d.done(Call::Release(x));
+        d.done(Call::Release(y));
+    })
 }
 
 fn chain(d: &mut Driver, n: u32) -> Vec<NodeKey> {
