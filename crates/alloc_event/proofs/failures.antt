@@ -6,6 +6,7 @@ pub mod Emptied
 pub mod Endings
 pub mod Fallen
 pub mod Goings
+pub mod GoneNodes
 pub mod Staying
 pub mod Takings
 pub mod Ties

@@ -1,6 +1,6 @@
 -- The counts that are kept of a collection, and that nothing is forced in it while it has a keeper. No public clause cites
 -- this module.
-use Rattle.std.specs.Prelude.{◌≡◌, ◌≢◌, ℕ, Bool, true, false, not, ◌&&◌, ◌==◌, nat_lt, if◌then◌else◌, List, [], ◌∷◌, Option, Some, None}
+use Rattle.std.specs.Prelude.{◌≡◌, ◌≢◌, ℕ, Bool, true, false, not, ◌&&◌, ◌==◌, nat_lt, if◌then◌else◌, List, [], ◌∷◌, None}
 use Rattle.std.specs.List.{AllByRecursion, list_any}
 use Rattle.sm_names.specs.declared.keys.NodeKey.{NodeKey}
 use Rattle.sm_names.specs.Sameness.{same_key}
@@ -24,18 +24,17 @@ IsCalm c = decided c.nodes c.buffers true ≡ None
 abbrev pub strong_count : List Node → ℕ
 strong_count nodes = times is_strong nodes
 
--- the node is over, and not the one that is noted
-abbrev pub over_but : Option NodeKey → Node → Bool
-over_but None n = is_over n
-over_but (Some key) n = is_over n && not (same_key key n.key)
+-- the node is over, and none of those that are noted
+abbrev pub over_but : List NodeKey → Node → Bool
+over_but noted n = is_over n && not (list_any (same_key n.key) noted)
 
--- the collection of the entry is calm, its counts are those of its nodes, and where it is tidy none of them is over but the
--- one that is noted
+-- the collection of the entry is calm, its counts are those of its nodes, and where it is tidy none of them is over but
+-- those that are noted
 pub record IsCounted (t : Table Node) (e : Entry) : Type 0 where
   pub calm : IsCalm (collection_in t (shelf_of e))
   pub strong : e.strong ≡ strong_count (nodes_with t e.keys.items)
   pub reserved : e.reserved ≡ reserved_count (nodes_with t e.keys.items)
-  pub tidy : e.tidy ≡ true → list_any (over_but e.one) (nodes_with t e.keys.items) ≡ false
+  pub tidy : e.tidy ≡ true → list_any (over_but e.noted.items) (nodes_with t e.keys.items) ≡ false
 
 -- so of each entry
 abbrev pub AreCounted : Table Node → List Entry → Type 0
@@ -57,7 +56,3 @@ pub record IsForest (t : Table Node) (es : List Entry) (us : List Unit) : Type 0
   pub kept : IsStored t (shelves_of es)
   pub counted : AreCounted t es
   pub units : HaveUnits us t es
-
--- no node of the collection with this id is over
-abbrev pub AreTidy : Table Node → ℕ → List Entry → Type 0
-AreTidy t id es = AllByRecursion (λ (e : Entry). e.id ≡ id → list_any is_over (nodes_with t e.keys.items) ≡ false) es

@@ -1,6 +1,6 @@
 -- Nodes that go in their places. No public clause cites this module.
 use Rattle.std.specs.Prelude.{◌≡◌, ◌≢◌, ℕ, ◌-◌, ◌<◌, ⊤, Bool, true, false, ◌||◌, ◌&&◌, not, ◌==◌, nat_lt, if◌then◌else◌, List, [], ◌∷◌, map, set, slice_get, Option, Some, None, is_none, ◌⊎◌}
-use Rattle.std.specs.List.{AllByRecursion, AllPairs, find, list_any}
+use Rattle.std.specs.List.{AllPairs, find, list_any}
 use Rattle.std.specs.List.Sorted.{IsSorted}
 use Rattle.std.specs.Option.{option_map_or}
 use Rattle.std.specs.Ordering.{nat_cmp, ordering_then}
@@ -133,7 +133,8 @@ pub record IsRefused (t : Table Node) (s : Shelf) (key : NodeKey) (effect : Effe
   pub bare : node.allocated ≡ false
   pub turn : has_turn_at t node.head ≡ true
   pub held : (0 < times (lives_in node.head) (map (affected key effect) (nodes_with t s.keys)))
-      ⊎ (0 < times (heads_below (map (affected key effect) (nodes_with t s.keys)) node.head) (map (affected key effect) (nodes_with t s.keys)))
+      ⊎ (0 < times (heads_below (map (affected key effect) (nodes_with t s.keys)) node.head)
+      (map (affected key effect) (nodes_with t s.keys)))
   pub ready : times (waits_in node.head) (map (affected key effect) (nodes_with t s.keys)) ≡ 0
   pub buffers : Buffers
   pub has : s.buffers ≡ Some buffers
@@ -168,10 +169,6 @@ stays_by (Going.Leaves key) n = stays_live key n
 stays_by (Going.Ends fault keys) n = is_spared keys.now n
 stays_by (Going.Refused key effect fault) n = false
 stays_by (Going.EndsRefused key effect fault keys) n = is_spared keys.now n
-
--- each node has one of these keys
-abbrev pub AreNamed : List Node → List NodeKey → Type 0
-AreNamed nodes keys = AllByRecursion (λ (n : Node). list_any (same_key n.key) keys ≡ true) nodes
 
 -- the key stands first
 abbrev pub is_first : NodeKey → List NodeKey → Bool

@@ -1,6 +1,6 @@
 -- What the table and the shelves are once nodes are forgotten. No public clause cites this module.
-use Rattle.std.specs.Prelude.{◌≡◌, ◌≢◌, ℕ, ◌+◌, ◌<◌, Bool, true, false, ◌==◌, ◌&&◌, not, if◌then◌else◌, List, [], map, length, get_or, Option, Some, None, is_some, IsSome, Contains}
-use Rattle.std.specs.List.{filter, list_any, remove}
+use Rattle.std.specs.Prelude.{◌≡◌, ◌≢◌, ℕ, ◌+◌, ◌<◌, Bool, true, false, ◌==◌, ◌&&◌, ◌||◌, not, if◌then◌else◌, List, [], map, length, get_or, Option, Some, None, is_some, IsSome, Contains}
+use Rattle.std.specs.List.{filter, list_all, list_any}
 use Rattle.std.specs.Option.{option_map_or}
 use Rattle.sm_names.specs.declared.keys.NodeKey.{NodeKey}
 use Rattle.sm_names.specs.Sameness.{same_key}
@@ -9,7 +9,7 @@ use Rattle.node_table.specs.Changes.{SameKeys}
 use Rattle.alloc_event.specs.declared.entry.Entry.{Entry}
 use Rattle.alloc_event.specs.declared.node.Node.{Node}
 use Rattle.alloc_event.specs.Calm.{over_but}
-use Rattle.alloc_event.specs.Kept.{Shelf, nodes_with}
+use Rattle.alloc_event.specs.Kept.{Shelf, are_apart, is_filed, nodes_with, shelf_of}
 use Rattle.alloc_event.specs.Nodes.{is_over}
 
 -- the key is a child of the other
@@ -67,23 +67,49 @@ pub record IsPlace (keys : List NodeKey) (key : NodeKey) (at : ℕ) : Type 0 whe
   pub within : at < length keys
   pub is : get_or keys at key ≡ key
 
--- the node with this key is over, the entry's at this place, and noted as the only one that is
-pub record IsNoted (t : Table Node) (e : Entry) (key : NodeKey) (at : ℕ) : Type 0 where
-  pub tidy : e.tidy ≡ true
-  pub one : e.one ≡ Some key
-  pub over : option_map_or is_over (node_at t key) false ≡ true
-  pub place : IsPlace e.keys.items key at
+-- the node with this key, if it is over, is of this collection
+abbrev pub is_own_if_over : Table Node → ℕ → NodeKey → Bool
+is_own_if_over t id key = option_map_or (λ (n : Node). not (is_over n) || n.collection == id) (node_at t key) true
 
--- of the nodes with these keys it is the only one that is over
-pub record IsAlone (t : Table Node) (keys : List NodeKey) (key : NodeKey) : Type 0 where
-  pub listed : list_any (same_key key) keys ≡ true
-  pub alone : list_any (over_but (Some key)) (nodes_with t keys) ≡ false
+-- the key is none of these, or that of a node that is not over
+abbrev pub is_left_by : Table Node → List NodeKey → NodeKey → Bool
+is_left_by t noted key = not (list_any (same_key key) noted && option_map_or is_over (node_at t key) false)
 
--- the table has all of these keys but the one at this place
-pub record IsMissing (t : Table Node) (keys : List NodeKey) (at : ℕ) : Type 0 where
-  pub within : at < length keys
-  pub others : filter (is_found t) keys ≡ remove keys at
+-- of the nodes with these keys those that are noted are all that are over, and the noted ones are over only among these
+pub record AreAllOver (t : Table Node) (noted keys : List NodeKey) : Type 0 where
+  pub left : (k : NodeKey) → left_at t noted k ≡ left_at t keys k
+  pub found : (now : Table Node) → ((k : NodeKey) → node_at now k ≡ left_at t keys k) →
+      filter (is_left_by t noted) keys ≡ filter (is_found now) keys
+
+-- each of the first keys is one of the others
+abbrev pub AreMore : List NodeKey → List NodeKey → Type 0
+AreMore few more = (key : NodeKey) → list_any (same_key key) few ≡ true → list_any (same_key key) more ≡ true
 
 -- the key is noted, or nothing is known
-abbrev pub IsNotedOr : Entry → NodeKey → Type 0
-IsNotedOr e key = e.tidy ≡ true → e.one ≡ Some key
+abbrev pub IsNotedIn : Entry → NodeKey → Type 0
+IsNotedIn e key = e.tidy ≡ true → list_any (same_key key) e.noted.items ≡ true
+
+-- the entry's keys stand once, and are those of all nodes of the collection; no other node is over than is noted, if it is tidy
+pub record IsForgettable (t : Table Node) (e : Entry) : Type 0 where
+  pub named : (key : NodeKey) (n : Node) → node_at t key ≡ Some n → n.key ≡ key
+  pub apart : are_apart e.keys.items ≡ true
+  pub filed : list_all (is_filed t e.id) e.keys.items ≡ true
+  pub all : (key : NodeKey) (n : Node) → node_at t key ≡ Some n → n.collection ≡ e.id → list_any (same_key key) e.keys.items ≡ true
+  pub tidy : e.tidy ≡ true → list_any (over_but e.noted.items) (nodes_with t e.keys.items) ≡ false
+
+-- the entry keeps those of its keys that the table has, which are of nodes that are not over
+pub record IsThinned (now : Table Node) (old new : Entry) : Type 0 where
+  pub id : new.id ≡ old.id
+  pub keys : new.keys.items ≡ filter (is_found now) old.keys.items
+  pub buffers : new.buffers ≡ old.buffers
+  pub held : new.held ≡ old.held
+  pub strong : new.strong ≡ old.strong
+  pub reserved : new.reserved ≡ old.reserved
+
+-- the entry may be known to be tidy no more, and more of its nodes may be noted, and no more than that changed
+pub record IsNoting (old new : Entry) : Type 0 where
+  pub shelf : shelf_of new ≡ shelf_of old
+  pub strong : new.strong ≡ old.strong
+  pub reserved : new.reserved ≡ old.reserved
+  pub tidy : new.tidy ≡ true → old.tidy ≡ true
+  pub more : AreMore old.noted.items new.noted.items

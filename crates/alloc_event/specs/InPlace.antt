@@ -1,5 +1,5 @@
 -- A change that forces nothing and is made in its place. No public clause cites this module.
-use Rattle.std.specs.Prelude.{◌≡◌, ◌≢◌, ℕ, Bool, true, false, if◌then◌else◌, List, map, Option, Some, ◌==◌}
+use Rattle.std.specs.Prelude.{◌≡◌, ◌≢◌, ℕ, Bool, true, false, if◌then◌else◌, List, map, Some, ◌==◌}
 use Rattle.std.specs.List.{find, list_all, list_any}
 use Rattle.sm_names.specs.declared.keys.NodeKey.{NodeKey}
 use Rattle.node_table.specs.Table.{Table}
@@ -53,8 +53,8 @@ pub record IsDone (t now : Table Node) (us : List Unit) (ss : List Shelf) (s : S
   pub units : AreUnits us (map (collection_in now) ss)
   pub same : SameTable t now
 
--- so it was, the nodes are as it makes them, and as many are over as before, also without one of them
+-- so it was, the nodes are as it makes them, and one is over exactly if one was, also without some of them
 pub record IsMade (t now : Table Node) (us : List Unit) (ss : List Shelf) (s : Shelf) (change : Change) (lives : ℕ) : Type 0 where
   pub done : IsDone t now us ss s change lives
   pub nodes : nodes_with now s.keys ≡ effected change (nodes_with t s.keys)
-  pub over : (one : Option NodeKey) → list_any (over_but one) (nodes_with now s.keys) ≡ list_any (over_but one) (nodes_with t s.keys)
+  pub over : (noted : List NodeKey) → list_any (over_but noted) (nodes_with now s.keys) ≡ list_any (over_but noted) (nodes_with t s.keys)

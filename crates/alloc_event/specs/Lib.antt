@@ -22,6 +22,7 @@ pub mod Questions
 pub mod Refusing
 pub mod Reserved
 pub mod Resting
+pub mod Runs
 pub mod Scenes
 pub mod Serving
 pub mod Settling

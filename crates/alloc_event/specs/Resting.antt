@@ -1,7 +1,6 @@
 -- A collection that is at rest where none of its strong nodes is live. No public clause cites this module.
-use Rattle.std.specs.Prelude.{ℕ, Bool, false, ◌||◌, ◌&&◌, ◌==◌, not, nat_lt, List}
-use Rattle.std.specs.List.{find, list_all}
-use Rattle.std.specs.Option.{option_map_or}
+use Rattle.std.specs.Prelude.{ℕ, Bool, false, ◌||◌, ◌&&◌, not, nat_lt}
+use Rattle.std.specs.List.{list_all}
 use Rattle.node_table.specs.Table.{Table}
 use Rattle.alloc_event.specs.declared.node.Node.{Node}
 use Rattle.alloc_event.specs.Dropped.{has_given_root}
@@ -17,7 +16,3 @@ is_at_rest handles t s =
 -- so many strong nodes are live, which are some, or it is at rest without
 abbrev pub is_kept_by : Handles → Table Node → Shelf → ℕ → Bool
 is_kept_by handles t s lives = nat_lt 0 lives || is_at_rest handles t s
-
--- the collection with this id is there, and at rest
-abbrev pub rests_at : Handles → Table Node → List Shelf → ℕ → Bool
-rests_at handles t ss id = option_map_or (is_at_rest handles t) (find (λ (s : Shelf). s.id == id) ss) false

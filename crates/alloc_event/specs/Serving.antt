@@ -170,8 +170,8 @@ pub record IsServing (old new : Table Node) (keys : List NodeKey) (units : List 
   pub served : IsServedAt old new heads keys (given_all heads after)
 
 -- the change was made, the allocations with it, nothing more is forced, so many strong nodes are live then, and so many
--- buffers are reserved; as many are over as before, also without one of them
+-- buffers are reserved; one is over exactly if one was, also without some of them
 pub record IsServed (t now : Table Node) (us : List Unit) (ss : List Shelf) (s : Shelf) (change : Change) (lives camping : ℕ) : Type 0 where
   pub done : IsDone t now us ss s change lives
-  pub over : (one : Option NodeKey) → list_any (over_but one) (nodes_with now s.keys) ≡ list_any (over_but one) (nodes_with t s.keys)
+  pub over : (noted : List NodeKey) → list_any (over_but noted) (nodes_with now s.keys) ≡ list_any (over_but noted) (nodes_with t s.keys)
   pub reserved : camping ≡ reserved_count (nodes_with now s.keys)

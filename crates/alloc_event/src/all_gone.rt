@@ -1,5 +1,5 @@
 //! All that is left of a collection goes, in its place.
-ghost use Rattle.std.specs.Prelude.{◌≡◌, List, true};
+ghost use Rattle.std.specs.Prelude.{◌≡◌, ◌&&◌, not, List, true};
 ghost use Rattle.std.specs.List.{list_any};
 ghost use Rattle.buffer_holds.specs.Counts.{total};
 ghost use Rattle.alloc_event.specs.declared.node.Node.{Node as Kept};
@@ -10,7 +10,7 @@ ghost use Rattle.alloc_event.specs.Kept.{forest_of, shelves_of};
 ghost use Rattle.alloc_event.specs.Outcomes.{IsOutcomeIn, IsReady};
 
 use crate::entry::{Entry, place_of};
-use crate::falling::{Going, go_in_place, note_gone};
+use crate::falling::{Going, go_in_place};
 use crate::finish::part;
 use crate::node::Node;
 use crate::returns::send_home;
@@ -55,6 +55,14 @@ fn may_all(going: &Going, origin: NodeKey, stays: bool) -> bool
     }
 }
 
+/// Whether it is still known that no other node of a collection is over than is noted, where those that
+/// went are noted no more and one of them is over or none.
+fn is_tidy_still(tidy: bool, over: bool) -> bool
+    ensures { result ≡ (tidy && not over) }
+{
+    tidy && !over
+}
+
 /// Makes all that is left of a collection go in its place, if it may go so, and gives back the
 /// pages of its buffers that are home then: nothing is forced in it any more. It is what a failure
 /// at `origin` takes. Answers whether it did; if not, the table, the entries and the pool are as
@@ -93,11 +101,9 @@ fn all_go(
     untally(table, units, keys);
     let over = go_all(table, keys, going);
     let entry = &mut entries[at];
-    let (tidy, one) = note_gone(entry.tidy, entry.one, keys, over);
     entry.strong = 0;
     entry.reserved = 0;
-    entry.tidy = tidy;
-    entry.one = one;
+    entry.tidy = is_tidy_still(entry.tidy, over);
     part(pool);
     send_home(&mut entry.held, pool, holds, false);
     part(pool);

@@ -15,6 +15,7 @@ ghost use Rattle.alloc_event.specs.Still.{IsStill, no_shelf, shelf_before, shelf
 use crate::births::{new_child, new_root};
 use crate::change::Change;
 use crate::entry::{Entry, place_of};
+use crate::forgetting::reserve_notes;
 use crate::key_list::KeyList;
 use crate::node::Node;
 use crate::store::put_entry;
@@ -143,9 +144,12 @@ fn bear_among(
     ensures reserved { entry.new.reserved ≡ entry.old.reserved }
     ensures id { entry.new.id ≡ entry.old.id }
     ensures tidy { entry.new.tidy ≡ entry.old.tidy }
-    ensures one { entry.new.one ≡ entry.old.one }
+    ensures noted { entry.new.noted.items ≡ entry.old.noted.items }
 {
     if entry.keys.reserve_one().is_err() {
+        return Err(NoMemory);
+    }
+    if reserve_notes(&mut entry.noted, entry.keys.len() + 1).is_err() {
         return Err(NoMemory);
     }
     let key = bear(table, draft)?;
@@ -191,7 +195,7 @@ fn bear_first(
             strong,
             reserved: 0,
             tidy: true,
-            one: None,
+            noted: Vec::new(alloc),
         },
     );
     Ok(key)

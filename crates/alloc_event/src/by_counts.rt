@@ -10,7 +10,7 @@ use crate::change::{Change, Effect};
 use crate::emptied::{fail_in_place, leave_in_place};
 use crate::entry::Entry;
 use crate::first::allocate_first;
-use crate::in_place::{is_plain, settle_in_place, settle_resting};
+use crate::in_place::{is_plain, settle_still};
 use crate::node::Node;
 use crate::refusing::refuse_in_place;
 use crate::room::Room;
@@ -20,28 +20,6 @@ use buffer_holds::Holds;
 use buffer_pool::Pool;
 use node_table::NodeTable;
 use sm_names::{CollectionId, Fault, NoMemory, NodeKey};
-
-/// Makes the change to a collection in its place, if it is none of nodes, or an effect, and nothing is
-/// forced by it, as `settle_in_place` tells, or `settle_resting`. Answers whether it did; if not, the
-/// table and the entries are as they were.
-#[inline(always)]
-fn settle_still(
-    table: &mut NodeTable<Node>,
-    entries: &mut Vec<Entry>,
-    units: &mut Vec<Unit>,
-    holds: &Holds,
-    id: CollectionId,
-    change: &Change,
-) -> bool
-    requires { IsReady table.old entries.old.items units.old.items id change.now }
-    ensures outcome { IsOutcome result (total holds.now) table.old table.new entries.old.items entries.new.items id change.now }
-    ensures units { HaveUnits units.new.items table.new entries.new.items }
-{
-    if settle_in_place(table, entries, units, id, change) {
-        return true;
-    }
-    settle_resting(table, entries, units, holds, id, change)
-}
 
 /// Makes an effect in its place, if the counts tell that nothing is forced by it, or nothing but the
 /// allocation of the node's unit, which is made with it. Answers whether it did; if not, the table

@@ -20,10 +20,10 @@ pub(crate) struct Entry {
     pub(crate) strong: usize,
     /// How many buffers its nodes of allocated units camp on that are not gone.
     pub(crate) reserved: u128,
-    /// It is known that none of its nodes is over, but for the one that is noted.
+    /// It is known that none of its nodes is over, but for those that are noted.
     pub(crate) tidy: bool,
-    /// The key of a node that may be over.
-    pub(crate) one: Option<NodeKey>,
+    /// The keys of nodes that are over, until they are forgotten.
+    pub(crate) noted: Vec<NodeKey>,
 }
 
 /// How many collections have a smaller id.

@@ -1,13 +1,13 @@
 //! Losses and ends in their places: what goes is found first, and then each node goes.
-ghost use Rattle.std.specs.Prelude.{◌≡◌, ◌⊎◌, ◌+◌, List, Some, None, true, false, IfSome, map};
+ghost use Rattle.std.specs.Prelude.{◌≡◌, ◌+◌, List, Some, None, true, false, IfSome, map};
 ghost use Rattle.std.specs.List.{list_any};
 ghost use Rattle.sm_names.specs.declared.keys.NodeKey.{NodeKey as Key};
 ghost use Rattle.buffer_holds.specs.Counts.{total};
 ghost use Rattle.node_table.specs.Table.{node_at};
 ghost use Rattle.alloc_event.specs.declared.node.Node.{Node as Kept};
-ghost use Rattle.alloc_event.specs.Calm.{over_but, strong_count};
+ghost use Rattle.alloc_event.specs.Calm.{strong_count};
 ghost use Rattle.alloc_event.specs.Counts.{AreUnitsBut, HaveUnits, unit_at};
-ghost use Rattle.alloc_event.specs.Falling.{AreFailing, AreNamed, IsFailing, IsLost, IsOrdered, IsTaken, IsTop, change_of, gone_by, is_first, is_kept_up, lowered, may_go, stays_by, unreckoned, without_below, without_node};
+ghost use Rattle.alloc_event.specs.Falling.{AreFailing, IsFailing, IsLost, IsOrdered, IsTaken, IsTop, change_of, gone_by, is_first, is_kept_up, lowered, may_go, stays_by, unreckoned, without_below, without_node};
 ghost use Rattle.alloc_event.specs.InPlace.{IsOpen};
 ghost use Rattle.alloc_event.specs.Kept.{Shelf, all_of, collection_in, nodes_with, shelf_of, shelves_of};
 ghost use Rattle.alloc_event.specs.Nodes.{is_over};
@@ -19,7 +19,7 @@ ghost use Rattle.alloc_event.specs.Scenes.{given_few};
 use crate::change::Effect;
 use crate::effects::affect_one;
 use crate::entry::{Entry, place_of};
-use crate::forgetting::is_listed;
+use crate::forgetting::{is_listed, note_gone};
 use crate::in_place::is_served;
 use crate::losses::{fail, is_among};
 use crate::node::Node;
@@ -259,6 +259,7 @@ fn fell(
         IsFailing table.old s going.now →
         IsLost table.old table.new units.new.items ss s (change_of going.now) went.0
         (map (gone_by going.now) (nodes_with table.old keys.now))) }
+    ensures went { IfSome result (λ _. nodes_with table.new keys.now ≡ map (gone_by going.now) (nodes_with table.old keys.now)) }
     ensures over { IfSome result (λ went. went.1 ≡ list_any is_over (map (gone_by going.now) (nodes_with table.old keys.now))) }
     ensures reserved { IfSome result (λ went. (ss : List Shelf) (s : Shelf) →
         IsOpen table.old units.old.items ss s (change_of going.now) entry.now.strong → s.id ≡ entry.now.id →
@@ -286,25 +287,6 @@ fn fell(
     }
     let over = go_all(table, keys, going);
     Some((left, over))
-}
-
-/// What is known of a collection once the nodes with these keys went, of which one is over or none:
-/// whether none of it is over but the noted one, as before or with another noted, and which is noted.
-pub(crate) fn note_gone(
-    tidy: bool,
-    one: Option<NodeKey>,
-    keys: &[NodeKey],
-    over: bool,
-) -> (bool, Option<NodeKey>)
-    ensures tidy { result.0 ≡ true → tidy ≡ true }
-    ensures one { result.0 ≡ true → (result.1 ≡ one) ⊎ (one ≡ None) }
-    ensures over { result.0 ≡ true → (nodes : List Kept) → over ≡ list_any is_over nodes → AreNamed nodes keys.now →
-        list_any (over_but result.1) nodes ≡ false }
-{
-    match keys {
-        [key] if over => (tidy && one.is_none(), Some(*key)),
-        _ => (tidy && !over, one),
-    }
 }
 
 /// Makes the nodes with these keys go in their places, which are what a failure at `origin` takes,
@@ -351,11 +333,9 @@ pub(crate) fn go_in_place(
         recount(units, table, entries, id);
         return false;
     };
-    let (tidy, one) = note_gone(entries[at].tidy, entries[at].one, keys, over);
     let entry = &mut entries[at];
     entry.strong = left;
     entry.reserved = without(entry.reserved, found.reserved);
-    entry.tidy = tidy;
-    entry.one = one;
+    note_gone(table, entry, keys, over);
     true
 }

@@ -10,6 +10,7 @@ ghost use Rattle.alloc_event.specs.Units.{GoTogether, are_united};
 
 use crate::asks::reserved;
 use crate::entry::Entry;
+use crate::forgetting::notes_for;
 use crate::kept::{count_strong, is_some_over};
 use crate::marks::marks_of;
 use crate::node::Node;
@@ -59,6 +60,9 @@ pub(crate) fn store_settled(
     let Ok(keys) = keys_of(alloc, &scene.nodes) else {
         return Err(NoMemory);
     };
+    let Ok(noted) = notes_for(alloc, scene.nodes.len()) else {
+        return Err(NoMemory);
+    };
     if entries.reserve(1).is_err() {
         return Err(NoMemory);
     }
@@ -83,7 +87,7 @@ pub(crate) fn store_settled(
             strong,
             reserved,
             tidy,
-            one: None,
+            noted,
         },
     );
     Ok(())

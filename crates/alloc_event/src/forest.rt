@@ -102,9 +102,9 @@ impl Forest {
     /// each buffer besides, two where some stay held and others go, and what the pool takes.
     ///
     /// Of all these only the first allocation takes memory, for what is held, and a birth, which also
-    /// makes the room in which what falls is listed.
+    /// makes the room in which what falls is listed, and what is over is noted.
     ///
-    /// So it is too where no strong node is live, before a birth or an effect or after a loss, and the
+    /// So it is too where no strong node is live, before a birth or after an effect or a loss, and the
     /// collection rests without one: its root has no buffers, or one of them has an open strong handle,
     /// and each buffer that it holds has an open handle. To tell that costs a look at the handles of
     /// each buffer, of which there are at most 64.
@@ -254,7 +254,7 @@ impl Forest {
     }
 
     /// Puts the end of a node that is kept elsewhere. It takes no memory, and costs a constant, and
-    /// a binary search where the end of a gone node is spent.
+    /// a binary search where the end of a gone node is spent, which is noted then.
     pub fn set_end(&mut self, key: NodeKey, end: End)
         requires { is_some (node_at self.old key) ≡ true }
         ensures { self.new ≡ on_collections (with_nodes (map (with_end key end))) self.old }
@@ -293,9 +293,9 @@ impl Forest {
 
     /// Forgets the nodes of the collection that are over, and the collection where nothing is left
     /// of it. Without such a collection nothing changes. It takes no memory, and costs a binary
-    /// search. Where since the last call one node alone went whose end was spent, or the end of one
-    /// gone node was spent, it costs a binary search among the collection's nodes and a shift of
-    /// their keys besides, and where several did, a pass over its nodes.
+    /// search. Each node that is forgotten costs a binary search among the collection's nodes and a
+    /// move of the keys on its shorter side besides. Where more than 64 came to be over since the
+    /// last call, or all that was left of the collection went, it costs a pass over its nodes.
     pub fn forget_over(&mut self, id: CollectionId)
         ensures collections { self.new.collections ≡ without_over_in id self.old.collections }
         ensures keys { SameKeys self.old self.new }

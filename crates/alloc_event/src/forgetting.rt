@@ -1,7 +1,7 @@
 //! Forgetting: nodes that are taken out of the table with their keys, and collections of which
 //! nothing is left.
-ghost use Rattle.std.specs.Prelude.{IfSome, Some, None, ◌≡◌, ◌==◌, [], map, IsSome, MatchOption, length, nat_lt, ◌≤◌, List, true, false};
-ghost use Rattle.std.specs.List.{filter, find, list_any, AllByRecursion};
+ghost use Rattle.std.specs.Prelude.{IfSome, Some, None, ◌≡◌, ◌==◌, [], map, not, IsSome, MatchOption, length, nat_lt, ◌≤◌, List, true, false};
+ghost use Rattle.std.specs.List.{filter, find, list_all, list_any, AllByRecursion};
 ghost use Rattle.std.specs.Option.{option_map_or};
 ghost use Rattle.sm_names.specs.declared.keys.NodeKey.{NodeKey as Key};
 ghost use Rattle.sm_names.specs.Sameness.{same_key};
@@ -9,18 +9,25 @@ ghost use Rattle.node_table.specs.Table.{Table, node_at, children_at};
 ghost use Rattle.node_table.specs.Changes.{SameKeys};
 ghost use Rattle.alloc_event.specs.declared.node.Node.{Node as Kept};
 ghost use Rattle.alloc_event.specs.declared.entry.Entry.{Entry as KeptEntry};
-ghost use Rattle.alloc_event.specs.Calm.{AreCounted, AreTidy};
+ghost use Rattle.alloc_event.specs.Calm.{AreCounted, over_but};
 ghost use Rattle.alloc_event.specs.Forest.{without_over_in};
-ghost use Rattle.alloc_event.specs.Forgetting.{IsAlone, IsChild, IsMissing, IsNoted, IsNotedOr, IsPlace, Unlinks, TakesOut, is_found, left_at, thinned, thin_in, without_bare};
-ghost use Rattle.alloc_event.specs.Kept.{AreRising, IsStored, Shelf, collection_in, shelves_of};
+ghost use Rattle.alloc_event.specs.Forgetting.{AreAllOver, AreMore, IsChild, IsForgettable, IsNotedIn, IsNoting, IsPlace, IsThinned, Unlinks, TakesOut, is_found, is_left_by, is_own_if_over, left_at, thinned, thin_in, without_bare};
+ghost use Rattle.alloc_event.specs.Kept.{AreRising, IsStored, Shelf, are_apart, collection_in, nodes_with, shelves_of};
 ghost use Rattle.alloc_event.specs.Nodes.{is_over};
 
-use crate::entry::{Entry, entry_of, place_of};
+use crate::entry::{Entry, place_of};
 use crate::kept::is_over;
 use crate::key_list::KeyList;
 use crate::node::Node;
 use node_table::NodeTable;
 use sm_names::{CollectionId, NodeKey};
+use std::alloc::{AllocError, Global};
+
+/// A pass over so many nodes costs no more than to note which of them are over.
+const FEW: usize = 4;
+
+/// So many nodes of a collection are noted at a time.
+const MOST: usize = 64;
 
 /// The first child of the node.
 pub(crate) fn first_child(table: &NodeTable<Node>, key: NodeKey) -> Option<NodeKey>
@@ -90,9 +97,9 @@ pub(crate) fn is_listed(keys: &[NodeKey], key: NodeKey) -> bool
 
 /// Whether it is known that no node of the collection is over.
 fn is_tidy(entry: &Entry) -> bool
-    ensures { result ≡ true → (entry.now.tidy ≡ true) × (entry.now.one ≡ None) }
+    ensures { result ≡ true → (entry.now.tidy ≡ true) × (entry.now.noted.items ≡ []) }
 {
-    entry.tidy && entry.one.is_none()
+    entry.tidy && entry.noted.is_empty()
 }
 
 /// Whether the table has a node of the key that was born before this event.
@@ -140,68 +147,79 @@ fn place_by_birth(table: &NodeTable<Node>, keys: &[NodeKey], key: NodeKey) -> Op
     found_at(keys, at, key)
 }
 
-/// The one node of the collection that is over, and the place of its key, if that is known.
-fn only_over(table: &NodeTable<Node>, entry: &Entry) -> Option<(NodeKey, usize)>
-    ensures { IfSome result (λ one. IsNoted table.now entry.now one.0 one.1) }
+/// Whether the node with this key, if it is over, is of this collection.
+fn is_own_if_over(table: &NodeTable<Node>, id: CollectionId, key: NodeKey) -> bool
+    ensures { result ≡ is_own_if_over table.now id key }
 {
-    let key = entry.one?;
-    if entry.tidy && is_over_at(table, key) {
-        let at = place_by_birth(table, entry.keys.as_slice(), key)?;
-        Some((key, at))
-    } else {
-        None
+    match table.get(key) {
+        Some(node) => !is_over(node) || node.collection == id,
+        None => true,
     }
 }
 
-/// Takes those of the nodes with these keys out of the table that are over: this one, if it is
-/// known to be the only one. It takes no memory.
-fn take_out_noted(table: &mut NodeTable<Node>, keys: &[NodeKey], one: Option<(NodeKey, usize)>)
-    requires named { (key : Key) (n : Kept) → node_at table.old key ≡ Some n → n.key ≡ key }
-    requires one { IfSome one (λ one. IsAlone table.old keys.now one.0) }
-    ensures look { (k : Key) → node_at table.new k ≡ left_at table.old keys.now k }
+/// Whether each node with these keys that is over is of this collection.
+fn are_own(table: &NodeTable<Node>, id: CollectionId, keys: &[NodeKey]) -> bool
+    ensures { result ≡ list_all (is_own_if_over table.now id) keys.now }
+{
+    keys.iter().all(|key| is_own_if_over(table, id, *key))
+}
+
+/// Takes this key out of those of a collection.
+fn drop_key(table: &NodeTable<Node>, keys: &mut KeyList, key: NodeKey)
+    requires { are_apart keys.old.items ≡ true }
+    ensures { keys.new.items ≡ filter (λ other. not (same_key key other)) keys.old.items }
+{
+    match place_by_birth(table, keys.as_slice(), key) {
+        Some(at) => keys.remove(at),
+        None => keys.forget(key),
+    }
+}
+
+/// Takes those of the noted keys of which the nodes are over out of those of a collection.
+fn drop_keys(table: &NodeTable<Node>, keys: &mut KeyList, noted: &[NodeKey])
+    requires { are_apart keys.old.items ≡ true }
+    ensures { keys.new.items ≡ filter (is_left_by table.now noted.now) keys.old.items }
+{
+    let mut rest = noted;
+    'dropping: while let Some((key, later)) = rest.split_first() {
+        if is_over_at(table, *key) {
+            drop_key(table, keys, *key);
+        }
+        rest = later;
+    }
+}
+
+/// Takes the nodes with these keys that are over out of the table, and their keys out of these: the noted
+/// ones, where it is known that no other is over, and else all that are found. It takes no memory.
+fn take_all_over(table: &mut NodeTable<Node>, keys: &mut KeyList, noted: &[NodeKey], known: bool)
+    requires apart { are_apart keys.old.items ≡ true }
+    requires known { known ≡ true → AreAllOver table.old noted.now keys.old.items }
+    ensures look { (k : Key) → node_at table.new k ≡ left_at table.old keys.old.items k }
+    ensures kept { (ss : List Shelf) → IsStored table.old ss → IsStored table.new (map (thinned table.new) ss) }
+    ensures same { SameKeys table.old table.new }
+    ensures keys { keys.new.items ≡ filter (is_found table.new) keys.old.items }
+{
+    if known {
+        drop_keys(table, keys, noted);
+        take_out_over(table, noted);
+    } else {
+        take_out_over(table, keys.as_slice());
+        keys.keep_found(table);
+    }
+}
+
+/// Forgets the nodes of the collection that are over.
+fn forget_of(table: &mut NodeTable<Node>, entry: &mut Entry)
+    requires { IsForgettable table.old entry.old }
+    ensures look { (k : Key) → node_at table.new k ≡ left_at table.old entry.old.keys.items k }
     ensures kept { (ss : List Shelf) → IsStored table.old ss → IsStored table.new (map (thinned table.new) ss) }
     ensures keys { SameKeys table.old table.new }
+    ensures entry { IsThinned table.new entry.old entry.new }
 {
-    match one {
-        Some((key, _)) => take_out_over(table, &[key]),
-        None => take_out_over(table, keys),
-    }
-}
-
-/// Keeps those of the keys that the table has: all but the one at this place, if that is known.
-fn keep(keys: &mut KeyList, table: &NodeTable<Node>, one: Option<(NodeKey, usize)>)
-    requires { IfSome one (λ one. IsMissing table.now keys.old.items one.1) }
-    ensures { keys.new.items ≡ filter (is_found table.now) keys.old.items }
-{
-    match one {
-        Some((_, at)) => {
-            keys.remove(at);
-        }
-        None => keys.keep_found(table),
-    }
-}
-
-/// Keeps those of the collection's keys that the table has, which are all but the one at this
-/// place, if that is known: none of their nodes is over.
-pub(crate) fn thin(
-    entries: &mut Vec<Entry>,
-    table: &NodeTable<Node>,
-    id: CollectionId,
-    one: Option<(NodeKey, usize)>,
-)
-    requires rising { AreRising (shelves_of entries.old.items) }
-    requires one { IfSome one (λ one. AllByRecursion
-        (λ (e : KeptEntry). e.id ≡ id → IsMissing table.now e.keys.items one.1) entries.old.items) }
-    ensures shelves { shelves_of entries.new.items ≡ thin_in table.now id (shelves_of entries.old.items) }
-    ensures counted { AreCounted table.now entries.old.items → AreTidy table.now id entries.old.items
-        → AreCounted table.now entries.new.items }
-{
-    if let Some(at) = place_of(entries, id) {
-        let entry = &mut entries[at];
-        keep(&mut entry.keys, table, one);
-        entry.tidy = true;
-        entry.one = None;
-    }
+    let known = entry.tidy && are_own(table, entry.id, &entry.noted);
+    take_all_over(table, &mut entry.keys, &entry.noted, known);
+    entry.noted.clear();
+    entry.tidy = true;
 }
 
 /// Takes the collection away, if it has no node and no page. It takes no memory.
@@ -217,9 +235,10 @@ pub(crate) fn drop_bare(entries: &mut Vec<Entry>, id: CollectionId)
     }
 }
 
-/// Forgets the nodes of the collection that are over. It costs a pass over its nodes. Where it is
-/// known which one is over, it costs a binary search among them and a move of the keys on its shorter side instead,
-/// and where it is known that none is, a binary search of the collection alone.
+/// Forgets the nodes of the collection that are over. Where it is known that none is, it costs a binary
+/// search of the collection alone. Where those that are over are noted, each costs a binary search among
+/// the collection's nodes and a move of the keys on its shorter side besides, and else it costs a pass
+/// over the collection's nodes.
 fn forget_nodes(table: &mut NodeTable<Node>, entries: &mut Vec<Entry>, id: CollectionId)
     requires kept { IsStored table.old (shelves_of entries.old.items) }
     requires counted { AreCounted table.old entries.old.items }
@@ -231,15 +250,13 @@ fn forget_nodes(table: &mut NodeTable<Node>, entries: &mut Vec<Entry>, id: Colle
     ensures counted { AreCounted table.new entries.new.items }
     ensures keys { SameKeys table.old table.new }
 {
-    let Some(entry) = entry_of(entries, id) else {
+    let Some(at) = place_of(entries, id) else {
         return;
     };
-    if is_tidy(entry) {
+    if is_tidy(&entries[at]) {
         return;
     }
-    let one = only_over(table, entry);
-    take_out_noted(table, entry.keys.as_slice(), one);
-    thin(entries, table, id, one);
+    forget_of(table, &mut entries[at]);
 }
 
 /// Takes the nodes of the collection that are over out, and the collection where nothing is left
@@ -257,20 +274,76 @@ pub(crate) fn forget_over(table: &mut NodeTable<Node>, entries: &mut Vec<Entry>,
     drop_bare(entries, id);
 }
 
-/// Notes of the collection whether its node with this key is over now.
+/// Notes the key of a node that is over, or where there is no room for it, that more may be over than
+/// is noted. It takes no memory.
+fn note_key(entry: &mut Entry, key: NodeKey)
+    ensures entry { IsNoting entry.old entry.new }
+    ensures noted { IsNotedIn entry.new key }
+{
+    if entry.noted.len() < entry.noted.capacity() && entry.noted.push(key).is_ok() {
+        return;
+    }
+    entry.tidy = false;
+}
+
+/// Notes of the collection whether its node with this key is over now. It takes no memory.
 pub(crate) fn note_over(entries: &mut Vec<Entry>, id: CollectionId, key: NodeKey, over: bool)
     requires { AreRising (shelves_of entries.old.items) }
     ensures shelves { shelves_of entries.new.items ≡ shelves_of entries.old.items }
     ensures counted { (t : Table Kept) → AreCounted t entries.old.items → AreCounted t entries.new.items }
-    ensures noted { over ≡ true → AllByRecursion (λ (e : KeptEntry). e.id ≡ id → IsNotedOr e key) entries.new.items }
+    ensures noted { over ≡ true → AllByRecursion (λ (e : KeptEntry). e.id ≡ id → IsNotedIn e key) entries.new.items }
 {
     if !over {
         return;
     }
     if let Some(at) = place_of(entries, id) {
-        let tidy = is_tidy(&entries[at]);
-        let entry = &mut entries[at];
-        entry.tidy = tidy;
-        entry.one = Some(key);
+        note_key(&mut entries[at], key);
     }
+}
+
+/// Notes those of the collection's nodes with these keys that are over. It takes no memory.
+fn note_all(table: &NodeTable<Node>, entry: &mut Entry, keys: &[NodeKey])
+    requires named { (key : Key) (n : Kept) → node_at table.now key ≡ Some n → n.key ≡ key }
+    ensures entry { IsNoting entry.old entry.new }
+    ensures over { entry.new.tidy ≡ true → list_any (over_but entry.new.noted.items) (nodes_with table.now keys.now) ≡ false }
+{
+    let mut rest = keys;
+    'noting: while let Some((key, later)) = rest.split_first() {
+        if is_over_at(table, *key) {
+            note_key(entry, *key);
+        }
+        rest = later;
+    }
+}
+
+/// Notes which nodes of the collection are over once those with these keys went, of which one is or
+/// none. It takes no memory.
+pub(crate) fn note_gone(table: &NodeTable<Node>, entry: &mut Entry, keys: &[NodeKey], over: bool)
+    requires named { (key : Key) (n : Kept) → node_at table.now key ≡ Some n → n.key ≡ key }
+    requires over { over ≡ list_any is_over (nodes_with table.now keys.now) }
+    ensures entry { IsNoting entry.old entry.new }
+    ensures over { entry.new.tidy ≡ true → list_any (over_but entry.new.noted.items) (nodes_with table.now keys.now) ≡ false }
+{
+    if over {
+        note_all(table, entry, keys);
+    }
+}
+
+/// Makes room to note nodes of a collection of so many: for none where all are passed over as
+/// cheaply, and for at most 64.
+pub(crate) fn reserve_notes(noted: &mut Vec<NodeKey>, nodes: usize) -> Result<(), AllocError>
+    ensures { noted.new.items ≡ noted.old.items }
+{
+    if nodes <= FEW {
+        return Ok(());
+    }
+    let most = nodes.min(MOST);
+    noted.reserve(most.saturating_sub(noted.len()))
+}
+
+/// Room to note nodes of a collection of so many.
+pub(crate) fn notes_for(alloc: Global, nodes: usize) -> Result<Vec<NodeKey>, AllocError> {
+    let mut noted = Vec::new(alloc);
+    reserve_notes(&mut noted, nodes)?;
+    Ok(noted)
 }

@@ -1,6 +1,6 @@
 //! Changes that force nothing, as the count of strong live nodes tells, made in their places.
 ghost use Rattle.std.specs.Option.{option_map_or};
-ghost use Rattle.std.specs.Prelude.{◌≡◌, ◌+◌, ◌||◌, nat_lt, ℕ, List, None, Some, true, false, IfSome};
+ghost use Rattle.std.specs.Prelude.{◌≡◌, ◌+◌, nat_lt, ℕ, List, None, Some, true, false, IfSome};
 ghost use Rattle.sm_names.specs.declared.keys.NodeKey.{NodeKey as Key};
 ghost use Rattle.buffer_holds.specs.Counts.{total};
 ghost use Rattle.node_table.specs.Changes.{Writes};
@@ -9,18 +9,15 @@ ghost use Rattle.node_table.specs.Table.{node_at};
 ghost use Rattle.alloc_event.specs.declared.change.Change.{Change as Changed};
 ghost use Rattle.alloc_event.specs.declared.change.Effect.{Effect as Effected};
 ghost use Rattle.alloc_event.specs.declared.node.Node.{Node as Kept};
-ghost use Rattle.alloc_event.specs.declared.units.Unit.{Unit as Counts};
-ghost use Rattle.alloc_event.specs.Calm.{AreCounted};
 ghost use Rattle.alloc_event.specs.Counts.{HaveUnits, is_unready};
 ghost use Rattle.alloc_event.specs.Due.{is_due_at};
 ghost use Rattle.alloc_event.specs.InPlace.{IsMade, IsOpen, bit, is_plain as is_plain_effect};
-ghost use Rattle.alloc_event.specs.Kept.{Finishes, IsStored, SameTable, Shelf, is_strong, shelves_of};
+ghost use Rattle.alloc_event.specs.Kept.{Shelf, is_strong, shelf_of};
 ghost use Rattle.alloc_event.specs.Nodes.{affected};
-ghost use Rattle.alloc_event.specs.Outcomes.{IsOutcome, IsReady, IsUnchanged, changed_in};
+ghost use Rattle.alloc_event.specs.Outcomes.{IsOutcome, IsReady};
 ghost use Rattle.alloc_event.specs.Questions.{is_live_node};
-ghost use Rattle.alloc_event.specs.Resting.{rests_at};
-ghost use Rattle.alloc_event.specs.Scenes.{has_tracker_room};
-ghost use Rattle.alloc_event.specs.Settling.{Handles};
+ghost use Rattle.alloc_event.specs.Resting.{is_kept_by};
+ghost use Rattle.alloc_event.specs.Scenes.{given_few, has_tracker_room};
 
 use crate::change::{Change, Effect};
 use crate::effects::affect_one;
@@ -29,7 +26,7 @@ use crate::kept::is_strong;
 use crate::node::Node;
 use crate::questions::is_live;
 use crate::reserving::reserved_after;
-use crate::resting::is_resting;
+use crate::resting::is_kept_by;
 use crate::units::{Unit, is_held_by, is_unready, put_unit, unit_in};
 use buffer_holds::Holds;
 use node_table::NodeTable;
@@ -47,6 +44,19 @@ pub(crate) fn is_plain(effect: &Effect) -> bool
         | Effect::Taken
         | Effect::Tracked => true,
         Effect::Constrained(_) | Effect::Released => false,
+    }
+}
+
+/// Whether the effect changes none of the counts: it neither releases its node nor makes it weak, nor
+/// sets its constraints.
+fn keeps_counts(effect: &Effect) -> bool
+    ensures plain { result ≡ true → is_plain_effect effect.now ≡ true }
+    ensures strong { result ≡ true → (key : Key) (n : Kept) → is_strong (affected key effect.now n) ≡ is_strong n }
+{
+    match *effect {
+        Effect::Bound | Effect::Dispensable | Effect::WeakOk(_) | Effect::Taken | Effect::Tracked =>
+            true,
+        Effect::Weak | Effect::Constrained(_) | Effect::Released => false,
     }
 }
 
@@ -129,38 +139,6 @@ pub(crate) fn less(count: usize, was: bool, is: bool) -> usize
     }
 }
 
-/// Makes the effect in its place, if it neither releases the node nor sets its constraints, and a
-/// strong node is live after it, or the collection rests without one: then nothing is forced. Answers
-/// how many strong nodes are live then. With `None` nothing changed.
-fn affect_in_place(
-    table: &mut NodeTable<Node>,
-    strong: usize,
-    rests: bool,
-    key: NodeKey,
-    effect: &Effect,
-) -> Option<usize>
-    requires named { (at : Key) (n : Kept) → node_at table.old at ≡ Some n → n.key ≡ at }
-    requires room { (at : Key) (n : Kept) → node_at table.old at ≡ Some n → has_tracker_room key effect.now n ≡ true }
-    ensures none { result ≡ None → table.new ≡ table.old }
-    ensures rests { IfSome result (λ left. (nat_lt 0 left || rests) ≡ true) }
-    ensures some { IfSome result (λ left. (us : List Counts) (ss : List Shelf) (s : Shelf) →
-        IsOpen table.old us ss s (Changed.Effect key effect.now) strong →
-        IsMade table.old table.new us ss s (Changed.Effect key effect.now) left) }
-{
-    if !is_plain(effect) {
-        return None;
-    }
-    let Some(node) = table.get(key) else {
-        return None;
-    };
-    let left = less(strong, is_strong(node), is_strong_after(node, key, effect));
-    if left == 0 && !rests {
-        return None;
-    }
-    affect_at(table, key, effect);
-    Some(left)
-}
-
 /// Whether there is a node with this key in an allocated unit.
 pub(crate) fn is_served(table: &NodeTable<Node>, key: NodeKey) -> bool
     ensures { result ≡ option_map_or (λ n. n.allocated) (node_at table.now key) false }
@@ -186,25 +164,26 @@ fn is_due(table: &NodeTable<Node>, head: NodeKey) -> bool
 }
 
 /// Makes the effect in its place, if the counts tell that nothing is forced: a strong node is live
-/// after it, or the collection rests without one; and one of the node's unit is live, or a unit hangs
-/// right below that, and the node's unit has its buffers, or waits for another node, or did not wait
-/// for this one, or lies below a unit without buffers. Answers how many strong nodes are live then.
-/// With `None` nothing changed.
+/// after it, or the collection rests without one; and one of the node's unit is live, or a unit hangs right below
+/// that, and the node's unit has its buffers, or waits for another node, or did not wait for this one,
+/// or lies below a unit without buffers. Answers how many strong nodes are live then. With `None`
+/// nothing changed.
 fn count_in_place(
     table: &mut NodeTable<Node>,
     units: &mut Vec<Unit>,
-    strong: usize,
-    rests: bool,
+    entry: &Entry,
+    holds: &Holds,
     key: NodeKey,
     effect: &Effect,
 ) -> Option<usize>
+    requires few { given_few entry.now.buffers ≡ true }
     requires named { (at : Key) (n : Kept) → node_at table.old at ≡ Some n → n.key ≡ at }
     requires room { (at : Key) (n : Kept) → node_at table.old at ≡ Some n → has_tracker_room key effect.now n ≡ true }
     ensures none { result ≡ None → table.new ≡ table.old }
     ensures none_units { result ≡ None → units.new.items ≡ units.old.items }
-    ensures rests { IfSome result (λ left. (nat_lt 0 left || rests) ≡ true) }
+    ensures rests { IfSome result (λ left. is_kept_by (total holds.now) table.old (shelf_of entry.now) left ≡ true) }
     ensures some { IfSome result (λ left. (ss : List Shelf) (s : Shelf) →
-        IsOpen table.old units.old.items ss s (Changed.Effect key effect.now) strong →
+        IsOpen table.old units.old.items ss s (Changed.Effect key effect.now) entry.now.strong →
         IsMade table.old table.new units.new.items ss s (Changed.Effect key effect.now) left) }
 {
     let Some(node) = table.get(key) else {
@@ -215,7 +194,11 @@ fn count_in_place(
         return None;
     }
     let unit = unit_in(units, slot);
-    let left = less(strong, is_strong(node), is_strong_after(node, key, effect));
+    let left = less(
+        entry.strong,
+        is_strong(node),
+        is_strong_after(node, key, effect),
+    );
     let live = less(unit.live, is_live(node), is_live_after(node, key, effect));
     let unready = less(
         unit.unready,
@@ -227,7 +210,7 @@ fn count_in_place(
         unready,
         below: unit.below,
     };
-    if left == 0 && !rests {
+    if !is_kept_by(table, entry, holds, left) {
         return None;
     }
     if !is_held_by(&after) {
@@ -241,29 +224,34 @@ fn count_in_place(
     Some(left)
 }
 
-/// Makes the effect in its place, if the counts tell that nothing is forced. Answers how many strong
-/// nodes are live then. With `None` nothing changed.
+/// Makes the effect in its place, if it changes none of the counts, or they tell that nothing is forced.
+/// Answers how many strong nodes are live then. With `None` nothing changed.
 fn effect_in_place(
     table: &mut NodeTable<Node>,
     units: &mut Vec<Unit>,
-    strong: usize,
-    rests: bool,
+    entry: &Entry,
+    holds: &Holds,
     key: NodeKey,
     effect: &Effect,
 ) -> Option<usize>
+    requires few { given_few entry.now.buffers ≡ true }
     requires named { (at : Key) (n : Kept) → node_at table.old at ≡ Some n → n.key ≡ at }
     requires room { (at : Key) (n : Kept) → node_at table.old at ≡ Some n → has_tracker_room key effect.now n ≡ true }
     ensures none { result ≡ None → table.new ≡ table.old }
     ensures none_units { result ≡ None → units.new.items ≡ units.old.items }
-    ensures rests { IfSome result (λ left. (nat_lt 0 left || rests) ≡ true) }
+    ensures rests { IfSome result (λ left. is_kept_by (total holds.now) table.old (shelf_of entry.now) left ≡ true) }
     ensures some { IfSome result (λ left. (ss : List Shelf) (s : Shelf) →
-        IsOpen table.old units.old.items ss s (Changed.Effect key effect.now) strong →
+        IsOpen table.old units.old.items ss s (Changed.Effect key effect.now) entry.now.strong →
         IsMade table.old table.new units.new.items ss s (Changed.Effect key effect.now) left) }
 {
-    match affect_in_place(table, strong, rests, key, effect) {
-        Some(left) => Some(left),
-        None => count_in_place(table, units, strong, rests, key, effect),
+    if !keeps_counts(effect) {
+        return count_in_place(table, units, entry, holds, key, effect);
     }
+    if !is_kept_by(table, entry, holds, entry.strong) {
+        return None;
+    }
+    affect_at(table, key, effect);
+    Some(entry.strong)
 }
 
 /// Makes the change in its place, if the counts tell that nothing is forced. Answers how many
@@ -271,91 +259,36 @@ fn effect_in_place(
 fn change_in_place(
     table: &mut NodeTable<Node>,
     units: &mut Vec<Unit>,
-    strong: usize,
-    rests: bool,
+    entry: &Entry,
+    holds: &Holds,
     change: &Change,
 ) -> Option<usize>
+    requires few { given_few entry.now.buffers ≡ true }
     requires named { (key : Key) (n : Kept) → node_at table.old key ≡ Some n → n.key ≡ key }
     requires room { (key : Key) (effect : Effected) (at : Key) (n : Kept) → change.now ≡ Changed.Effect key effect → node_at table.old at ≡ Some n → has_tracker_room key effect n ≡ true }
     ensures none { result ≡ None → table.new ≡ table.old }
     ensures none_units { result ≡ None → units.new.items ≡ units.old.items }
-    ensures rests { IfSome result (λ left. (nat_lt 0 left || rests) ≡ true) }
+    ensures rests { IfSome result (λ left. is_kept_by (total holds.now) table.old (shelf_of entry.now) left ≡ true) }
     ensures some { IfSome result (λ left. (ss : List Shelf) (s : Shelf) →
-        IsOpen table.old units.old.items ss s change.now strong →
+        IsOpen table.old units.old.items ss s change.now entry.now.strong →
         IsMade table.old table.new units.new.items ss s change.now left) }
 {
     match *change {
-        Change::Nothing if strong > 0 || rests => Some(strong),
-        Change::Effect(key, effect) => effect_in_place(table, units, strong, rests, key, &effect),
+        Change::Nothing if is_kept_by(table, entry, holds, entry.strong) => Some(entry.strong),
+        Change::Effect(key, effect) => effect_in_place(table, units, entry, holds, key, &effect),
         _ => None,
     }
 }
 
-/// Makes the change to a collection in its place, as `settle_in_place` does, or `settle_resting` if it
-/// rests without a strong live node.
-#[inline(never)]
-fn settle_so(
-    table: &mut NodeTable<Node>,
-    entries: &mut Vec<Entry>,
-    units: &mut Vec<Unit>,
-    id: CollectionId,
-    change: &Change,
-    rests: bool,
-) -> bool
-    requires { IsReady table.old entries.old.items units.old.items id change.now }
-    ensures unchanged { result ≡ false → IsUnchanged table.old table.new entries.old.items entries.new.items }
-    ensures ok { result ≡ true → (pool : ℕ) (handles : Handles) →
-        (rests ≡ true → rests_at handles table.old (shelves_of entries.old.items) id ≡ true) →
-        Finishes pool handles table.old (shelves_of entries.old.items) table.new (shelves_of entries.new.items)
-        (changed_in table.old entries.old.items id change.now) }
-    ensures shelves { shelves_of entries.new.items ≡ shelves_of entries.old.items }
-    ensures kept { result ≡ true → IsStored table.new (shelves_of entries.old.items) }
-    ensures counted { result ≡ true → AreCounted table.new entries.new.items }
-    ensures units { HaveUnits units.new.items table.new entries.new.items }
-    ensures same { SameTable table.old table.new }
-{
-    let Some(at) = place_of(entries, id) else {
-        return false;
-    };
-    let entry = &entries[at];
-    let strong = entry.strong;
-    let Some(reserved) = reserved_after(table, change, entry.reserved) else {
-        return false;
-    };
-    let Some(left) = change_in_place(table, units, strong, rests, change) else {
-        return false;
-    };
-    let entry = &mut entries[at];
-    entry.strong = left;
-    entry.reserved = reserved;
-    true
-}
-
 /// Makes the change to a collection in its place, if it is none of nodes, or an effect, and the
 /// counts tell that nothing is forced, and no buffer goes home: a strong node of the collection is
-/// live after it, and a release leaves a node of its unit live or a unit right below that, and the
-/// unit does not become ready, has its buffers, or lies below one without buffers. Answers whether
-/// it did; if not, nothing changed. It takes no memory, and costs a binary search and a constant.
-#[inline(always)]
-pub(crate) fn settle_in_place(
-    table: &mut NodeTable<Node>,
-    entries: &mut Vec<Entry>,
-    units: &mut Vec<Unit>,
-    id: CollectionId,
-    change: &Change,
-) -> bool
-    requires { IsReady table.old entries.old.items units.old.items id change.now }
-    ensures outcome { (handles : Handles) → IsOutcome result handles table.old table.new entries.old.items entries.new.items
-        id change.now }
-    ensures units { HaveUnits units.new.items table.new entries.new.items }
-{
-    settle_so(table, entries, units, id, change, false)
-}
-
-/// The same, where no strong node of the collection is live before it, and the collection rests
-/// without. It costs a look at the handles of the buffers besides.
-#[inline(always)]
-pub(crate) fn settle_resting(
+/// live after it, or the collection rests without one; and a release leaves a node of its unit live
+/// or a unit right below that, and the unit does not become ready, has its buffers, or lies below one
+/// without buffers. Answers whether it did; if not, the table and the entries are as they were. It
+/// takes no memory, and costs a binary search and a constant, and a look at the handles of the
+/// buffers where no strong node is live after it.
+#[inline(never)]
+pub(crate) fn settle_still(
     table: &mut NodeTable<Node>,
     entries: &mut Vec<Entry>,
     units: &mut Vec<Unit>,
@@ -367,8 +300,18 @@ pub(crate) fn settle_resting(
     ensures outcome { IsOutcome result (total holds.now) table.old table.new entries.old.items entries.new.items id change.now }
     ensures units { HaveUnits units.new.items table.new entries.new.items }
 {
-    if !is_resting(table, entries, id, holds) {
+    let Some(at) = place_of(entries, id) else {
         return false;
-    }
-    settle_so(table, entries, units, id, change, true)
+    };
+    let entry = &entries[at];
+    let Some(reserved) = reserved_after(table, change, entry.reserved) else {
+        return false;
+    };
+    let Some(left) = change_in_place(table, units, entry, holds, change) else {
+        return false;
+    };
+    let entry = &mut entries[at];
+    entry.strong = left;
+    entry.reserved = reserved;
+    true
 }

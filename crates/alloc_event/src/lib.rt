@@ -41,6 +41,7 @@ mod reserving;
 mod resting;
 pub mod returns;
 mod room;
+mod runs;
 pub mod scene;
 mod serving;
 pub mod settling;

@@ -1,17 +1,16 @@
 //! Whether a collection rests where none of its strong nodes is live.
 ghost use Rattle.std.specs.Prelude.{◌≡◌, true};
 ghost use Rattle.buffer_holds.specs.Counts.{total};
-ghost use Rattle.alloc_event.specs.Kept.{IsStored, shelf_of, shelves_of};
-ghost use Rattle.alloc_event.specs.Resting.{is_at_rest, is_kept_by, rests_at};
+ghost use Rattle.alloc_event.specs.Kept.{shelf_of};
+ghost use Rattle.alloc_event.specs.Resting.{is_at_rest, is_kept_by};
 ghost use Rattle.alloc_event.specs.Scenes.{given_few};
 
 use crate::dropped::is_abandoned;
-use crate::entry::{Entry, entry_of};
+use crate::entry::Entry;
 use crate::node::Node;
 use crate::still::are_out;
 use buffer_holds::Holds;
 use node_table::NodeTable;
-use sm_names::CollectionId;
 
 /// Whether the buffers of the collection are not abandoned and none of those that it holds is home,
 /// where none of its strong nodes is live: then nothing is forced for the want of one. It looks at
@@ -37,30 +36,4 @@ pub(crate) fn is_kept_by(
     ensures { result ≡ is_kept_by (total holds.now) table.now (shelf_of entry.now) lives }
 {
     lives > 0 || is_at_rest(table, entry, holds)
-}
-
-/// Whether no strong node of the collection is live, and it rests without. It looks at the handles
-/// only where there is none.
-fn rests_without(table: &NodeTable<Node>, entry: &Entry, holds: &Holds) -> bool
-    requires { given_few entry.now.buffers ≡ true }
-    ensures { result ≡ true → is_at_rest (total holds.now) table.now (shelf_of entry.now) ≡ true }
-{
-    entry.strong == 0 && is_at_rest(table, entry, holds)
-}
-
-/// Whether there is such a collection, without a strong live node, and it rests so. A binary search.
-#[inline(never)]
-pub(crate) fn is_resting(
-    table: &NodeTable<Node>,
-    entries: &[Entry],
-    id: CollectionId,
-    holds: &Holds,
-) -> bool
-    requires kept { IsStored table.now (shelves_of entries.now) }
-    ensures { result ≡ true → rests_at (total holds.now) table.now (shelves_of entries.now) id ≡ true }
-{
-    match entry_of(entries, id) {
-        Some(entry) => rests_without(table, entry, holds),
-        None => false,
-    }
 }

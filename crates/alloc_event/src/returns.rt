@@ -4,10 +4,12 @@ ghost use Rattle.std.specs.List.{filter};
 ghost use Rattle.sm_names.specs.declared.keys.Interval.{Interval};
 ghost use Rattle.buffer_holds.specs.Counts.{total};
 ghost use Rattle.buffer_pool.specs.Holdings.{without, IsSound as IsSoundPool};
+ghost use Rattle.alloc_event.specs.Runs.{rest_of, HoldsRun};
 ghost use Rattle.alloc_event.specs.Scenes.{by_page, collection_of, is_out, pages_held, IsPoolBeside, PoolFollows};
 ghost use Rattle.alloc_event.specs.Settling.{given_back};
 
 use crate::questions::some_strong_live;
+use crate::runs::{Run, give_run, join_run};
 use crate::scene::Scene;
 use buffer_holds::{Holds, Spot};
 use buffer_pool::Pool;
@@ -46,7 +48,8 @@ pub(crate) fn send_home(
     keep_out(held, holds, strong_live, out);
 }
 
-/// Each buffer that is home gives its pages back. Answers how many are not.
+/// Each buffer that is home gives its pages back, together with those that lie side by side with it.
+/// Answers how many are not.
 fn return_pages(held: &[HeldBuffer], pool: &mut Pool, holds: &Holds, strong_live: bool) -> usize
     requires { (others : List Interval)
         × (pool.old.held ≡ by_page (pages_held held.now ++ others)) }
@@ -59,31 +62,37 @@ fn return_pages(held: &[HeldBuffer], pool: &mut Pool, holds: &Holds, strong_live
 {
     look_at(pool);
     let mut near = Spot::new();
+    let mut run = Run::new();
     let mut out = 0;
     for buffer in held {
-        out += return_one(*buffer, pool, holds, strong_live, &mut near);
+        out += return_one(*buffer, pool, holds, strong_live, &mut near, &mut run);
     }
+    give_run(pool, run);
     out
 }
 
-/// The buffer gives its pages back, if it is home. Answers 1 if it is not, and else 0.
+/// The buffer is to give its pages back with the run or after it, if it is home. Answers 1 if it is not,
+/// and else 0.
 fn return_one(
     buffer: HeldBuffer,
     pool: &mut Pool,
     holds: &Holds,
     strong_live: bool,
     near: &mut Spot,
+    run: &mut Run,
 ) -> usize
     requires sound { IsSoundPool pool.old }
-    requires there { Contains pool.old.held buffer.pages }
-    ensures held { pool.new.held ≡ (if is_out (total holds.now) strong_live buffer
-        then pool.old.held else without buffer.pages.start pool.old.held) }
+    requires run { HoldsRun run.old pool.old.held }
+    requires there { Contains (rest_of run.old pool.old.held) buffer.pages }
+    ensures held { rest_of run.new pool.new.held ≡ (if is_out (total holds.now) strong_live buffer
+        then rest_of run.old pool.old.held else without buffer.pages.start (rest_of run.old pool.old.held)) }
+    ensures run { HoldsRun run.new pool.new.held }
     ensures size { pool.new.size ≡ pool.old.size }
     ensures sound { IsSoundPool pool.new }
     ensures out { result ≡ (if is_out (total holds.now) strong_live buffer then 1 else 0) }
 {
     if holds.home_near(buffer.buffer, strong_live, near) {
-        pool.give_back(buffer.pages.start, buffer.pages.pages);
+        *run = join_run(pool, *run, buffer.pages);
         return 0;
     }
     1

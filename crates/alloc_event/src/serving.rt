@@ -1,7 +1,7 @@
 //! Attached units that become ready by an effect, allocated in their places with those that follow.
-ghost use Rattle.std.specs.List.{filter_map, list_any, sum_by};
+ghost use Rattle.std.specs.List.{list_any, sum_by};
 ghost use Rattle.std.specs.List.Sorted.{IsSorted};
-ghost use Rattle.std.specs.Prelude.{nat_lt, ◌≡◌, ◌≤◌, ◌+◌, ◌^◌, ◌&&◌, not, if◌then◌else◌, ◌∷◌, [], ℕ, List, None, Some, true, false, IfSome, IsSome};
+ghost use Rattle.std.specs.Prelude.{nat_lt, ◌≡◌, ◌+◌, if◌then◌else◌, ◌∷◌, [], List, None, Some, true, false, IfSome, IsSome};
 ghost use Rattle.sm_names.specs.Demands.{Demand};
 ghost use Rattle.sm_names.specs.Members.{greatest};
 ghost use Rattle.sm_names.specs.declared.keys.NodeKey.{NodeKey as Key};

@@ -1,16 +1,19 @@
 -- What an interval that goes back makes of the holes.
-use Rattle.std.proofs.Common.{ℕ, zero, suc, ◌≡◌, ◌+◌, ◌-◌, ◌<◌, ◌≤◌, refl, ap, sym, subst, ◌∙◌, true, false, List, [], ◌∷◌, ◌++◌, length, get_or, inl, inr, arith, nat_lt, ◌==◌, add-one}
+use Rattle.std.proofs.Common.{ℕ, zero, suc, ◌≡◌, ◌+◌, ◌-◌, ◌*◌, ◌<◌, ◌≤◌, refl, ap, sym, subst, ◌∙◌, Bool, true, false, not, ◌&&◌, List, [], ◌∷◌, ◌++◌, length, get_or, inl, inr, arith, nat_lt, ◌==◌, add-one}
 use Rattle.std.specs.Prelude.{All, Contains}
-use Rattle.std.proofs.lemmas.Bool.{lt-ltb, le-ltb, leb-true, eq-eqb, ne_eqb, cases_lt}
+use Rattle.std.proofs.Math.Nat.{suc-mul}
+use Rattle.std.proofs.lemmas.Bool.{cases_Bool, and_parts, not-true, ltb-true, lt-ltb, le-ltb, leb-true, eq-eqb, eqb-true, ne_eqb, cases_lt}
 use Rattle.std.proofs.lemmas.List.{append-nil}
 use Rattle.std.proofs.lemmas.List.Sums.{sum_by-cons}
 use Rattle.sm_names.specs.declared.keys.Interval.{Interval}
 use Rattle.buffer_pool.specs.Holes.{end_of, gap, holes_from, holes_of}
-use Rattle.buffer_pool.specs.Holdings.{IsPoolSound, in_order, pages_in, without}
+use Rattle.buffer_pool.specs.Holdings.{HasRun, IsPoolSound, in_order, in_run, pages_in, without, without_run}
 use Rattle.buffer_pool.specs.Merging.{spaced, first_begins, joined, released}
 use Rattle.buffer_pool.proofs.Orders.{first_in_order, in_order-cons, in_order-wider, in_order-at, without-later}
+use Rattle.buffer_pool.proofs.Keeping.{lists_of}
+use Rattle.buffer_pool.proofs.Runs.{in_order-without_run, run-end, without_run-keeps}
 use Rattle.buffer_pool.proofs.Spaces.{first_spaced, joined_apart}
-use Rattle.buffer_pool.proofs.Gaps.{gap_some, gap_none, spaced-holes, holes-end, length-holes}
+use Rattle.buffer_pool.proofs.Gaps.{gap_some, gap_none, spaced-holes, length-holes}
 
 -- no hole of those from a later page on begins at the page
 begins-later : (page low : ℕ) (hs : List Interval) → page < low → spaced low hs ≡ true → first_begins page hs ≡ false
@@ -136,37 +139,169 @@ pub goes_back-of : (size : ℕ) (back : Interval) (is : List Interval) → in_or
     GoesBack 0 size back is
 goes_back-of size back is h there = goes_back 0 size back is h there.0 there.1 there.2
 
--- what the fields give for an interval that goes back, and keep
-pub record KeepsBack (size free : ℕ) (holes held : List Interval) (capacity : ℕ) (back : Interval) : Type 0 where
+-- ---- intervals side by side go back
+
+-- no hole begins at the page
+none_begins : ℕ → List Interval → Bool
+none_begins page [] = true
+none_begins page (h ∷ hs) = not (h.start == page) && none_begins page hs
+
+none-first : (page : ℕ) (hs : List Interval) → none_begins page hs ≡ true → first_begins page hs ≡ false
+unfolding none_begins
+none-first page [] none = refl
+none-first page (h ∷ hs) none = not-true (h.start == page) (and_parts (not (h.start == page)) _ none).0
+
+-- so it is of holes from a later page on
+none-later : (page low : ℕ) (hs : List Interval) → page < low → spaced low hs ≡ true → none_begins page hs ≡ true
+unfolding none_begins
+none-later page low [] lt s = refl
+none-later page low (h ∷ hs) lt s =
+    let f = first_spaced low h hs s in
+    let other : (h.start == page) ≡ false = ne_eqb _ _ (λ e. absurd (omega (arith, f.from))) in
+    rw other (none-later page (end_of h + 1) hs (omega (arith, f.from)) f.rest)
+
+none-gap : (page low to : ℕ) (hs : List Interval) → to ≤ page → none_begins page hs ≡ true → none_begins page (gap low to ++ hs) ≡ true
+unfolding none_begins
+none-gap page low to hs le none =
+    elim (cases_lt low to) [
+      | inl some ↦
+          let other : (low == page) ≡ false = ne_eqb _ _ (λ e. absurd (omega arith)) in
+          rw (gap_some low to some, other) none
+      | inr ends ↦ rw (gap_none low to ends) none
+    ]
+
+-- and where an interval is held
+none-held : (low size : ℕ) (b : Interval) (is : List Interval) → in_order low size is ≡ true → (k : ℕ) → k < length is → get_or is k b ≡ b →
+    none_begins b.start (holes_from low size is) ≡ true
+none-held low size b [] h k lt at = absurd (omega arith)
+none-held low size b (i ∷ is) h zero lt at =
+    let f = first_in_order low size i is h in
+    let same : i.start ≡ b.start = ap (λ (x : Interval). x.start) at in
+    none-gap b.start low i.start (holes_from (end_of i) size is) (omega arith)
+    (none-later b.start (end_of i) (holes_from (end_of i) size is) (omega (arith, f.has_pages)) (spaced-holes (end_of i) size is f.rest))
+none-held low size b (i ∷ is) h (suc k) lt at =
+    let f = first_in_order low size i is h in
+    let within : k < length is = omega arith in
+    let from : end_of i ≤ b.start = rw at at (in_order-at (end_of i) size is f.rest k b within).0 in
+    none-gap b.start low i.start (holes_from (end_of i) size is) (omega arith) (none-held (end_of i) size b is f.rest k within at)
+
+-- what comes back right behind a first hole makes it longer
+released-behind : (hole next : Interval) (hs : List Interval) → next.start ≡ end_of hole →
+    released next (hole ∷ hs) ≡ joined (record { start = hole.start; pages = hole.pages + next.pages }) hs
+released-behind hole next hs same =
+    let n : nat_lt (end_of hole) next.start ≡ false = le-ltb _ _ (omega arith) in
+    let e : (end_of hole == next.start) ≡ true = eq-eqb _ _ (sym same) in
+    rw (n, e) refl
+
+-- pages that come back side by side come back as one
+released-twice : (first next : Interval) (hs : List Interval) → next.start ≡ end_of first → none_begins next.start hs ≡ true →
+    released next (released first hs) ≡ released (record { start = first.start; pages = first.pages + next.pages }) hs
+unfolding none_begins
+released-twice first next [] same none = released-behind first next [] same
+released-twice first next (h ∷ hs) same none =
+    let p = and_parts (not (h.start == next.start)) _ none in
+    elim (cases_Bool (nat_lt (end_of h) first.start)) [
+      | inl y ↦
+          let less : end_of h < first.start = ltb-true _ _ y in
+          let before : nat_lt (end_of h) next.start ≡ true = lt-ltb _ _ (omega arith) in
+          rw (y, before) (ap (λ r. h ∷ r) (released-twice first next hs same p.1))
+      | inr n ↦ elim (cases_Bool (end_of h == first.start)) [
+        | inl e ↦
+            let end : end_of h ≡ first.start = eqb-true _ _ e in
+            let hole : Interval = record { start = h.start; pages = h.pages + first.pages } in
+            let last : next.start ≡ end_of hole = omega arith in
+            let apart : first_begins (end_of hole) hs ≡ false = subst (λ page. first_begins page hs ≡ false) last
+            (none-first next.start hs p.1) in
+            let sum : h.pages + first.pages + next.pages ≡ h.pages + (first.pages + next.pages) = omega arith in
+            rw (n, e)
+            (ap (released next) (joined_apart hole hs apart) ∙ released-behind hole next hs last
+            ∙ ap (λ (pages : ℕ). joined (record { start = h.start; pages = pages }) hs) sum)
+        | inr m ↦
+            let apart : first_begins (end_of first) (h ∷ hs) ≡ false = subst (λ page. first_begins page (h ∷ hs) ≡ false) same
+            (none-first next.start (h ∷ hs) none) in
+            rw (n, m) (ap (released next) (joined_apart first (h ∷ hs) apart) ∙ released-behind first next (h ∷ hs) same)
+      ]
+    ]
+
+-- what is so once they went back
+pub record RunGoesBack (size start each count : ℕ) (is : List Interval) : Type 0 where
+  pub holes : holes_of size (without_run start each count is)
+      ≡ released (record { start = start; pages = count * each }) (holes_of size is)
+  pub pages : count * each + pages_in (without_run start each count is) ≡ pages_in is
+  pub fewer : length (without_run start each count is) + count ≡ length is
+
+run_back : (size start pages n : ℕ) (is : List Interval) → in_order 0 size is ≡ true → HasRun start pages (suc n) is →
+    RunGoesBack size start pages (suc n) is
+run_back size start pages zero is h run =
+    let g = goes_back-of size (in_run start pages 0) is h (run 0 (omega arith)) in
+    let place : start + 0 * pages ≡ start = omega arith in
+    let all : pages ≡ 1 * pages = omega arith in
+    record {
+      holes = g.holes ∙ (λ i. released (record { start = place i; pages = all i }) (holes_of size is));
+      pages = omega (arith, g.pages);
+      fewer = g.fewer;
+    }
+run_back size start pages (suc n) is h run =
+    let r = run_back size start pages n is h (λ k lt. run k (omega arith)) in
+    let some : 0 < pages = (run-end start pages (suc n) size is h run).0 in
+    let last : Interval = in_run start pages (suc n) in
+    let there : Contains is last = run (suc n) (omega arith) in
+    let left : List Interval = without_run start pages (suc n) is in
+    let g = goes_back-of size last left (in_order-without_run 0 size start pages (suc n) is h)
+    (without_run-keeps start pages (suc n) last is some (omega arith) there) in
+    let more : suc (suc n) * pages ≡ suc n * pages + pages = suc-mul (suc n) pages in
+    record {
+      holes = g.holes ∙ ap (released last) r.holes
+          ∙ released-twice (record { start = start; pages = suc n * pages }) last (holes_of size is) refl
+          (none-held 0 size last is h there.0 there.1 there.2)
+          ∙ ap (λ (all : ℕ). released (record { start = start; pages = all }) (holes_of size is)) (sym more);
+      pages = omega (arith, r.pages, g.pages);
+      fewer = omega (arith, r.fewer, g.fewer);
+    }
+
+-- what the fields give for intervals that go back, and keep
+pub record KeepsBack (size free : ℕ) (holes held : List Interval) (capacity start pages count : ℕ) : Type 0 where
   pub up : in_order 0 1048576 held ≡ true
   pub spaced : spaced 0 holes ≡ true
+  pub few : length holes ≤ 1048576
   pub fits : All (λ (h : Interval). end_of h < 4294967296) holes
-  pub back_fits : end_of back < 4294967296
-  pub room : length (released back holes) ≤ capacity
-  pub fewer : length (without back.start held) + 1 ≡ length held
-  pub kept : IsPoolSound size (free + back.pages) (released back holes) (without back.start held) capacity
+  pub back_fits : start + count * pages < 4294967296
+  pub room : length (released (record { start = start; pages = count * pages }) holes) ≤ capacity
+  pub fewer : length (without_run start pages count held) + count ≡ length held
+  pub kept : IsPoolSound size (free + count * pages) (released (record { start = start; pages = count * pages }) holes)
+      (without_run start pages count held) capacity
 
-pub keeps_back : (size free : ℕ) (holes held : List Interval) (capacity : ℕ) (back : Interval) → IsPoolSound size free holes held capacity →
-    Contains held back → KeepsBack size free holes held capacity back
-keeps_back size free holes held capacity back k there =
-    let g = goes_back-of size back held k.in_order there in
-    let end : end_of back ≤ size = rw there.2 at (in_order-at 0 size held k.in_order there.0 back there.1).2 in
-    let released_is : released back holes ≡ holes_of size (without back.start held) = ap (released back) k.holes_are ∙ sym g.holes in
-    let fewer = (length-holes 0 size (without back.start held) g.in_order).1 in
+keeps_more : (size free : ℕ) (holes held : List Interval) (capacity start pages n : ℕ) → IsPoolSound size free holes held capacity →
+    HasRun start pages (suc n) held → KeepsBack size free holes held capacity start pages (suc n)
+keeps_more size free holes held capacity start pages n k run =
+    let back : Interval = record { start = start; pages = suc n * pages } in
+    let left : List Interval = without_run start pages (suc n) held in
+    let order : in_order 0 size left ≡ true = in_order-without_run 0 size start pages (suc n) held k.in_order in
+    let g = run_back size start pages n held k.in_order run in
+    let end : start + suc n * pages ≤ size = (run-end start pages n size held k.in_order run).1 in
+    let released_is : released back holes ≡ holes_of size left = ap (released back) k.holes_are ∙ sym g.holes in
+    let fewer = (length-holes 0 size left order).1 in
+    let lists = lists_of size free holes held capacity k in
     let small = k.sized.1 in
     record {
       up = in_order-wider 0 size 0 1048576 held (omega arith) small k.in_order;
       spaced = subst (λ hs. spaced 0 hs ≡ true) (sym k.holes_are) (spaced-holes 0 size held k.in_order);
-      fits = subst (All (λ (h : Interval). end_of h < 4294967296)) (sym k.holes_are) (λ j d lt. let at =
-          holes-end 0 size held k.in_order j d lt in omega (arith, at));
+      few = lists.few;
+      fits = lists.fits;
       back_fits = omega arith;
       room = subst (λ hs. length hs ≤ capacity) (sym released_is) (omega (arith, g.fewer, k.has_capacity));
       fewer = g.fewer;
       kept = record {
         sized = k.sized;
-        in_order = g.in_order;
+        in_order = order;
         holes_are = released_is;
         free_are = omega (arith, g.pages, k.free_are);
         has_capacity = omega (arith, g.fewer, k.has_capacity);
       };
     }
+
+pub keeps_back : (size free : ℕ) (holes held : List Interval) (capacity start pages count : ℕ) → 1 ≤ count →
+    IsPoolSound size free holes held capacity → HasRun start pages count held → KeepsBack size free holes held capacity start pages count
+keeps_back size free holes held capacity start pages zero some k run = absurd (omega arith)
+keeps_back size free holes held capacity start pages (suc n) some k run =
+    keeps_more size free holes held capacity start pages n k run

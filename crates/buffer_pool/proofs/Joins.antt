@@ -1,8 +1,9 @@
 -- Intervals in blocks, joined to one list.
 use Rattle.std.proofs.Common.{ℕ, zero, suc, ◌≡◌, ◌+◌, ◌-◌, ◌<◌, ◌≤◌, refl, ap, sym, subst, ◌∙◌, List, [], ◌∷◌, ◌++◌, length, get_or, set, take, drop, arith, add-one, append_assoc}
-use Rattle.std.specs.List.{insert, remove}
-use Rattle.std.proofs.lemmas.List.{append-nil, take-append-drop, drop_more, set_split, take_more, take_more_set, take-set, drop-set-lt, drop_at, take-append-le, take-take, length-take-le, length-append, length-set, set-append_left, set-append_right, get_or-set_same}
-use Rattle.std.proofs.lemmas.List.Edits.{insert-append_left, insert-append_right, remove-append_left, remove-append_right, length-insert, length-remove, get_or-insert_below, get_or-insert_at}
+use Rattle.std.specs.List.{insert, remove, remove_range}
+use Rattle.std.proofs.Math.Seq.{take-append-add, drop-append-add}
+use Rattle.std.proofs.lemmas.List.{append-nil, take-append-drop, drop_more, set_split, take_more, take_more_set, take-set, drop-set-lt, drop_at, take-append-le, drop-append-le, take-take, length-take-le, length-append, length-set, set-append_left, set-append_right, get_or-set_same}
+use Rattle.std.proofs.lemmas.List.Edits.{insert-append_left, insert-append_right, length-insert, length-remove, get_or-insert_below, get_or-insert_at}
 use Rattle.std.proofs.lemmas.List.Concat.{flat_map-append, get_or-flat_map}
 use Rattle.sm_names.specs.declared.keys.Interval.{Interval}
 use Rattle.buffer_pool.specs.Rows.{all_in}
@@ -43,17 +44,21 @@ insert_in L b o x lt le =
     ∙ sym (insert-append_right P (B ++ S) (length P) (length P + o) x refl (omega arith))
     ∙ sym (ap (λ ys. insert ys (length P + o) x) (parts L b lt))
 
-pub remove_in : (L : Lists) (b o : ℕ) → b < length L → o < length (get_or L b []) →
-    all_in (set L b (remove (get_or L b []) o)) ≡ remove (all_in L) (length (all_in (take b L)) + o)
-remove_in L b o lt le =
+pub remove_range_in : (L : Lists) (b o n : ℕ) → b < length L → o + n ≤ length (get_or L b []) →
+    all_in (set L b (remove_range (get_or L b []) o (o + n)))
+    ≡ remove_range (all_in L) (length (all_in (take b L)) + o) (length (all_in (take b L)) + o + n)
+remove_range_in L b o n lt le =
     let P : List Interval = all_in (take b L) in
     let B : List Interval = get_or L b [] in
     let S : List Interval = all_in (drop (b + 1) L) in
-    parts-set L b (remove B o) lt
-    ∙ sym (ap (λ r. P ++ r) (remove-append_left B S o le))
-    ∙ sym (ap (λ n. P ++ remove (B ++ S) n) (none-left (length P) o))
-    ∙ sym (remove-append_right P (B ++ S) (length P) (length P + o) refl (omega arith))
-    ∙ sym (ap (λ ys. remove ys (length P + o)) (parts L b lt))
+    let sum : length P + o + n ≡ length P + (o + n) = omega arith in
+    parts-set L b (remove_range B o (o + n)) lt
+    ∙ ap (λ r. P ++ r) (append_assoc (take o B) (drop (o + n) B) S)
+    ∙ sym (append_assoc P (take o B) (drop (o + n) B ++ S))
+    ∙ sym (λ i. (P ++ take-append-le o B S (omega arith) i) ++ drop-append-le (o + n) B S le i)
+    ∙ sym (λ i. take-append-add P (B ++ S) o i ++ drop-append-add P (B ++ S) (o + n) i)
+    ∙ sym (ap (λ m. take (length P + o) (P ++ (B ++ S)) ++ drop m (P ++ (B ++ S))) sum)
+    ∙ sym (ap (λ ys. remove_range ys (length P + o) (length P + o + n)) (parts L b lt))
 
 pub set_in : (L : Lists) (b o : ℕ) (x : Interval) → b < length L → o < length (get_or L b []) →
     all_in (set L b (set (get_or L b []) o x)) ≡ set (all_in L) (length (all_in (take b L)) + o) x

@@ -11,6 +11,7 @@ pub mod Least
 mod Orders
 mod Passing
 mod Placing
+pub mod Runs
 mod Searches
 mod Sounds
 mod Spaces

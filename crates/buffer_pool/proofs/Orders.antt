@@ -1,9 +1,8 @@
 -- Intervals in order of page.
-use Rattle.std.proofs.Common.{ℕ, zero, suc, ◌≡◌, ◌+◌, ◌<◌, ◌≤◌, refl, ap, sym, subst, true, false, List, [], ◌∷◌, length, get_or, inl, inr, arith, nat_lt, nat_le, ◌==◌, one-add}
-use Rattle.std.specs.Prelude.{Contains}
-use Rattle.std.specs.List.{insert, remove, prefix_len}
+use Rattle.std.proofs.Common.{ℕ, zero, suc, ◌≡◌, ◌+◌, ◌<◌, ◌≤◌, refl, ap, subst, true, false, List, [], ◌∷◌, length, get_or, inl, inr, arith, nat_lt, nat_le, ◌==◌, one-add}
+use Rattle.std.specs.List.{insert, prefix_len}
 use Rattle.std.specs.List.Sorted.{IsNonDecreasingBy}
-use Rattle.std.proofs.lemmas.Bool.{cases_Bool, and_parts, and_from, ltb-true, ltb-false, leb-true, lt-ltb, le-ltb, le-leb, ne_eqb, eq-eqb, cases_lt}
+use Rattle.std.proofs.lemmas.Bool.{cases_Bool, and_parts, and_from, ltb-true, ltb-false, leb-true, lt-ltb, le-leb, ne_eqb, cases_lt}
 use Rattle.std.proofs.lemmas.List.Sums.{sum_by-cons, prefix_len_passes, prefix_len_stops, prefix_len-le-length}
 use Rattle.std.proofs.lemmas.List.Sorted.{IsNonDecreasingBy-insert}
 use Rattle.sm_names.specs.declared.keys.Interval.{Interval}
@@ -132,35 +131,6 @@ without-later start low high (i ∷ is) lt h =
     let other : (i.start == start) ≡ false = ne_eqb _ _ (λ e. absurd (omega (arith, f.from))) in
     let later : start < end_of i = omega (arith, f.from) in
     rw other (ap (λ r. i ∷ r) (without-later start (end_of i) high is later f.rest))
-
--- a remove behind those that begin earlier takes the interval away
-pub remove_in_place : (back : Interval) (low high : ℕ) (is : List Interval) → in_order low high is ≡ true → (k : ℕ) → k < length is →
-    get_or is k back ≡ back → (prefix_len (λ (i : Interval). nat_lt i.start back.start) is < length is) ×
-    (remove is (prefix_len (λ (i : Interval). nat_lt i.start back.start) is) ≡ without back.start is)
-remove_in_place back low high [] h k lt at = absurd (omega arith)
-remove_in_place back low high (i ∷ is) h zero lt at =
-    let f = first_in_order low high i is h in
-    let same : i.start ≡ back.start = ap (λ (x : Interval). x.start) at in
-    let n : nat_lt i.start back.start ≡ false = le-ltb _ _ (omega arith) in
-    let e : (i.start == back.start) ≡ true = eq-eqb _ _ same in
-    let later : back.start < end_of i = omega (arith, f.has_pages) in
-    rw (n, e) (omega arith, sym (without-later back.start (end_of i) high is later f.rest))
-remove_in_place back low high (i ∷ is) h (suc k) lt at =
-    let f = first_in_order low high i is h in
-    let within : k < length is = omega arith in
-    let there = in_order-at (end_of i) high is f.rest k back within in
-    let from : end_of i ≤ back.start = rw at at there.0 in
-    let y : nat_lt i.start back.start ≡ true = lt-ltb _ _ (omega (arith, f.has_pages)) in
-    let e : (i.start == back.start) ≡ false = ne_eqb _ _ (λ same. absurd (omega (arith, f.has_pages))) in
-    let r = remove_in_place back (end_of i) high is f.rest k within at in
-    rw (y, e, one-add) (omega (arith, r.0), ap (λ r. i ∷ r) r.1)
-
--- what is so at the place that a search for the interval's start found
-pub removed_in_place : (back : Interval) (high at : ℕ) (xs is : List Interval) → in_order 0 high is ≡ true → Contains is back → xs ≡ is →
-    at ≡ prefix_len (λ (i : Interval). nat_lt i.start back.start) xs → (at < length is) × (remove is at ≡ without back.start is)
-removed_in_place back high at xs is h there same found =
-    let place : at ≡ prefix_len (λ (i : Interval). nat_lt i.start back.start) is = rw same at found in
-    rw place (remove_in_place back 0 high is h there.0 there.1 there.2)
 
 -- an interval put in its place keeps the starts rising
 pub with_interval-rises : (new : Interval) (is : List Interval) → IsNonDecreasingBy (λ (i : Interval). i.start) is →

@@ -1,5 +1,5 @@
 -- What callers see of a pool, and what placing and giving back make of it.
-use Rattle.std.specs.Prelude.{◌≡◌, ℕ, ◌+◌, ◌<◌, ◌≤◌, nat_lt, nat_le, Bool, false, not, ◌&&◌, ◌==◌, List, [], ◌∷◌, if◌then◌else◌, IsTrue, All, AllPairs, length}
+use Rattle.std.specs.Prelude.{◌≡◌, ℕ, zero, suc, ◌+◌, ◌*◌, ◌<◌, ◌≤◌, nat_lt, nat_le, Bool, false, not, ◌&&◌, ◌==◌, List, [], ◌∷◌, if◌then◌else◌, IsTrue, All, AllPairs, Contains, length}
 use Rattle.std.specs.List.{filter, sum_by}
 use Rattle.sm_names.specs.declared.keys.Interval.{Interval}
 use Rattle.sm_names.specs.Pages.{meets}
@@ -39,6 +39,19 @@ with_buffers pages (s ∷ ss) held = with_buffers pages ss (with_interval (recor
 -- the intervals but for the one that begins at this page
 abbrev pub without : ℕ → List Interval → List Interval
 without start held = filter (λ i. not (i.start == start)) held
+
+-- the interval of so many pages that lies behind so many others of as many pages, the first of which begins at this page
+abbrev pub in_run : ℕ → ℕ → ℕ → Interval
+in_run start pages n = record { start = start + n * pages; pages = pages }
+
+-- so many intervals of as many pages are held that lie side by side from this page on
+abbrev pub HasRun : ℕ → ℕ → ℕ → List Interval → Type 0
+HasRun start pages count held = (n : ℕ) → n < count → Contains held (in_run start pages n)
+
+-- the intervals but for so many of as many pages that lie side by side from this page on
+abbrev pub without_run : ℕ → ℕ → ℕ → List Interval → List Interval
+without_run start pages zero held = held
+without_run start pages (suc n) held = without (start + n * pages) (without_run start pages n held)
 
 -- what the fields of a pool keep true
 pub record IsPoolSound (size free : ℕ) (holes held : List Interval) (capacity : ℕ) : Type 0 where

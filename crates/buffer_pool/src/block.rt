@@ -1,6 +1,6 @@
 //! A block of intervals: a short list that is changed in its place.
 ghost use Rattle.std.specs.Prelude.{◌≡◌, false, ◌+◌, ◌-◌, ◌<◌, ◌≤◌, [], ◌++◌, length, take, drop, set, slice_index_or, nat_lt, IfOk};
-ghost use Rattle.std.specs.List.{insert, remove, prefix_len};
+ghost use Rattle.std.specs.List.{insert, remove_range, prefix_len};
 ghost use Rattle.std.specs.List.Sorted.{IsNonDecreasingBy};
 ghost use Rattle.buffer_pool.specs.Fitting.{too_small, AreSmall, rooms};
 ghost use Rattle.buffer_pool.specs.Rows.{edge_of};
@@ -88,13 +88,19 @@ impl Block {
         self.cells.insert(at, new).unwrap();
     }
 
-    /// Takes the interval at this place out.
-    pub(crate) fn remove(&mut self, at: usize) -> Interval
-        requires { at < length self.old }
-        ensures value { result ≡ slice_index_or self.old at result }
-        ensures rest { self.new ≡ remove self.old at }
+    /// Takes so many intervals from this place on out.
+    pub(crate) fn remove_run(&mut self, at: usize, count: usize)
+        requires { at + count ≤ length self.old }
+        ensures { self.new ≡ remove_range self.old at (at + count) }
     {
-        self.cells.remove(at)
+        // This moves the others at once.
+        if count == 1 {
+            self.cells.remove(at);
+            return;
+        }
+        let left = self.cells.len() - count;
+        self.cells.copy_within(at + count.., at);
+        self.cells.truncate(left);
     }
 
     /// Moves the second half of a full block into one of none.

@@ -1,6 +1,6 @@
 //! Intervals in blocks, so that a change moves no more than a block of them.
 ghost use Rattle.std.specs.Prelude.{◌≡◌, true, false, ◌+◌, ◌-◌, ◌*◌, ◌++◌, ◌∷◌, [], ◌<◌, ◌≤◌, ◌^◌, length, take, drop, set, get_or, slice_index_or, nat_lt, nat_le, All, IfOk, OnOk};
-ghost use Rattle.std.specs.List.{insert, remove, prefix_len};
+ghost use Rattle.std.specs.List.{insert, remove, remove_range, prefix_len};
 ghost use Rattle.std.specs.List.Sorted.{IsNonDecreasingBy};
 ghost use Rattle.sm_names.specs.declared.keys.Interval.{Interval};
 ghost use Rattle.buffer_pool.specs.Fitting.{too_small, rooms};
@@ -194,20 +194,32 @@ impl Blocks {
     }
 
     /// Takes the interval at a spot out.
-    pub(crate) fn remove(&mut self, spot: Spot) -> Interval
+    pub(crate) fn remove(&mut self, spot: Spot)
         requires { IsTaken self.old.lists spot }
-        ensures value { result ≡ slice_index_or (all_in self.old.lists) (place_of self.old.lists spot) result }
         ensures changed { IsChanged self.old self.new spot
             (remove (all_in self.old.lists) (place_of self.old.lists spot)) }
         ensures within { IsOpen self.new.lists spot }
     {
-        let old = self.used[spot.block].remove(spot.offset);
+        self.remove_run(spot, 1);
+    }
+
+    /// Takes intervals from a spot on out, at most so many, and none of the next block. Answers how many.
+    pub(crate) fn remove_run(&mut self, spot: Spot, most: usize) -> usize
+        requires there { IsTaken self.old.lists spot }
+        requires some { 1 ≤ most }
+        ensures count { (1 ≤ result) × (result ≤ most) }
+        ensures changed { IsChanged self.old self.new spot (remove_range (all_in self.old.lists)
+            (place_of self.old.lists spot) (place_of self.old.lists spot + result)) }
+        ensures within { IsOpen self.new.lists spot }
+    {
+        let count = most.min(self.used[spot.block].len() - spot.offset);
+        self.used[spot.block].remove_run(spot.offset, count);
         self.near = spot;
         if self.used[spot.block].len() == 0 {
             let block = self.used.remove(spot.block);
             self.spare.push(block).unwrap();
         }
-        old
+        count
     }
 
     // Puts an interval into a block that is not full.

@@ -1,7 +1,7 @@
 //! The held intervals, in order of page.
-ghost use Rattle.std.specs.Prelude.{◌≡◌, ◌<◌, length, IsTrue, Contains};
+ghost use Rattle.std.specs.Prelude.{◌≡◌, ◌<◌, ◌≤◌, length, IsTrue};
 ghost use Rattle.std.specs.List.Sorted.{IsNonDecreasingBy};
-ghost use Rattle.buffer_pool.specs.Holdings.{in_order, with_interval, without};
+ghost use Rattle.buffer_pool.specs.Holdings.{in_order, with_interval, HasRun, without_run};
 ghost use Rattle.buffer_pool.specs.Rows.{all_in, capacity_of};
 
 use crate::blocks::Blocks;
@@ -20,13 +20,17 @@ pub(crate) fn hold(held: &mut Blocks, new: Interval)
     held.insert(spot, new);
 }
 
-/// Takes an interval away.
-pub(crate) fn let_go(held: &mut Blocks, back: Interval)
+/// Takes so many intervals of as many pages away that lie side by side, of which this is the first.
+pub(crate) fn let_go(held: &mut Blocks, first: Interval, count: u32)
     requires up { IsTrue (in_order 0 MAX_PAGES (all_in held.old.lists)) }
-    requires there { Contains (all_in held.old.lists) back }
-    ensures { all_in held.new.lists ≡ without back.start (all_in held.old.lists) }
+    requires some { 1 ≤ count }
+    requires there { HasRun first.start first.pages count (all_in held.old.lists) }
+    ensures { all_in held.new.lists ≡ without_run first.start first.pages count (all_in held.old.lists) }
 {
-    let found = held.find(u64::from(back.start), false);
-    let spot = held.settle(found);
-    held.remove(spot);
+    let mut spot = held.find(u64::from(first.start), false);
+    let mut left = count as usize;
+    while left > 0 {
+        spot = held.settle(spot);
+        left -= held.remove_run(spot, left);
+    }
 }

@@ -3,7 +3,7 @@ ghost use Rattle.std.specs.Prelude.{◌≡◌, ◌+◌, ◌<◌, ◌≤◌, ◌�
 ghost use Rattle.std.specs.List.Sorted.{IsNonDecreasingBy};
 ghost use Rattle.sm_names.specs.Pages.{places};
 ghost use Rattle.buffer_pool.specs.Fitting.{rooms, starts_in, left_in, looks_in};
-ghost use Rattle.buffer_pool.specs.Holdings.{IsSound, pages_in, with_buffers, without};
+ghost use Rattle.buffer_pool.specs.Holdings.{HasRun, IsSound, pages_in, with_buffers, without, without_run};
 ghost use Rattle.buffer_pool.specs.Holes.{end_of};
 ghost use Rattle.buffer_pool.specs.Placing.{PlacesBuffers};
 ghost use Rattle.buffer_pool.specs.Rows.{all_in, capacity_of};
@@ -118,11 +118,27 @@ impl Pool {
         ensures held { self.new ≡ record self.old { held = without start self.old.held } }
         ensures sound { IsSound self.new }
     {
-        let back = Interval { start, pages };
-        let_go(&mut self.held, back);
-        self.holes.release(back);
-        self.free += pages;
-        self.buffers -= 1;
+        self.give_back_run(start, pages, 1);
+    }
+
+    /// Takes back the pages of `count` held intervals, at least one, of `pages` pages each, which lie
+    /// side by side from `start` on, and leaves all others as they are. The pages form one hole with
+    /// the holes that they touch.
+    ///
+    /// It takes no memory, and costs what one interval costs, and a move of at most a block for each
+    /// further block that the intervals lie in, and of the part of the list of blocks behind it where
+    /// it becomes empty.
+    pub fn give_back_run(&mut self, start: u32, pages: u32, count: u32)
+        requires some { 1 ≤ count }
+        requires held { HasRun start pages count self.old.held }
+        ensures held { self.new ≡ record self.old { held = without_run start pages count self.old.held } }
+        ensures sound { IsSound self.new }
+    {
+        let_go(&mut self.held, Interval { start, pages }, count);
+        let all = count * pages;
+        self.holes.release(Interval { start, pages: all });
+        self.free += all;
+        self.buffers -= count;
     }
 
     /// The held intervals in order of page, which lie in the pool and apart.

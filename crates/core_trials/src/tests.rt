@@ -3,6 +3,7 @@ mod acts;
 mod dropping;
 mod failing;
 mod first;
+mod forgetting;
 mod giving;
 mod holding;
 mod holdings;

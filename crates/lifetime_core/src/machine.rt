@@ -415,9 +415,10 @@ impl Core {
     /// DropHandle costs what `Forest::settle_drop` does: where a strong node is live nothing more,
     /// where the root is gone or has no buffers a look at the handles of that buffer alone, and else
     /// a look for an open strong handle among the buffers of the collection besides; where there is
-    /// none the collection fails. A buffer that comes home costs a pass over their names. Where a
-    /// unit of several nodes ends, of which one was released before, what is over is looked for
-    /// among all nodes of the collection. A Take costs at most five look-ups more for each buffer,
+    /// none the collection fails. A buffer that comes home costs a pass over their names. A node that
+    /// is forgotten costs a binary search among the nodes of its collection and a move of the keys on
+    /// its shorter side; where more than 64 go in one event whose ends were spent before, or all
+    /// that is left of a collection goes, all its nodes are looked at instead. A Take costs at most five look-ups more for each buffer,
     /// and fewer where the counts of the buffers stand one after the other, as the first Take left
     /// them. An event that changes something in a collection costs one test for each node and each
     /// buffer that trackers wait for there, two for a node of which lifetimes are waited for too,

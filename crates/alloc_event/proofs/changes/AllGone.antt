@@ -1,5 +1,5 @@
 -- All that is left of a collection goes, after which nothing is forced, and its buffers that are home go back.
-use Rattle.std.proofs.Common.{◌≡◌, ◌≢◌, ℕ, Bool, true, false, ◌&&◌, ◌⊎◌, ◌++◌, ◌==◌, List, [], ◌∷◌, map, get_or, set, Option, Some, None, option_map, refl, sym, ap, subst, ◌∙◌, inl, inr}
+use Rattle.std.proofs.Common.{not, ◌≡◌, ◌≢◌, ℕ, Bool, true, false, ◌&&◌, ◌++◌, ◌==◌, List, [], ◌∷◌, map, get_or, set, Some, None, option_map, refl, sym, ap, subst, ◌∙◌}
 use Rattle.std.proofs.lemmas.List.{get_or_default}
 use Rattle.std.specs.List.{AllByRecursion, filter, find, list_all, list_any}
 use Rattle.sm_names.specs.declared.keys.HeldBuffer.{HeldBuffer}
@@ -9,7 +9,8 @@ use Rattle.sm_names.specs.Forced.{forced}
 use Rattle.sm_names.specs.Members.{some_strong_live}
 use Rattle.sm_names.specs.Words.{sorted_by}
 use Rattle.sm_names.proofs.ListLaws.{In, In-find, In-map}
-use Rattle.sm_names.proofs.SamenessLaws.{both_ways}
+use Rattle.std.proofs.lemmas.Bool.{not-true}
+use Rattle.sm_names.proofs.SamenessLaws.{and_left, and_right, both_ways}
 use Rattle.buffer_pool.specs.Holdings.{Holdings}
 use Rattle.node_table.specs.Table.{Table, parent_at, was_given}
 use Rattle.alloc_event.specs.declared.entry.Entry.{Entry}
@@ -23,7 +24,7 @@ use Rattle.alloc_event.specs.Falling.{AreFailing, IsTaken, change_of, gone_by, m
 use Rattle.alloc_event.specs.Forest.{Collection, all_held, beside, pages_in, with_nodes}
 use Rattle.alloc_event.specs.InPlace.{IsOpen}
 use Rattle.alloc_event.specs.Kept.{AreHeadsGiven, Finishes, IsStored, IsWhole, Shelf, Stores, all_of, collection_in, forest_of, is_filed, nodes_with, place_in, put_shelf, shelf_of, shelves_of}
-use Rattle.alloc_event.specs.Nodes.{members_of}
+use Rattle.alloc_event.specs.Nodes.{is_over, members_of}
 use Rattle.alloc_event.specs.Outcomes.{IsOutcomeIn}
 use Rattle.alloc_event.specs.Parted.{are_parted}
 use Rattle.alloc_event.specs.Reserved.{reserved_count}
@@ -38,7 +39,8 @@ use Rattle.alloc_event.proofs.changes.Dropped.{own_id, pool_at, units_set}
 use Rattle.alloc_event.proofs.changes.Finishing.{collection-beside, collections-put, kept-put, keys_in, whole-map, whole-put, whole-unmap}
 use Rattle.alloc_event.proofs.failures.AllEnded.{IsLed, all_settle}
 use Rattle.alloc_event.proofs.failures.AllGone.{AreGone, all_gone, no_strong, none_decides, none_reserved, none_strong, rooted_gone}
-use Rattle.alloc_event.proofs.failures.Fallen.{f, filed_fallen, gone_is, gone_same, has_now, nodes_then, over_now, same_of, units_but, whole, together_now}
+use Rattle.alloc_event.proofs.failures.Fallen.{f, has_now, nodes_then, over_now, units_but, whole, together_now}
+use Rattle.alloc_event.proofs.failures.GoneNodes.{filed_fallen, gone_is, gone_same, same_of}
 use Rattle.alloc_event.proofs.intervals.Pools.{pool_back}
 use Rattle.alloc_event.proofs.leaving.Noted.{fewer_over}
 use Rattle.alloc_event.proofs.lists.SameIntervals.{start_of}
@@ -58,7 +60,7 @@ pub record IsEmptied (handles : Handles) (now : Table Node) (old new : Entry) : 
   pub held : new.held.items ≡ filter (is_out handles false) old.held.items
   pub strong : new.strong ≡ 0
   pub reserved : new.reserved ≡ 0
-  pub tidy : new.tidy ≡ true → list_any (over_but new.one) (nodes_with now old.keys.items) ≡ false
+  pub tidy : new.tidy ≡ true → list_any (over_but new.noted.items) (nodes_with now old.keys.items) ≡ false
 
 -- without the pages that went back a collection is whole
 whole_back : (handles : Handles) (c : Collection) → IsWhole c → IsWhole (given_back handles c)
@@ -194,18 +196,14 @@ module _ (handles : Handles) (t : Table Node) (es : List Entry) (id at : ℕ) (o
 
   -- ---- what is known of its nodes
 
-  -- none is over but the noted one, where none was, and none of those that fell is
-  pub tidy_now : (tidy : Bool) (one : Option NodeKey) → (tidy ≡ true → old.tidy ≡ true) →
-      (tidy ≡ true → (one ≡ old.one) ⊎ (old.one ≡ None)) → (tidy ≡ true → list_any (over_but one) written ≡ false) →
-      tidy ≡ true → list_any (over_but one) (nodes_with now old.keys.items) ≡ false
-  tidy_now tidy one was noted over h =
-      let before : list_any (over_but old.one) (nodes_with t old.keys.items) ≡ false =
-      tidy_at t es id at old place is kept all us units (change_of going) may (was h) in
-      over_now t us ss s going old.strong opens origin keys taken own_of now stores (over_but one) (over h) (elim (noted h) [
-        | inl same ↦ ap (λ (o : Option NodeKey). list_any (over_but o) (nodes_with t old.keys.items)) same ∙ before
-        | inr none ↦ fewer_over one (nodes_with t old.keys.items)
-            (ap (λ (o : Option NodeKey). list_any (over_but o) (nodes_with t old.keys.items)) (sym none) ∙ before)
-      ])
+  -- none is over but those that are noted, where none was, and none of those that fell is
+  pub tidy_now : (over : Bool) → over ≡ list_any is_over written → (old.tidy && not over) ≡ true →
+      list_any (over_but old.noted.items) (nodes_with now old.keys.items) ≡ false
+  tidy_now over told_over h =
+      let before : list_any (over_but old.noted.items) (nodes_with t old.keys.items) ≡ false =
+      tidy_at t es id at old place is kept all us units (change_of going) may (and_left old.tidy (not over) h) in
+      over_now t us ss s going old.strong opens origin keys taken own_of now stores (over_but old.noted.items)
+      (fewer_over old.noted.items written (sym told_over ∙ not-true over (and_right old.tidy (not over) h))) before
 
   -- ---- the pages
 
@@ -290,7 +288,7 @@ module _ (handles : Handles) (t : Table Node) (es : List Entry) (id at : ℕ) (o
           calm = subst (λ (c : Collection). decided c.nodes c.buffers true ≡ None) (sym shown) (none_now true);
           strong = r.strong ∙ sym (ap strong_count new_nodes ∙ none_strong (nodes_with now old.keys.items) gone_now);
           reserved = r.reserved ∙ sym (ap reserved_count new_nodes ∙ none_reserved (nodes_with now old.keys.items) gone_now);
-          tidy = λ h. ap (list_any (over_but new.one)) new_nodes ∙ r.tidy h;
+          tidy = λ h. ap (list_any (over_but new.noted.items)) new_nodes ∙ r.tidy h;
         }))
 
     pub units_all : HaveUnits (unreckoned t (nodes_with t keys) us) now (set es at new)

@@ -1,8 +1,7 @@
 -- A change that was made in its place and forces nothing: the forest then, and the entry of its collection.
-use Rattle.std.proofs.Common.{◌≡◌, ℕ, ◌==◌, true, false, List, map, get_or, set, Option, Some, None, option_map, refl, sym, ap, subst, ◌∙◌}
+use Rattle.std.proofs.Common.{◌≡◌, ℕ, ◌==◌, true, false, List, map, get_or, set, Some, None, option_map, refl, sym, ap, subst, ◌∙◌}
 use Rattle.std.proofs.lemmas.List.{get_or_default}
 use Rattle.std.specs.List.{find, list_all, list_any}
-use Rattle.std.specs.Option.{option_map_or}
 use Rattle.sm_names.specs.declared.keys.Interval.{Interval}
 use Rattle.sm_names.specs.Forced.{forced}
 use Rattle.node_table.specs.Table.{Table}
@@ -18,7 +17,7 @@ use Rattle.alloc_event.specs.InPlace.{IsDone, IsOpen}
 use Rattle.alloc_event.specs.Kept.{Finishes, IsStored, Shelf, Stores, are_filed, collection_in, forest_of, is_filed, nodes_with, place_in, put_shelf, shelf_of, shelves_of}
 use Rattle.alloc_event.specs.Outcomes.{IsOutcome, changed_in}
 use Rattle.alloc_event.specs.Reserved.{reserved_count}
-use Rattle.alloc_event.specs.Resting.{is_at_rest, is_kept_by, rests_at}
+use Rattle.alloc_event.specs.Resting.{is_kept_by}
 use Rattle.alloc_event.specs.Scenes.{given_few}
 use Rattle.alloc_event.specs.Settling.{Handles, MayChange, Rests, Settles, changed, collection_or_new, given_back, no_key, put, standing}
 use Rattle.alloc_event.proofs.changes.Altering.{found_filed, found_put, found_whole}
@@ -110,13 +109,8 @@ module _ (t : Table Node) (es : List Entry) (id at : ℕ) (old : Entry) (place :
   pub few_at : given_few old.buffers ≡ true
   few_at = few_found t es id old kept found
 
-  -- whether the collection rests is told by the entry
-  pub rest_at : (handles : Handles) → rests_at handles t (shelves_of es) id ≡ is_at_rest handles t (shelf_of old)
-  rest_at handles = ap (λ (o : Option Shelf). option_map_or (is_at_rest handles t) o false)
-      (shelf_found id es ∙ ap (option_map shelf_of) found)
-
   -- where it was tidy none of its nodes was over but the noted one
-  pub tidy_at : old.tidy ≡ true → list_any (over_but old.one) (nodes_with t old.keys.items) ≡ false
+  pub tidy_at : old.tidy ≡ true → list_any (over_but old.noted.items) (nodes_with t old.keys.items) ≡ false
   tidy_at h = (found_counted t id es old all found).tidy h
 
   -- what was reserved was counted
@@ -125,11 +119,11 @@ module _ (t : Table Node) (es : List Entry) (id at : ℕ) (old : Entry) (place :
 
   module _ (now : Table Node) (after : List Unit) (left : ℕ) (made : IsDone t now after (shelves_of es) (shelf_of old) change left)
       (new : Entry) (same : shelf_of new ≡ shelf_of old) (strong : new.strong ≡ left)
-      (tidy : new.tidy ≡ true → list_any (over_but new.one) (nodes_with now old.keys.items) ≡ false) where
+      (tidy : new.tidy ≡ true → list_any (over_but new.noted.items) (nodes_with now old.keys.items) ≡ false) where
     pub shelves_at : shelves_of (set es at new) ≡ shelves_of es
     shelves_at = set_shelves es at new (λ within. same ∙ ap shelf_of (is ∙ get_or_default es at old new within))
 
-    pub finishes_at : (pool : ℕ) (handles : Handles) → is_kept_by handles t (shelf_of old) left ≡ true →
+    finishes_at : (pool : ℕ) (handles : Handles) → is_kept_by handles t (shelf_of old) left ≡ true →
         Finishes pool handles t (shelves_of es) now (shelves_of es)
         (changed change no_key (collection_or_new (forest_of t (shelves_of es)) id))
     finishes_at pool handles by =
@@ -141,7 +135,7 @@ module _ (t : Table Node) (es : List Entry) (id at : ℕ) (old : Entry) (place :
     new_id = ap (λ (s : Shelf). s.id) same ∙ own_id
 
     -- each entry is counted then
-    pub counted_at : place_in id es ≡ Some at → new.reserved ≡ reserved_count (nodes_with now old.keys.items) →
+    counted_at : place_in id es ≡ Some at → new.reserved ≡ reserved_count (nodes_with now old.keys.items) →
         AreCounted now (set es at new)
     counted_at told reserved =
         subst (AreCounted now) (sym (set_put new es at kept.rising (subst (λ (i : ℕ). place_in i es ≡ Some at) (sym new_id) told)))
@@ -153,7 +147,7 @@ module _ (t : Table Node) (es : List Entry) (id at : ℕ) (old : Entry) (place :
           calm = subst (λ (s : Shelf). IsCalm (collection_in now s)) (sym same) made.calm;
           strong = strong ∙ made.strong ∙ ap (λ (s : Shelf). strong_count (nodes_with now s.keys)) (sym same);
           reserved = reserved ∙ ap (λ (s : Shelf). reserved_count (nodes_with now s.keys)) (sym same);
-          tidy = λ h. ap (λ (s : Shelf). list_any (over_but new.one) (nodes_with now s.keys)) same ∙ tidy h;
+          tidy = λ h. ap (λ (s : Shelf). list_any (over_but new.noted.items) (nodes_with now s.keys)) same ∙ tidy h;
         }))
 
     -- so that it was made

@@ -267,9 +267,8 @@ module _ (t now : Table Node) (us : List Unit) (key : NodeKey) (effect : Effect)
         (collection_is t s.id ss ∙ ap (option_map (collection_in t)) opens.found)
         ∙ sym now_is
 
-    over_same : (one : Option NodeKey) (m : Node) → over_but one (f m) ≡ over_but one m
-    over_same None m = (remains_affected key effect m).over
-    over_same (Some noted) m = λ i. (remains_affected key effect m).over i && not (same_key noted ((same m).key i))
+    over_same : (noted : List NodeKey) (m : Node) → over_but noted (f m) ≡ over_but noted m
+    over_same noted m = λ i. (remains_affected key effect m).over i && not (list_any (same_key ((same m).key i)) noted)
 
     pub made_now : IsMade t now after ss s (Change.Effect key effect) lives
     made_now = record {
@@ -277,7 +276,7 @@ module _ (t now : Table Node) (us : List Unit) (key : NodeKey) (effect : Effect)
           true filed refl)
           kept_now roots change_is after lives count_now calm_now units_now;
       nodes = nodes_now;
-      over = λ one. ap (list_any (over_but one)) nodes_now ∙ any_map (over_but one) (over_but one) f nodes (λ m. over_same one m);
+      over = λ noted. ap (list_any (over_but noted)) nodes_now ∙ any_map (over_but noted) (over_but noted) f nodes (over_same noted);
     }
 
   -- ---- the units
@@ -497,5 +496,5 @@ made_nothing t us ss s strong opens =
         same = record { first = refl; nexts = refl; limit = refl; len = refl };
       };
       nodes = refl;
-      over = λ one. refl;
+      over = λ noted. refl;
     }

@@ -1,5 +1,5 @@
 -- A scene that was worked on, and what holds once it is put back.
-use Rattle.std.proofs.Common.{◌≡◌, ℕ, true, List, [], ◌∷◌, ◌++◌, map, reverse, not, None, sym, ap, subst, ◌∙◌, Option}
+use Rattle.std.proofs.Common.{◌≡◌, ℕ, true, List, [], ◌∷◌, ◌++◌, map, reverse, not, None, sym, ap, subst, ◌∙◌}
 use Rattle.std.proofs.lemmas.Bool.{not-true}
 use Rattle.std.specs.List.{list_all, list_any, AllByRecursion}
 use Rattle.sm_names.specs.declared.keys.Interval.{Interval}
@@ -11,7 +11,7 @@ use Rattle.node_table.specs.Table.{Table}
 use Rattle.alloc_event.specs.declared.entry.Entry.{Entry}
 use Rattle.alloc_event.specs.declared.node.Node.{Node}
 use Rattle.alloc_event.specs.declared.scene.Scene.{Scene}
-use Rattle.alloc_event.specs.Calm.{AreCounted, AreCountedBut, IsCalm, put_in, strong_count, over_but}
+use Rattle.alloc_event.specs.Calm.{AreCounted, AreCountedBut, IsCalm, put_in, strong_count}
 use Rattle.alloc_event.specs.Forest.{Collection, all_held, pages_in, beside}
 use Rattle.alloc_event.specs.Kept.{AreHeadsGiven, Shelf, AreRising, IsHung, IsStored, IsWhole, Stores, put_shelf, shelf_in, collection_in, forest_of, is_filed, all_of, have_places, shelf_of, shelves_of, nodes_with}
 use Rattle.alloc_event.specs.Nodes.{is_over}
@@ -25,6 +25,7 @@ use Rattle.alloc_event.proofs.calm.Calming.{calm_rested}
 use Rattle.alloc_event.proofs.shelves.Counted.{counted_put, filed_but, moved_but}
 use Rattle.alloc_event.proofs.changes.Finishing.{collection-beside, keys_in, frames-keys, frames-of, places-filed, nodes-stored, collections-put, kept-put, whole-map, whole-unmap, whole-put}
 use Rattle.alloc_event.proofs.intervals.Pools.{pool_back}
+use Rattle.alloc_event.proofs.leaving.Noted.{fewer_over}
 use Rattle.alloc_event.proofs.shelves.Putting.{filed-own, put-map}
 use Rattle.alloc_event.proofs.calm.United.{united_frames}
 
@@ -139,11 +140,11 @@ pub finished-counted : (handles : Handles) (t : Table Node) (es : List Entry) (s
     (given : collection_of back ≡ given_back handles (collection_of worked)) (now : Table Node) (stores : Stores t now back.nodes.items)
     (new : Entry) → new.keys.items ≡ keys_in start.nodes.items → new.id ≡ back.id → new.buffers ≡ back.buffers → new.held ≡ back.held →
     new.strong ≡ strong_count back.nodes.items → new.reserved ≡ reserved_count back.nodes.items →
-    new.tidy ≡ not (list_any is_over back.nodes.items) → new.one ≡ None → (pool : ℕ) →
+    new.tidy ≡ not (list_any is_over back.nodes.items) → (pool : ℕ) →
     ((others : List Interval) → forced pool (standing handles others (given_back handles (collection_of worked))) ≡ None) →
     AreCountedBut t start.id es → AreCounted now (put_in new es)
 finished-counted handles t es start worked back kept rising own sound same_id frames given now stores new keys_are id_is buffers_are
-    held_are strong reserved tidy one pool rests but =
+    held_are strong reserved tidy pool rests but =
     let ss : List Shelf = shelves_of es in
     let shelf_is : shelf_of new ≡ shelf_back handles t ss start worked back kept rising own sound same_id frames given now stores
     new.keys.items keys_are =
@@ -161,7 +162,6 @@ finished-counted handles t es start worked back kept rising own sound same_id fr
       calm = subst IsCalm (sym shown) (calm_rested pool handles [] (given_back handles (collection_of worked)) (rests []));
       strong = strong ∙ ap (λ (c : Collection). strong_count c.nodes) (given ∙ sym shown);
       reserved = reserved ∙ ap (λ (c : Collection). reserved_count c.nodes) (given ∙ sym shown);
-      tidy = λ h. ap (λ (o : Option NodeKey). list_any (over_but o) (nodes_with now new.keys.items)) one
-          ∙ (ap (λ (c : Collection). list_any is_over c.nodes) (shown ∙ sym given) ∙ not-true (list_any is_over back.nodes.items) (sym tidy
-          ∙ h));
+      tidy = λ h. fewer_over new.noted.items (nodes_with now new.keys.items) (ap (λ (c : Collection). list_any is_over c.nodes) (shown
+          ∙ sym given) ∙ not-true (list_any is_over back.nodes.items) (sym tidy ∙ h));
     })

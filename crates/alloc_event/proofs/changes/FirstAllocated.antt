@@ -13,7 +13,7 @@ use Rattle.sm_names.specs.Handles.{names}
 use Rattle.sm_names.specs.Pages.{places, pages_of}
 use Rattle.sm_names.specs.Timelines.{laid_out}
 use Rattle.sm_names.specs.Words.{sorted_by}
-use Rattle.sm_names.proofs.ListLaws.{In, In-find}
+use Rattle.sm_names.proofs.ListLaws.{In, In-find, map-In}
 use Rattle.sm_names.proofs.SamenessLaws.{either_way, or_none_left, or_none_right}
 use Rattle.buffer_pool.specs.Holdings.{Holdings, with_buffers}
 use Rattle.node_table.specs.Table.{Table, node_at}
@@ -122,11 +122,6 @@ module _ (s new : Shelf) (same : new.id ≡ s.id) where
         rw (other, less) (all.0, rest)
   ]
 
-  maps_same : (t now : Table Node) (xs : List Shelf) → ((x : Shelf) → In x xs → collection_in now x ≡ collection_in t x) →
-      map (collection_in now) xs ≡ map (collection_in t) xs
-  maps_same t now [] each = refl
-  maps_same t now (x ∷ xs) each = λ i. each x (inl refl) i ∷ maps_same t now xs (λ y on. each y (inr on)) i
-
   -- the others stay
   pub put_there : (t now : Table Node) (ss : List Shelf) → AreRising ss → find (λ (x : Shelf). x.id == s.id) ss ≡ Some s →
       ((x : Shelf) → In x ss → x.id ≢ s.id → collection_in now x ≡ collection_in t x) →
@@ -136,7 +131,7 @@ module _ (s new : Shelf) (same : new.id ≡ s.id) where
     | inl e ↦
         let is = here_is x e in
         let own : x.id ≡ s.id = eqb-true x.id s.id e in
-        let rest = maps_same t now xs (λ y on. each y (inr on) (λ one.
+        let rest = map-In (collection_in now) (collection_in t) xs (λ y on. each y (inr on) (λ one.
         let above : x.id < y.id = all_at (λ (later : Shelf). x.id < later.id) xs rising.0 y on in
         omega (arith, above, own, one))) in
         rw is (λ i. collection_in now new ∷ rest i)
@@ -154,7 +149,8 @@ not_left_out : (t : Table Node) (us : List Unit) (id : ℕ) (hs keys : List Node
     list_any (left_out_at t us hs) keys ≡ false
 not_left_out t us id hs [] h = refl
 not_left_out t us id hs (k ∷ ks) h =
-    let here : left_out_at t us hs k ≡ false = by (node_at t k) (or_none_left (bars_at t us id hs k) (list_any (bars_at t us id hs) ks) h) in
+    let here : left_out_at t us hs k ≡ false =
+    by (node_at t k) (or_none_left (bars_at t us id hs k) (list_any (bars_at t us id hs) ks) h) in
     let rest = not_left_out t us id hs ks (or_none_right (bars_at t us id hs k) (list_any (bars_at t us id hs) ks) h) in
     rw here rest
   where
@@ -302,8 +298,8 @@ module _ (handles : Handles) (t : Table Node) (es : List Entry) (id at : ℕ) (o
       (λ m. refl)) ∙ strong_now
 
   early : early_failure first.node.head nodes1 ≡ None
-  early = none_early (has_strong nodes1) ((wanted_by first.node.head nodes1).count == 0) (nat_lt 64 (wanted_by first.node.head nodes1).count)
-      strong1
+  early = none_early (has_strong nodes1) ((wanted_by first.node.head nodes1).count == 0)
+      (nat_lt 64 (wanted_by first.node.head nodes1).count) strong1
       (ap (λ (w : Buffers). w.count == 0) wants_are ∙ ne_eqb plan.wants.count 0 (λ e. omega (arith, e, first.count.0)))
       (ap (λ (w : Buffers). nat_lt 64 w.count) wants_are ∙ le-ltb 64 plan.wants.count first.count.1)
 
@@ -385,8 +381,8 @@ module _ (handles : Handles) (t : Table Node) (es : List Entry) (id at : ℕ) (o
             settles = settles;
             collections = ap (map (collection_in now)) set_is
                 ∙ (collections_are ∙ ap (λ (c : Collection). put c (map (collection_in t) ss)) (sym back));
-            rests = ap (λ (c : Collection). forced before.size (standing handles (beside (forest_of now (shelves_of (set es at new))) old.id) c))
-                back
+            rests = ap (λ (c : Collection). forced before.size
+                (standing handles (beside (forest_of now (shelves_of (set es at new))) old.id) c)) back
                 ∙ rests (beside (forest_of now (shelves_of (set es at new))) old.id);
           }))
 
@@ -413,10 +409,10 @@ module _ (handles : Handles) (t : Table Node) (es : List Entry) (id at : ℕ) (o
     stored_first = subst (IsStored now) (sym shelves_are) done.kept
 
     pub units_first : HaveUnits (set us first.node.head.slot plan.next) now (set es at new)
-    units_first = subst (λ (xs : List Shelf). AreUnits (set us first.node.head.slot plan.next) (map (collection_in now) xs)) (sym shelves_are)
-        done.units
+    units_first = subst (λ (xs : List Shelf). AreUnits (set us first.node.head.slot plan.next) (map (collection_in now) xs))
+        (sym shelves_are) done.units
 
-    counted_first : new.strong ≡ plan.left → new.reserved ≡ plan.camping → new.tidy ≡ old.tidy → new.one ≡ old.one →
+    counted_first : new.strong ≡ plan.left → new.reserved ≡ plan.camping → new.tidy ≡ old.tidy → new.noted.items ≡ old.noted.items →
         AreCounted now (set es at new)
     counted_first strong reserved tidy noted =
         subst (AreCounted now) (sym put_in_place)
@@ -430,16 +426,16 @@ module _ (handles : Handles) (t : Table Node) (es : List Entry) (id at : ℕ) (o
           reserved = reserved ∙ (first.camping_is
               ∙ (ap (λ (m : Node). sum_by (λ (d : Demand). d.camping) (asked_with t old.keys.items (first.node.head ∷ []) m)) first.after_is
               ∙ (sym done.reserved ∙ ap (λ (x : Shelf). reserved_count (nodes_with now x.keys)) (sym shelf))));
-          tidy = λ h. ap (λ (x : Shelf). list_any (over_but new.one) (nodes_with now x.keys)) shelf
-              ∙ (done.over new.one
-              ∙ (ap (λ (o : Option NodeKey). list_any (over_but o) (nodes_with t old.keys.items)) noted
+          tidy = λ h. ap (λ (x : Shelf). list_any (over_but new.noted.items) (nodes_with now x.keys)) shelf
+              ∙ (done.over new.noted.items
+              ∙ (ap (λ (ks : List NodeKey). list_any (over_but ks) (nodes_with t old.keys.items)) noted
               ∙ tidy_at t es id at old place is kept all us units (Change.Effect key effect) may (sym tidy ∙ h)));
         }))
 
     pub outcome_first : (before after : Holdings) → IsLaid before after old.id plan.wants old.held.items held →
         are_parted before.held ≡ true →
         before.held ≡ sorted_by start_of (map (λ (h : HeldBuffer). h.pages) (all_held (forest_of t (shelves_of es)))) →
-        new.strong ≡ plan.left → new.reserved ≡ plan.camping → new.tidy ≡ old.tidy → new.one ≡ old.one →
+        new.strong ≡ plan.left → new.reserved ≡ plan.camping → new.tidy ≡ old.tidy → new.noted.items ≡ old.noted.items →
         are_parted after.held ≡ true → after.size ≡ before.size →
         IsOutcomeIn true handles before after t now es (set es at new) id (Change.Effect key effect)
     outcome_first before after laid_are parted of strong reserved tidy noted parted' size = record {

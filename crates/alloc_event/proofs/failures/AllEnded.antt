@@ -33,7 +33,8 @@ use Rattle.alloc_event.proofs.calm.United.{united_mapped}
 use Rattle.alloc_event.proofs.changes.Altering.{same_affected}
 use Rattle.alloc_event.proofs.failures.AllGone.{all_taken}
 use Rattle.alloc_event.proofs.failures.Endings.{change_nodes}
-use Rattle.alloc_event.proofs.failures.Fallen.{at_key, f, goes_in, goes_not, in_looked, whole}
+use Rattle.alloc_event.proofs.failures.Fallen.{at_key, f, whole}
+use Rattle.alloc_event.proofs.failures.GoneNodes.{goes_in, goes_not, in_looked}
 use Rattle.alloc_event.proofs.failures.Goings.{fails_is}
 use Rattle.alloc_event.proofs.failures.Ties.{losses_by_fall, lost_gone}
 use Rattle.alloc_event.proofs.tables.Hanging.{looked_hung, looked_tied}

@@ -26,7 +26,8 @@ use Rattle.alloc_event.specs.Ties.{are_rooted, hangs_on, is_blocking}
 use Rattle.alloc_event.proofs.calm.Calming.{later}
 use Rattle.alloc_event.proofs.calm.Steps.{all-In}
 use Rattle.alloc_event.proofs.calm.Resting.{still_decided}
-use Rattle.alloc_event.proofs.failures.Fallen.{f, gone_of, in_looked, linked, strong_gone, whole, within}
+use Rattle.alloc_event.proofs.failures.Fallen.{f, linked, whole, within}
+use Rattle.alloc_event.proofs.failures.GoneNodes.{gone_of, in_looked, strong_gone}
 use Rattle.alloc_event.proofs.failures.Ties.{key_equivalence}
 use Rattle.alloc_event.proofs.tables.Rooted.{left_node}
 use Rattle.alloc_event.proofs.tallies.Amounts.{amount_of}

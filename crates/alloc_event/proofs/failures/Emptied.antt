@@ -26,7 +26,8 @@ use Rattle.alloc_event.specs.Units.{GoTogether}
 use Rattle.alloc_event.proofs.calm.Lasting.{whole_formed}
 use Rattle.alloc_event.proofs.calm.Together.{together_loss}
 use Rattle.alloc_event.proofs.failures.Endings.{change_nodes, ended_made, key_is, on_top, takes, tied_members}
-use Rattle.alloc_event.proofs.failures.Fallen.{at_key, in_looked, whole}
+use Rattle.alloc_event.proofs.failures.Fallen.{at_key, whole}
+use Rattle.alloc_event.proofs.failures.GoneNodes.{in_looked}
 use Rattle.alloc_event.proofs.failures.Ties.{fall_within, losses_by_fall, lost_gone}
 use Rattle.alloc_event.proofs.tables.KeptRoots.{rooted_loss}
 use Rattle.alloc_event.proofs.tables.LeftParents.{loss_left}

@@ -31,7 +31,8 @@ use Rattle.alloc_event.proofs.calm.Calming.{none_calm}
 use Rattle.alloc_event.proofs.calm.Deserting.{after_is, settled_end}
 use Rattle.alloc_event.proofs.calm.Keeping.{some_pass}
 use Rattle.alloc_event.proofs.calm.United.{united_mapped}
-use Rattle.alloc_event.proofs.failures.Fallen.{above_left, f, goes_in, goes_not, gone_is, held_up, key_top, made_by, now_is, same_of, top_on, top_up, whole}
+use Rattle.alloc_event.proofs.failures.Fallen.{above_left, f, held_up, key_top, made_by, now_is, top_on, top_up, whole}
+use Rattle.alloc_event.proofs.failures.GoneNodes.{goes_in, goes_not, gone_is, same_of}
 use Rattle.alloc_event.proofs.failures.Staying.{stays_below}
 use Rattle.alloc_event.proofs.failures.Ties.{fall_below}
 use Rattle.alloc_event.proofs.shelves.Showing.{collection_is}

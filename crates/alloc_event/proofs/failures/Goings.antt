@@ -29,7 +29,8 @@ use Rattle.alloc_event.proofs.calm.Together.{together_effect}
 use Rattle.alloc_event.proofs.changes.Altering.{same_affected}
 use Rattle.alloc_event.proofs.failures.Emptied.{ends_made}
 use Rattle.alloc_event.proofs.failures.Endings.{change_nodes, ended_made}
-use Rattle.alloc_event.proofs.failures.Fallen.{at_key, f, goes_in, goes_not, in_looked, made_by, now_is, whole}
+use Rattle.alloc_event.proofs.failures.Fallen.{at_key, f, made_by, now_is, whole}
+use Rattle.alloc_event.proofs.failures.GoneNodes.{goes_in, goes_not, in_looked}
 use Rattle.alloc_event.proofs.failures.Ties.{losses_by_fall}
 use Rattle.alloc_event.proofs.refusals.Emptied.{ends_refused}
 use Rattle.alloc_event.proofs.refusals.Made.{refused_made}

@@ -1,6 +1,6 @@
 -- Nodes that are written as they go, one after another.
-use Rattle.std.proofs.Common.{◌≡◌, ◌≢◌, ℕ, zero, suc, ◌<◌, Bool, true, false, ◌||◌, ◌&&◌, not, inl, if◌then◌else◌, List, [], ◌∷◌, ◌++◌, length, map, take, get_or, Option, Some, None, option_map, refl, ap, sym, ◌∙◌, subst, arith}
-use Rattle.std.proofs.Math.Bool.{and-false, or-false}
+use Rattle.std.proofs.Common.{◌≡◌, ◌≢◌, ℕ, zero, suc, ◌<◌, Bool, true, false, ◌||◌, inl, if◌then◌else◌, List, [], ◌∷◌, ◌++◌, length, map, take, get_or, Option, Some, None, option_map, refl, ap, sym, ◌∙◌, subst, arith}
+use Rattle.std.proofs.Math.Bool.{or-false}
 use Rattle.std.proofs.lemmas.List.{append-nil, map-append}
 use Rattle.std.proofs.lemmas.List.Elements.{filter_map-append}
 use Rattle.std.proofs.lemmas.List.Folds.{list_any-append}
@@ -14,11 +14,10 @@ use Rattle.node_table.specs.Changes.{Writes}
 use Rattle.node_table.specs.Lending.{table_with_node}
 use Rattle.alloc_event.specs.declared.falling.Going.{Going}
 use Rattle.alloc_event.specs.declared.node.Node.{Node}
-use Rattle.alloc_event.specs.Calm.{over_but}
-use Rattle.alloc_event.specs.Falling.{AreNamed, gone_by}
+use Rattle.alloc_event.specs.Falling.{gone_by}
 use Rattle.alloc_event.specs.Kept.{Stores, nodes_with, stored}
 use Rattle.alloc_event.specs.Nodes.{is_over}
-use Rattle.alloc_event.proofs.failures.Fallen.{gone_same, stored_goes}
+use Rattle.alloc_event.proofs.failures.GoneNodes.{gone_same, stored_goes}
 use Rattle.alloc_event.proofs.lists.Lookups.{same_key-swap}
 use Rattle.alloc_event.proofs.tables.Storing.{Stores-more}
 use Rattle.alloc_event.proofs.tallies.Untold.{first_once, rest_once}
@@ -101,33 +100,33 @@ module _ (t : Table Node) (named : (key : NodeKey) (n : Node) → node_at t key 
           ∙ (sym (list_any-append is_over went (gone_by going n ∷ []))
           ∙ ap (list_any is_over) (sym (map-append (gone_by going) (nodes_with t done) (n ∷ []))))
 
--- each node that went has one of the keys
-named_among : (t : Table Node) → ((key : NodeKey) (n : Node) → node_at t key ≡ Some n → n.key ≡ key) → (going : Going) (ks all : List NodeKey) →
-    ((k : NodeKey) → list_any (same_key k) ks ≡ true → list_any (same_key k) all ≡ true) →
-    AreNamed (map (gone_by going) (nodes_with t ks)) all
-named_among t named going [] all among = tt
-named_among t named going (k ∷ ks) all among =
-    by (node_at t k) refl
-    (named_among t named going ks all (λ j on. among j (or_right (same_key j k) (list_any (same_key j) ks) on)))
+-- the keys of nodes that went find them as they are then
+pub went_now : (t : Table Node) → ((key : NodeKey) (n : Node) → node_at t key ≡ Some n → n.key ≡ key) → (going : Going)
+    (keys : List NodeKey) (now : Table Node) → Stores t now (map (gone_by going) (nodes_with t keys)) →
+    nodes_with now keys ≡ map (gone_by going) (nodes_with t keys)
+went_now t named going keys now stores = among keys (λ k on. on)
   where
-    by : (o : Option Node) → node_at t k ≡ o → AreNamed (map (gone_by going) (nodes_with t ks)) all →
-        AreNamed (map (gone_by going) (cons_option o (nodes_with t ks))) all
-    by None at on = on
-    by (Some n) at on = (
-      ap (λ (j : NodeKey). list_any (same_key j) all) ((gone_same going n).key ∙ named k n at)
-          ∙ among k (λ i. same_key-refl k i || list_any (same_key k) ks),
-      on,
-    )
+    find_gone : (k : NodeKey) → list_any (same_key k) keys ≡ true → (o : Option Node) → node_at t k ≡ o →
+        node_at now k ≡ option_map (gone_by going) o
+    find_gone k on None at = stores.look k ∙ ap (option_map (stored (map (gone_by going) (nodes_with t keys)))) at
+    find_gone k on (Some n) at =
+        let key : n.key ≡ k = named k n at in
+        let there : list_any (same_key n.key) keys ≡ true = ap (λ (j : NodeKey). list_any (same_key j) keys) key ∙ on in
+        stores.look k ∙ ap (option_map (stored (map (gone_by going) (nodes_with t keys)))) at
+        ∙ ap Some (stored_goes t named going keys n (ap (node_at t) key ∙ at) n (inl refl)
+        ∙ (λ i. if there i then gone_by going n else n))
 
-pub gone_named : (t : Table Node) → ((key : NodeKey) (n : Node) → node_at t key ≡ Some n → n.key ≡ key) → (going : Going)
-    (ks : List NodeKey) → AreNamed (map (gone_by going) (nodes_with t ks)) ks
-gone_named t named going ks = named_among t named going ks ks (λ k on. on)
+    mapped : (o : Option Node) (ns : List Node) →
+        cons_option (option_map (gone_by going) o) (map (gone_by going) ns) ≡ map (gone_by going) (cons_option o ns)
+    mapped None ns = refl
+    mapped (Some n) ns = refl
 
--- nodes that have one key are not over but for it
-pub one_named : (key : NodeKey) (ns : List Node) → AreNamed ns (key ∷ []) → list_any (over_but (Some key)) ns ≡ false
-one_named key [] all = refl
-one_named key (n ∷ ns) all =
-    let same : same_key key n.key ≡ true =
-    same_key-swap key n.key ∙ (sym (or-false (same_key n.key key)) ∙ all.0) in
-    (λ i. (is_over n && not (same i)) || list_any (over_but (Some key)) ns)
-    ∙ ((λ i. and-false (is_over n) i || list_any (over_but (Some key)) ns) ∙ one_named key ns all.1)
+    among : (ks : List NodeKey) → ((k : NodeKey) → list_any (same_key k) ks ≡ true → list_any (same_key k) keys ≡ true) →
+        nodes_with now ks ≡ map (gone_by going) (nodes_with t ks)
+    among [] within = refl
+    among (k ∷ ks) within =
+        let here : node_at now k ≡ option_map (gone_by going) (node_at t k) =
+        find_gone k (within k (λ i. same_key-refl k i || list_any (same_key k) ks)) (node_at t k) refl in
+        let rest : nodes_with now ks ≡ map (gone_by going) (nodes_with t ks) =
+        among ks (λ j on. within j (or_right (same_key j k) (list_any (same_key j) ks) on)) in
+        (λ i. cons_option (here i) (rest i)) ∙ mapped (node_at t k) (nodes_with t ks)

@@ -1,5 +1,5 @@
 -- The pages of the pool, of one collection and of those beside it.
-use Rattle.std.proofs.Common.{◌≡◌, true, List, [], ◌∷◌, ◌++◌, map, refl, sym, ap, ◌∙◌, Result, Ok, Err, IfOk}
+use Rattle.std.proofs.Common.{◌≡◌, true, List, [], ◌∷◌, ◌++◌, map, refl, sym, ap, ◌∙◌}
 use Rattle.std.specs.List.{flat_map}
 use Rattle.sm_names.specs.declared.keys.Interval.{Interval}
 use Rattle.sm_names.specs.declared.keys.HeldBuffer.{HeldBuffer}
@@ -47,8 +47,3 @@ pool_stays held t now before behind same is =
     from : (ss : List Shelf) → all_held (forest_of t ss) ≡ all_held (forest_of now ss)
     from [] = refl
     from (s ∷ ss) = ap (λ (hs : List HeldBuffer). s.held ++ hs) (from ss)
-
--- what holds of every value holds of the one that there is
-pub any_ok : {A E : Type 0} {P : A → Type 0} (r : Result A E) → ((x : A) → P x) → IfOk r P
-any_ok (Ok x) each = each x
-any_ok (Err e) each = tt

@@ -8,7 +8,7 @@ use Rattle.sm_names.specs.declared.keys.Interval.{Interval}
 use Rattle.sm_names.specs.Words.{times}
 use Rattle.sm_names.proofs.ListLaws.{In, times-append}
 use Rattle.sm_names.proofs.SamenessLaws.{and_both, and_left, and_right, and_swap, either_way}
-use Rattle.buffer_pool.specs.Holdings.{Holdings, IsSound, in_order, without}
+use Rattle.buffer_pool.specs.Holdings.{in_order, without}
 use Rattle.buffer_pool.specs.Holes.{end_of}
 use Rattle.failure_domains.proofs.Lists.{Contains-head, Contains-tail}
 use Rattle.sm_names.specs.declared.keys.HeldBuffer.{HeldBuffer}
@@ -250,17 +250,17 @@ pages_beside [] rest others = refl
 pages_beside (g ∷ front) rest others =
     ap (λ (l : List Interval). g.pages ∷ l) (pages_beside front rest others)
 
--- without its interval the pool holds those of the others
-pub one_returned : (pool : Holdings) (front rest : List HeldBuffer) (h : HeldBuffer) (others : List Interval) →
-    IsSound pool →
-    pool.held ≡ by_page (pages_held (front ++ h ∷ rest) ++ others) →
-    without h.pages.start pool.held ≡ by_page (pages_held (front ++ rest) ++ others)
-one_returned pool front rest h others sound holds =
+-- without its interval those of the others are held
+pub one_returned : (size : ℕ) (held : List Interval) (front rest : List HeldBuffer) (h : HeldBuffer) (others : List Interval) →
+    in_order 0 size held ≡ true →
+    held ≡ by_page (pages_held (front ++ h ∷ rest) ++ others) →
+    without h.pages.start held ≡ by_page (pages_held (front ++ rest) ++ others)
+one_returned size held front rest h others order holds =
     let all : List Interval = pages_held front ++ h.pages ∷ (pages_held rest ++ others) in
-    let is : pool.held ≡ by_page (pages_held front ++ h.pages ∷ (pages_held rest ++ others)) = holds
+    let is : held ≡ by_page (pages_held front ++ h.pages ∷ (pages_held rest ++ others)) = holds
     ∙ ap by_page (pages_around front rest h others) in
-    let few : times (begins h.pages.start) pool.held ≤ 1 = one_begins h.pages.start 0 pool.size pool.held sound.in_order in
-    let once : times (begins h.pages.start) pool.held
+    let few : times (begins h.pages.start) held ≤ 1 = one_begins h.pages.start 0 size held order in
+    let once : times (begins h.pages.start) held
     ≡ times (begins h.pages.start) (pages_held front ++ h.pages ∷ (pages_held rest ++ others)) =
     ap (times (begins h.pages.start)) is ∙ times_sorted (begins h.pages.start)
     (pages_held front ++ h.pages ∷ (pages_held rest ++ others)) in

@@ -1,27 +1,62 @@
--- Nodes that are over, but for one that is noted.
-use Rattle.std.proofs.Common.{◌≡◌, refl, ap, ◌∙◌, Bool, true, false, not, ◌&&◌, List, [], ◌∷◌, Option, Some, None}
+-- Nodes that are over, but for those that are noted.
+use Rattle.std.proofs.Common.{◌≡◌, refl, ap, ◌∙◌, Bool, true, false, not, ◌&&◌, inl, inr, List, [], ◌∷◌}
 use Rattle.std.specs.List.{list_any}
 use Rattle.std.proofs.Math.Bool.{and-false}
 use Rattle.sm_names.specs.Sameness.{same_key}
-use Rattle.sm_names.proofs.SamenessLaws.{or_none_left, or_none_right}
+use Rattle.sm_names.proofs.SamenessLaws.{either_way, or_none_left, or_none_right}
 use Rattle.alloc_event.specs.declared.node.Node.{Node}
 use Rattle.sm_names.specs.declared.keys.NodeKey.{NodeKey}
 use Rattle.alloc_event.specs.Calm.{over_but}
+use Rattle.alloc_event.specs.Forgetting.{AreMore}
 use Rattle.alloc_event.specs.Nodes.{is_over}
 
--- a node that is not over is not, whichever is noted
-pub not_over_but : (one : Option NodeKey) (n : Node) → is_over n ≡ false → over_but one n ≡ false
-not_over_but None n e = e
-not_over_but (Some key) n e = ap (λ (b : Bool). b && not (same_key key n.key)) e
+-- a node that is not over is not, whichever are noted
+pub not_over_but : (noted : List NodeKey) (n : Node) → is_over n ≡ false → over_but noted n ≡ false
+not_over_but noted n e = ap (λ (b : Bool). b && not (list_any (same_key n.key) noted)) e
 
--- nor is the one that is noted
-pub noted_not : (key : NodeKey) (n : Node) → same_key key n.key ≡ true → over_but (Some key) n ≡ false
-noted_not key n e = ap (λ (b : Bool). is_over n && not b) e ∙ and-false (is_over n)
+-- nor is one that is noted
+pub noted_not : (noted : List NodeKey) (n : Node) → list_any (same_key n.key) noted ≡ true → over_but noted n ≡ false
+noted_not noted n e = ap (λ (b : Bool). is_over n && not b) e ∙ and-false (is_over n)
 
--- where none is over, none is but one
-pub fewer_over : (one : Option NodeKey) (ns : List Node) → list_any is_over ns ≡ false → list_any (over_but one) ns ≡ false
-fewer_over one [] none = refl
-fewer_over one (n ∷ ns) none =
-    let here : over_but one n ≡ false = not_over_but one n (or_none_left (is_over n) (list_any is_over ns) none) in
-    let rest : list_any (over_but one) ns ≡ false = fewer_over one ns (or_none_right (is_over n) (list_any is_over ns) none) in
+-- one that is not over but for those that are noted is not over, if it is none of them
+pub none_but : (noted : List NodeKey) (n : Node) → over_but noted n ≡ false → list_any (same_key n.key) noted ≡ false → is_over n ≡ false
+none_but noted n none e = from (is_over n) (list_any (same_key n.key) noted) none e
+  where
+    from : (b c : Bool) → (b && not c) ≡ false → c ≡ false → b ≡ false
+    from b true h e = cc
+    from true false h e = h
+    from false false h e = refl
+
+-- where none is over, none is but some
+pub fewer_over : (noted : List NodeKey) (ns : List Node) → list_any is_over ns ≡ false → list_any (over_but noted) ns ≡ false
+fewer_over noted [] none = refl
+fewer_over noted (n ∷ ns) none =
+    let here : over_but noted n ≡ false = not_over_but noted n (or_none_left (is_over n) (list_any is_over ns) none) in
+    let rest : list_any (over_but noted) ns ≡ false = fewer_over noted ns (or_none_right (is_over n) (list_any is_over ns) none) in
+    rw (here, rest) refl
+
+-- where none is but some, none is but more
+pub more_noted : (few more : List NodeKey) → AreMore few more → (ns : List Node) → list_any (over_but few) ns ≡ false →
+    list_any (over_but more) ns ≡ false
+more_noted few more all [] none = refl
+more_noted few more all (n ∷ ns) none =
+    let first : over_but few n ≡ false = or_none_left (over_but few n) (list_any (over_but few) ns) none in
+    let here : over_but more n ≡ false = elim (either_way (list_any (same_key n.key) few)) [
+      | inl e ↦ noted_not more n (all n.key e)
+      | inr e ↦ not_over_but more n (none_but few n first e)
+    ] in
+    let rest : list_any (over_but more) ns ≡ false =
+    more_noted few more all ns (or_none_right (over_but few n) (list_any (over_but few) ns) none) in
+    rw (here, rest) refl
+
+-- keys that are noted stay so where more are
+pub more_still : (few more most : List NodeKey) → AreMore few more → AreMore more most → AreMore few most
+more_still few more most first second key on = second key (first key on)
+
+-- where none is noted, none is over
+pub none_noted : (ns : List Node) → list_any (over_but []) ns ≡ false → list_any is_over ns ≡ false
+none_noted [] none = refl
+none_noted (n ∷ ns) none =
+    let here : is_over n ≡ false = none_but [] n (or_none_left (over_but [] n) (list_any (over_but []) ns) none) refl in
+    let rest : list_any is_over ns ≡ false = none_noted ns (or_none_right (over_but [] n) (list_any (over_but []) ns) none) in
     rw (here, rest) refl

@@ -115,8 +115,8 @@ born_named (Some above) true id event client any key = refl
 born_named (Some above) false id event client any key = refl
 
 -- so it is born
-pub named_bears : {E : Type 0} (t now : Table Node) (above : Option Node) (attached : Bool) (id event client : ℕ) (any : NodeKey) (draft : Node) →
-    draft ≡ born above attached id event client any → (result : Result NodeKey E) →
+pub named_bears : {E : Type 0} (t now : Table Node) (above : Option Node) (attached : Bool) (id event client : ℕ) (any : NodeKey)
+    (draft : Node) → draft ≡ born above attached id event client any → (result : Result NodeKey E) →
     IfOk result (λ key. Bears t now (named key draft)) →
     IfOk result (λ key. Bears t now (born above attached id event client key))
 named_bears t now above attached id event client any draft is (Ok key) bears =

@@ -65,14 +65,14 @@ module _ (t : Table Node) (es : List Entry) (ok : IsStored t (shelves_of es)) (a
 
     -- where memory was refused
     module _ (new : Entry) (same : shelf_of new ≡ shelf_of old) (strong : new.strong ≡ old.strong)
-        (reserved : new.reserved ≡ old.reserved) (tidy : new.tidy ≡ old.tidy) (one : new.one ≡ old.one) where
+        (reserved : new.reserved ≡ old.reserved) (tidy : new.tidy ≡ old.tidy) (noted : new.noted.items ≡ old.noted.items) where
       pub refused_shelves : shelves_of (set es at new) ≡ shelves_of es
       refused_shelves = set_shelves es at new (λ within. same ∙ ap shelf_of (is ∙ get_or_default es at old new within))
 
       pub refused_counted : AreCounted t (set es at new)
       refused_counted = counted_set t es at new
           (λ within was. recounted t old new (ap (collection_in t) same) strong reserved (λ h.
-          ap (λ (o : Option NodeKey). list_any (over_but o) (nodes_with t old.keys.items)) one ∙ counted.tidy (sym tidy ∙ h)) counted)
+          ap (λ (ks : List NodeKey). list_any (over_but ks) (nodes_with t old.keys.items)) noted ∙ counted.tidy (sym tidy ∙ h)) counted)
           all
 
     -- where the node was born
@@ -91,7 +91,7 @@ module _ (t : Table Node) (es : List Entry) (ok : IsStored t (shelves_of es)) (a
           (bears : Bears t now (born above attached id event client key)) (handles : Handles)
           (still : IsStill handles (collection_or_new (forest_of t (shelves_of es)) id))
           (strong : new.strong ≡ old.strong + more_strong above) (reserved : new.reserved ≡ old.reserved) (tidy : new.tidy ≡ old.tidy)
-          (one : new.one ≡ old.one) where
+          (noted : new.noted.items ≡ old.noted.items) where
         pub among_counted : AreCounted now (set es at new)
         among_counted = subst (AreCounted now) (sym put_is)
             (counted_put now new es ok.rising
@@ -99,7 +99,7 @@ module _ (t : Table Node) (es : List Entry) (ok : IsStored t (shelves_of es)) (a
             (counted_born t now (shelves_of es) ok id parent attached client event above over key bears handles still new shelf_is
             (strong ∙ ap (λ (n : ℕ). n + more_strong above) (counted.strong ∙ ap (λ (c : Collection). strong_count c.nodes) (sym at_is)))
             (reserved ∙ counted.reserved ∙ ap (λ (c : Collection). reserved_count c.nodes) (sym at_is))
-            (λ h. (λ i. list_any (over_but (one i)) (at_is i).nodes) ∙ counted.tidy (sym tidy ∙ h))))
+            (λ h. (λ i. list_any (over_but (noted i)) (at_is i).nodes) ∙ counted.tidy (sym tidy ∙ h))))
 
   -- the first node of a collection
   module _ (none : find (λ (e : Entry). e.id == id) es ≡ None) (key : NodeKey) (new : Entry) (shelf : shelf_of new ≡ shelf_with
@@ -131,4 +131,4 @@ module _ (t : Table Node) (es : List Entry) (ok : IsStored t (shelves_of es)) (a
           ap (λ (c : Collection). strong_count c.nodes) empty_is in
           omega (arith, strong, base))
           (reserved ∙ sym (ap (λ (c : Collection). reserved_count c.nodes) empty_is))
-          (λ h. ap (λ (c : Collection). list_any (over_but new.one) c.nodes) empty_is))
+          (λ h. ap (λ (c : Collection). list_any (over_but new.noted.items) c.nodes) empty_is))

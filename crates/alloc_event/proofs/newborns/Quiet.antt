@@ -192,7 +192,7 @@ module _ (t now : Table Node) (ss : List Shelf) (ok : IsStored t ss) (id : ℕ) 
   pub counted_born : (e : Entry) → shelf_of e ≡ shelf_with (shelf_before id ss) key →
       e.strong ≡ strong_count c0.nodes + (if option_map_or (λ (n : Node). n.weak) above false then 0 else 1) →
       e.reserved ≡ reserved_count c0.nodes →
-      (e.tidy ≡ true → list_any (over_but e.one) c0.nodes ≡ false) → IsCounted now e
+      (e.tidy ≡ true → list_any (over_but e.noted.items) c0.nodes ≡ false) → IsCounted now e
   counted_born e is strong reserved tidy =
       let shown : collection_in now (shelf_of e) ≡ born_collection t now ss ok id parent attached client event above at key bears =
       ap (collection_in now) (is ∙ shelf_is) ∙ born_shown t now ss ok id parent attached client event above at key bears in
@@ -201,9 +201,10 @@ module _ (t now : Table Node) (ss : List Shelf) (ok : IsStored t ss) (id : ℕ) 
         strong = strong ∙ ap (λ (n : ℕ). strong_count c0.nodes + n) (sym (strong_more above))
             ∙ sym (times-append is_strong c0.nodes (node ∷ [])) ∙ ap (λ (c : Collection). strong_count c.nodes) (sym shown);
         reserved = reserved ∙ reserved_more ∙ ap (λ (c : Collection). reserved_count c.nodes) (sym shown);
-        tidy = λ h. ap (λ (c : Collection). list_any (over_but e.one) c.nodes) shown ∙ list_any-append (over_but e.one) c0.nodes (node ∷ [])
-            ∙ or_both (list_any (over_but e.one) c0.nodes) _ (tidy h)
-            (ap (λ (b : Bool). b || false) (not_over_but e.one node (rw (born_here above attached id event client key) refl)));
+        tidy = λ h. ap (λ (c : Collection). list_any (over_but e.noted.items) c.nodes) shown
+            ∙ list_any-append (over_but e.noted.items) c0.nodes (node ∷ [])
+            ∙ or_both (list_any (over_but e.noted.items) c0.nodes) _ (tidy h)
+            (ap (λ (b : Bool). b || false) (not_over_but e.noted.items node (rw (born_here above attached id event client key) refl)));
       }
 
   module _ (behind : List Shelf) (placed : behind ≡ put_shelf (shelf_with (shelf_before id ss) key) ss) where

@@ -36,7 +36,7 @@ use Rattle.alloc_event.proofs.calm.Calming.{any_map}
 use Rattle.alloc_event.proofs.calm.Steps.{all-In}
 use Rattle.alloc_event.proofs.changes.Altering.{found_whole, same_affected}
 use Rattle.alloc_event.proofs.changes.Effecting.{alone_affected, live_before, remains_affected, unready_before}
-use Rattle.alloc_event.proofs.failures.Fallen.{in_looked}
+use Rattle.alloc_event.proofs.failures.GoneNodes.{in_looked}
 use Rattle.alloc_event.proofs.failures.Ties.{fall_below}
 use Rattle.alloc_event.proofs.lists.Filters.{above_greatest}
 use Rattle.alloc_event.proofs.serves.Before.{IsDueHead, due_head}
@@ -60,7 +60,8 @@ any_asked q test [] = refl
 any_asked q test (n ∷ ns) = by (if test n then n.constraints else None) ∙ ap (λ (b : Bool).
     option_map_or q (if test n then n.constraints else None) false || b) (any_asked q test ns)
   where
-    by : (o : Option Demand) → list_any q (cons_option o (demands_of test ns)) ≡ (option_map_or q o false || list_any q (demands_of test ns))
+    by : (o : Option Demand) →
+        list_any q (cons_option o (demands_of test ns)) ≡ (option_map_or q o false || list_any q (demands_of test ns))
     by None = refl
     by (Some d) = refl
 

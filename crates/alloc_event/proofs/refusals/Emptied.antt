@@ -38,7 +38,8 @@ use Rattle.alloc_event.proofs.calm.Together.{together_effect, together_loss}
 use Rattle.alloc_event.proofs.changes.Altering.{same_affected}
 use Rattle.alloc_event.proofs.changes.Effecting.{alone_affected, remains_affected}
 use Rattle.alloc_event.proofs.failures.Endings.{change_nodes, ended_by, ended_settles, key_is, leaves_now, on_top, takes, tied_members}
-use Rattle.alloc_event.proofs.failures.Fallen.{at_key, f as gone_f, in_looked, whole}
+use Rattle.alloc_event.proofs.failures.Fallen.{at_key, f as gone_f, whole}
+use Rattle.alloc_event.proofs.failures.GoneNodes.{in_looked}
 use Rattle.alloc_event.proofs.failures.Ties.{fall_below, fall_within, lost_gone}
 use Rattle.alloc_event.proofs.refusals.Forcing.{due, forced_loss, node_here, node_key, node_on}
 use Rattle.alloc_event.proofs.refusals.Losing.{fails, loss_then}
@@ -265,7 +266,8 @@ module _ (t : Table Node) (us : List Unit) (ss : List Shelf) (s : Shelf) (key : 
             ap is_live_node (lose_out n e)
             ∙ false_if (is_live_node n) (λ live.
             both_ways (list_any (is_spared failing.now) (nodes_with t keys))
-            (In-any (is_spared failing.now) (nodes_with t keys) n there (and_both (is_live_node n) (not (falls n.key)) live (ap not e))) none_stays)
+            (In-any (is_spared failing.now) (nodes_with t keys) n there
+            (and_both (is_live_node n) (not (falls n.key)) live (ap not e))) none_stays)
       ]
 
   g_is : map g members ≡ after_loss fault (map f members)

@@ -41,7 +41,8 @@ module _ (nodes : List Node) (distinct : are_distinct nodes ≡ true) (h : Node)
       is_under (highest (members_of nodes) (member_of nodes x)) (member_of nodes n)) o false) (found_by_key nodes h distinct on)
       ∙ ap (λ (k : NodeKey). is_below nodes k n.key) (stops (above_among (reverse nodes) h.key))
 
-  pub loss_below : (fault : Fault) → fault.origin ≡ h.key → after_loss fault nodes ≡ map (lost (λ n. is_below nodes h.key n.key) fault) nodes
+  pub loss_below : (fault : Fault) → fault.origin ≡ h.key →
+      after_loss fault nodes ≡ map (lost (λ n. is_below nodes h.key n.key) fault) nodes
   loss_below fault begins =
       map-In (lost (is_taken nodes fault.origin) fault) (lost (λ n. is_below nodes h.key n.key) fault) nodes (λ n there.
       λ i. lost (λ m. (ap (λ (k : NodeKey). is_taken nodes k n) begins ∙ taken_below n) i) fault n)

@@ -24,14 +24,10 @@ use Rattle.alloc_event.specs.Kept.{Shelf, all_of, is_strong, nodes_with}
 use Rattle.alloc_event.specs.Questions.{is_live_node, is_root_left}
 use Rattle.alloc_event.proofs.calm.Calming.{find_map}
 use Rattle.alloc_event.proofs.failures.Crossing.{find-In}
-use Rattle.alloc_event.proofs.failures.Fallen.{f, given_of, goes_in, goes_not, gone_is, top_up, up}
+use Rattle.alloc_event.proofs.failures.Fallen.{f, top_up, up}
+use Rattle.alloc_event.proofs.failures.GoneNodes.{given_of, goes_in, goes_not, gone_is}
 use Rattle.alloc_event.proofs.serves.Allocated.{losing}
 use Rattle.alloc_event.proofs.tables.Writing.{IsSameNode}
-
--- what is told of none is told under no condition
-not_told : (b : Bool) (d : Decision) → when b d ≡ None → b ≡ false
-not_told true d h = cc
-not_told false d h = refl
 
 -- where fewer keep it, it is not lost where more do
 more_keep : (a few many strong_open : Bool) (d e : Decision) → (few ≡ true → many ≡ true) →

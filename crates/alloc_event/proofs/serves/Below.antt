@@ -20,7 +20,7 @@ use Rattle.alloc_event.specs.Falls.{given_all}
 use Rattle.alloc_event.specs.Kept.{IsStored, IsWhole, Shelf, collection_in, nodes_with, written}
 use Rattle.alloc_event.specs.Questions.{demands_of}
 use Rattle.alloc_event.specs.Serving.{IsGathered, IsGivenAt, are_enough, asked_with, bars_at, given_at, hangs_below, is_in_some, is_left_out, left_out_at}
-use Rattle.alloc_event.proofs.failures.Fallen.{in_looked}
+use Rattle.alloc_event.proofs.failures.GoneNodes.{in_looked}
 use Rattle.alloc_event.proofs.serves.Before.{IsDueHead, any_key, at_key, key_listed, node_there, whole_before}
 use Rattle.alloc_event.proofs.serves.Chains.{unitwide}
 use Rattle.alloc_event.proofs.serves.Gathered.{follows, hangs_inside, of_unit}
@@ -96,8 +96,8 @@ module _ (t : Table Node) (ss : List Shelf) (kept : IsStored t ss) (s : Shelf) (
           ap (sum_by (λ (d : Demand). d.camping)) below_asks
           ∙ (camped_sum (is_in_some hs) (map (written after) (nodes_with t ks))
           ∙ (amount_map (camped_if (is_in_some hs)) (written after) (nodes_with t ks)
-          ∙ (amount_within t nodes whole.sound.distinct at kept.named (λ n. camped_if (is_in_some hs) (written after n)) ks gathered.walked.once
-          within
+          ∙ (amount_within t nodes whole.sound.distinct at kept.named (λ n. camped_if (is_in_some hs) (written after n)) ks
+          gathered.walked.once within
           (λ n on out. none n (outside n on out))
           ∙ (sym (amount_map (camped_if (is_in_some hs)) (written after) nodes)
           ∙ (sym (camped_sum (is_in_some hs) (map (written after) nodes))

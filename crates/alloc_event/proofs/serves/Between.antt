@@ -38,7 +38,6 @@ use Rattle.alloc_event.proofs.calm.Steps.{all-In}
 use Rattle.alloc_event.proofs.calm.Together.{together_given}
 use Rattle.alloc_event.proofs.changes.Altering.{filed_at, found_filed, looked-of, same_affected}
 use Rattle.alloc_event.proofs.changes.Effecting.{alone_affected, counted_made, live_before, live_is, now_is, remains_affected, strong_before, strong_is, unready_before, unready_is}
-use Rattle.alloc_event.proofs.failures.Fallen.{each_shelf}
 use Rattle.alloc_event.proofs.lists.Lookups.{looked-map, same_key-swap}
 use Rattle.alloc_event.proofs.serves.Before.{key_listed, whole_before}
 use Rattle.alloc_event.proofs.serves.Enough.{reserved_all}
@@ -46,7 +45,7 @@ use Rattle.alloc_event.proofs.serves.Giving.{given_in, given_out, kept_given, sa
 use Rattle.alloc_event.proofs.serves.Rounds.{none_given}
 use Rattle.alloc_event.proofs.serves.Sums.{asked_is, reserved_same}
 use Rattle.alloc_event.proofs.shelves.Showing.{node_is}
-use Rattle.alloc_event.proofs.tables.Hanging.{in_all, looked_there}
+use Rattle.alloc_event.proofs.tables.Hanging.{all_in, in_all, looked_there}
 use Rattle.alloc_event.proofs.tables.LeftParents.{loss_left}
 use Rattle.alloc_event.proofs.tables.Rooted.{IsLeft, distinct_one, left_node}
 use Rattle.alloc_event.proofs.tables.Writing.{IsSameNode, IsSound-map, IsWhole-map, collections-map, filed-map, kept-with}
@@ -78,9 +77,8 @@ affected_given key Effect.Taken hs n = refl
 affected_given key Effect.Released hs n = refl
 affected_given key Effect.Tracked hs n = refl
 
-over_given : (hs : List NodeKey) (one : Option NodeKey) (m : Node) → over_but one (given_all hs m) ≡ over_but one m
-over_given hs None m = refl
-over_given hs (Some noted) m = refl
+over_given : (hs noted : List NodeKey) (m : Node) → over_but noted (given_all hs m) ≡ over_but noted m
+over_given hs noted m = refl
 
 -- units that are allocated go together
 together_all : (hs : List NodeKey) (nodes : List Node) → GoTogether nodes → GoTogether (after_all hs nodes)
@@ -122,7 +120,7 @@ pub record IsMadeAfter (t between now : Table Node) (us new : List Unit) (ss : L
   pub allocated : collection_in now s ≡ with_nodes (after_all hs) (with_nodes (map (affected key effect)) (collection_in t s))
   pub ready : list_all (is_ready_node n.head) (map (affected key effect) (nodes_with t s.keys)) ≡ true
   pub same : SameTable t now
-  pub over : (one : Option NodeKey) → list_any (over_but one) (nodes_with now s.keys) ≡ list_any (over_but one) (nodes_with t s.keys)
+  pub over : (noted : List NodeKey) → list_any (over_but noted) (nodes_with now s.keys) ≡ list_any (over_but noted) (nodes_with t s.keys)
   pub reserved : reserved_count (nodes_with now s.keys) ≡ reserved_count (nodes_with t s.keys)
       + sum_by (λ (d : Demand). d.camping) (asked_with t s.keys hs (affected key effect n))
 
@@ -263,7 +261,7 @@ module _ (t : Table Node) (us : List Unit) (key : NodeKey) (effect : Effect) (n 
 
       -- and all are whole
       whole_between : AllByRecursion (λ (x : Shelf). IsWhole (collection_in between x)) ss
-      whole_between = each_shelf (λ (x : Shelf). IsWhole (collection_in between x)) ss (λ x there. elim (either_way (x.id == s.id)) [
+      whole_between = all_in (λ (x : Shelf). IsWhole (collection_in between x)) ss (λ x there. elim (either_way (x.id == s.id)) [
         | inl e ↦
             subst (λ (y : Shelf). IsWhole (collection_in between y))
             (sym (one_shelf ss opens.kept.rising x s there (In-find (λ (y : Shelf). y.id == s.id) ss s opens.found).0

@@ -63,7 +63,7 @@ pub record IsFirstMade (t now : Table Node) (us : List Unit) (ss : List Shelf) (
   pub others : (x : Shelf) → x.id ≢ s.id → list_all (is_filed t x.id) x.keys ≡ true → collection_in now x ≡ collection_in t x
   pub units : AreUnits us (map (collection_in now) ss)
   pub same : SameTable t now
-  pub over : (one : Option NodeKey) → list_any (over_but one) (nodes_with now s.keys) ≡ list_any (over_but one) (nodes_with t s.keys)
+  pub over : (noted : List NodeKey) → list_any (over_but noted) (nodes_with now s.keys) ≡ list_any (over_but noted) (nodes_with t s.keys)
   pub reserved : reserved_count (nodes_with now s.keys) ≡ sum_by (λ (d : Demand). d.camping) asked
   pub nodes : nodes_with now s.keys ≡ after_allocation k (map (affected key effect) (nodes_with t s.keys))
   pub sound : IsSound (with_nodes (map (affected key effect)) (collection_in t s))
@@ -121,14 +121,15 @@ module _ (t : Table Node) (us : List Unit) (key : NodeKey) (effect : Effect) (n 
   bare_here m there stays = false_if m.allocated (λ e.
       both_ways (list_any (is_served_there t) s.keys)
       (any_key (is_served_there t) s.keys m.key (key_listed t opens.kept.named s.keys m there)
-      (ap (λ (o : Option Node). option_map_or is_served o false) (place.at_key m there) ∙ and_both (not m.gone) m.allocated (ap not stays) e))
+      (ap (λ (o : Option Node). option_map_or is_served o false) (place.at_key m there)
+      ∙ and_both (not m.gone) m.allocated (ap not stays) e))
       unserved)
 
   bare_all : (m : Node) → In m nodes → list_any (same_key m.head) (n.head ∷ []) ≡ true → m.allocated ≡ false
   bare_all m there e =
       let mine : m.head ≡ n.head = same_key-true m.head n.head (sym (or_false (same_key m.head n.head)) ∙ e) in
-      place.whole.together.alike m head there place.head_on (mine ∙ sym place.head_key) (place.head_own ∙ sym place.head_key) place.head_here
-      ∙ bare_here head place.head_on place.head_here
+      place.whole.together.alike m head there place.head_on (mine ∙ sym place.head_key) (place.head_own ∙ sym place.head_key)
+      place.head_here ∙ bare_here head place.head_on place.head_here
 
   served_none : reserved_count nodes ≡ 0
   served_none = ap (sum_by (λ (d : Demand). d.camping)) (none_reserved nodes (λ m there. false_if (is_served m) (λ e.

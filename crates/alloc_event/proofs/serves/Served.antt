@@ -82,7 +82,7 @@ put_among t now s (x ∷ xs) rising found each = elim (either_way (x.id == s.id)
 
 module _ (t : Table Node) (us : List Unit) (key : NodeKey) (effect : Effect) (n : Node) (was : node_at t key ≡ Some n)
     (ss : List Shelf) (s : Shelf) (strong : ℕ) (opens : IsOpen t us ss s (Change.Effect key effect) strong)
-    (b : Buffers) (has : s.buffers ≡ Some b) (bare : n.allocated ≡ false) (turn : has_turn_at t n.head ≡ true)
+    (b : Buffers) (has : s.buffers ≡ Some b) (turn : has_turn_at t n.head ≡ true)
     (hs : List NodeKey) (follows : Follows (nodes_with t s.keys) n.head hs) (none : list_any (left_out_at t us hs) s.keys ≡ false)
     (enough : are_enough b (reserved_count (nodes_with t s.keys)) (asked_with t s.keys hs (affected key effect n)) ≡ true) where
   abbrev k : NodeKey
@@ -254,7 +254,7 @@ pub served_by : (t now : Table Node) (us : List Unit) (key : NodeKey) (effect : 
     IsServing t now ks us s.id reserved b n.head after sum →
     IsServed t now (set us n.head.slot next) ss s (Change.Effect key effect) lives sum
 served_by t now us key effect n was ss s strong opens next lives after is less reserved sum b due ks all serving =
-    served_made t us key effect n was ss s strong opens b due.has due.bare due.turn hs follows none enough served.between given now
+    served_made t us key effect n was ss s strong opens b due.has due.turn hs follows none enough served.between given now
     (subst (λ (m : Node). now ≡ table_with_node served.between (given_all hs m).key (given_all hs m)) is served.becomes)
     (subst (λ (m : Node). Writes served.between now (given_all hs m).key (given_all hs m)) is served.writes)
     lives next (subst (λ (m : Node). AreLess us strong n m lives next) is less) all

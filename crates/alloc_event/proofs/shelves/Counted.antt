@@ -1,7 +1,7 @@
 -- Entries that are counted stay so, where one is put among them.
 use Rattle.std.proofs.Common.{◌≡◌, ◌≢◌, ℕ, zero, suc, ◌+◌, ◌<◌, ◌≤◌, ◌==◌, ◌&&◌, Bool, true, false, ◌⊎◌, inl, inr, List, [], ◌∷◌, map, length, get_or, set, if◌then◌else◌, cond, Option, Some, None, option_map, is_some, sym, ap, subst, ◌∙◌, refl, arith}
-use Rattle.std.specs.List.{AllByRecursion, cons_option, filter, find, list_all, list_any, remove}
-use Rattle.std.proofs.lemmas.Bool.{eq-eqb, eqb-true, eqb-false, ltb-true}
+use Rattle.std.specs.List.{AllByRecursion, cons_option, filter, list_all, list_any, remove}
+use Rattle.std.proofs.lemmas.Bool.{eqb-true, eqb-false, ltb-true}
 use Rattle.sm_names.specs.declared.keys.NodeKey.{NodeKey}
 use Rattle.sm_names.specs.Sameness.{same_key}
 use Rattle.sm_names.proofs.ListLaws.{In, In-map, times-le-length}
@@ -11,8 +11,8 @@ use Rattle.node_table.specs.Table.{Table, node_at}
 use Rattle.alloc_event.specs.declared.entry.Entry.{Entry}
 use Rattle.alloc_event.specs.declared.node.End.{End}
 use Rattle.alloc_event.specs.declared.node.Node.{Node}
-use Rattle.alloc_event.specs.Calm.{AreCounted, AreCountedBut, AreTidy, IsCalm, IsCounted, put_in, strong_count, over_but}
-use Rattle.alloc_event.specs.Forgetting.{IsNotedOr}
+use Rattle.alloc_event.specs.Calm.{AreCounted, AreCountedBut, IsCalm, IsCounted, put_in, strong_count, over_but}
+use Rattle.alloc_event.specs.Forgetting.{IsNotedIn, IsNoting, IsThinned}
 use Rattle.alloc_event.specs.Forest.{Collection}
 use Rattle.alloc_event.specs.Forgetting.{is_found, left_at, unless_over}
 use Rattle.alloc_event.specs.Kept.{AreRising, IsWhole, Shelf, are_filed, collection_in, is_filed, is_strong, nodes_with, place_in, put_shelf, shelf_of, shelves_of}
@@ -22,7 +22,7 @@ use Rattle.alloc_event.proofs.changes.Altering.{looked-of}
 use Rattle.alloc_event.proofs.calm.Calming.{IsPlain, calm_filter, calm_map, strong_filter, times_map}
 use Rattle.alloc_event.proofs.tables.Hanging.{in_all, looked_there}
 use Rattle.alloc_event.proofs.lists.Lookups.{looked-map}
-use Rattle.alloc_event.proofs.leaving.Noted.{fewer_over, not_over_but, noted_not}
+use Rattle.alloc_event.proofs.leaving.Noted.{fewer_over, more_noted, not_over_but, noted_not}
 use Rattle.alloc_event.proofs.shelves.Putting.{cases_place}
 use Rattle.alloc_event.proofs.shelves.Showing.{filed-length}
 use Rattle.alloc_event.proofs.calm.Steps.{all-In}
@@ -36,18 +36,18 @@ moved t now e same counted = record {
   calm = subst IsCalm (sym same) counted.calm;
   strong = counted.strong ∙ ap (λ (c : Collection). strong_count c.nodes) (sym same);
   reserved = counted.reserved ∙ ap (λ (c : Collection). reserved_count c.nodes) (sym same);
-  tidy = λ h. ap (λ (c : Collection). list_any (over_but e.one) c.nodes) same ∙ counted.tidy h;
+  tidy = λ h. ap (λ (c : Collection). list_any (over_but e.noted.items) c.nodes) same ∙ counted.tidy h;
 }
 
 -- an entry that shows the same with the same counts
 pub recounted : (t : Table Node) (e new : Entry) → collection_in t (shelf_of new) ≡ collection_in t (shelf_of e) → new.strong ≡ e.strong →
     new.reserved ≡ e.reserved →
-    (new.tidy ≡ true → list_any (over_but new.one) (nodes_with t e.keys.items) ≡ false) → IsCounted t e → IsCounted t new
+    (new.tidy ≡ true → list_any (over_but new.noted.items) (nodes_with t e.keys.items) ≡ false) → IsCounted t e → IsCounted t new
 recounted t e new same count sum tidy counted = record {
   calm = subst IsCalm (sym same) counted.calm;
   strong = count ∙ counted.strong ∙ ap (λ (c : Collection). strong_count c.nodes) (sym same);
   reserved = sum ∙ counted.reserved ∙ ap (λ (c : Collection). reserved_count c.nodes) (sym same);
-  tidy = λ h. ap (λ (c : Collection). list_any (over_but new.one) c.nodes) same ∙ tidy h;
+  tidy = λ h. ap (λ (c : Collection). list_any (over_but new.noted.items) c.nodes) same ∙ tidy h;
 }
 
 -- so of all that show the same
@@ -161,7 +161,8 @@ module _ (t now : Table Node) (named : (k : NodeKey) (n : Node) → node_at t k 
             (calm_filter (collection_in t (shelf_of e)) whole stays over counted.calm);
         strong = counted.strong ∙ sym (strong_filter stays nodes over) ∙ ap strong_count (sym (dropped_nodes e.keys.items));
         reserved = counted.reserved ∙ sym (reserved_filter stays nodes over) ∙ ap reserved_count (sym (dropped_nodes e.keys.items));
-        tidy = λ h. ap (list_any (over_but e.one)) (dropped_nodes e.keys.items) ∙ none-filter stays (over_but e.one) nodes (counted.tidy h);
+        tidy = λ h. ap (list_any (over_but e.noted.items)) (dropped_nodes e.keys.items)
+            ∙ none-filter stays (over_but e.noted.items) nodes (counted.tidy h);
       }
 
   pub dropped_all : (es : List Entry) → AllByRecursion (λ (s : Shelf). IsWhole (collection_in t s)) (shelves_of es) → AreCounted t es →
@@ -175,7 +176,7 @@ module _ (t now : Table Node) (named : (k : NodeKey) (n : Node) → node_at t k 
 pub mapped_all : (t now : Table Node) (f : Node → Node) → ((n : Node) → IsPlain (f n) n) → ((n : Node) → is_strong (f n) ≡ is_strong n) →
     ((n : Node) → camped (f n) ≡ camped n) →
     ((key : NodeKey) → node_at now key ≡ option_map f (node_at t key)) → (es : List Entry) →
-    AllByRecursion (λ (e : Entry). e.tidy ≡ true → list_any (over_but e.one) (map f (nodes_with t e.keys.items)) ≡ false) es →
+    AllByRecursion (λ (e : Entry). e.tidy ≡ true → list_any (over_but e.noted.items) (map f (nodes_with t e.keys.items)) ≡ false) es →
     AreCounted t es → AreCounted now es
 mapped_all t now f plain strong camps look [] tidy all = tt
 mapped_all t now f plain strong camps look (e ∷ es) tidy all =
@@ -186,7 +187,7 @@ mapped_all t now f plain strong camps look (e ∷ es) tidy all =
             plain all.0.calm);
         strong = all.0.strong ∙ sym (times_map is_strong is_strong f (nodes_with t e.keys.items) strong) ∙ ap strong_count (sym nodes);
         reserved = all.0.reserved ∙ sym (reserved_map f camps (nodes_with t e.keys.items)) ∙ ap reserved_count (sym nodes);
-        tidy = λ h. ap (list_any (over_but e.one)) nodes ∙ tidy.0 h;
+        tidy = λ h. ap (list_any (over_but e.noted.items)) nodes ∙ tidy.0 h;
       },
       mapped_all t now f plain strong camps look es tidy.1 all.1,
     )
@@ -298,42 +299,10 @@ none_left t now keys look (k ∷ ks) within =
 pub own_key : (ks : List NodeKey) (k : NodeKey) → In k ks → list_any (same_key k) ks ≡ true
 own_key ks k on = In-any (same_key k) ks k on (same_key-refl k)
 
--- only the entry that is found has the id
-pub each_own : (P : Entry → Type 0) (id : ℕ) (es : List Entry) → AreRising (shelves_of es) →
-    ((e : Entry) → find (λ (x : Entry). x.id == id) es ≡ Some e → P e) → AllByRecursion (λ (e : Entry). e.id ≡ id → P e) es
-each_own P id [] rising found = tt
-each_own P id (e ∷ es) rising found = (
-  λ is. found e (rw (eq-eqb e.id id is) refl),
-  elim (either_way (e.id == id)) [
-    | inl same ↦ above es (subst (λ (low : ℕ). AllByRecursion (λ (later : Shelf). low < later.id) (shelves_of es)) (eqb-true e.id id same)
-        rising.0)
-    | inr other ↦ each_own P id es rising.1 (λ x is. found x (rw other is))
-  ],
-)
-  where
-    above : (xs : List Entry) → AllByRecursion (λ (later : Shelf). id < later.id) (shelves_of xs) →
-        AllByRecursion (λ (x : Entry). x.id ≡ id → P x) xs
-    above [] all = tt
-    above (x ∷ xs) all = (λ is. absurd (omega (arith, all.0)), above xs all.1)
-
-pub tidy_one : (t : Table Node) (id : ℕ) (es : List Entry) → AreRising (shelves_of es) →
-    ((e : Entry) → find (λ (x : Entry). x.id == id) es ≡ Some e → list_any is_over (nodes_with t e.keys.items) ≡ false) → AreTidy t id es
-tidy_one t id es rising found = each_own (λ (e : Entry). list_any is_over (nodes_with t e.keys.items) ≡ false) id es rising found
-
--- where one is set, it is tidy, and its nodes are those that were there
-pub tidied_set : (t : Table Node) (id : ℕ) (es : List Entry) (at : ℕ) (new : Entry) → AreTidy t id es →
-    (at < length es → (get_or es at new).id ≡ id → list_any is_over (nodes_with t (get_or es at new).keys.items) ≡ false →
-    IsCounted t (get_or es at new) → IsCounted t new) →
-    (at < length es → (get_or es at new).id ≡ id) → AreCounted t es → AreCounted t (set es at new)
-tidied_set t id [] at new tidy own is all = tt
-tidied_set t id (e ∷ es) zero new tidy own is all = (own (omega arith) (is (omega arith)) (tidy.0 (is (omega arith))) all.0, all.1)
-tidied_set t id (e ∷ es) (suc n) new tidy own is all =
-    (all.0, tidied_set t id es n new tidy.1 (λ within. own (omega arith)) (λ within. is (omega arith)) all.1)
-
 -- ---- ends that are put elsewhere
 
 -- where none passes, this one fails
-none_each : {A : Type 0} (p : A → Bool) (xs : List A) → list_any p xs ≡ false → (x : A) → In x xs → p x ≡ false
+pub none_each : {A : Type 0} (p : A → Bool) (xs : List A) → list_any p xs ≡ false → (x : A) → In x xs → p x ≡ false
 none_each p xs none x on = elim (either_way (p x)) [
   | inl e ↦ both_ways (list_any p xs) (In-any p xs x on e) none
   | inr e ↦ e
@@ -350,18 +319,19 @@ module _ (t : Table Node) (named : (k : NodeKey) (n : Node) → node_at t k ≡ 
   f = with_end key end
 
   -- one entry, where the node is noted if it is one of its own and is over then
-  end_tidy : (e : Entry) → list_all (is_filed t e.id) e.keys.items ≡ true → list_any (over_but e.one) (nodes_with t e.keys.items) ≡ false →
-      (is_over (record n { end = end }) ≡ true → e.id ≡ n.collection → e.one ≡ Some key) →
-      list_any (over_but e.one) (map f (nodes_with t e.keys.items)) ≡ false
-  end_tidy e filed none apart = each_none (over_but e.one) (map f (nodes_with t e.keys.items)) (λ m there.
+  end_tidy : (e : Entry) → list_all (is_filed t e.id) e.keys.items ≡ true →
+      list_any (over_but e.noted.items) (nodes_with t e.keys.items) ≡ false →
+      (is_over (record n { end = end }) ≡ true → e.id ≡ n.collection → list_any (same_key key) e.noted.items ≡ true) →
+      list_any (over_but e.noted.items) (map f (nodes_with t e.keys.items)) ≡ false
+  end_tidy e filed none apart = each_none (over_but e.noted.items) (map f (nodes_with t e.keys.items)) (λ m there.
       let x = In-map f (nodes_with t e.keys.items) m there in
-      ap (over_but e.one) x.2 ∙ from x.0 x.1 (either_way (same_key key x.0.key)))
+      ap (over_but e.noted.items) x.2 ∙ from x.0 x.1 (either_way (same_key key x.0.key)))
     where
       from : (m : Node) → In m (nodes_with t e.keys.items) → (same_key key m.key ≡ true) ⊎ (same_key key m.key ≡ false) →
-          over_but e.one (f m) ≡ false
+          over_but e.noted.items (f m) ≡ false
       from m on (inr other) =
           let same : f m ≡ m = λ i. record m { end = if other i then end else m.end } in
-          ap (over_but e.one) same ∙ none_each (over_but e.one) (nodes_with t e.keys.items) none m on
+          ap (over_but e.noted.items) same ∙ none_each (over_but e.noted.items) (nodes_with t e.keys.items) none m on
       from m on (inl same) =
           let found : node_at t m.key ≡ Some m =
           in_all (λ (x : Node). node_at t x.key ≡ Some x) (nodes_with t e.keys.items) (looked_there t named e.keys.items) m on in
@@ -372,15 +342,15 @@ module _ (t : Table Node) (named : (k : NodeKey) (n : Node) → node_at t k ≡ 
           let is : is_over (f m) ≡ is_over (record n { end = end }) = rw same (ap (λ (x : Node). x.gone && is_spent end) (sym one)) in
           elim (either_way (is_over (record n { end = end }))) [
             | inl over ↦
-                ap (λ (o : Option NodeKey). over_but o (f m)) (apart over (sym (eqb-true m.collection e.id own)
-                ∙ ap (λ (x : Node). x.collection) (sym one)))
-                ∙ noted_not key (f m) same
-            | inr not_over ↦ not_over_but e.one (f m) (is ∙ not_over)
+                noted_not e.noted.items (f m) (subst (λ (j : NodeKey). list_any (same_key j) e.noted.items ≡ true)
+                (same_key-true key m.key same)
+                (apart over (sym (eqb-true m.collection e.id own) ∙ ap (λ (x : Node). x.collection) (sym one))))
+            | inr not_over ↦ not_over_but e.noted.items (f m) (is ∙ not_over)
           ]
 
   pub ends_tidy : (es : List Entry) → are_filed t (shelves_of es) ≡ true → AreCounted t es →
-      (is_over (record n { end = end }) ≡ true → AllByRecursion (λ (e : Entry). e.id ≡ n.collection → IsNotedOr e key) es) →
-      AllByRecursion (λ (e : Entry). e.tidy ≡ true → list_any (over_but e.one) (map f (nodes_with t e.keys.items)) ≡ false) es
+      (is_over (record n { end = end }) ≡ true → AllByRecursion (λ (e : Entry). e.id ≡ n.collection → IsNotedIn e key) es) →
+      AllByRecursion (λ (e : Entry). e.tidy ≡ true → list_any (over_but e.noted.items) (map f (nodes_with t e.keys.items)) ≡ false) es
   ends_tidy [] filed all noted = tt
   ends_tidy (e ∷ es) filed all noted = (
     λ tidy. end_tidy e (and_left (list_all (is_filed t e.id) e.keys.items) _ filed) (all.0.tidy tidy)
@@ -388,18 +358,35 @@ module _ (t : Table Node) (named : (k : NodeKey) (n : Node) → node_at t k ≡ 
     ends_tidy es (and_right (list_all (is_filed t e.id) e.keys.items) _ filed) all.1 (λ over. (noted over).1),
   )
 
--- an entry that notes a node where it noted none
-pub noted : (t : Table Node) (es : List Entry) (at : ℕ) (new : Entry) → (at < length es → shelf_of new ≡ shelf_of (get_or es at new)) →
-    (at < length es → new.strong ≡ (get_or es at new).strong) → (at < length es → new.reserved ≡ (get_or es at new).reserved) →
-    (at < length es → new.tidy ≡ true → ((get_or es at new).tidy ≡ true) × ((get_or es at new).one ≡ None)) → AreCounted t es →
-    AreCounted t (set es at new)
-noted t es at new same strong reserved known all = counted_set t es at new
-    (λ within counted. recounted t (get_or es at new) new (ap (collection_in t) (same within)) (strong within) (reserved within)
-    (λ tidy.
-    let was = known within tidy in
-    fewer_over new.one (nodes_with t (get_or es at new).keys.items)
-    (ap (λ (o : Option NodeKey). list_any (over_but o) (nodes_with t (get_or es at new).keys.items)) (sym was.1) ∙ counted.tidy was.0))
+-- an entry that notes more
+pub noted : (t : Table Node) (es : List Entry) (at : ℕ) (new : Entry) → (at < length es → IsNoting (get_or es at new) new) →
+    AreCounted t es → AreCounted t (set es at new)
+noted t es at new known all = counted_set t es at new
+    (λ within counted.
+    let old : Entry = get_or es at new in
+    let more = known within in
+    recounted t old new (ap (collection_in t) more.shelf) more.strong more.reserved
+    (λ tidy. more_noted old.noted.items new.noted.items more.more (nodes_with t old.keys.items) (counted.tidy (more.tidy tidy)))
     counted) all
+
+-- one of which the keys were thinned
+pub counted_thinned : (t now : Table Node) (es : List Entry) (at : ℕ) (new : Entry) →
+    (at < length es → IsThinned now (get_or es at new) new) →
+    (at < length es → (k : NodeKey) → node_at now k ≡ left_at t (get_or es at new).keys.items k) →
+    AreCounted now es → AreCounted now (set es at new)
+counted_thinned t now es at new thinned look all = counted_set now es at new
+    (λ within counted.
+    let old : Entry = get_or es at new in
+    let is = thinned within in
+    let keys : List NodeKey = old.keys.items in
+    let none : list_any is_over (nodes_with now keys) ≡ false = none_left t now keys (look within) keys (own_key keys) in
+    recounted now old new
+    (λ i. record {
+      id = is.id i;
+      nodes = (ap (nodes_with now) is.keys ∙ found_nodes now keys) i;
+      buffers = is.buffers i;
+      held = (is.held i).items;
+    }) is.strong is.reserved (λ tidy. fewer_over new.noted.items (nodes_with now keys) none) counted) all
 
 -- and the others of the id, which there are not
 pub noted_set : (P : Entry → Type 0) (id : ℕ) (es : List Entry) (at : ℕ) (new : Entry) → AreRising (shelves_of es) →

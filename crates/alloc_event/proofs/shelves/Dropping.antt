@@ -12,7 +12,7 @@ use Rattle.alloc_event.proofs.shelves.Showing.{shelf_found}
 use Rattle.alloc_event.proofs.leaving.Tidying.{above_other, bare_others, none_others, thin_others}
 
 -- where no entry has the id no shelf has it
-no_shelf : (id : ℕ) (es : List Entry) → place_in id es ≡ None → find (λ (s : Shelf). s.id == id) (shelves_of es) ≡ None
+pub no_shelf : (id : ℕ) (es : List Entry) → place_in id es ≡ None → find (λ (s : Shelf). s.id == id) (shelves_of es) ≡ None
 no_shelf id es none = shelf_found id es ∙ ap (option_map shelf_of) (none_in id es none)
 
 -- and nothing changes

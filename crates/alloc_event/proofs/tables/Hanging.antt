@@ -29,9 +29,9 @@ in_all P (m ∷ ms) all n (inl is) = subst P (sym is) all.0
 in_all P (m ∷ ms) all n (inr on) = in_all P ms all.1 n on
 
 -- and what holds of each holds of all
-pub all_in : (P : Node → Type 0) (nodes : List Node) → ((n : Node) → In n nodes → P n) → AllByRecursion P nodes
+pub all_in : {A : Type 0} (P : A → Type 0) (xs : List A) → ((x : A) → In x xs → P x) → AllByRecursion P xs
 all_in P [] each = tt
-all_in P (n ∷ ns) each = (each n (inl refl), all_in P ns (λ m on. each m (inr on)))
+all_in P (x ∷ xs) each = (each x (inl refl), all_in P xs (λ y on. each y (inr on)))
 
 -- ---- nodes that stay
 

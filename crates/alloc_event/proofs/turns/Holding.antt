@@ -160,7 +160,8 @@ module _ (nodes : List Node) (falls : List Fault) (fault : Fault) where
           elim (either_way (gone_in nodes falls x.node)) [
             | inr s ↦ record { node = x.node; on = x.on; stays = s; works = x.works; below = x.below }
             | inl s ↦
-                let some : is_some (fall_of nodes falls x.node.head) ≡ true = elim (either_way (is_some (fall_of nodes falls x.node.head))) [
+                let some : is_some (fall_of nodes falls x.node.head) ≡ true =
+                elim (either_way (is_some (fall_of nodes falls x.node.head))) [
                   | inl t ↦ t
                   | inr t ↦ both_ways (gone_in nodes falls x.node) s
                       (or_both (is_some (fall_of nodes falls x.node.head)) x.node.gone t live)

@@ -1,4 +1,5 @@
 //! Handles that are dropped while the lifetimes of a thousand nodes are waited for.
+use super::limits::token;
 use lifetime_core::Core;
 use sm_names::{BufferName, Call, Constraints, Limits, NodeKey, Reply, Strength};
 use std::alloc::Global;
@@ -18,16 +19,8 @@ const DROP: Call = Call::DropHandle(BUFFER, Strength::Strong);
 
 const GIVE: Call = Call::GiveHandle(BUFFER, Strength::Strong, 1);
 
-// The token that the call of client 1 makes.
-fn token(core: &mut Core, call: Call) -> Option<NodeKey> {
-    match core.step(1, call) {
-        Ok(Reply::Token { key, .. }) => Some(key),
-        _ => None,
-    }
-}
-
-// Whether the call of client 1 is answered Done.
-fn is_done(core: &mut Core, call: Call) -> bool {
+/// Whether the call of client 1 is answered Done.
+pub fn is_done(core: &mut Core, call: Call) -> bool {
     core.step(1, call) == Ok(Reply::Done)
 }
 

@@ -3,8 +3,8 @@ use lifetime_core::Core;
 use sm_names::{Call, Limits, NodeKey, Refusal, Reply, StepFault};
 use std::alloc::Global;
 
-// A core in which client 1 joined.
-fn joined(alloc: Global, limits: Limits) -> Option<Core> {
+/// A core in which client 1 joined.
+pub fn joined(alloc: Global, limits: Limits) -> Option<Core> {
     let mut core = Core::new(alloc, 16, limits).ok()?;
     if core.step(0, Call::Join) == Ok(Reply::Joined(1)) {
         Some(core)
@@ -13,8 +13,8 @@ fn joined(alloc: Global, limits: Limits) -> Option<Core> {
     }
 }
 
-// The token that the call of client 1 makes.
-fn token(core: &mut Core, call: Call) -> Option<NodeKey> {
+/// The token that the call of client 1 makes.
+pub fn token(core: &mut Core, call: Call) -> Option<NodeKey> {
     match core.step(1, call) {
         Ok(Reply::Token { key, .. }) => Some(key),
         _ => None,

@@ -133,6 +133,39 @@ fn a_weak_handle_keeps_a_buffer_of_a_collection_that_ended(rt: HostRuntime) -> R
     Ok(())
 }
 
+// A root and nine children of its unit, which has ten buffers of one page.
+fn with_ten_buffers(alloc: Global) -> Result<(Ground, Vec<NodeKey>), Fail> {
+    let (mut ground, keys) = family(alloc, 9, false)?;
+    let Some((root, others)) = keys.split_first() else {
+        return Err(Fail::from("no root"));
+    };
+    ask_each(&mut ground, others)?;
+    ground.ask(*root, demand(0, 10, 4096)?)?;
+    Ok((ground, keys))
+}
+
+// Whether one more page is free once this handle is closed.
+fn goes_home(ground: &mut Ground, index: u8) -> Result<bool, Fail> {
+    let free = ground.free_pages();
+    let closed = ground.close_at(index);
+    ground.look_again()?;
+    Ok(closed && ground.free_pages() == free.wrapping_add(1))
+}
+
+// The fourth buffer and the eighth are kept, and those before, between and behind them go home.
+#[test]
+fn many_buffers_go_home_beside_some_that_are_kept(rt: HostRuntime) -> Result<(), Fail> {
+    let (mut ground, keys) = with_ten_buffers(rt.alloc())?;
+    assert!(rt; ground.free_pages() == 6);
+    ground.open_at(3)?;
+    ground.open_at(7)?;
+    assert!(rt; end_strong(&mut ground, &keys, 14)?);
+    assert!(rt; goes_home(&mut ground, 7)?);
+    assert!(rt; goes_home(&mut ground, 3)?);
+    assert!(rt; has_ended(&ground, &keys, 16));
+    Ok(())
+}
+
 #[test]
 fn many_weak_nodes_end_while_a_handle_is_open(rt: HostRuntime) -> Result<(), Fail> {
     let (mut ground, keys) = with_buffer(rt.alloc(), 9)?;

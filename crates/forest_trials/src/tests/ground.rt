@@ -24,12 +24,6 @@ pub const LIMIT: usize = 1024;
 /// The one collection.
 pub const HERE: CollectionId = 5;
 
-/// Its first buffer.
-const FIRST: BufferName = BufferName {
-    collection: HERE,
-    index: 0,
-};
-
 /// The forest, the pool that has its pages, and the open handles.
 #[derive(Drop)]
 pub struct Ground {
@@ -48,6 +42,14 @@ pub struct View {
     here: Option<Summary>,
     first: [Option<Node>; 4],
     free_pages: u32,
+}
+
+// The collection's buffer with this index.
+fn buffer(index: u8) -> BufferName {
+    BufferName {
+        collection: HERE,
+        index,
+    }
 }
 
 // Whether the effect is one more tracker of the node.
@@ -222,34 +224,44 @@ impl Ground {
         Ok(())
     }
 
-    // Client 3 opens such a handle of the collection's first buffer.
-    fn open_as(&mut self, strength: Strength) -> Result<(), Fail> {
+    // Client 3 opens such a handle of the collection's buffer with this index.
+    fn open_as(&mut self, index: u8, strength: Strength) -> Result<(), Fail> {
         for _ in 0..2 {
-            if let Ok(()) = self.holds.add(3, FIRST, strength) {
+            if let Ok(()) = self.holds.add(3, buffer(index), strength) {
                 return Ok(());
             }
         }
         Err(Fail::from("no handle"))
     }
 
-    /// Client 3 opens a strong handle of the collection's first buffer.
+    /// Client 3 opens a strong handle of the collection's buffer with this index.
+    pub fn open_at(&mut self, index: u8) -> Result<(), Fail> {
+        self.open_as(index, Strength::Strong)
+    }
+
+    /// And closes it.
+    pub fn close_at(&mut self, index: u8) -> bool {
+        self.holds.sub(3, buffer(index), Strength::Strong)
+    }
+
+    /// A strong handle of the first buffer.
     pub fn open(&mut self) -> Result<(), Fail> {
-        self.open_as(Strength::Strong)
+        self.open_at(0)
     }
 
     /// And closes it.
     pub fn close(&mut self) -> bool {
-        self.holds.sub(3, FIRST, Strength::Strong)
+        self.close_at(0)
     }
 
     /// A weak one.
     pub fn open_weak(&mut self) -> Result<(), Fail> {
-        self.open_as(Strength::Weak)
+        self.open_as(0, Strength::Weak)
     }
 
     /// And closes it.
     pub fn close_weak(&mut self) -> bool {
-        self.holds.sub(3, FIRST, Strength::Weak)
+        self.holds.sub(3, buffer(0), Strength::Weak)
     }
 
     /// The forest.

@@ -1,5 +1,6 @@
 //! That calls succeed, and that the definitions place buffers where they are meant to lie.
-ghost use Rattle.std.specs.Prelude.{◌≤◌};
+ghost use Rattle.std.specs.Prelude.{◌≡◌, ◌≤◌, true};
+ghost use Rattle.buffer_pool.specs.Holdings.{in_run, HasRun};
 
 use buffer_pool::{MAX_PAGES, Pool, PoolFault};
 use sm_names::Interval;
@@ -49,6 +50,43 @@ fn give_back_at(pool: &mut Pool, at: usize) -> bool {
             false
         }
         Err(_) => false,
+    }
+}
+
+// Whether the interval is of so many pages, and lies behind so many others of as many from this page on.
+fn is_next(next: Interval, start: u32, pages: u32, count: u32) -> bool
+    ensures { result ≡ true → next ≡ in_run start pages count }
+{
+    let end = u64::from(start) + u64::from(count) * u64::from(pages);
+    next.pages == pages && u64::from(next.start) == end
+}
+
+// How many of these are of so many pages and lie side by side from this page on.
+fn run_from(held: &[Interval], start: u32, pages: u32) -> u32
+    ensures { HasRun start pages result held.now }
+{
+    let mut count = 0;
+    for next in held {
+        if count == MAX_PAGES || !is_next(*next, start, pages, count) {
+            continue;
+        }
+        count += 1;
+    }
+    count
+}
+
+// Gives back all that are of so many pages and lie side by side from this page on, and answers how
+// many those are.
+fn give_back_from(pool: &mut Pool, start: u32, pages: u32) -> u32 {
+    match pool.held() {
+        Ok(held) => {
+            let count = run_from(&held, start, pages);
+            if count > 0 {
+                pool.give_back_run(start, pages, count);
+            }
+            count
+        }
+        Err(_) => 0,
     }
 }
 
@@ -148,6 +186,23 @@ fn a_pool_of_ten_thousand_holes_heals(rt: HostRuntime) -> Result<(), Fail> {
     heals(&rt, &mut pool)
 }
 
+fn takes_runs_back(rt: &impl Abort, pool: &mut Pool) {
+    assert!(rt; looks_of(pool, 400, 2) == Some(400));
+    assert!(rt; give_back_at(pool, 350) && give_back_at(pool, 49));
+    assert!(rt; give_back_from(pool, 100, 2) == 300 && pool.free_pages() == 604);
+    assert!(rt; give_back_from(pool, 100, 2) == 0 && is_too_full(pool, 1, 605));
+    assert!(rt; looks_of(pool, 302, 2) == Some(302));
+    assert!(rt; pool.free_pages() == 0 && give_back_from(pool, 0, 2) == 400);
+    assert!(rt; places(pool, 1, 800, [0].as_slice(), 1));
+}
+
+#[test]
+fn buffers_side_by_side_go_back_at_once(rt: HostRuntime) -> Result<(), Fail> {
+    let mut pool = new_pool(rt.alloc(), 800)?;
+    takes_runs_back(&rt, &mut pool);
+    Ok(())
+}
+
 // The reference: a mark for each page that is held.
 fn has_room(marks: &[bool], start: usize, pages: usize) -> bool {
     let mut room: usize = 0;
@@ -244,8 +299,22 @@ fn held_at(pool: &Pool, place: usize) -> Option<(usize, Interval)> {
     }
 }
 
-// Gives one interval back, or places some buffers, by what was drawn.
+// Gives back the intervals that lie side by side from a place on, in both.
+fn give_run_back_in_both(pool: &mut Pool, marks: &mut [bool], place: usize) -> bool {
+    let Some((_, first)) = held_at(pool, place) else {
+        return true;
+    };
+    let count = give_back_from(pool, first.start, first.pages);
+    let pages = count.wrapping_mul(first.pages);
+    mark(marks, first.start as usize, pages as usize, false);
+    count > 0
+}
+
+// Gives one interval back, or some that lie side by side, or places some buffers, by what was drawn.
 fn draws_alike(alloc: Global, pool: &mut Pool, marks: &mut [bool], draw: u32) -> bool {
+    if draw % 10 == 9 {
+        return give_run_back_in_both(pool, marks, (draw / 10) as usize);
+    }
     if draw % 5 < 2 {
         if let Some((at, back)) = held_at(pool, (draw / 5) as usize) {
             mark(marks, back.start as usize, back.pages as usize, false);

@@ -11,7 +11,6 @@ use Rattle.alloc_event.specs.Falling.{gone_by, may_all}
 use Rattle.alloc_event.specs.Forest.{beside}
 use Rattle.alloc_event.specs.Kept.{Stores, all_of, forest_of, nodes_with, place_in, shelves_of}
 use Rattle.alloc_event.proofs.changes.AllGone.{IsEmptied, outcome_all, pages_at, tidy_now, units_all}
-use Rattle.alloc_event.proofs.failures.Written.{gone_named}
 use Rattle.alloc_event.proofs.shelves.Entries.{place_is}
 use Rattle.alloc_event.proofs.all_gone.all_go.Goals as goal
 
@@ -59,8 +58,8 @@ module _ (c : goal.After-part-2) where
     held = c.send_home.new.held;
     strong = 0;
     reserved = 0;
-    tidy = c.note_gone-tidy.result.0;
-    one = c.note_gone-tidy.result.1;
+    tidy = c.is_tidy_still-entry.result;
+    noted = c.index_mut-entry.result.now.noted;
   }
 
   told : place_in c.args.id c.args.entries.now.items ≡ Some c.in-Some.at
@@ -84,14 +83,11 @@ module _ (c : goal.After-part-2) where
     held = c.send_home.ensures.held;
     strong = refl;
     reserved = refl;
-    tidy = tidy_now (total c.args.holds.now) t es c.args.id c.in-Some.at old told c.index_mut-entry.ensures.value c.requires.ready.kept
+    tidy = λ h. tidy_now (total c.args.holds.now) t es c.args.id c.in-Some.at old told c.index_mut-entry.ensures.value c.requires.ready.kept
         c.requires.ready.counted c.args.units.now.items c.requires.ready.units c.args.going.now c.requires.ready.change c.args.origin
         c.args.keys.now c.requires.taken own
-        c.requires.root so c.requires.failing c.go_all-over.new.table stores c.note_gone-tidy.result.0 c.note_gone-tidy.result.1
-        c.note_gone-tidy.ensures.tidy
-        c.note_gone-tidy.ensures.one
-        (λ h. c.note_gone-tidy.ensures.over h (map (gone_by c.args.going.now) (nodes_with t c.args.keys.now))
-        c.go_all-over.ensures.over (gone_named t c.requires.ready.kept.named c.args.going.now c.args.keys.now));
+        c.requires.root so c.requires.failing c.go_all-over.new.table stores c.go_all-over.result c.go_all-over.ensures.over
+        (sym c.is_tidy_still-entry.ensures ∙ h);
   }
 
 pub returns-clause-units : goal.returns-clause-units

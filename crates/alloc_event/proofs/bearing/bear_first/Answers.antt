@@ -16,7 +16,7 @@ returns-clause-entries c =
       strong = c.strong_with-strong.result;
       reserved = 0;
       tidy = true;
-      one = None;
+      noted = c.new-2.result;
     } in
     let items : c.push.new.self.items ≡ c.in_ok-key.key ∷ [] = search rules in
     let held : c.new.result.items ≡ [] = c.new.ensures.items in

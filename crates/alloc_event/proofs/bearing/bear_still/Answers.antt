@@ -93,7 +93,7 @@ returns-in-Some-clause-counted c =
     (above_is c.args.table.now (shelves_of c.args.entries.now.items) c.requires.kept c.args.id c.args.parent c.args.attached c.args.client
     c.args.event c.requires.change)
     bears c.requires.still.0 c.requires.still.1 (rw weak at strong) c.bear_among.ensures.reserved c.bear_among.ensures.tidy
-    c.bear_among.ensures.one)
+    c.bear_among.ensures.noted)
 
 pub returns-in-Some-clause-err_entries : goal.returns-in-Some-clause-err_entries
 returns-in-Some-clause-err_entries c =
@@ -102,7 +102,7 @@ returns-in-Some-clause-err_entries c =
     refused_two c.bear_among.result c.bear_among.ensures.err_shelf c.bear_among.ensures.err_strong (λ shelf strong.
     refused_shelves c.args.table.now c.args.entries.now.items c.requires.kept c.requires.counted c.args.id c.in-Some.at told
     (place_is c.args.id c.args.entries.now.items c.in-Some.at told) c.index_mut.result.now c.index_mut.ensures.value c.bear_among.new.entry
-    shelf strong c.bear_among.ensures.reserved c.bear_among.ensures.tidy c.bear_among.ensures.one)
+    shelf strong c.bear_among.ensures.reserved c.bear_among.ensures.tidy c.bear_among.ensures.noted)
 
 pub returns-in-Some-clause-err_counted : goal.returns-in-Some-clause-err_counted
 returns-in-Some-clause-err_counted c =
@@ -111,7 +111,7 @@ returns-in-Some-clause-err_counted c =
     refused_two c.bear_among.result c.bear_among.ensures.err_shelf c.bear_among.ensures.err_strong (λ shelf strong.
     refused_counted c.args.table.now c.args.entries.now.items c.requires.kept c.requires.counted c.args.id c.in-Some.at told
     (place_is c.args.id c.args.entries.now.items c.in-Some.at told) c.index_mut.result.now c.index_mut.ensures.value c.bear_among.new.entry
-    shelf strong c.bear_among.ensures.reserved c.bear_among.ensures.tidy c.bear_among.ensures.one)
+    shelf strong c.bear_among.ensures.reserved c.bear_among.ensures.tidy c.bear_among.ensures.noted)
 
 -- so where it is the first
 pub returns-in-None-clause-bears : goal.returns-in-None-clause-bears

@@ -83,7 +83,7 @@ module _ (c : goal.After-part-2) where
     strong = c.index_mut.result.now.strong;
     tidy = c.index_mut.result.now.tidy;
     reserved = c.index_mut.result.now.reserved;
-    one = c.index_mut.result.now.one;
+    noted = c.index_mut.result.now.noted;
   }
 
   told : place_in c.args.buffer.collection c.args.entries.now.items ≡ Some c.in-Some.at

@@ -51,7 +51,8 @@ loop-at-preserved-then-eq c =
       pages = λ others before.
           let now = c.loop-at.invariant.pages others before in
           ap (λ (h : Holdings). h.held) c.give_back.ensures.held
-          ∙ (one_returned c.loop-at.pool (take at all) (drop (at + 1) all) one others c.loop-at.invariant.sound (now
+          ∙ (one_returned c.loop-at.pool.size c.loop-at.pool.held (take at all) (drop (at + 1) all) one others
+          c.loop-at.invariant.sound.in_order (now
           ∙ ap (λ (l : List HeldBuffer). by_page (pages_held l ++ others)) is)
           ∙ ap (λ (l : List HeldBuffer). by_page (pages_held l ++ others)) (sym (gone ∙ left_around all at within)));
       front = rw (gone, front) c.loop-at.invariant.front;

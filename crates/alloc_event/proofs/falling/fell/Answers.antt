@@ -9,6 +9,7 @@ use Rattle.alloc_event.specs.Kept.{all_of, collection_in, nodes_with}
 use Rattle.alloc_event.specs.Reserved.{reserved_count}
 use Rattle.alloc_event.proofs.failures.Fallen.{nodes_then, reserved_is, units_but}
 use Rattle.alloc_event.proofs.failures.Goings.{lost_made}
+use Rattle.alloc_event.proofs.failures.Written.{went_now}
 use Rattle.alloc_event.proofs.falling.fell.Goals as goal
 
 pub returns-then-not-lower-clause-none_units : goal.returns-then-not-lower-clause-none_units
@@ -55,3 +56,7 @@ returns-clause-reserved c ss s opens id =
     (nodes_then t us ss s c.args.going.now c.args.entry.now.strong opens c.args.origin keys c.requires.taken own
     c.go_all-over.new.table c.go_all-over.ensures.stores)
     ∙ reserved_is t us ss s c.args.going.now c.args.entry.now.strong opens c.args.origin keys c.requires.taken own
+
+pub returns-clause-went : goal.returns-clause-went
+returns-clause-went c =
+    went_now c.args.table.now c.requires.named c.args.going.now c.args.keys.now c.go_all-over.new.table c.go_all-over.ensures.stores

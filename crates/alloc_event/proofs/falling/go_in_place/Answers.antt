@@ -1,5 +1,5 @@
 -- The change is made in its place, and the entry of the collection has the count.
-use Rattle.std.proofs.Common.{◌≡◌, ℕ, ◌+◌, ◌==◌, true, false, inl, inr, List, Option, Some, map, get_or, set, refl, sym, ◌∙◌, ap, subst, arith}
+use Rattle.std.proofs.Common.{◌≡◌, ℕ, ◌+◌, ◌==◌, true, false, List, Some, map, get_or, set, refl, sym, ◌∙◌, ap, subst, arith}
 use Rattle.std.proofs.lemmas.List.{get_or_default}
 use Rattle.std.specs.List.{find, list_any}
 use Rattle.buffer_holds.specs.Counts.{total}
@@ -8,32 +8,19 @@ use Rattle.alloc_event.specs.declared.entry.Entry.{Entry}
 use Rattle.alloc_event.specs.declared.units.Unit.{Unit}
 use Rattle.alloc_event.specs.Counts.{AreUnits}
 use Rattle.alloc_event.specs.Falling.{IsLost, change_of, gone_by}
+use Rattle.alloc_event.specs.Forgetting.{AreMore, IsNoting}
 use Rattle.alloc_event.specs.InPlace.{IsOpen}
 use Rattle.alloc_event.specs.Kept.{Shelf, all_of, collection_in, nodes_with, place_in, shelf_of, shelves_of}
-use Rattle.sm_names.specs.declared.keys.NodeKey.{NodeKey}
 use Rattle.alloc_event.specs.Calm.{over_but}
 use Rattle.alloc_event.specs.Reserved.{reserved_count}
 use Rattle.alloc_event.specs.Resting.{is_kept_by}
-use Rattle.alloc_event.proofs.leaving.Noted.{fewer_over}
+use Rattle.alloc_event.proofs.leaving.Noted.{more_noted}
 use Rattle.alloc_event.proofs.changes.Done.{few_at, opens_at, outcome_at, own_id, reserved_at, shelves_at, tidy_at}
-use Rattle.alloc_event.proofs.failures.Written.{gone_named}
 use Rattle.alloc_event.proofs.shelves.Entries.{IsPlace, place_is}
 use Rattle.alloc_event.proofs.falling.go_in_place.Goals as goal
 
 pub index-requires : goal.index-requires
 index-requires c =
-    let told : place_in c.args.id c.args.entries.now.items ≡ Some c.in-Some.at =
-    sym (rw c.deref.ensures.value at c.place_of.ensures) ∙ c.in-Some.is in
-    omega (arith, (place_is c.args.id c.args.entries.now.items c.in-Some.at told).within)
-
-pub index-requires-2 : goal.index-requires-2
-index-requires-2 c =
-    let told : place_in c.args.id c.args.entries.now.items ≡ Some c.in-Some.at =
-    sym (rw c.deref.ensures.value at c.place_of.ensures) ∙ c.in-Some.is in
-    omega (arith, (place_is c.args.id c.args.entries.now.items c.in-Some.at told).within)
-
-pub index-requires-3 : goal.index-requires-3
-index-requires-3 c =
     let told : place_in c.args.id c.args.entries.now.items ≡ Some c.in-Some.at =
     sym (rw c.deref.ensures.value at c.place_of.ensures) ∙ c.in-Some.is in
     omega (arith, (place_is c.args.id c.args.entries.now.items c.in-Some.at told).within)
@@ -80,6 +67,25 @@ recount-requires-clause-others c =
     rw (c.deref-in_default-fell.ensures.value, c.fell.ensures.none c.in_default-fell.is)
     (rw own at (c.fell.ensures.none_units c.in_default-fell.is (shelves_of es) (shelf_of old) opens refl))
 
+pub note_gone-requires-clause-named : goal.note_gone-requires-clause-named
+note_gone-requires-clause-named c =
+    let t = c.args.table.now in
+    let es = c.args.entries.now.items in
+    let us = c.args.units.now.items in
+    let old : Entry = c.index.result.now in
+    let loss = change_of c.args.going.now in
+    let told : place_in c.args.id es ≡ Some c.in-Some.at = sym (rw c.deref.ensures.value at c.place_of.ensures) ∙ c.in-Some.is in
+    let place : IsPlace c.args.id es c.in-Some.at = place_is c.args.id es c.in-Some.at told in
+    let opens : IsOpen t us (shelves_of es) (shelf_of old) loss old.strong =
+    opens_at t es c.args.id c.in-Some.at old place c.index.ensures c.requires.ready.kept c.requires.ready.counted us c.requires.ready.units
+    loss c.requires.ready.change in
+    let own : old.id ≡ c.args.id =
+    own_id t es c.args.id c.in-Some.at old place c.index.ensures c.requires.ready.kept c.requires.ready.counted us c.requires.ready.units
+    loss c.requires.ready.change in
+    let lost = c.in-Some-fell.ensures.some (shelves_of es) (shelf_of old) opens refl (c.requires.failing (shelf_of old)
+    (subst (λ (i : ℕ). find (λ (x : Shelf). x.id == i) (shelves_of es) ≡ Some (shelf_of old)) own opens.found)) in
+    lost.done.kept.named
+
 -- the entry that was read, and the place where it stands
 module _ (c : goal.After-entries-1) where
   abbrev es : List Entry
@@ -94,17 +100,24 @@ module _ (c : goal.After-entries-1) where
   abbrev loss : Change
   loss = change_of c.args.going.now
 
-  abbrev new : Entry
-  new = record {
+  -- the entry before it is noted which nodes are over
+  abbrev counts : Entry
+  counts = record {
     id = c.index_mut-entry.result.now.id;
     keys = c.index_mut-entry.result.now.keys;
     buffers = c.index_mut-entry.result.now.buffers;
     held = c.index_mut-entry.result.now.held;
     strong = c.in-Some-fell.left;
     reserved = c.without-entry.result;
-    tidy = c.note_gone-tidy.result.0;
-    one = c.note_gone-tidy.result.1;
+    tidy = c.index_mut-entry.result.now.tidy;
+    noted = c.index_mut-entry.result.now.noted;
   }
+
+  abbrev new : Entry
+  new = c.note_gone.new.entry
+
+  noting : IsNoting counts new
+  noting = c.note_gone.ensures.entry
 
   told : place_in c.args.id es ≡ Some c.in-Some.at
   told = sym (rw c.deref.ensures.value at c.place_of.ensures) ∙ c.in-Some.is
@@ -118,11 +131,8 @@ module _ (c : goal.After-entries-1) where
   again : c.index_mut-entry.result.now ≡ old
   again = c.index_mut-entry.ensures.value ∙ get_or_default es c.in-Some.at c.index_mut-entry.result.now old place.within ∙ sym is
 
-  twice : c.index-2.result.now ≡ old
-  twice = c.index-2.ensures ∙ get_or_default es c.in-Some.at c.index-2.result.now old place.within ∙ sym is
-
-  thrice : c.index-3.result.now ≡ old
-  thrice = c.index-3.ensures ∙ get_or_default es c.in-Some.at c.index-3.result.now old place.within ∙ sym is
+  same : shelf_of new ≡ shelf_of old
+  same = noting.shelf ∙ ap shelf_of again
 
   opens : IsOpen c.args.table.now us (shelves_of es) (shelf_of old) loss old.strong
   opens = opens_at c.args.table.now es c.args.id c.in-Some.at old place is c.requires.ready.kept c.requires.ready.counted us
@@ -138,25 +148,19 @@ module _ (c : goal.After-entries-1) where
       (c.requires.failing (shelf_of old)
       (subst (λ (i : ℕ). find (λ (x : Shelf). x.id == i) (shelves_of es) ≡ Some (shelf_of old)) own opens.found))
 
-  tidies : new.tidy ≡ true → list_any (over_but new.one) (nodes_with c.fell.new.table old.keys.items) ≡ false
+  tidies : new.tidy ≡ true → list_any (over_but new.noted.items) (nodes_with c.fell.new.table old.keys.items) ≡ false
   tidies h =
-      let was : list_any (over_but old.one) (nodes_with c.args.table.now old.keys.items) ≡ false =
+      let was : list_any (over_but old.noted.items) (nodes_with c.args.table.now old.keys.items) ≡ false =
       tidy_at c.args.table.now es c.args.id c.in-Some.at old place is c.requires.ready.kept c.requires.ready.counted us
-      c.requires.ready.units loss c.requires.ready.change
-      (ap (λ (x : Entry). x.tidy) (sym twice) ∙ c.note_gone-tidy.ensures.tidy h) in
-      lost.over (over_but new.one) (c.note_gone-tidy.ensures.over h (map (gone_by c.args.going.now)
-      (nodes_with c.args.table.now c.args.keys.now)) c.in-Some-fell.ensures.over
-      (gone_named c.args.table.now c.requires.ready.kept.named c.args.going.now c.args.keys.now)) (elim (c.note_gone-tidy.ensures.one h) [
-        | inl same ↦ ap (λ (o : Option NodeKey). list_any (over_but o) (nodes_with c.args.table.now old.keys.items)) (same
-            ∙ ap (λ (x : Entry). x.one) thrice) ∙ was
-        | inr none ↦
-            fewer_over new.one (nodes_with c.args.table.now old.keys.items)
-            (ap (λ (o : Option NodeKey). list_any (over_but o) (nodes_with c.args.table.now old.keys.items))
-            (sym (sym (ap (λ (x : Entry). x.one) thrice) ∙ none)) ∙ was)
-      ])
+      c.requires.ready.units loss c.requires.ready.change (ap (λ (x : Entry). x.tidy) (sym again) ∙ noting.tidy h) in
+      let more : AreMore old.noted.items new.noted.items =
+      subst (λ (x : Entry). AreMore x.noted.items new.noted.items) again noting.more in
+      lost.over (over_but new.noted.items)
+      (ap (list_any (over_but new.noted.items)) (sym c.in-Some-fell.ensures.went) ∙ c.note_gone.ensures.over h)
+      (more_noted old.noted.items new.noted.items more (nodes_with c.args.table.now old.keys.items) was)
 
   reserved_now : new.reserved ≡ reserved_count (nodes_with c.fell.new.table old.keys.items)
-  reserved_now = c.without-entry.ensures (reserved_count (nodes_with c.fell.new.table old.keys.items))
+  reserved_now = noting.reserved ∙ c.without-entry.ensures (reserved_count (nodes_with c.fell.new.table old.keys.items))
       (ap (λ (x : ℕ). reserved_count (nodes_with c.fell.new.table old.keys.items) + x) c.survey-found.ensures.reserved
       ∙ (c.in-Some-fell.ensures.reserved (shelves_of es) (shelf_of old) opens refl
       ∙ (sym (reserved_at c.args.table.now es c.args.id c.in-Some.at old place is c.requires.ready.kept c.requires.ready.counted us
@@ -166,7 +170,7 @@ module _ (c : goal.After-entries-1) where
   same_shelves : shelves_of (set es c.in-Some.at new) ≡ shelves_of es
   same_shelves = shelves_at c.args.table.now es c.args.id c.in-Some.at old place is c.requires.ready.kept c.requires.ready.counted us
       c.requires.ready.units loss c.requires.ready.change
-      c.fell.new.table c.fell.new.units.items c.in-Some-fell.left lost.done new (ap shelf_of again) refl tidies
+      c.fell.new.table c.fell.new.units.items c.in-Some-fell.left lost.done new same noting.strong tidies
 
   rests : is_kept_by (total c.args.holds.now) c.args.table.now (shelf_of old) c.in-Some-fell.left ≡ true
   rests = c.in-Some-fell.ensures.rests
@@ -175,7 +179,7 @@ pub returns-clause-outcome : goal.returns-clause-outcome
 returns-clause-outcome c =
     outcome_at c.args.table.now c.args.entries.now.items c.args.id c.in-Some.at (old c) (place c) (is c) c.requires.ready.kept
     c.requires.ready.counted (us c) c.requires.ready.units (loss c) c.requires.ready.change
-    c.fell.new.table c.fell.new.units.items c.in-Some-fell.left (lost c).done (new c) (ap shelf_of (again c)) refl (tidies c)
+    c.fell.new.table c.fell.new.units.items c.in-Some-fell.left (lost c).done (new c) (same c) (noting c).strong (tidies c)
     (total c.args.holds.now) (rests c) (told c) (reserved_now c)
 
 pub returns-clause-units : goal.returns-clause-units

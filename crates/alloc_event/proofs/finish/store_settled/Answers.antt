@@ -1,5 +1,5 @@
 -- The scene was worked on beside the pages of the others, and is put back.
-use Rattle.std.proofs.Common.{◌≡◌, None, not, refl, ap}
+use Rattle.std.proofs.Common.{◌≡◌, not, refl, ap}
 use Rattle.buffer_holds.specs.Counts.{total}
 use Rattle.alloc_event.specs.declared.entry.Entry.{Entry}
 use Rattle.alloc_event.specs.Calm.{put_in}
@@ -102,7 +102,7 @@ returns-clause-counted c =
       strong = c.count_strong-strong.result;
       reserved = c.reserved-reserved.result;
       tidy = not c.is_some_over-tidy.result;
-      one = None;
+      noted = c.in-Ok-notes_for.noted;
     } in
     let placed : c.put_entry.new.entries.items ≡ put_in new es = rw c.reserve.ensures.items at c.put_entry.ensures.items in
     rw placed (finished-counted (total c.args.holds.now) c.args.table.now es c.args.scene c.settle_whole.new.scene c.give_back.new.scene
@@ -110,4 +110,4 @@ returns-clause-counted c =
     (rw c.deref-3.ensures.value at c.store.ensures)
     new keys refl refl refl (rw c.deref-4.ensures.value at c.count_strong-strong.ensures)
     (rw c.deref-5.ensures.value at c.reserved-reserved.ensures.value)
-    (ap not (rw c.deref-6.ensures.value at c.is_some_over-tidy.ensures)) refl c.args.pool.now.size s.rests c.requires.counted)
+    (ap not (rw c.deref-6.ensures.value at c.is_some_over-tidy.ensures)) c.args.pool.now.size s.rests c.requires.counted)

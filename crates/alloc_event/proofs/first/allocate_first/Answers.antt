@@ -77,7 +77,7 @@ module _ (c : goal.After-drop-entry) where
     strong = c.in-Some-planned.plan.left;
     reserved = c.in-Some-planned.plan.camping;
     tidy = c.index_mut-entry.result.now.tidy;
-    one = c.index_mut-entry.result.now.one;
+    noted = c.index_mut-entry.result.now.noted;
   }
 
   told : place_in c.args.id c.args.entries.now.items ≡ Some c.in-Some.at
@@ -126,4 +126,4 @@ returns-clause-outcome c handles =
     outcome_first handles (t c) (es c) c.args.id c.in-Some.at (old c) (told c) c.index-entry.ensures c.requires.ready.kept
     c.requires.ready.counted (us c) c.requires.ready.units c.args.key c.args.effect.now c.requires.ready.change (plan c) (first c)
     (held c) c.serve.new.table (served c) (new c) (shelf c) c.args.pool.now c.lay_in.new.pool (laid c) c.part.ensures c.requires.pool
-    refl refl (ap (λ (e : Entry). e.tidy) (again c)) (ap (λ (e : Entry). e.one) (again c)) c.part-2.ensures c.lay_in.ensures.size
+    refl refl (ap (λ (e : Entry). e.tidy) (again c)) (ap (λ (e : Entry). e.noted.items) (again c)) c.part-2.ensures c.lay_in.ensures.size

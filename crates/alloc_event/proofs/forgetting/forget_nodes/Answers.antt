@@ -1,23 +1,31 @@
--- The nodes that are over are taken out, then their keys; where none is, nothing changes.
-use Rattle.std.proofs.Common.{◌≡◌, ℕ, ◌==◌, false, List, Option, Some, None, IfSome, option_map, sym, ◌∙◌, ap, subst}
-use Rattle.std.specs.List.{AllByRecursion, find, list_any}
+-- The nodes that are over are taken out, with their keys; where none is, nothing changes.
+use Rattle.std.proofs.Common.{◌≡◌, ℕ, ◌<◌, ◌==◌, true, false, List, length, get_or, Some, None, option_map, sym, ◌∙◌, ap, subst, arith}
+use Rattle.std.proofs.lemmas.List.{get_or_default}
+use Rattle.std.specs.List.{find, list_any}
 use Rattle.sm_names.specs.declared.keys.NodeKey.{NodeKey}
-use Rattle.node_table.specs.Table.{Table, node_at}
-use Rattle.alloc_event.specs.declared.node.Node.{Node}
+use Rattle.sm_names.specs.Sameness.{same_key}
+use Rattle.node_table.specs.Table.{Table}
 use Rattle.alloc_event.specs.declared.entry.Entry.{Entry}
+use Rattle.alloc_event.specs.declared.node.Node.{Node}
 use Rattle.alloc_event.specs.Calm.{AreCounted, over_but}
-use Rattle.alloc_event.specs.Forgetting.{IsAlone, IsMissing, IsNoted, left_at}
-use Rattle.alloc_event.specs.Kept.{IsStored, Shelf, nodes_with, shelf_of, shelves_of}
+use Rattle.alloc_event.specs.Forgetting.{IsForgettable, IsThinned, left_at, thinned}
+use Rattle.alloc_event.specs.Kept.{IsStored, Shelf, nodes_with, place_in, shelf_of, shelves_of}
 use Rattle.alloc_event.specs.Nodes.{is_over}
-use Rattle.alloc_event.proofs.shelves.Counted.{dropped_all, drops_over, each_own, none_left, own_key, tidy_one}
-use Rattle.alloc_event.proofs.leaving.Alone.{alone_missing}
+use Rattle.alloc_event.proofs.calm.Watched.{found_counted}
 use Rattle.alloc_event.proofs.changes.Altering.{found_filed}
 use Rattle.alloc_event.proofs.leaving.Forgotten.{thin_filed, tidy_left}
-use Rattle.alloc_event.proofs.leaving.Places.{found_apart, listed_at, without_at}
-use Rattle.alloc_event.proofs.shelves.Showing.{shelf_found}
-use Rattle.alloc_event.proofs.calm.Watched.{found_counted}
-use Rattle.alloc_event.proofs.forgetting.forget_nodes.Goals as goal
+use Rattle.alloc_event.proofs.leaving.Noted.{none_noted}
+use Rattle.alloc_event.proofs.leaving.Places.{found_apart}
 use Rattle.alloc_event.proofs.leaving.Thinning.{all_thinned-same}
+use Rattle.alloc_event.proofs.serves.Before.{key_listed}
+use Rattle.alloc_event.proofs.shelves.Counted.{counted_thinned, dropped_all, drops_over}
+use Rattle.alloc_event.proofs.shelves.Dropping.{no_shelf, set_thin}
+use Rattle.alloc_event.proofs.shelves.Entries.{IsPlace, place_is}
+use Rattle.alloc_event.proofs.shelves.Showing.{shelf_found}
+use Rattle.alloc_event.proofs.tables.LeftParents.{in_shelf}
+use Rattle.alloc_event.proofs.forgetting.forget_nodes.Goals as goal
+
+-- ---- where there is no such collection
 
 pub returns-in_default-clause-shelves : goal.returns-in_default-clause-shelves
 returns-in_default-clause-shelves c =
@@ -25,125 +33,149 @@ returns-in_default-clause-shelves c =
 
 pub returns-in_default-clause-look : goal.returns-in_default-clause-look
 returns-in_default-clause-look c s found k =
-    let none : find (λ (x : Shelf). x.id == c.args.id) (shelves_of c.args.entries.now.items) ≡ None =
-    shelf_found c.args.id c.args.entries.now.items ∙ ap (option_map shelf_of) (sym (rw c.deref.ensures.value at c.in_default.ensures)) in
-    let no : None ≡ Some s = sym none ∙ found in
-    cc
+    let told : place_in c.args.id c.args.entries.now.items ≡ None =
+    sym (rw c.deref.ensures.value at c.place_of.ensures) ∙ c.in_default.is in
+    let no : None ≡ Some s = sym (no_shelf c.args.id c.args.entries.now.items told) ∙ found in
+    absurd (cc)
 
 pub returns-in_default-clause-kept : goal.returns-in_default-clause-kept
 returns-in_default-clause-kept c =
     subst (IsStored c.args.table.now) (sym (all_thinned-same c.args.table.now (shelves_of c.args.entries.now.items) c.requires.kept.filed))
     c.requires.kept
 
+-- ---- the entry at its place
+
+module _ (t : Table Node) (es : List Entry) (kept : IsStored t (shelves_of es)) (counted : AreCounted t es) (id at : ℕ)
+    (told : place_in id es ≡ Some at) (old : Entry) (is : (d : Entry) → at < length es → old ≡ get_or es at d) where
+  place : IsPlace id es at
+  place = place_is id es at told
+
+  found : find (λ (e : Entry). e.id == id) es ≡ Some old
+  found = place.found old ∙ ap Some (sym (is old place.within))
+
+  shelf : find (λ (x : Shelf). x.id == id) (shelves_of es) ≡ Some (shelf_of old)
+  shelf = shelf_found id es ∙ ap (option_map shelf_of) found
+
+  own : old.id ≡ id
+  own = ap (λ (e : Entry). e.id) (is old place.within) ∙ place.id_is old
+
+  tidy : old.tidy ≡ true → list_any (over_but old.noted.items) (nodes_with t old.keys.items) ≡ false
+  tidy = (found_counted t id es old counted found).tidy
+
+  forgettable : IsForgettable t old
+  forgettable = record {
+    named = kept.named;
+    apart = found_apart id (shelves_of es) (shelf_of old) kept.apart shelf;
+    filed = found_filed t id (shelves_of es) (shelf_of old) kept.filed shelf;
+    all = λ key n at own_of. subst (λ (k : NodeKey). list_any (same_key k) old.keys.items ≡ true) (kept.named key n at)
+        (key_listed t kept.named old.keys.items n
+        (in_shelf t (shelves_of es) kept id (shelf_of old) shelf key n at (own_of ∙ own)));
+    tidy = tidy;
+  }
+
+pub index-requires : goal.index-requires
+index-requires c =
+    let told : place_in c.args.id c.args.entries.now.items ≡ Some c.in-Some.at =
+    sym (rw c.deref.ensures.value at c.place_of.ensures) ∙ c.in-Some.is in
+    omega (arith, (place_is c.args.id c.args.entries.now.items c.in-Some.at told).within)
+
+pub index_mut-requires : goal.index_mut-requires
+index_mut-requires c =
+    let told : place_in c.args.id c.args.entries.now.items ≡ Some c.in-Some.at =
+    sym (rw c.deref.ensures.value at c.place_of.ensures) ∙ c.in-Some.is in
+    omega (arith, (place_is c.args.id c.args.entries.now.items c.in-Some.at told).within)
+
+-- ---- where it is known that none is over
+
 pub returns-then-is_tidy-clause-shelves : goal.returns-then-is_tidy-clause-shelves
 returns-then-is_tidy-clause-shelves c =
     sym (thin_filed c.args.table.now c.args.id (shelves_of c.args.entries.now.items) c.requires.kept.filed)
 
 pub returns-then-is_tidy-clause-look : goal.returns-then-is_tidy-clause-look
-returns-then-is_tidy-clause-look c s found k =
-    let entry : find (λ (e : Entry). e.id == c.args.id) c.args.entries.now.items ≡ Some c.in-Some.entry.now =
-    sym (rw c.deref.ensures.value at c.in-Some.ensures) in
-    let there : Some (shelf_of c.in-Some.entry.now) ≡ Some s =
-    sym (shelf_found c.args.id c.args.entries.now.items ∙ ap (option_map shelf_of) entry) ∙ found in
-    let one : shelf_of c.in-Some.entry.now ≡ s = cc in
-    let known = c.is_tidy.ensures c.if-is_tidy.true in
-    let none = (found_counted c.args.table.now c.args.id c.args.entries.now.items c.in-Some.entry.now c.requires.counted entry).tidy
-    known.0 in
-    let all : list_any is_over (nodes_with c.args.table.now c.in-Some.entry.now.keys.items) ≡ false =
-    ap (λ (o : Option NodeKey). list_any (over_but o) (nodes_with c.args.table.now c.in-Some.entry.now.keys.items)) (sym known.1) ∙ none in
-    tidy_left c.args.table.now s.keys (ap (λ (x : Shelf). list_any is_over (nodes_with c.args.table.now x.keys)) (sym one) ∙ all) k
+returns-then-is_tidy-clause-look c s known k =
+    let t = c.args.table.now in
+    let es = c.args.entries.now.items in
+    let old : Entry = c.index.result.now in
+    let told : place_in c.args.id es ≡ Some c.in-Some.at = sym (rw c.deref.ensures.value at c.place_of.ensures) ∙ c.in-Some.is in
+    let is : (d : Entry) → c.in-Some.at < length es → old ≡ get_or es c.in-Some.at d =
+    λ d within. c.index.ensures ∙ get_or_default es c.in-Some.at old d within in
+    let there : Some (shelf_of old) ≡ Some s =
+    sym (shelf t es c.requires.kept c.requires.counted c.args.id c.in-Some.at told old is) ∙ known in
+    let one : shelf_of old ≡ s = cc in
+    let tidied = c.is_tidy.ensures c.if-is_tidy.true in
+    let none : list_any is_over (nodes_with t old.keys.items) ≡ false =
+    none_noted (nodes_with t old.keys.items)
+    (ap (λ (ks : List NodeKey). list_any (over_but ks) (nodes_with t old.keys.items)) (sym tidied.1)
+    ∙ tidy t es c.requires.kept c.requires.counted c.args.id c.in-Some.at told old is tidied.0) in
+    tidy_left t s.keys (ap (λ (x : Shelf). list_any is_over (nodes_with t x.keys)) (sym one) ∙ none) k
 
 pub returns-then-is_tidy-clause-kept : goal.returns-then-is_tidy-clause-kept
 returns-then-is_tidy-clause-kept c =
     subst (IsStored c.args.table.now) (sym (all_thinned-same c.args.table.now (shelves_of c.args.entries.now.items) c.requires.kept.filed))
     c.requires.kept
 
--- the one node of the entry that is over
-alone_of : (t : Table Node) (id : ℕ) (es : List Entry) (entry : Entry) → AreCounted t es →
-    find (λ (e : Entry). e.id == id) es ≡ Some entry →
-    (key : NodeKey) (at : ℕ) → IsNoted t entry key at → IsAlone t entry.keys.items key
-alone_of t id es entry counted found key at noted = record {
-  listed = listed_at key entry.keys.items at noted.place.within noted.place.is;
-  alone = ap (λ (o : Option NodeKey). list_any (over_but o) (nodes_with t entry.keys.items)) (sym noted.one)
-      ∙ (found_counted t id es entry counted found).tidy noted.tidy;
-}
+-- ---- where some may be
 
--- so it is, if there is one
-alone_if : (t : Table Node) (id : ℕ) (es : List Entry) (entry : Entry) → AreCounted t es →
-    find (λ (e : Entry). e.id == id) es ≡ Some entry →
-    (o : Option (NodeKey × ℕ)) → IfSome o (λ one. IsNoted t entry one.0 one.1) → IfSome o (λ one. IsAlone t entry.keys.items one.0)
-alone_if t id es entry counted found None noted = tt
-alone_if t id es entry counted found (Some one) noted = alone_of t id es entry counted found one.0 one.1 noted
+pub forget_of-requires : goal.forget_of-requires
+forget_of-requires c =
+    let es = c.args.entries.now.items in
+    let told : place_in c.args.id es ≡ Some c.in-Some.at = sym (rw c.deref.ensures.value at c.place_of.ensures) ∙ c.in-Some.is in
+    forgettable c.args.table.now es c.requires.kept c.requires.counted c.args.id c.in-Some.at told c.index_mut.result.now
+    (λ d within. c.index_mut.ensures.value ∙ get_or_default es c.in-Some.at c.index_mut.result.now d within)
 
--- and then the table has all others of the entry
-missing_if : (t now : Table Node) (id : ℕ) (es : List Entry) (entry : Entry) → IsStored t (shelves_of es) → AreCounted t es →
-    find (λ (e : Entry). e.id == id) es ≡ Some entry →
-    ((k : NodeKey) → node_at now k ≡ left_at t entry.keys.items k) →
-    (o : Option (NodeKey × ℕ)) → IfSome o (λ one. IsNoted t entry one.0 one.1) →
-    IfSome o (λ one. AllByRecursion (λ (e : Entry). e.id ≡ id → IsMissing now e.keys.items one.1) es)
-missing_if t now id es entry kept counted found look None noted = tt
-missing_if t now id es entry kept counted found look (Some one) noted =
-    let key = one.0 in
-    let at = one.1 in
-    let shelf = shelf_found id es ∙ ap (option_map shelf_of) found in
-    let apart = found_apart id (shelves_of es) (shelf_of entry) kept.apart shelf in
-    let missing : IsMissing now entry.keys.items at = record {
-      within = noted.place.within;
-      others = alone_missing t kept.named entry.keys.items key (alone_of t id es entry counted found key at noted) now look entry.id
-          (found_filed t id (shelves_of es) (shelf_of entry) kept.filed shelf) noted.over
-          ∙ without_at key entry.keys.items at apart noted.place.within noted.place.is;
-    } in
-    each_own (λ (e : Entry). IsMissing now e.keys.items at) id es kept.rising (λ e is.
-    let same : Some entry ≡ Some e = sym found ∙ is in
-    let own : entry ≡ e = cc in
-    subst (λ (x : Entry). IsMissing now x.keys.items at) own missing)
+module _ (c : goal.After-entries-1) where
+  abbrev t : Table Node
+  t = c.args.table.now
 
-pub take_out_noted-requires-clause-one : goal.take_out_noted-requires-clause-one
-take_out_noted-requires-clause-one c =
-    let found : find (λ (e : Entry). e.id == c.args.id) c.args.entries.now.items ≡ Some c.in-Some.entry.now =
-    sym (rw c.deref.ensures.value at c.in-Some.ensures) in
-    rw c.as_slice.ensures.items (alone_if c.args.table.now c.args.id c.args.entries.now.items c.in-Some.entry.now c.requires.counted found
-    c.only_over-one.result c.only_over-one.ensures)
+  abbrev now : Table Node
+  now = c.forget_of.new.table
 
-pub thin-requires-clause-one : goal.thin-requires-clause-one
-thin-requires-clause-one c =
-    let found : find (λ (e : Entry). e.id == c.args.id) c.args.entries.now.items ≡ Some c.in-Some.entry.now =
-    sym (rw c.deref.ensures.value at c.in-Some.ensures) in
-    missing_if c.args.table.now c.take_out_noted.new.table c.args.id c.args.entries.now.items c.in-Some.entry.now c.requires.kept
-    c.requires.counted found
-    (λ k. c.take_out_noted.ensures.look k ∙ ap (λ keys. left_at c.args.table.now keys k) c.as_slice.ensures.items) c.only_over-one.result
-    c.only_over-one.ensures
+  abbrev es : List Entry
+  es = c.args.entries.now.items
+
+  abbrev old : Entry
+  old = c.index_mut.result.now
+
+  abbrev new : Entry
+  new = c.forget_of.new.entry
+
+  told : place_in c.args.id es ≡ Some c.in-Some.at
+  told = sym (rw c.deref.ensures.value at c.place_of.ensures) ∙ c.in-Some.is
+
+  is : (d : Entry) → c.in-Some.at < length es → old ≡ get_or es c.in-Some.at d
+  is d within = c.index_mut.ensures.value ∙ get_or_default es c.in-Some.at old d within
+
+  thin_shelf : shelf_of new ≡ thinned now (shelf_of old)
+  thin_shelf = λ i. record {
+    id = c.forget_of.ensures.entry.id i;
+    keys = c.forget_of.ensures.entry.keys i;
+    buffers = c.forget_of.ensures.entry.buffers i;
+    held = (c.forget_of.ensures.entry.held i).items;
+  }
+
+pub returns-clause-shelves : goal.returns-clause-shelves
+returns-clause-shelves c =
+    let within = (place_is c.args.id (es c) c.in-Some.at (told c)).within in
+    set_thin (now c) c.args.id (es c) c.in-Some.at (new c) c.requires.kept.rising (told c)
+    (thin_shelf c ∙ ap (λ (e : Entry). thinned (now c) (shelf_of e)) (is c (new c) within))
 
 pub returns-clause-look : goal.returns-clause-look
-returns-clause-look c s found k =
-    let there : Some (shelf_of c.in-Some.entry.now) ≡ Some s =
-    sym (shelf_found c.args.id c.args.entries.now.items ∙ ap (option_map shelf_of) (sym (rw c.deref.ensures.value at c.in-Some.ensures)))
-    ∙ found in
-    let one : shelf_of c.in-Some.entry.now ≡ s = cc in
-    c.take_out_noted.ensures.look k ∙ ap (λ keys. left_at c.args.table.now keys k) (c.as_slice.ensures.items
-    ∙ ap (λ (x : Shelf). x.keys) one)
+returns-clause-look c s known k =
+    let there : Some (shelf_of (old c)) ≡ Some s =
+    sym (shelf (t c) (es c) c.requires.kept c.requires.counted c.args.id c.in-Some.at (told c) (old c) (is c)) ∙ known in
+    let one : shelf_of (old c) ≡ s = cc in
+    c.forget_of.ensures.look k ∙ ap (λ (x : Shelf). left_at (t c) x.keys k) one
 
 pub returns-clause-none : goal.returns-clause-none
 returns-clause-none c none =
-    let no : None ≡ Some (shelf_of c.in-Some.entry.now) =
-    sym none ∙ (shelf_found c.args.id c.args.entries.now.items
-    ∙ ap (option_map shelf_of) (sym (rw c.deref.ensures.value at c.in-Some.ensures))) in
-    cc
+    let no : None ≡ Some (shelf_of (old c)) =
+    sym none ∙ shelf (t c) (es c) c.requires.kept c.requires.counted c.args.id c.in-Some.at (told c) (old c) (is c) in
+    absurd (cc)
 
 pub returns-clause-counted : goal.returns-clause-counted
 returns-clause-counted c =
-    let t = c.args.table.now in
-    let now = c.take_out_noted.new.table in
-    let es = c.args.entries.now.items in
-    let entry : find (λ (e : Entry). e.id == c.args.id) es ≡ Some c.in-Some.entry.now =
-    sym (rw c.deref.ensures.value at c.in-Some.ensures) in
-    let look : (k : NodeKey) → node_at now k ≡ left_at t c.in-Some.entry.now.keys.items k =
-    λ k. c.take_out_noted.ensures.look k ∙ ap (λ keys. left_at t keys k) c.as_slice.ensures.items in
-    c.thin.ensures.counted
-    (dropped_all t now c.requires.kept.named (drops_over t now c.in-Some.entry.now.keys.items look) es c.requires.kept.whole
-    c.requires.counted)
-    (tidy_one now c.args.id es c.requires.kept.rising (λ e found.
-    let same : Some c.in-Some.entry.now ≡ Some e = sym entry ∙ found in
-    let one : c.in-Some.entry.now ≡ e = cc in
-    ap (λ (x : Entry). list_any is_over (nodes_with now x.keys.items)) (sym one)
-    ∙ none_left t now c.in-Some.entry.now.keys.items look c.in-Some.entry.now.keys.items (own_key c.in-Some.entry.now.keys.items)))
+    counted_thinned (t c) (now c) (es c) c.in-Some.at (new c)
+    (λ within. subst (λ (e : Entry). IsThinned (now c) e (new c)) (is c (new c) within) c.forget_of.ensures.entry)
+    (λ within k. c.forget_of.ensures.look k ∙ ap (λ (e : Entry). left_at (t c) e.keys.items k) (is c (new c) within))
+    (dropped_all (t c) (now c) c.requires.kept.named (drops_over (t c) (now c) (old c).keys.items c.forget_of.ensures.look) (es c)
+    c.requires.kept.whole c.requires.counted)

@@ -50,24 +50,24 @@ returns-clause-some c ss s opens =
     let within : n.head.slot < length us = omega (arith, c.if-slot-len.false, c.len.ensures) in
     let unit : c.unit_in-unit.result ≡ unit_at us n.head.slot = rw c.deref.ensures.value at c.unit_in-unit.ensures in
     let left : c.less-left.result ≡ strong_count (map (affected key effect) (nodes_with t s.keys)) =
-    less_is c.args.strong c.less-left.result c.is_strong.result c.is_strong_after.result (is_strong n)
+    less_is c.args.entry.now.strong c.less-left.result c.is_strong.result c.is_strong_after.result (is_strong n)
     (is_strong (affected key effect n))
     c.less-left.ensures c.is_strong.ensures c.is_strong_after.ensures (strong_before key effect n) _
-    (strong_is t c.affect_at.new.table us key effect n was becomes writes ss s c.args.strong opens) in
+    (strong_is t c.affect_at.new.table us key effect n was becomes writes ss s c.args.entry.now.strong opens) in
     let live : c.less-live.result ≡ times (lives_in n.head) (map (affected key effect) (nodes_with t s.keys)) =
     less_is c.unit_in-unit.result.live c.less-live.result c.is_live.result c.is_live_after.result (is_live_node n)
     (is_live_node (affected key effect n))
     c.less-live.ensures c.is_live.ensures c.is_live_after.ensures (live_before key effect n) _
-    (live_is t c.affect_at.new.table us key effect n was becomes writes ss s c.args.strong opens within
+    (live_is t c.affect_at.new.table us key effect n was becomes writes ss s c.args.entry.now.strong opens within
     ∙ ap (λ (u : Unit). u.live + bit (is_live_node (affected key effect n))) (sym unit)) in
     let unready : c.less-unready.result ≡ times (waits_in n.head) (map (affected key effect) (nodes_with t s.keys)) =
     less_is c.unit_in-unit.result.unready c.less-unready.result c.is_unready.result c.is_unready_after.result (is_unready n)
     (is_unready (affected key effect n))
     c.less-unready.ensures c.is_unready.ensures c.is_unready_after.ensures (unready_before key effect n) _
-    (unready_is t c.affect_at.new.table us key effect n was becomes writes ss s c.args.strong opens within
+    (unready_is t c.affect_at.new.table us key effect n was becomes writes ss s c.args.entry.now.strong opens within
     ∙ ap (λ (u : Unit). u.unready + bit (is_unready (affected key effect n))) (sym unit)) in
     subst (λ (l : List Unit). IsMade t c.affect_at.new.table l ss s (Change.Effect key effect) c.less-left.result) (sym c.put_unit.ensures)
-    (counted_made t c.affect_at.new.table us key effect n was becomes writes ss s c.args.strong opens within
+    (counted_made t c.affect_at.new.table us key effect n was becomes writes ss s c.args.entry.now.strong opens within
     (record { live = c.less-live.result; unready = c.less-unready.result; below = c.unit_in-unit.result.below }) live unready
     (ap (λ (u : Unit). u.below) unit) c.less-left.result left
     (either_holds c.less-live.result c.unit_in-unit.result.below (sym c.is_held_by.ensures ∙ c.if-not-is_held_by.false))

@@ -4,6 +4,9 @@ use Rattle.std.specs.List.{filter}
 use Rattle.sm_names.specs.declared.keys.Interval.{Interval}
 use Rattle.buffer_holds.specs.Counts.{total}
 use Rattle.sm_names.specs.declared.keys.HeldBuffer.{HeldBuffer}
+use Rattle.buffer_pool.specs.Holdings.{in_order}
+use Rattle.buffer_pool.proofs.Runs.{in_order-without_run}
+use Rattle.alloc_event.specs.Runs.{rest_of}
 use Rattle.alloc_event.specs.Scenes.{by_page, is_out, pages_held}
 use Rattle.alloc_event.proofs.intervals.Returned.{holds_one, kept_here, kept_past, one_returned}
 use Rattle.alloc_event.proofs.returns.return_pages.Goals as goal
@@ -16,7 +19,7 @@ return_one-out-requires-clause-there c =
     let d : HeldBuffer = record { buffer = record { collection = 0; index = 0 }; pages = record { start = 0; pages = 0 } } in
     let within : i < length all = omega arith in
     let others : List Interval = c.requires.0 in
-    holds_one c.loop-buffer.pool.held (filter out (take i all)) (drop (i + 1) all) (get_or all i d) others
+    holds_one (rest_of c.loop-buffer.run c.loop-buffer.pool.held) (filter out (take i all)) (drop (i + 1) all) (get_or all i d) others
     (c.loop-buffer.invariant.held others c.requires.1
     ∙ ap (λ (l : List HeldBuffer). by_page (pages_held l ++ others)) (kept_here out all i d within))
 
@@ -30,15 +33,19 @@ loop-buffer-preserved c =
     record {
       sound = c.return_one-out.ensures.sound;
       size = c.return_one-out.ensures.size ∙ c.loop-buffer.invariant.size;
+      run = c.return_one-out.ensures.run;
       held = λ others beside.
-          let holds : c.loop-buffer.pool.held
-          ≡ by_page (pages_held (filter out (take i all) ++ get_or all i d ∷ drop (i + 1) all) ++ others) =
+          let rest : List Interval = rest_of c.loop-buffer.run c.loop-buffer.pool.held in
+          let order : in_order 0 c.loop-buffer.pool.size rest ≡ true =
+          in_order-without_run 0 c.loop-buffer.pool.size c.loop-buffer.run.start c.loop-buffer.run.pages c.loop-buffer.run.count
+          c.loop-buffer.pool.held c.loop-buffer.invariant.sound.in_order in
+          let holds : rest ≡ by_page (pages_held (filter out (take i all) ++ get_or all i d ∷ drop (i + 1) all) ++ others) =
           c.loop-buffer.invariant.held others beside
           ∙ ap (λ (l : List HeldBuffer). by_page (pages_held l ++ others)) (kept_here out all i d within) in
           c.return_one-out.ensures.held
           ∙ ((λ j. cond (out (get_or all i d)) (holds j)
-          (one_returned c.loop-buffer.pool (filter out (take i all)) (drop (i + 1) all) (get_or all i d)
-          others c.loop-buffer.invariant.sound holds j))
+          (one_returned c.loop-buffer.pool.size rest (filter out (take i all)) (drop (i + 1) all) (get_or all i d)
+          others order holds j))
           ∙ (from (out (get_or all i d)) (filter out (take i all)) (drop (i + 1) all) (get_or all i d) others
           ∙ ap (λ (l : List HeldBuffer). by_page (pages_held l ++ others)) (sym (kept_past out all i d within))));
       out = ap (λ (n : ℕ). n + c.return_one-out.result) c.loop-buffer.invariant.out

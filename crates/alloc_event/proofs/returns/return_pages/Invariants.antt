@@ -3,16 +3,18 @@ use Rattle.std.specs.List.{filter}
 use Rattle.sm_names.specs.declared.keys.Interval.{Interval}
 use Rattle.buffer_holds.specs.Counts.{total}
 use Rattle.buffer_pool.specs.Holdings.{IsSound}
+use Rattle.alloc_event.specs.Runs.{HoldsRun, rest_of}
 use Rattle.alloc_event.specs.Scenes.{by_page, is_out, pages_held}
 use Rattle.alloc_event.proofs.returns.return_pages.Given as goal
 
--- those so far that are home gave their pages back
+-- those so far that are home gave their pages back, but for those of the run, which are to
 abbrev pub invariant-loop-buffer : goal.invariant-loop-buffer
 invariant-loop-buffer l = record {
   sound : IsSound l.pool;
   size : l.pool.size ≡ l.initial.pool.size;
+  run : HoldsRun l.run l.pool.held;
   held : (others : List Interval) → l.initial.pool.held ≡ by_page (pages_held l.held ++ others) →
-      l.pool.held ≡ by_page (pages_held
+      rest_of l.run l.pool.held ≡ by_page (pages_held
       (filter (is_out (total l.holds) l.strong_live) (take l.buffer-index l.held) ++ drop l.buffer-index l.held)
       ++ others);
   out : l.out ≡ length (filter (is_out (total l.holds) l.strong_live) (take l.buffer-index l.held));

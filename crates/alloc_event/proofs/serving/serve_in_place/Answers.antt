@@ -59,7 +59,7 @@ module _ (c : goal.After-entries-1) where
     strong = c.in-Some-serve_effect.left;
     reserved = c.in-Some-serve_effect.reserved;
     tidy = c.index_mut-entry.result.now.tidy;
-    one = c.index_mut-entry.result.now.one;
+    noted = c.index_mut-entry.result.now.noted;
   }
 
   told : place_in c.args.id es ≡ Some c.in-Some.at
@@ -85,8 +85,9 @@ module _ (c : goal.After-entries-1) where
       (reserved_at c.args.table.now es c.args.id c.in-Some.at old place is c.requires.kept c.requires.counted c.args.units.now.items
       c.requires.units (Change.Effect c.args.key c.args.effect.now) c.requires.change)
 
-  tidies : new.tidy ≡ true → list_any (over_but new.one) (nodes_with c.serve_effect.new.table old.keys.items) ≡ false
-  tidies h = made.over new.one ∙ ap (λ (x : Entry). list_any (over_but x.one) (nodes_with c.args.table.now old.keys.items)) again
+  tidies : new.tidy ≡ true → list_any (over_but new.noted.items) (nodes_with c.serve_effect.new.table old.keys.items) ≡ false
+  tidies h = made.over new.noted.items
+      ∙ ap (λ (x : Entry). list_any (over_but x.noted.items) (nodes_with c.args.table.now old.keys.items)) again
       ∙ tidy_at c.args.table.now es c.args.id c.in-Some.at old place is c.requires.kept c.requires.counted c.args.units.now.items
       c.requires.units (Change.Effect c.args.key c.args.effect.now) c.requires.change
       (sym (ap (λ (x : Entry). x.tidy) again) ∙ h)

@@ -12,7 +12,8 @@ abbrev pub invariant-loop-key : goal.invariant-loop-key
 invariant-loop-key l = record {
   strong : l.found.strong + strong_count (nodes_with l.table (drop l.key-index l.keys)) ≡ strong_count (nodes_with l.table l.keys);
   few : l.found.strong ≤ l.key-index;
-  reserved : l.found.reserved + amount_of camped (nodes_with l.table (drop l.key-index l.keys)) ≡ amount_of camped (nodes_with l.table l.keys);
+  reserved : l.found.reserved + amount_of camped (nodes_with l.table (drop l.key-index l.keys))
+      ≡ amount_of camped (nodes_with l.table l.keys);
   little : l.found.reserved ≤ 255 * l.key-index;
   own : (l.found.own && all_of l.id (nodes_with l.table (drop l.key-index l.keys))) ≡ all_of l.id (nodes_with l.table l.keys);
   stays : (l.found.stays || list_any (stays_by l.going) (nodes_with l.table (drop l.key-index l.keys)))

@@ -1,22 +1,65 @@
--- The interval lies where the search ends.
-use Rattle.std.proofs.Common.{◌∙◌, refl}
+-- The intervals lie one after another where the search ends.
+use Rattle.std.proofs.Common.{ℕ, ◌≡◌, ◌+◌, ◌-◌, ◌≤◌, ◌∙◌, ap, arith, length, List, nat_lt}
+use Rattle.std.specs.List.{prefix_len, remove_range}
+use Rattle.sm_names.specs.declared.keys.Interval.{Interval}
 use Rattle.buffer_pool.specs.Rows.{all_in, place_of}
-use Rattle.buffer_pool.proofs.Orders.{in_order-rises, removed_in_place}
+use Rattle.buffer_pool.proofs.Orders.{in_order-rises}
+use Rattle.buffer_pool.proofs.Runs.{length-remove_range, remove_range-more, run_removed, run_within}
 use Rattle.buffer_pool.proofs.holding.let_go.Goals as goal
+use Rattle.buffer_pool.proofs.holding.let_go.Goals.{After-find-spot}
 
-pub find-found-requires : goal.find-found-requires
-find-found-requires c = in_order-rises 0 1048576 (all_in c.args.held.now.lists) c.requires.up
+found : (c : After-find-spot) → place_of c.args.held.now.lists c.find-spot.result
+    ≡ prefix_len (λ (i : Interval). nat_lt i.start c.args.first.start) (all_in c.args.held.now.lists)
+found c = rw c.from.ensures at c.find-spot.ensures.place
 
-pub remove-requires : goal.remove-requires
-remove-requires c =
-    let found = rw c.from.ensures at c.find-found.ensures.place in
-    c.settle-spot.ensures.settled.taken
-    (removed_in_place c.args.back 1048576 (place_of c.args.held.now.lists c.settle-spot.result) (all_in c.args.held.now.lists)
-    (all_in c.args.held.now.lists) c.requires.up c.requires.there refl (c.settle-spot.ensures.place ∙ found)).0
+within : (c : After-find-spot) → place_of c.args.held.now.lists c.find-spot.result + c.args.count ≤ length (all_in c.args.held.now.lists)
+within c =
+    run_within c.args.first.start c.args.first.pages c.args.count 1048576 (all_in c.args.held.now.lists) c.requires.up c.requires.there
+    (place_of c.args.held.now.lists c.find-spot.result) (found c) c.requires.some
+
+pub find-spot-requires : goal.find-spot-requires
+find-spot-requires c = in_order-rises 0 1048576 (all_in c.args.held.now.lists) c.requires.up
+
+pub remove_run-left-requires-clause-there : goal.remove_run-left-requires-clause-there
+remove_run-left-requires-clause-there c =
+    let all : List Interval = all_in c.args.held.now.lists in
+    let at : ℕ = place_of c.args.held.now.lists c.find-spot.result in
+    let gone : ℕ = c.args.count - c.loop-left.left in
+    let fits : at + c.args.count ≤ length all = within (goal.at.remove_run-left-requires-clause-there c).After-find-spot in
+    let size : length (remove_range all at (at + gone)) + gone ≡ length all = length-remove_range all at gone (omega arith) in
+    let same : length (all_in c.loop-left.held.lists) ≡ length (remove_range all at (at + gone)) = ap length c.loop-left.invariant.items in
+    c.settle-spot.ensures.settled.taken (omega (
+      arith,
+      c.settle-spot.ensures.place,
+      c.loop-left.invariant.place,
+      c.loop-left.invariant.few,
+      c.loop-left-test.true,
+    ))
+
+pub loop-left-preserved : goal.loop-left-preserved
+loop-left-preserved c =
+    let all : List Interval = all_in c.args.held.now.lists in
+    let at : ℕ = place_of c.args.held.now.lists c.find-spot.result in
+    let gone : ℕ = c.args.count - c.loop-left.left in
+    let more : ℕ = c.remove_run-left.result in
+    let fits : at + c.args.count ≤ length all = within (goal.at.loop-left-preserved c).After-find-spot in
+    let k = c.remove_run-left.ensures.changed in
+    let here : place_of c.loop-left.held.lists c.settle-spot.result ≡ at = c.settle-spot.ensures.place ∙ c.loop-left.invariant.place in
+    let sum : gone + more ≡ c.args.count - (c.loop-left.left - more) =
+    omega (arith, c.loop-left.invariant.few, c.remove_run-left.ensures.count) in
+    record {
+      few = omega (arith, c.loop-left.invariant.few);
+      within = c.remove_run-left.ensures.within;
+      place = ap (λ (f : List (List Interval)). length (all_in f) + c.settle-spot.result.offset) k.front ∙ here;
+      items = k.items_are ∙ (λ i. remove_range (c.loop-left.invariant.items i) (here i) (here i + more))
+          ∙ remove_range-more all at gone more (omega arith) ∙ ap (λ n. remove_range all at (at + n)) sum;
+    }
 
 pub returns : goal.returns
 returns c =
-    let found = rw c.from.ensures at c.find-found.ensures.place in
-    c.remove.ensures.changed.items_are
-    ∙ (removed_in_place c.args.back 1048576 (place_of c.args.held.now.lists c.settle-spot.result) (all_in c.args.held.now.lists)
-    (all_in c.args.held.now.lists) c.requires.up c.requires.there refl (c.settle-spot.ensures.place ∙ found)).1
+    let all : List Interval = all_in c.args.held.now.lists in
+    let at : ℕ = place_of c.args.held.now.lists c.find-spot.result in
+    let f = (goal.at.returns c).After-find-spot in
+    let whole : c.args.count - c.loop-left.left ≡ c.args.count = omega (arith, c.loop-left-test.false) in
+    c.loop-left.invariant.items ∙ ap (λ n. remove_range all at (at + n)) whole
+    ∙ run_removed c.args.first.start c.args.first.pages c.args.count 1048576 all c.requires.up c.requires.there at (found f)

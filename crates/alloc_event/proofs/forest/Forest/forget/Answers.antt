@@ -42,7 +42,7 @@ invariant_of-self c =
       strong = c.index_mut.result.now.strong;
       reserved = c.index_mut.result.now.reserved;
       tidy = c.index_mut.result.now.tidy;
-      one = c.index_mut.result.now.one;
+      noted = c.index_mut.result.now.noted;
     } in
     let within = (place_is c.take_out-node.result.collection c.self.inside.entries.items c.in-Some.at told).within in
     let was : c.index_mut.result.now ≡ get_or c.self.inside.entries.items c.in-Some.at e =
@@ -104,7 +104,7 @@ returns-in-Some-clause-nodes c =
       strong = c.index_mut.result.now.strong;
       reserved = c.index_mut.result.now.reserved;
       tidy = c.index_mut.result.now.tidy;
-      one = c.index_mut.result.now.one;
+      noted = c.index_mut.result.now.noted;
     } in
     let within = (place_is c.take_out-node.result.collection c.self.inside.entries.items c.in-Some.at told).within in
     let was : c.index_mut.result.now ≡ get_or c.self.inside.entries.items c.in-Some.at e =

@@ -68,7 +68,16 @@ invariant_of-self c =
           (ends-kept c.args.key c.args.end c.self.inside.table c.put_end.new.table now.0 now.1 (named c) (writes c)
           (shelves_of c.self.inside.entries.items) (becomes c) c.self.invariant.kept);
       counted = mapped_all c.self.inside.table c.put_end.new.table (with_end c.args.key c.args.end)
-          (λ n. record { key = refl; parent = refl; attached = refl; head = refl; allocated = refl; gone = refl; released = refl; asks = refl })
+          (λ n. record {
+            key = refl;
+            parent = refl;
+            attached = refl;
+            head = refl;
+            allocated = refl;
+            gone = refl;
+            released = refl;
+            asks = refl;
+          })
           (λ n. refl) (λ n. refl)
           (ends-look c.args.key c.args.end c.self.inside.table c.put_end.new.table now.0 now.1 (named c) (writes c)
           c.self.invariant.kept.named)

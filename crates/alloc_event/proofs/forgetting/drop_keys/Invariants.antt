@@ -1,0 +1,16 @@
+use Rattle.std.proofs.Common.{◌≡◌, length, true}
+use Rattle.std.specs.List.{filter}
+use Rattle.alloc_event.specs.Forgetting.{is_left_by}
+use Rattle.alloc_event.specs.Kept.{are_apart}
+use Rattle.alloc_event.proofs.forgetting.drop_keys.Given as goal
+
+-- the rest leaves of the keys what all leave of those that there were
+abbrev pub invariant-dropping : goal.invariant-dropping
+invariant-dropping l = record {
+  apart : are_apart l.keys.items ≡ true;
+  left : filter (is_left_by l.table l.rest) l.keys.items ≡ filter (is_left_by l.table l.noted) l.initial.keys.items;
+}
+
+-- each key is looked at once
+abbrev pub decreases-dropping : goal.decreases-dropping
+decreases-dropping l = length l.rest

@@ -1,0 +1,20 @@
+-- The nodes that are over are taken out, and their keys.
+use Rattle.std.proofs.Common.{◌≡◌, ◌∙◌, sym, true}
+use Rattle.std.proofs.lemmas.Bool.{false≢true}
+use Rattle.std.specs.List.{list_all}
+use Rattle.alloc_event.specs.Forgetting.{is_own_if_over}
+use Rattle.alloc_event.proofs.leaving.OnlyNoted.{noted_found, noted_left}
+use Rattle.alloc_event.proofs.forgetting.forget_of.Goals.{then-entry, else-entry}
+use Rattle.alloc_event.proofs.forgetting.forget_of.Goals as goal
+
+pub take_all_over-requires-clause-known : goal.take_all_over-requires-clause-known
+take_all_over-requires-clause-known c known = rw c.deref-2.ensures.value (elim c.if-entry.branch [
+  | then-entry w ↦
+      let own : list_all (is_own_if_over c.args.table.now c.args.entry.now.id) c.args.entry.now.noted.items ≡ true =
+      sym (rw w.deref.ensures.value at w.are_own-known.ensures) ∙ (sym w.known-is ∙ known) in
+      record {
+        left = noted_left c.args.table.now c.args.entry.now c.requires w.if-entry.true own;
+        found = noted_found c.args.table.now c.args.entry.now c.requires w.if-entry.true own;
+      }
+  | else-entry w ↦ absurd (false≢true (sym w.if-entry.false ∙ (sym w.known-is ∙ known)))
+])

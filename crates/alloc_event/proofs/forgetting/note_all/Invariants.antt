@@ -1,0 +1,19 @@
+use Rattle.std.proofs.Common.{◌≡◌, length, true, false, List}
+use Rattle.std.specs.List.{list_any}
+use Rattle.sm_names.specs.declared.keys.NodeKey.{NodeKey}
+use Rattle.alloc_event.specs.Calm.{over_but}
+use Rattle.alloc_event.specs.Forgetting.{AreMore, IsNoting}
+use Rattle.alloc_event.specs.Kept.{nodes_with}
+use Rattle.alloc_event.proofs.forgetting.note_all.Given as goal
+
+-- once those of the rest that are over are noted, those of all are
+abbrev pub invariant-noting : goal.invariant-noting
+invariant-noting l = record {
+  entry : IsNoting l.initial.entry l.entry;
+  all : l.entry.tidy ≡ true → (most : List NodeKey) → AreMore l.entry.noted.items most →
+      list_any (over_but most) (nodes_with l.table l.rest) ≡ false → list_any (over_but most) (nodes_with l.table l.keys) ≡ false;
+}
+
+-- each key is looked at once
+abbrev pub decreases-noting : goal.decreases-noting
+decreases-noting l = length l.rest

@@ -1,0 +1,116 @@
+-- The change is made in its place, and the entry of the collection has the count.
+use Rattle.std.proofs.Common.{◌≡◌, true, false, List, Some, map, get_or, set, refl, sym, ◌∙◌, ap, subst, arith}
+use Rattle.std.proofs.lemmas.List.{get_or_default}
+use Rattle.std.specs.List.{list_any}
+use Rattle.buffer_holds.specs.Counts.{total}
+use Rattle.alloc_event.specs.declared.change.Change.{Change}
+use Rattle.alloc_event.specs.declared.entry.Entry.{Entry}
+use Rattle.alloc_event.specs.Counts.{AreUnits}
+use Rattle.alloc_event.specs.InPlace.{IsMade, IsOpen}
+use Rattle.alloc_event.specs.Kept.{Shelf, collection_in, nodes_with, place_in, shelf_of, shelves_of}
+use Rattle.alloc_event.specs.Calm.{over_but}
+use Rattle.alloc_event.specs.Reserved.{reserved_count}
+use Rattle.alloc_event.specs.Resting.{is_kept_by}
+use Rattle.alloc_event.proofs.changes.Altering.{tracker_room}
+use Rattle.alloc_event.proofs.changes.Done.{few_at, opens_at, outcome_at, reserved_at, shelves_at, tidy_at}
+use Rattle.alloc_event.proofs.shelves.Entries.{IsPlace, place_is}
+use Rattle.alloc_event.proofs.in_place.settle_still.Goals as goal
+
+pub index-entry-requires : goal.index-entry-requires
+index-entry-requires c =
+    let told : place_in c.args.id c.args.entries.now.items ≡ Some c.in-Some.at =
+    sym (rw c.deref.ensures.value at c.place_of.ensures) ∙ c.in-Some.is in
+    omega (arith, (place_is c.args.id c.args.entries.now.items c.in-Some.at told).within)
+
+pub index_mut-entry-requires : goal.index_mut-entry-requires
+index_mut-entry-requires c =
+    let told : place_in c.args.id c.args.entries.now.items ≡ Some c.in-Some.at =
+    sym (rw c.deref.ensures.value at c.place_of.ensures) ∙ c.in-Some.is in
+    omega (arith, (place_is c.args.id c.args.entries.now.items c.in-Some.at told).within)
+
+pub change_in_place-requires-clause-few : goal.change_in_place-requires-clause-few
+change_in_place-requires-clause-few c =
+    let told : place_in c.args.id c.args.entries.now.items ≡ Some c.in-Some.at =
+    sym (rw c.deref.ensures.value at c.place_of.ensures) ∙ c.in-Some.is in
+    few_at c.args.table.now c.args.entries.now.items c.args.id c.in-Some.at c.index-entry.result.now
+    (place_is c.args.id c.args.entries.now.items c.in-Some.at told) c.index-entry.ensures c.requires.kept c.requires.counted
+    c.args.units.now.items c.requires.units c.args.change.now c.requires.change
+
+pub change_in_place-requires-clause-room : goal.change_in_place-requires-clause-room
+change_in_place-requires-clause-room c key effect at n is found =
+    tracker_room c.args.table.now (shelves_of c.args.entries.now.items) c.requires.kept key effect
+    (λ m e there. c.requires.change.trackers key m (is ∙ ap (Change.Effect key) e) there) at n found
+
+-- the entry that was read, and the place where it stands
+module _ (c : goal.After-entries-1) where
+  abbrev es : List Entry
+  es = c.args.entries.now.items
+
+  abbrev old : Entry
+  old = c.index-entry.result.now
+
+  abbrev new : Entry
+  new = record {
+    id = c.index_mut-entry.result.now.id;
+    keys = c.index_mut-entry.result.now.keys;
+    buffers = c.index_mut-entry.result.now.buffers;
+    held = c.index_mut-entry.result.now.held;
+    strong = c.in-Some-change_in_place.left;
+    reserved = c.in-Some-reserved_after.reserved;
+    tidy = c.index_mut-entry.result.now.tidy;
+    noted = c.index_mut-entry.result.now.noted;
+  }
+
+  told : place_in c.args.id es ≡ Some c.in-Some.at
+  told = sym (rw c.deref.ensures.value at c.place_of.ensures) ∙ c.in-Some.is
+
+  place : IsPlace c.args.id es c.in-Some.at
+  place = place_is c.args.id es c.in-Some.at told
+
+  is : old ≡ get_or es c.in-Some.at old
+  is = c.index-entry.ensures
+
+  again : c.index_mut-entry.result.now ≡ old
+  again = c.index_mut-entry.ensures.value ∙ get_or_default es c.in-Some.at c.index_mut-entry.result.now old place.within ∙ sym is
+
+  opens : IsOpen c.args.table.now c.args.units.now.items (shelves_of es) (shelf_of old) c.args.change.now old.strong
+  opens = opens_at c.args.table.now es c.args.id c.in-Some.at old place is c.requires.kept c.requires.counted c.args.units.now.items
+      c.requires.units c.args.change.now c.requires.change
+
+  made : IsMade c.args.table.now c.change_in_place.new.table c.change_in_place.new.units.items (shelves_of es) (shelf_of old)
+      c.args.change.now c.in-Some-change_in_place.left
+  made = c.in-Some-change_in_place.ensures.some (shelves_of es) (shelf_of old) opens
+
+  tidies : new.tidy ≡ true → list_any (over_but new.noted.items) (nodes_with c.change_in_place.new.table old.keys.items) ≡ false
+  tidies h = made.over new.noted.items
+      ∙ ap (λ (x : Entry). list_any (over_but x.noted.items) (nodes_with c.args.table.now old.keys.items)) again
+      ∙ tidy_at c.args.table.now es c.args.id c.in-Some.at old place is c.requires.kept c.requires.counted c.args.units.now.items
+      c.requires.units c.args.change.now c.requires.change
+      (sym (ap (λ (x : Entry). x.tidy) again) ∙ h)
+
+  reserved_now : new.reserved ≡ reserved_count (nodes_with c.change_in_place.new.table old.keys.items)
+  reserved_now = c.in-Some-reserved_after.ensures c.args.units.now.items (shelves_of es) (shelf_of old) old.strong opens
+      (reserved_at c.args.table.now es c.args.id c.in-Some.at old place is c.requires.kept c.requires.counted c.args.units.now.items
+      c.requires.units c.args.change.now c.requires.change)
+      ∙ ap reserved_count (sym made.nodes)
+
+  same_shelves : shelves_of (set es c.in-Some.at new) ≡ shelves_of es
+  same_shelves = shelves_at c.args.table.now es c.args.id c.in-Some.at old place is c.requires.kept c.requires.counted
+      c.args.units.now.items c.requires.units c.args.change.now c.requires.change
+      c.change_in_place.new.table c.change_in_place.new.units.items c.in-Some-change_in_place.left made.done new (ap shelf_of again) refl
+      tidies
+
+  rests : is_kept_by (total c.args.holds.now) c.args.table.now (shelf_of old) c.in-Some-change_in_place.left ≡ true
+  rests = c.in-Some-change_in_place.ensures.rests
+
+pub returns-clause-outcome : goal.returns-clause-outcome
+returns-clause-outcome c =
+    outcome_at c.args.table.now c.args.entries.now.items c.args.id c.in-Some.at (old c) (place c) (is c) c.requires.kept
+    c.requires.counted c.args.units.now.items c.requires.units c.args.change.now c.requires.change
+    c.change_in_place.new.table c.change_in_place.new.units.items c.in-Some-change_in_place.left (made c).done (new c)
+    (ap shelf_of (again c)) refl (tidies c) (total c.args.holds.now) (rests c) (told c) (reserved_now c)
+
+pub returns-clause-units : goal.returns-clause-units
+returns-clause-units c =
+    subst (λ (ss : List Shelf). AreUnits c.change_in_place.new.units.items (map (collection_in c.change_in_place.new.table) ss))
+    (sym (same_shelves c)) (made c).done.units

@@ -1,0 +1,105 @@
+//! Nodes that go together leave no room taken, however many they are and however many stay.
+use super::dropping::is_done;
+use super::limits::{joined, token};
+use lifetime_core::Core;
+use sm_names::{Call, Limits, NodeKey};
+use std::alloc::Global;
+
+// How many children of the root stay.
+const STAY: usize = 200;
+
+// How the ends of a unit are spent, one after another.
+#[derive(Clone, Copy)]
+enum Leaving {
+    // All are released, so that they go with the last.
+    Released,
+    // All but the last are released, and that fails with them.
+    Failed,
+    // The first fails, and then each is closed.
+    Closed,
+}
+
+// The root of a collection with so many children, bound.
+fn family(core: &mut Core) -> Option<NodeKey> {
+    let root = token(core, Call::OpenRoot)?;
+    for _ in 0..STAY {
+        token(core, Call::Duplicate(root))?;
+    }
+    if is_done(core, Call::Bind(root)) {
+        Some(root)
+    } else {
+        None
+    }
+}
+
+// A new attached unit of so many bound nodes, its head last.
+fn unit(alloc: Global, core: &mut Core, root: NodeKey, nodes: usize) -> Option<Vec<NodeKey>> {
+    let head = token(core, Call::AttachToken(root))?;
+    let mut keys = Vec::new(alloc);
+    for _ in 1..nodes {
+        keys.push(token(core, Call::Duplicate(head))?).ok()?;
+    }
+    keys.push(head).ok()?;
+    for key in &keys {
+        if !is_done(core, Call::Bind(*key)) {
+            return None;
+        }
+    }
+    Some(keys)
+}
+
+// The call that spends the end at this place of so many.
+fn spending(leaving: Leaving, key: NodeKey, is_last: bool) -> Call {
+    match leaving {
+        Leaving::Released => Call::Release(key),
+        Leaving::Failed if is_last => Call::Close(key),
+        Leaving::Failed => Call::Release(key),
+        Leaving::Closed => Call::Close(key),
+    }
+}
+
+// Whether the ends are spent so, and no node is live then.
+fn leave(core: &mut Core, keys: &[NodeKey], leaving: Leaving) -> bool {
+    for (at, key) in keys.iter().enumerate() {
+        if !is_done(core, spending(leaving, *key, at + 1 == keys.len())) {
+            return false;
+        }
+    }
+    keys.iter().all(|key| !core.is_live(*key))
+}
+
+// Whether units of so many nodes come and go so, one after another, where no more nodes have room.
+fn come_and_go(alloc: Global, nodes: usize, leaving: Leaving) -> Option<bool> {
+    let limits = Limits::new(100_000, (1 + STAY + nodes) as u32, 1, 1, 1)?;
+    let mut core = joined(alloc, limits)?;
+    let root = family(&mut core)?;
+    for _ in 0..20 {
+        let keys = unit(alloc, &mut core, root, nodes)?;
+        if !leave(&mut core, &keys, leaving) {
+            return Some(false);
+        }
+    }
+    Some(core.is_live(root))
+}
+
+// Whether they do, be they few or many.
+fn all_come_and_go(alloc: Global, leaving: Leaving) -> bool {
+    [1, 2, 3, 64, 65, 200]
+        .iter()
+        .all(|nodes| come_and_go(alloc, *nodes, leaving) == Some(true))
+}
+
+#[test]
+fn released_units_leave_no_node(rt: HostRuntime) {
+    assert!(rt; all_come_and_go(rt.alloc(), Leaving::Released));
+}
+
+#[test]
+fn units_that_fail_after_releases_leave_no_node(rt: HostRuntime) {
+    assert!(rt; all_come_and_go(rt.alloc(), Leaving::Failed));
+}
+
+#[test]
+fn closed_units_leave_no_node(rt: HostRuntime) {
+    assert!(rt; all_come_and_go(rt.alloc(), Leaving::Closed));
+}
