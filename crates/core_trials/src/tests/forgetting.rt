@@ -6,7 +6,7 @@ use sm_names::{Call, Limits, NodeKey};
 use std::alloc::Global;
 
 // How many children of the root stay.
-const STAY: usize = 200;
+const STAY: u32 = 200;
 
 // How the ends of a unit are spent, one after another.
 #[derive(Clone, Copy)]
@@ -33,7 +33,7 @@ fn family(core: &mut Core) -> Option<NodeKey> {
 }
 
 // A new attached unit of so many bound nodes, its head last.
-fn unit(alloc: Global, core: &mut Core, root: NodeKey, nodes: usize) -> Option<Vec<NodeKey>> {
+fn unit(alloc: Global, core: &mut Core, root: NodeKey, nodes: u8) -> Option<Vec<NodeKey>> {
     let head = token(core, Call::AttachToken(root))?;
     let mut keys = Vec::new(alloc);
     for _ in 1..nodes {
@@ -68,25 +68,43 @@ fn leave(core: &mut Core, keys: &[NodeKey], leaving: Leaving) -> bool {
     keys.iter().all(|key| !core.is_live(*key))
 }
 
-// Whether units of so many nodes come and go so, one after another, where no more nodes have room.
-fn come_and_go(alloc: Global, nodes: usize, leaving: Leaving) -> Option<bool> {
-    let limits = Limits::new(100_000, (1 + STAY + nodes) as u32, 1, 1, 1)?;
-    let mut core = joined(alloc, limits)?;
-    let root = family(&mut core)?;
+// Whether units of so many nodes below the root come and go so, one after another.
+fn each_leaves(alloc: Global, core: &mut Core, root: NodeKey, nodes: u8, leaving: Leaving) -> bool {
     for _ in 0..20 {
-        let keys = unit(alloc, &mut core, root, nodes)?;
-        if !leave(&mut core, &keys, leaving) {
-            return Some(false);
+        let Some(keys) = unit(alloc, core, root, nodes) else {
+            return false;
+        };
+        if !leave(core, &keys, leaving) {
+            return false;
         }
     }
-    Some(core.is_live(root))
+    core.is_live(root)
+}
+
+// Whether they do so in this core, beside those that stay.
+fn leave_beside(alloc: Global, core: &mut Core, nodes: u8, leaving: Leaving) -> bool {
+    match family(core) {
+        Some(root) => each_leaves(alloc, core, root, nodes, leaving),
+        None => false,
+    }
+}
+
+// Whether they do so where no more nodes have room.
+fn come_and_go(alloc: Global, nodes: u8, leaving: Leaving) -> bool {
+    let Some(limits) = Limits::new(100_000, 1 + STAY + u32::from(nodes), 1, 1, 1) else {
+        return false;
+    };
+    match joined(alloc, limits) {
+        Some(mut core) => leave_beside(alloc, &mut core, nodes, leaving),
+        None => false,
+    }
 }
 
 // Whether they do, be they few or many.
 fn all_come_and_go(alloc: Global, leaving: Leaving) -> bool {
     [1, 2, 3, 64, 65, 200]
         .iter()
-        .all(|nodes| come_and_go(alloc, *nodes, leaving) == Some(true))
+        .all(|nodes| come_and_go(alloc, *nodes, leaving))
 }
 
 #[test]
