@@ -164,7 +164,7 @@ fn settle_or_place(
     }
     match *change {
         Change::Effect(key, effect) => allocate_first(
-            table, entries, units, pool, id, key, &effect,
+            table, entries, units, pool, id, key, &effect, room,
         ),
         _ => Ok(false),
     }

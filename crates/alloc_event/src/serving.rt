@@ -149,21 +149,23 @@ fn asked_at(
     }
 }
 
-/// What the nodes with these keys ask for so, if all are of this collection, and none of them is
-/// left out.
+/// What the nodes with these keys ask for so that are of the units with those heads, if all are of this
+/// collection, and none of them is left out. Both lists of heads stand in order.
 pub(crate) fn asks_with(
     table: &NodeTable<Node>,
     keys: &[NodeKey],
     units: &[Unit],
     id: CollectionId,
     heads: &[NodeKey],
+    those: &[NodeKey],
     after: &Node,
 ) -> Option<Asks>
-    requires { IsSorted key_order heads.now }
+    requires sorted { IsSorted key_order heads.now }
+    requires those { IsSorted key_order those.now }
     ensures clear { IfSome result (λ asks. list_any (bars_at table.now units.now id heads.now) keys.now ≡ false) }
-    ensures camping { IfSome result (λ asks. asks.camping ≡ sum_by (λ (d : Demand). d.camping) (asked_with table.now keys.now heads.now after.now)) }
-    ensures at_least { IfSome result (λ asks. asks.at_least ≡ greatest (λ d. d.at_least) (asked_with table.now keys.now heads.now after.now)) }
-    ensures size { IfSome result (λ asks. asks.size ≡ greatest (λ d. d.size) (asked_with table.now keys.now heads.now after.now)) }
+    ensures camping { IfSome result (λ asks. asks.camping ≡ sum_by (λ (d : Demand). d.camping) (asked_with table.now keys.now those.now after.now)) }
+    ensures at_least { IfSome result (λ asks. asks.at_least ≡ greatest (λ d. d.at_least) (asked_with table.now keys.now those.now after.now)) }
+    ensures size { IfSome result (λ asks. asks.size ≡ greatest (λ d. d.size) (asked_with table.now keys.now those.now after.now)) }
 {
     let mut asks = Asks {
         camping: 0,
@@ -174,7 +176,7 @@ pub(crate) fn asks_with(
         if bars_at(table, units, id, heads, *key) {
             return None;
         }
-        if let Some(demand) = asked_at(table, heads, after, *key) {
+        if let Some(demand) = asked_at(table, those, after, *key) {
             asks.camping += demand.camping() as u128;
             asks.at_least = asks.at_least.max(demand.at_least());
             asks.size = asks.size.max(demand.size());
@@ -200,7 +202,7 @@ fn with_room(count: u32, reserved: u128, camping: u128) -> Option<u128>
 /// node is in the place of the one with its key: if the nodes with these keys are of this
 /// collection, none of them is left out, and the buffers, of which so many are reserved, are
 /// enough.
-fn room_for(
+pub(crate) fn room_for(
     table: &NodeTable<Node>,
     keys: &[NodeKey],
     units: &[Unit],
@@ -213,7 +215,7 @@ fn room_for(
     requires { IsSorted key_order heads.now }
     ensures { IfSome result (λ sum. IsRoom table.now keys.now units.now id reserved buffers heads.now after.now sum) }
 {
-    let asks = asks_with(table, keys, units, id, heads, after)?;
+    let asks = asks_with(table, keys, units, id, heads, heads, after)?;
     let sum = with_room(buffers.count, reserved, asks.camping)?;
     if buffers.count >= asks.at_least as u32 && buffers.size >= asks.size {
         Some(sum)

@@ -1,5 +1,5 @@
 -- Where the buffers are enough for all units that are allocated together, they are for each in its turn.
-use Rattle.std.proofs.Common.{◌≡◌, ℕ, ◌+◌, ◌≤◌, nat_lt, refl, ap, sym, ◌∙◌, subst, Bool, true, false, not, ◌&&◌, ◌||◌, if◌then◌else◌, inl, inr, List, [], ◌∷◌, Option, None, arith}
+use Rattle.std.proofs.Common.{◌≡◌, ℕ, ◌+◌, ◌≤◌, nat_lt, refl, ap, sym, ◌∙◌, subst, Bool, true, false, not, ◌&&◌, ◌||◌, if◌then◌else◌, inl, inr, List, [], ◌∷◌, max, Option, None, arith}
 use Rattle.std.proofs.lemmas.Bool.{le-ltb, ltb-false, not-true}
 use Rattle.std.specs.List.{list_any, sum_by}
 use Rattle.std.specs.Option.{option_map_or}
@@ -15,6 +15,7 @@ use Rattle.sm_names.proofs.SamenessLaws.{and_both, and_left, and_right, or_none_
 use Rattle.alloc_event.specs.declared.node.Node.{Node}
 use Rattle.alloc_event.specs.Decisions.{late_failure}
 use Rattle.alloc_event.specs.Falls.{given_all}
+use Rattle.alloc_event.specs.First.{wanted_of}
 use Rattle.alloc_event.specs.Questions.{demands_of, is_in_unit, is_served}
 use Rattle.alloc_event.specs.Reserved.{camped, reserved_count}
 use Rattle.alloc_event.specs.Serving.{are_enough, is_in_some}
@@ -67,6 +68,20 @@ none_fails true b c h = cc
 none_fails false true c h = cc
 none_fails false false true h = cc
 none_fails false false false h = refl
+
+-- what is wanted is enough
+pub wanted_enough : (b : Buffers) (asked : List Demand) → b ≡ wanted_of asked → are_enough b 0 asked ≡ true
+wanted_enough b asked is =
+    let count : b.count ≡ max (sum_by (λ (d : Demand). d.camping) asked) (greatest (λ d. d.at_least) asked) =
+    ap (λ (w : Buffers). w.count) is in
+    let size : b.size ≡ greatest (λ d. d.size) asked = ap (λ (w : Buffers). w.size) is in
+    let sums : nat_lt b.count (0 + sum_by (λ (d : Demand). d.camping) asked) ≡ false =
+    le-ltb b.count (0 + sum_by (λ (d : Demand). d.camping) asked) (omega (arith, count)) in
+    let least : nat_lt b.count (greatest (λ d. d.at_least) asked) ≡ false =
+    le-ltb b.count (greatest (λ d. d.at_least) asked) (omega (arith, count)) in
+    let sized : nat_lt b.size (greatest (λ d. d.size) asked) ≡ false =
+    le-ltb b.size (greatest (λ d. d.size) asked) (omega (arith, size)) in
+    rw (sums, least, sized) refl
 
 module _ (nodes : List Node) (hs : List NodeKey) (unitwide : (m : Node) → In m nodes → list_any (same_key m.head) hs ≡ true →
     m.allocated ≡ false) where
