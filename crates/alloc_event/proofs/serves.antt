@@ -10,6 +10,7 @@ pub mod Chains
 pub mod Gathered
 pub mod Below
 pub mod Between
+pub mod Followers
 pub mod Served
 pub mod RootUnit
 pub mod First

@@ -16,7 +16,8 @@ use Rattle.alloc_event.specs.declared.decision.Decision.TheVariants.{Ends, Loses
 use Rattle.alloc_event.specs.declared.node.Node.{Node}
 use Rattle.alloc_event.specs.Decisions.{decided, first_step, has_strong, late_failure, later_step, waiting}
 use Rattle.alloc_event.specs.Falls.{given_all}
-use Rattle.alloc_event.specs.Forest.{Collection}
+use Rattle.alloc_event.specs.Forest.{Collection, with_nodes}
+use Rattle.alloc_event.specs.Nodes.{is_of, node_of}
 use Rattle.alloc_event.specs.Questions.{is_deserted_node, is_live_node, is_next_node, is_ready_node, is_root_left, lives_below}
 use Rattle.alloc_event.specs.Scenes.{IsSound, heads_itself}
 use Rattle.alloc_event.specs.Settling.{is_root_of}
@@ -39,6 +40,19 @@ pub record AreCalm (nodes : List Node) (strong_open : Bool) : Type 0 where
 all_same : (p q : Node → Bool) (f : Node → Node) (ns : List Node) → ((n : Node) → p (f n) ≡ q n) → list_all p (map f ns) ≡ list_all q ns
 all_same p q f [] same = refl
 all_same p q f (n ∷ ns) same = λ i. same n i && all_same p q f ns same i
+
+-- who is a root stays, where keys and parents do
+pub roots_same : (f : Node → Node) → ((n : Node) → (f n).key ≡ n.key) → ((n : Node) → (f n).parent ≡ n.parent) → (c : Collection)
+    (j : NodeKey) → is_root_of (with_nodes (map f) c) j ≡ is_root_of c j
+roots_same f key parent c j =
+    ap (λ (o : Option Node). option_map_or (λ (m : Node). is_none m.parent) o false)
+    (find_map (is_of j) (is_of j) f c.nodes (λ m. ap (λ (i : NodeKey). same_key i j) (key m)))
+    ∙ by (node_of c.nodes j)
+  where
+    by : (o : Option Node) → option_map_or (λ (m : Node). is_none m.parent) (option_map f o) false
+        ≡ option_map_or (λ (m : Node). is_none m.parent) o false
+    by None = refl
+    by (Some m) = ap is_none (parent m)
 
 -- ---- the allocation of attached units leaves them so
 

@@ -74,6 +74,24 @@ pub node_there : (test : Node → Bool) (o : Option Node) → option_map_or test
 node_there test None h = cc
 node_there test (Some n) h = (n, refl, h)
 
+-- the head of a unit without buffers
+pub record IsBareHead (nodes : List Node) (k : NodeKey) : Type 0 where
+  pub head : Node
+  pub on : In head nodes
+  pub key : head.key ≡ k
+  pub own : head.head ≡ k
+  pub here : head.gone ≡ false
+  pub waits : head.allocated ≡ false
+
+-- of an attached one, and the node above it
+pub record IsWaitingHead (nodes : List Node) (k : NodeKey) : Type 0 where
+  pub bare : IsBareHead nodes k
+  pub attached : bare.head.attached ≡ true
+  pub above : Node
+  pub above_on : In above nodes
+  pub up : bare.head.parent ≡ Some above.key
+  pub above_here : above.gone ≡ false
+
 -- the head of a unit that is to be allocated, and the node above it
 pub record IsDueHead (t : Table Node) (nodes : List Node) (k : NodeKey) : Type 0 where
   pub head : Node
@@ -88,6 +106,20 @@ pub record IsDueHead (t : Table Node) (nodes : List Node) (k : NodeKey) : Type 0
   pub up : head.parent ≡ Some above.key
   pub above_here : above.gone ≡ false
   pub served : above.allocated ≡ true
+
+abbrev pub due_bare : (t : Table Node) (nodes : List Node) (k : NodeKey) → IsDueHead t nodes k → IsBareHead nodes k
+due_bare t nodes k due =
+    record { head = due.head; on = due.on; key = due.key; own = due.own; here = due.here; waits = due.waits }
+
+abbrev pub due_waiting : (t : Table Node) (nodes : List Node) (k : NodeKey) → IsDueHead t nodes k → IsWaitingHead nodes k
+due_waiting t nodes k due = record {
+  bare = due_bare t nodes k due;
+  attached = due.attached;
+  above = due.above;
+  above_on = due.above_on;
+  up = due.up;
+  above_here = due.above_here;
+}
 
 module _ (t : Table Node) (ss : List Shelf) (kept : IsStored t ss) (s : Shelf) (found : find (λ (x : Shelf). x.id == s.id) ss ≡ Some s)
     (k : NodeKey) where

@@ -21,7 +21,7 @@ use Rattle.alloc_event.specs.Kept.{IsStored, IsWhole, Shelf, collection_in, node
 use Rattle.alloc_event.specs.Questions.{demands_of}
 use Rattle.alloc_event.specs.Serving.{IsGathered, IsGivenAt, are_enough, asked_with, bars_at, given_at, hangs_below, is_in_some, is_left_out, left_out_at}
 use Rattle.alloc_event.proofs.failures.GoneNodes.{in_looked}
-use Rattle.alloc_event.proofs.serves.Before.{IsDueHead, any_key, at_key, key_listed, node_there, whole_before}
+use Rattle.alloc_event.proofs.serves.Before.{IsBareHead, any_key, at_key, key_listed, node_there, whole_before}
 use Rattle.alloc_event.proofs.serves.Chains.{unitwide}
 use Rattle.alloc_event.proofs.serves.Gathered.{follows, hangs_inside, of_unit}
 use Rattle.alloc_event.proofs.serves.Giving.{given_in, given_out}
@@ -31,7 +31,7 @@ use Rattle.alloc_event.proofs.tables.LeftParents.{in_shelf}
 use Rattle.alloc_event.proofs.tallies.Reserved.{amount_map, amount_within, camped_if, camped_sum}
 
 module _ (t : Table Node) (ss : List Shelf) (kept : IsStored t ss) (s : Shelf) (found : find (λ (x : Shelf). x.id == s.id) ss ≡ Some s)
-    (us : List Unit) (counts : HasUnits us (nodes_with t s.keys)) (k : NodeKey) (due : IsDueHead t (nodes_with t s.keys) k)
+    (us : List Unit) (counts : HasUnits us (nodes_with t s.keys)) (k : NodeKey) (top : IsBareHead (nodes_with t s.keys) k)
     (hs : List NodeKey) (ks : List NodeKey) (gathered : IsGathered t us s.id k hs ks) where
   abbrev nodes : List Node
   nodes = nodes_with t s.keys
@@ -77,7 +77,7 @@ module _ (t : Table Node) (ss : List Shelf) (kept : IsStored t ss) (s : Shelf) (
         let on : In m.0 nodes = in_looked t kept.named (Going.Leaves k) s.keys m.0 is listed in
         both_ways (is_left_out t us hs m.0) m.2
         (or_none_right (not (m.0.collection == s.id)) (is_left_out t us hs m.0)
-        (free m.0 is (hangs_inside t ss kept s found us counts k due hs ks gathered m.0 on (and_left (hangs_below t us hs m.0) _ m.2)))))
+        (free m.0 is (hangs_inside t ss kept s found us counts k top hs ks gathered m.0 on (and_left (hangs_below t us hs m.0) _ m.2)))))
 
     -- ---- what the units ask for
 
@@ -168,8 +168,8 @@ module _ (t : Table Node) (ss : List Shelf) (kept : IsStored t ss) (s : Shelf) (
                 let on : In n nodes = in_looked t kept.named (Going.Leaves k) s.keys n is e in
                 let apart : list_any (same_key n.head) hs ≡ false = false_if (list_any (same_key n.head) hs) (λ own.
                 both_ways (list_any (same_key n.key) ks)
-                (of_unit t ss kept s found us counts k due hs ks gathered n on
-                (unitwide t ss kept s found k due hs (follows t ss kept s found us counts k due hs ks gathered) n on own).1 own) h) in
+                (of_unit t ss kept s found us counts k top hs ks gathered n on
+                (unitwide t ss kept s found k top hs (follows t ss kept s found us counts k top hs ks gathered) n on own).1 own) h) in
                 given_out hs ks n h ∙ (other n apart ∙ sym (given_in hs s.keys n e))
           ]
           | inr e ↦

@@ -20,8 +20,8 @@ use Rattle.alloc_event.specs.Kept.{IsStored, IsWhole, Shelf, collection_in, node
 use Rattle.alloc_event.specs.Serving.{AreHeads, IsGathered, hangs_below, is_head_at, is_of_some, is_outside, is_ready_head, is_waiting_head}
 use Rattle.alloc_event.specs.Units.{is_head}
 use Rattle.alloc_event.proofs.failures.Ties.{key_equivalence}
-use Rattle.alloc_event.proofs.serves.Before.{IsDueHead, at_key, node_there, some_there, whole_before}
-use Rattle.alloc_event.proofs.serves.Chains.{Follows, IsFollower}
+use Rattle.alloc_event.proofs.serves.Before.{IsBareHead, at_key, node_there, some_there, whole_before}
+use Rattle.alloc_event.proofs.serves.Chains.{Follows, IsFollower, follows_alone}
 use Rattle.alloc_event.proofs.serves.Next.{head_own}
 use Rattle.alloc_event.proofs.tables.Hanging.{in_all}
 use Rattle.alloc_event.proofs.tables.LeftParents.{in_shelf}
@@ -41,7 +41,7 @@ not_out false true false h s a = cc
 not_out false false false h s a = cc
 
 module _ (t : Table Node) (ss : List Shelf) (kept : IsStored t ss) (s : Shelf) (found : find (λ (x : Shelf). x.id == s.id) ss ≡ Some s)
-    (us : List Unit) (counts : HasUnits us (nodes_with t s.keys)) (k : NodeKey) (due : IsDueHead t (nodes_with t s.keys) k)
+    (us : List Unit) (counts : HasUnits us (nodes_with t s.keys)) (k : NodeKey) (top : IsBareHead (nodes_with t s.keys) k)
     (hs : List NodeKey) (ks : List NodeKey) (gathered : IsGathered t us s.id k hs ks) where
   abbrev nodes : List Node
   nodes = nodes_with t s.keys
@@ -191,8 +191,8 @@ module _ (t : Table Node) (ss : List Shelf) (kept : IsStored t ss) (s : Shelf) (
     unit_in : (key : NodeKey) → Inside key → stopped key ≡ false → (n : Node) → In n nodes → n.key ≡ key → n.gone ≡ false →
         list_any (same_key n.head) hs ≡ true
     unit_in _ Top goes n on is here =
-        let same : n ≡ due.head = distinct_one nodes whole.sound.distinct n due.head on due.on (is ∙ sym due.key) in
-        ap (λ (m : Node). list_any (same_key m.head) hs) same ∙ (ap (λ (j : NodeKey). list_any (same_key j) hs) due.own ∙ first_in)
+        let same : n ≡ top.head = distinct_one nodes whole.sound.distinct n top.head on top.on (is ∙ sym top.key) in
+        ap (λ (m : Node). list_any (same_key m.head) hs) same ∙ (ap (λ (j : NodeKey). list_any (same_key j) hs) top.own ∙ first_in)
     unit_in _ (Below over child reach open_above up) goes n on is here =
         let parent : n.parent ≡ Some over = sym (kept.linked n.key n (at n on) here) ∙ (ap (parent_at t) is ∙ up) in
         elim (either_way (is_head n)) [
@@ -247,13 +247,15 @@ module _ (t : Table Node) (ss : List Shelf) (kept : IsStored t ss) (s : Shelf) (
         let x = left_node nodes over (left_parent nodes whole.rooted m over on here parent) in
         record {
           waiting = record {
-            head = m;
-            on = on;
-            key = key;
-            own = head_own (collection_in t s) whole.sound m on attached ∙ key;
+            bare = record {
+              head = m;
+              on = on;
+              key = key;
+              own = head_own (collection_in t s) whole.sound m on attached ∙ key;
+              here = here;
+              waits = not-true m.allocated (and_right (not m.gone) _ (and_right m.attached _ waits));
+            };
             attached = attached;
-            here = here;
-            waits = not-true m.allocated (and_right (not m.gone) _ (and_right m.attached _ waits));
             above = x.node;
             above_on = x.on;
             up = parent ∙ ap Some (sym x.is);
@@ -265,7 +267,7 @@ module _ (t : Table Node) (ss : List Shelf) (kept : IsStored t ss) (s : Shelf) (
 
   pub follows : Follows nodes k hs
   follows = elim gathered.are [
-    | inl alone ↦ record { first = first_in; each = λ j h. inl (only_one alone j h) }
+    | inl alone ↦ subst (λ (js : List NodeKey). Follows nodes k js) (sym alone) (follows_alone nodes k)
     | inr all ↦ record { first = first_in; each = each all }
   ]
     where

@@ -1,4 +1,4 @@
--- The unit of a root that is allocated: what is forced besides stays as it was, and no attached unit is next.
+-- The unit of a root that is allocated, with those that follow: what is forced besides stays as it was, and no attached unit is next.
 use Rattle.std.proofs.Common.{◌≡◌, refl, ap, sym, ◌∙◌, Bool, true, false, not, ◌&&◌, ◌||◌, inl, inr, is_none, is_some, drop, List, [], ◌∷◌, Option, Some, None}
 use Rattle.std.proofs.lemmas.Bool.{not-true}
 use Rattle.std.specs.List.{list_all, list_any, find}
@@ -10,7 +10,7 @@ use Rattle.sm_names.specs.declared.outcomes.Failure.{Failure}
 use Rattle.sm_names.specs.Sameness.{same_key}
 use Rattle.sm_names.specs.Words.{first_some, when}
 use Rattle.sm_names.proofs.ListLaws.{In, In-list_any, In-map, find-none}
-use Rattle.sm_names.proofs.SamenessLaws.{and_both, and_left, and_right, both_ways, false_if, or_cases, same_key-refl}
+use Rattle.sm_names.proofs.SamenessLaws.{and_both, and_left, and_right, both_ways, false_if, or_cases}
 use Rattle.sm_names.proofs.StandingLaws.{In-any}
 use Rattle.alloc_event.specs.declared.decision.Decision.TheVariants.{Ends, Loses, Places}
 use Rattle.alloc_event.specs.declared.node.Node.{Node}
@@ -70,32 +70,24 @@ none_next nodes bare = false_if (list_any (is_next_node nodes) nodes) (λ e.
 pub none_later : (nodes : List Node) (b : Buffers) → list_any (is_next_node nodes) nodes ≡ false → later nodes (Some b) ≡ None
 none_later nodes b none = ap (option_map (λ (n : Node). later_step nodes b n.key)) (find-none (is_next_node nodes) nodes none)
 
-module _ (c : Collection) (sound : IsSound c) (r : Node) (on : In r c.nodes) (root : is_root_left r ≡ true) (k : NodeKey)
-    (own : r.head ≡ k) where
-  abbrev hs : List NodeKey
-  hs = k ∷ []
-
+module _ (c : Collection) (sound : IsSound c) (hs : List NodeKey) where
   abbrev f : Node → Node
-  f = given_all (k ∷ [])
+  f = given_all hs
 
   abbrev after : List Node
-  after = after_all (k ∷ []) c.nodes
+  after = after_all hs c.nodes
 
-  found_after : find is_root_left after ≡ Some (f r)
-  found_after = find_map is_root_left is_root_left f c.nodes (λ n. refl) ∙ ap (option_map f) (root_found c.nodes sound.one_root r on root)
-
-  has_now : (list_any (same_key r.head) (k ∷ []) || r.allocated) ≡ true
-  has_now = ap (λ (j : NodeKey). list_any (same_key j) (k ∷ []) || r.allocated) own ∙ rw (same_key-refl k) refl
-
-  -- no root waits then
-  pub waits_none : waiting after ≡ None
-  waits_none =
-      ap (option_and_then (λ (x : Node). when (not x.allocated && list_all (is_ready_node x.key) after) x)) found_after
-      ∙ (λ i. when (not (has_now i) && list_all (is_ready_node r.key) after) (f r))
+  -- no root waits then, if its unit is one of them
+  pub waits_none : (r : Node) → In r c.nodes → is_root_left r ≡ true → list_any (same_key r.head) hs ≡ true → waiting after ≡ None
+  waits_none r on root own =
+      let found : find is_root_left after ≡ Some (f r) =
+      find_map is_root_left is_root_left f c.nodes (λ n. refl) ∙ ap (option_map f) (root_found c.nodes sound.one_root r on root) in
+      ap (option_and_then (λ (x : Node). when (not x.allocated && list_all (is_ready_node x.key) after) x)) found
+      ∙ (λ i. when (not (own i || r.allocated) && list_all (is_ready_node r.key) after) (f r))
 
   -- nor is an attached unit next, where none is ready right below, and no other has its buffers
   pub next_none : ((n : Node) → In n c.nodes → n.attached ≡ true → n.gone ≡ false → n.allocated ≡ false →
-      list_all (is_ready_node n.key) c.nodes ≡ true → hangs_in_some c.nodes (k ∷ []) n ≡ true → list_any (same_key n.key) (k ∷ []) ≡ true) →
+      list_all (is_ready_node n.key) c.nodes ≡ true → hangs_in_some c.nodes hs n ≡ true → list_any (same_key n.key) hs ≡ true) →
       ((n : Node) → In n c.nodes → n.gone ≡ false → n.allocated ≡ false) → list_any (is_next_node after) after ≡ false
   next_none closed bare = false_if (list_any (is_next_node after) after) (λ e.
       let x = In-list_any (is_next_node after) after e in

@@ -26,7 +26,7 @@ use Rattle.alloc_event.proofs.calm.Calming.{AreNone, find_map, kept_rested, late
 use Rattle.alloc_event.proofs.calm.Forcing.{forced_made}
 use Rattle.alloc_event.proofs.calm.Movings.{less_left}
 use Rattle.alloc_event.proofs.calm.Settlings.{step_settles}
-use Rattle.alloc_event.proofs.serves.Allocated.{AreCalm, AreChildren, after_all, calm_back, calm_on, next_decided}
+use Rattle.alloc_event.proofs.serves.Allocated.{AreCalm, AreChildren, after_all, calm_back, calm_on, next_decided, roots_same}
 use Rattle.alloc_event.proofs.serves.Next.{head_own, none_made, only}
 use Rattle.alloc_event.proofs.turns.Gifts.{any_snoc, given_snoc}
 
@@ -76,15 +76,7 @@ module _ (c : Collection) (sound : IsSound c) (b : Buffers) (has : c.buffers ≡
 
     -- no root is one of them
     no_root : (d : List NodeKey) (j : NodeKey) → list_any (same_key j) hs ≡ true → is_root_of (at d) j ≡ false
-    no_root d j on =
-        ap (λ (o : Option Node). option_map_or (λ (n : Node). is_none n.parent) o false)
-        (find_map (is_of j) (is_of j) (given_all d) nodes (λ n. refl))
-        ∙ (by (node_of nodes j) ∙ children j on)
-      where
-        by : (o : Option Node) → option_map_or (λ (n : Node). is_none n.parent) (option_map (given_all d) o) false
-            ≡ option_map_or (λ (n : Node). is_none n.parent) o false
-        by None = refl
-        by (Some n) = refl
+    no_root d j on = roots_same (given_all d) (λ n. refl) (λ n. refl) c j ∙ children j on
 
     -- one more
     snoc : (d : List NodeKey) (j : NodeKey) → after_allocation j (after_all d nodes) ≡ after_all (d ++ j ∷ []) nodes

@@ -42,10 +42,10 @@ use Rattle.alloc_event.proofs.changes.Altering.{Some-shelf, found_filed, found_w
 use Rattle.alloc_event.proofs.changes.Effecting.{remains_affected}
 use Rattle.alloc_event.proofs.failures.Endings.{change_nodes}
 use Rattle.alloc_event.proofs.serves.Between.{IsMadeAfter, StandsIn, asks_are, bare_then, made_after, reserved_is, stands_in}
-use Rattle.alloc_event.proofs.serves.Before.{IsDueHead, closed_below, due_head, key_listed}
+use Rattle.alloc_event.proofs.serves.Before.{IsBareHead, IsDueHead, closed_below, due_bare, due_head, due_waiting, key_listed}
 use Rattle.alloc_event.proofs.serves.Before.{at_key as key_before}
 use Rattle.alloc_event.proofs.serves.Below.{enough_below, given_all_below, none_left_out, sum_below}
-use Rattle.alloc_event.proofs.serves.Chains.{Follows, chain, children_of, unitwide}
+use Rattle.alloc_event.proofs.serves.Chains.{Follows, chain, children_of, next_due, unitwide}
 use Rattle.alloc_event.proofs.serves.Enough.{fits_turn}
 use Rattle.alloc_event.proofs.serves.Gathered.{of_unit}
 use Rattle.alloc_event.proofs.serves.Gathered.{follows as follows_by}
@@ -56,7 +56,7 @@ use Rattle.alloc_event.proofs.tables.LeftParents.{loss_left}
 use Rattle.alloc_event.proofs.tables.Rooted.{IsLeft, left_node}
 use Rattle.alloc_event.proofs.tables.Writing.{IsSameNode}
 use Rattle.alloc_event.proofs.tallies.Slots.{all_at}
-use Rattle.alloc_event.proofs.serves.Allocated.{AreChildren, after_all}
+use Rattle.alloc_event.proofs.serves.Allocated.{AreChildren, after_all, roots_same}
 
 -- one collection that changed is put among the others
 pub put_among : (t now : Table Node) (s : Shelf) (ss : List Shelf) → AreRising ss → find (λ (x : Shelf). x.id == s.id) ss ≡ Some s →
@@ -110,30 +110,25 @@ module _ (t : Table Node) (us : List Unit) (key : NodeKey) (effect : Effect) (n 
   due : IsDueHead t nodes k
   due = due_head t ss opens.kept s opens.found k turn n place.on place.here refl
 
+  top : IsBareHead nodes k
+  top = due_bare t nodes k due
+
   unit_has : HasUnits us nodes
   unit_has = place.counted
 
   -- ---- the heads, before and after the effect
 
   children0 : AreChildren c0 hs
-  children0 = children_of t ss opens.kept s opens.found k due hs follows
+  children0 = children_of t ss opens.kept s opens.found k top hs follows (due_waiting t nodes k due)
 
   bare_all : (m : Node) → In m nodes → list_any (same_key m.head) hs ≡ true → m.allocated ≡ false
-  bare_all m there own = (unitwide t ss opens.kept s opens.found k due hs follows m there own).0
+  bare_all m there own = (unitwide t ss opens.kept s opens.found k top hs follows m there own).0
 
   first_here : list_any (same_key k) hs ≡ true
   first_here = follows.first
 
   children1 : AreChildren c1 hs
-  children1 j there =
-      ap (λ (o : Option Node). option_map_or (λ (m : Node). is_none m.parent) o false)
-      (find_map (is_of j) (is_of j) f nodes (λ m. ap (λ (i : NodeKey). same_key i j) (same m).key))
-      ∙ (by (node_of nodes j) ∙ children0 j there)
-    where
-      by : (o : Option Node) → option_map_or (λ (m : Node). is_none m.parent) (option_map f o) false
-          ≡ option_map_or (λ (m : Node). is_none m.parent) o false
-      by None = refl
-      by (Some m) = ap is_none (same m).parent
+  children1 j there = roots_same f (λ m. (same m).key) (λ m. (same m).parent) c0 j ∙ children0 j there
 
   -- a node of another unit stays
   stays_apart : (m : Node) → In m nodes → same_key m.head k ≡ false → f m ≡ m
@@ -197,9 +192,10 @@ module _ (t : Table Node) (us : List Unit) (key : NodeKey) (effect : Effect) (n 
       settles pool handles others rest =
           subst (λ (c : Collection). Settles pool handles others c1 c) (sym after.allocated)
           (all_settle c1 place.sound b has hs children1 (subst IsCalm after.allocated done.calm)
-          (λ d fewer none_next. chain t ss opens.kept s opens.found k due f same
+          (λ d fewer none_next. chain t ss opens.kept s opens.found k top f same
           (λ m. (remains_affected key effect m).gone) (λ m. (remains_affected key effect m).allocated) stays_apart after.ready hs follows d
-          none_next)
+          none_next (next_due t ss opens.kept s opens.found k top f same (λ m. (remains_affected key effect m).gone)
+          (λ m. (remains_affected key effect m).allocated) stays_apart after.ready due d))
           fits pool handles others
           (subst (λ (c : Collection). forced pool (standing handles others c) ≡ None) after.allocated rest))
 
@@ -288,8 +284,8 @@ served_by t now us key effect n was ss s strong opens next lives after is less r
     here : n.gone ≡ false
     here = ap (λ (m : Node). m.gone) is_left ∙ left.here
 
-    head : IsDueHead t (nodes_with t s.keys) n.head
-    head = due_head t ss opens.kept s opens.found n.head due.turn n on here refl
+    head : IsBareHead (nodes_with t s.keys) n.head
+    head = due_bare t (nodes_with t s.keys) n.head (due_head t ss opens.kept s opens.found n.head due.turn n on here refl)
 
     counts : HasUnits us (nodes_with t s.keys)
     counts = all_at (λ (c : Collection). HasUnits us c.nodes) (map (collection_in t) ss) opens.units (collection_in t s)
