@@ -33,13 +33,13 @@ use Rattle.alloc_event.specs.First.{IsFirst, IsLaid, wanted_of}
 use Rattle.alloc_event.specs.Forest.{Collection, all_held, beside, pages_in, with_nodes}
 use Rattle.alloc_event.specs.InPlace.{IsOpen}
 use Rattle.alloc_event.specs.Kept.{AreRising, Finishes, IsStored, IsWhole, Shelf, collection_in, forest_of, is_filed, nodes_with, place_in, put_shelf, shelf_of, shelves_of}
-use Rattle.alloc_event.specs.Nodes.{affected, given_buffers}
+use Rattle.alloc_event.specs.Nodes.{affected, after_allocation}
 use Rattle.alloc_event.specs.Outcomes.{IsOutcomeIn}
 use Rattle.alloc_event.specs.Parted.{are_parted}
 use Rattle.alloc_event.specs.Questions.{is_live_node, is_ready_node}
 use Rattle.alloc_event.specs.Reserved.{reserved_count}
 use Rattle.alloc_event.specs.Scenes.{IsSound, by_page, pages_held}
-use Rattle.alloc_event.specs.Serving.{AreLess, IsServedAt, asked_with, bars_at, is_left_out, left_out_at}
+use Rattle.alloc_event.specs.Serving.{AreLess, IsServedAt, are_enough, asked_with, bars_at, is_left_out, left_out_at}
 use Rattle.alloc_event.specs.Settling.{Forces, Handles, MayChange, Rests, Settles, changed, collection_or_new, given_back, made, no_key, put, standing}
 use Rattle.alloc_event.proofs.calm.Calming.{any_map, calm_none, none_calm, rests_strong}
 use Rattle.alloc_event.proofs.calm.Forcing.{forced_made}
@@ -53,7 +53,8 @@ use Rattle.alloc_event.proofs.failures.Endings.{change_nodes}
 use Rattle.alloc_event.proofs.intervals.Placings.{placed_made, places_sorted, pool_laid, scene_laid}
 use Rattle.alloc_event.proofs.intervals.Pools.{pool_back}
 use Rattle.alloc_event.proofs.lists.SameIntervals.{start_of}
-use Rattle.alloc_event.proofs.serves.First.{IsFirstMade, bare_here, first_made}
+use Rattle.alloc_event.proofs.serves.Chains.{Follows}
+use Rattle.alloc_event.proofs.serves.First.{IsFirstMade, bare_here, first_follows, first_made, none_more}
 use Rattle.alloc_event.proofs.serves.RootUnit.{first_decided, none_early, none_later, none_next}
 use Rattle.alloc_event.proofs.shelves.Counted.{counted_but, counted_put, filed_every, moved_but, shelves_put}
 use Rattle.alloc_event.proofs.shelves.Entries.{IsPlace, place_is, set_put}
@@ -163,8 +164,8 @@ module _ (handles : Handles) (t : Table Node) (es : List Entry) (id at : ℕ) (o
     (is : old ≡ get_or es at old) (kept : IsStored t (shelves_of es)) (all : AreCounted t es) (us : List Unit)
     (units : HaveUnits us t es) (key : NodeKey) (effect : Effect)
     (may : MayChange (forest_of t (shelves_of es)) id (Change.Effect key effect))
-    (plan : Plan) (first : IsFirst t us (shelf_of old) key effect old.strong plan) (held : List HeldBuffer) (now : Table Node)
-    (served : IsServedAt t now (plan.after.head ∷ []) old.keys.items (given_all (plan.after.head ∷ []) plan.after)) where
+    (heads : List NodeKey) (plan : Plan) (first : IsFirst t us (shelf_of old) key effect old.strong heads plan) (held : List HeldBuffer)
+    (now : Table Node) (served : IsServedAt t now heads old.keys.items (given_all heads plan.after)) where
   abbrev ss : List Shelf
   ss = shelves_of es
 
@@ -205,8 +206,11 @@ module _ (handles : Handles) (t : Table Node) (es : List Entry) (id at : ℕ) (o
   whole : IsWhole (collection_in t (shelf_of old))
   whole = found_whole t old.id ss s kept.whole opens.found
 
-  none_left : list_any (left_out_at t us (first.node.head ∷ [])) old.keys.items ≡ false
-  none_left = not_left_out t us old.id (first.node.head ∷ []) old.keys.items first.clear
+  none_left : list_any (left_out_at t us heads) old.keys.items ≡ false
+  none_left = not_left_out t us old.id heads old.keys.items first.room.room.clear
+
+  follows : Follows (nodes_with t old.keys.items) first.node.head heads
+  follows = first_follows t us key effect n first.was ss s old.strong opens first.root first.unserved heads first.room.are
 
   -- ---- the buffers are the collection's, and the root waits still
 
@@ -216,7 +220,7 @@ module _ (handles : Handles) (t : Table Node) (es : List Entry) (id at : ℕ) (o
       distinct = whole.sound.distinct;
       heads = whole.sound.heads;
       one_root = whole.sound.one_root;
-      few = le-leb plan.wants.count 64 first.count.1;
+      few = le-leb plan.wants.count 64 first.room.count.1;
     };
     rooted = whole.rooted;
     united = whole.united;
@@ -257,17 +261,14 @@ module _ (handles : Handles) (t : Table Node) (es : List Entry) (id at : ℕ) (o
       no_end = (none_calm (collection_in t s) opens.calm).no_end;
       no_root = (none_calm (collection_in t s) opens.calm).no_root;
       no_head = none_later (nodes_with t old.keys.items) plan.wants (none_next (nodes_with t old.keys.items)
-          (bare_here t us key effect n first.was ss s old.strong opens first.root first.unserved none_left));
+          (bare_here t us key effect n first.was ss s old.strong opens first.root first.unserved));
     });
     strong = opens.strong;
     units = units_there s s' refl us t ss kept.rising opens.found has_units units;
   }
 
-  served' : IsServedAt t now (first.node.head ∷ []) old.keys.items (given_all (first.node.head ∷ []) (f first.node))
-  served' =
-      subst (λ (h : NodeKey). IsServedAt t now (h ∷ []) old.keys.items (given_all (h ∷ []) (f first.node)))
-      (same_affected key effect first.node).head
-      (subst (λ (m : Node). IsServedAt t now (m.head ∷ []) old.keys.items (given_all (m.head ∷ []) m)) first.after_is served)
+  served' : IsServedAt t now heads old.keys.items (given_all heads (f first.node))
+  served' = subst (λ (m : Node). IsServedAt t now heads old.keys.items (given_all heads m)) first.after_is served
 
   pub head_is : plan.after.head ≡ first.node.head
   head_is = ap (λ (m : Node). m.head) first.after_is ∙ (same_affected key effect first.node).head
@@ -275,10 +276,13 @@ module _ (handles : Handles) (t : Table Node) (es : List Entry) (id at : ℕ) (o
   less' : AreLess us old.strong first.node (f first.node) plan.left plan.next
   less' = subst (λ (m : Node). AreLess us old.strong first.node m plan.left plan.next) first.after_is first.less
 
-  done : IsFirstMade t now (set us first.node.head.slot plan.next) ss' s' key effect first.node.head plan.left
-      (asked_with t old.keys.items (first.node.head ∷ []) (f first.node))
-  done = first_made t us key effect n first.was ss' s' old.strong opens' first.root first.unserved none_left served'.between served'.given
-      now served'.becomes served'.writes plan.left plan.next less'
+  enough : are_enough plan.wants 0 (asked_with t old.keys.items heads (f first.node)) ≡ true
+  enough = subst (λ (m : Node). are_enough plan.wants 0 (asked_with t old.keys.items heads m) ≡ true) first.after_is first.room.room.enough
+
+  done : IsFirstMade t now (set us first.node.head.slot plan.next) ss' s' key effect first.node.head heads plan.left
+      (asked_with t old.keys.items heads (f first.node)) (asked_with t old.keys.items (first.node.head ∷ []) (f first.node))
+  done = first_made t us key effect n first.was ss' s' old.strong opens' first.root first.unserved heads follows none_left
+      served'.between served'.given now served'.becomes served'.writes plan.left plan.next less' plan.wants refl enough
 
   -- ---- what is forced
 
@@ -286,7 +290,7 @@ module _ (handles : Handles) (t : Table Node) (es : List Entry) (id at : ℕ) (o
   sound1 = IsSound-map f (same_affected key effect) (collection_in t s) whole.sound
 
   wants_are : wanted_by first.node.head nodes1 ≡ plan.wants
-  wants_are = sym (first.wants_are ∙ (ap (λ (m : Node). wanted_of (asked_with t old.keys.items (first.node.head ∷ []) m)) first.after_is
+  wants_are = sym (first.room.wants_are ∙ (ap (λ (m : Node). wanted_of (asked_with t old.keys.items (first.node.head ∷ []) m)) first.after_is
       ∙ ap wanted_of done.asks))
 
   strong_now : has_strong (nodes_with now old.keys.items) ≡ true
@@ -294,14 +298,13 @@ module _ (handles : Handles) (t : Table Node) (es : List Entry) (id at : ℕ) (o
 
   strong1 : has_strong nodes1 ≡ true
   strong1 = sym (ap has_strong done.nodes
-      ∙ any_map (λ m. is_live_node m && not m.weak) (λ m. is_live_node m && not m.weak) (given_buffers first.node.head) nodes1
-      (λ m. refl)) ∙ strong_now
+      ∙ any_map (λ m. is_live_node m && not m.weak) (λ m. is_live_node m && not m.weak) (given_all heads) nodes1 (λ m. refl)) ∙ strong_now
 
   early : early_failure first.node.head nodes1 ≡ None
   early = none_early (has_strong nodes1) ((wanted_by first.node.head nodes1).count == 0)
       (nat_lt 64 (wanted_by first.node.head nodes1).count) strong1
-      (ap (λ (w : Buffers). w.count == 0) wants_are ∙ ne_eqb plan.wants.count 0 (λ e. omega (arith, e, first.count.0)))
-      (ap (λ (w : Buffers). nat_lt 64 w.count) wants_are ∙ le-ltb 64 plan.wants.count first.count.1)
+      (ap (λ (w : Buffers). w.count == 0) wants_are ∙ ne_eqb plan.wants.count 0 (λ e. omega (arith, e, first.room.count.0)))
+      (ap (λ (w : Buffers). nat_lt 64 w.count) wants_are ∙ le-ltb 64 plan.wants.count first.room.count.1)
 
   decides : (strong_open : Bool) → decided nodes1 old.buffers strong_open ≡ Some (Places first.node.head plan.wants)
   decides strong_open =
@@ -343,11 +346,17 @@ module _ (handles : Handles) (t : Table Node) (es : List Entry) (id at : ℕ) (o
     held_is : held ≡ laid_out pages (names old.id plan.wants.count) laid_are.starts ++ old.held.items
     held_is = laid_are.lies ∙ scene_laid old.id pages plan.wants.count laid_are.starts old.held.items laid_are.many
 
+    -- the root's unit is allocated first
     made_is : made before.size others (mark_of before.size (pages_in c1 ++ others) (Places first.node.head plan.wants)) c1
-        ≡ collection_in now s'
+        ≡ with_nodes (after_allocation first.node.head) (with_nodes (map (affected key effect)) (collection_in t s'))
     made_is =
         placed_made before.size others c1 first.node.head plan.wants laid_are.starts placing found_places
-        ∙ (λ i. record { id = old.id; nodes = sym done.nodes i; buffers = Some plan.wants; held = sym held_is i })
+        ∙ (λ i. record {
+          id = old.id;
+          nodes = after_allocation first.node.head nodes1;
+          buffers = Some plan.wants;
+          held = sym held_is i;
+        })
 
     rests : (xs : List Interval) → forced before.size (standing handles xs (collection_in now s')) ≡ None
     rests xs = rests_strong (collection_in now s') done.calm strong_now before.size handles xs
@@ -360,7 +369,7 @@ module _ (handles : Handles) (t : Table Node) (es : List Entry) (id at : ℕ) (o
         (forced_made handles before.size others c1
         ∙ ap (option_map (mark_of before.size (pages_in c1 ++ others))) (decides (standing handles others c1).strong_open))
         (subst (λ (c : Collection). Settles before.size handles others c (collection_in now s')) (sym made_is)
-        (Rests (collection_in now s') (rests others)))
+        (done.settles before.size handles others (rests others)))
 
     module _ (new : Entry) (shelf : shelf_of new ≡ s') where
       set_is : shelves_of (set es at new) ≡ ss'
@@ -423,8 +432,9 @@ module _ (handles : Handles) (t : Table Node) (es : List Entry) (id at : ℕ) (o
         (record {
           calm = subst (λ (x : Shelf). IsCalm (collection_in now x)) (sym shelf) done.calm;
           strong = strong ∙ (done.strong ∙ ap (λ (x : Shelf). strong_count (nodes_with now x.keys)) (sym shelf));
-          reserved = reserved ∙ (first.camping_is
-              ∙ (ap (λ (m : Node). sum_by (λ (d : Demand). d.camping) (asked_with t old.keys.items (first.node.head ∷ []) m)) first.after_is
+          reserved = reserved ∙ (first.room.room.sum_is
+              ∙ (none_more (sum_by (λ (d : Demand). d.camping) (asked_with t old.keys.items heads plan.after))
+              ∙ ap (λ (m : Node). sum_by (λ (d : Demand). d.camping) (asked_with t old.keys.items heads m)) first.after_is
               ∙ (sym done.reserved ∙ ap (λ (x : Shelf). reserved_count (nodes_with now x.keys)) (sym shelf))));
           tidy = λ h. ap (λ (x : Shelf). list_any (over_but new.noted.items) (nodes_with now x.keys)) shelf
               ∙ (done.over new.noted.items

@@ -177,24 +177,24 @@ module _ (t : Table Node) (ss : List Shelf) (kept : IsStored t ss) (s : Shelf) (
     module _ (hs : List NodeKey) (follows : Follows nodes k hs) (d : List NodeKey)
         (none : list_any (is_next_node (after_all d (map f nodes))) (after_all d (map f nodes)) ≡ false)
         (turn : list_any (same_key k) d ≡ false → list_any (is_next_node (after_all d (map f nodes))) (after_all d (map f nodes)) ≡ true)
-        where
-      chain_from : (fuel : ℕ) (j : NodeKey) → list_any (same_key j) hs ≡ true → length (above j) < fuel → list_any (same_key j) d ≡ true
-      chain_from zero j h few = absurd (omega arith)
-      chain_from (suc fuel) j h few = elim (either_way (list_any (same_key j) d)) [
-        | inl e ↦ e
-        | inr e ↦ elim (follows.each j h) [
-          | inl is ↦
-              let out : list_any (same_key k) d ≡ false = ap (λ (i : NodeKey). list_any (same_key i) d) (sym is) ∙ e in
-              both_ways (list_any (is_next_node (after_all d (map f nodes))) (after_all d (map f nodes))) (turn out) none
-          | inr g ↦
-              let w = g.waiting in
-              let shorter : length (above w.above.head) < length (above j) = higher hs follows j g in
-              both_ways (list_any (is_next_node (after_all d (map f nodes))) (after_all d (map f nodes)))
-              (next_in d j w e
-              (or_left (list_any (same_key w.above.head) d) w.above.allocated (chain_from fuel w.above.head g.unit (omega arith)))
-              (ready_still j g.idle)) none
+      where
+        chain_from : (fuel : ℕ) (j : NodeKey) → list_any (same_key j) hs ≡ true → length (above j) < fuel → list_any (same_key j) d ≡ true
+        chain_from zero j h few = absurd (omega arith)
+        chain_from (suc fuel) j h few = elim (either_way (list_any (same_key j) d)) [
+          | inl e ↦ e
+          | inr e ↦ elim (follows.each j h) [
+            | inl is ↦
+                let out : list_any (same_key k) d ≡ false = ap (λ (i : NodeKey). list_any (same_key i) d) (sym is) ∙ e in
+                both_ways (list_any (is_next_node (after_all d (map f nodes))) (after_all d (map f nodes))) (turn out) none
+            | inr g ↦
+                let w = g.waiting in
+                let shorter : length (above w.above.head) < length (above j) = higher hs follows j g in
+                both_ways (list_any (is_next_node (after_all d (map f nodes))) (after_all d (map f nodes)))
+                (next_in d j w e
+                (or_left (list_any (same_key w.above.head) d) w.above.allocated (chain_from fuel w.above.head g.unit (omega arith)))
+                (ready_still j g.idle)) none
+          ]
         ]
-      ]
 
-      pub chain : AreAmong hs d
-      chain j h = chain_from (suc (length (above j))) j h (omega arith)
+        pub chain : AreAmong hs d
+        chain j h = chain_from (suc (length (above j))) j h (omega arith)

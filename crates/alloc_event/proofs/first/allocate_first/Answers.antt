@@ -42,7 +42,8 @@ pub serve-requires-clause-there : goal.serve-requires-clause-there
 serve-requires-clause-there c =
     let t = c.args.table.now in
     let first : IsFirst t c.args.units.now.items (shelf_of c.index-entry.result.now) c.args.key c.args.effect.now
-    c.index-entry.result.now.strong c.in-Some-planned.plan = rw c.deref-2.ensures.value at c.in-Some-planned.ensures in
+    c.index-entry.result.now.strong c.planned.new.heads.items c.in-Some-planned.plan =
+    rw c.deref-2.ensures.value at c.in-Some-planned.ensures in
     let own : c.in-Some-planned.plan.after.key ≡ c.args.key =
     ap (λ (m : Node). m.key) first.after_is ∙ (same_affected c.args.key c.args.effect.now first.node).key
     ∙ c.requires.ready.kept.named c.args.key first.node first.was in
@@ -64,6 +65,9 @@ module _ (c : goal.After-drop-entry) where
 
   abbrev plan : Plan
   plan = c.in-Some-planned.plan
+
+  abbrev heads : List NodeKey
+  heads = c.planned.new.heads.items
 
   abbrev held : List HeldBuffer
   held = c.in-Some-2.held.items
@@ -91,12 +95,12 @@ module _ (c : goal.After-drop-entry) where
       ∙ sym c.index-entry.ensures
 
   first : IsFirst c.args.table.now c.args.units.now.items (shelf_of c.index-entry.result.now) c.args.key c.args.effect.now
-      c.index-entry.result.now.strong c.in-Some-planned.plan
+      c.index-entry.result.now.strong c.planned.new.heads.items c.in-Some-planned.plan
   first = rw c.deref-2.ensures.value at c.in-Some-planned.ensures
 
-  served : IsServedAt c.args.table.now c.serve.new.table (c.in-Some-planned.plan.after.head ∷ []) c.index-entry.result.now.keys.items
-      (given_all (c.in-Some-planned.plan.after.head ∷ []) c.in-Some-planned.plan.after)
-  served = rw c.as_slice.ensures.items at c.serve.ensures
+  served : IsServedAt c.args.table.now c.serve.new.table c.planned.new.heads.items c.index-entry.result.now.keys.items
+      (given_all c.planned.new.heads.items c.in-Some-planned.plan.after)
+  served = rw (c.as_slice.ensures.items, c.deref-3.ensures.value) at c.serve.ensures
 
   laid : IsLaid c.args.pool.now c.lay_in.new.pool c.index-entry.result.now.id c.in-Some-planned.plan.wants
       c.index-entry.result.now.held.items c.in-Some-2.held.items
@@ -113,17 +117,17 @@ module _ (c : goal.After-drop-entry) where
 pub returns-clause-units : goal.returns-clause-units
 returns-clause-units c =
     let slot = head_is (λ b s. 0) (t c) (es c) c.args.id c.in-Some.at (old c) (told c) c.index-entry.ensures c.requires.ready.kept
-    c.requires.ready.counted (us c) c.requires.ready.units c.args.key c.args.effect.now c.requires.ready.change (plan c) (first c)
+    c.requires.ready.counted (us c) c.requires.ready.units c.args.key c.args.effect.now c.requires.ready.change (heads c) (plan c) (first c)
     (held c) c.serve.new.table (served c) in
     subst (λ (l : List Unit). HaveUnits l c.serve.new.table (set (es c) c.in-Some.at (new c)))
     (sym (c.put_unit.ensures ∙ ap (λ (k : NodeKey). set (us c) k.slot c.in-Some-planned.plan.next) slot))
     (units_first (λ b s. 0) (t c) (es c) c.args.id c.in-Some.at (old c) (told c) c.index-entry.ensures c.requires.ready.kept
-    c.requires.ready.counted (us c) c.requires.ready.units c.args.key c.args.effect.now c.requires.ready.change (plan c) (first c)
+    c.requires.ready.counted (us c) c.requires.ready.units c.args.key c.args.effect.now c.requires.ready.change (heads c) (plan c) (first c)
     (held c) c.serve.new.table (served c) (new c) (shelf c))
 
 pub returns-clause-outcome : goal.returns-clause-outcome
 returns-clause-outcome c handles =
     outcome_first handles (t c) (es c) c.args.id c.in-Some.at (old c) (told c) c.index-entry.ensures c.requires.ready.kept
-    c.requires.ready.counted (us c) c.requires.ready.units c.args.key c.args.effect.now c.requires.ready.change (plan c) (first c)
+    c.requires.ready.counted (us c) c.requires.ready.units c.args.key c.args.effect.now c.requires.ready.change (heads c) (plan c) (first c)
     (held c) c.serve.new.table (served c) (new c) (shelf c) c.args.pool.now c.lay_in.new.pool (laid c) c.part.ensures c.requires.pool
     refl refl (ap (λ (e : Entry). e.tidy) (again c)) (ap (λ (e : Entry). e.noted.items) (again c)) c.part-2.ensures c.lay_in.ensures.size
