@@ -40,7 +40,7 @@ use Rattle.alloc_event.specs.Questions.{is_live_node, is_ready_node}
 use Rattle.alloc_event.specs.Reserved.{reserved_count}
 use Rattle.alloc_event.specs.Scenes.{IsSound, by_page, pages_held}
 use Rattle.alloc_event.specs.Serving.{AreLess, IsServedAt, are_enough, asked_with, bars_at, is_left_out, left_out_at}
-use Rattle.alloc_event.specs.Settling.{Forces, Handles, MayChange, Rests, Settles, changed, collection_or_new, given_back, made, no_key, put, standing}
+use Rattle.alloc_event.specs.Settling.{Forces, Handles, MayChange, Settles, changed, collection_or_new, given_back, made, no_key, put, standing}
 use Rattle.alloc_event.proofs.calm.Calming.{any_map, calm_none, none_calm, rests_strong}
 use Rattle.alloc_event.proofs.calm.Forcing.{forced_made}
 use Rattle.alloc_event.proofs.calm.Steps.{all-In, decided_steps}

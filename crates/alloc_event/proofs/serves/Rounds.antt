@@ -1,7 +1,7 @@
 -- Attached units that wait for one event and are allocated one after another, in the order of the forced steps.
-use Rattle.std.proofs.Common.{◌≡◌, ℕ, zero, suc, ◌≤◌, ◌<◌, ◌++◌, refl, ap, sym, ◌∙◌, subst, Bool, true, false, not, ◌&&◌, ◌||◌, inl, inr, is_none, List, [], ◌∷◌, Option, Some, None, arith}
+use Rattle.std.proofs.Common.{◌≡◌, ℕ, zero, suc, ◌≤◌, ◌<◌, ◌++◌, refl, ap, sym, ◌∙◌, subst, Bool, true, false, not, ◌&&◌, ◌||◌, inl, inr, List, [], ◌∷◌, Option, Some, None, arith}
 use Rattle.std.specs.List.{list_any, find}
-use Rattle.std.specs.Option.{option_map, option_map_or}
+use Rattle.std.specs.Option.{option_map}
 use Rattle.sm_names.specs.declared.keys.Interval.{Interval}
 use Rattle.sm_names.specs.declared.keys.NodeKey.{NodeKey}
 use Rattle.sm_names.specs.declared.outcomes.Buffers.{Buffers}
@@ -17,12 +17,12 @@ use Rattle.alloc_event.specs.Calm.{IsCalm}
 use Rattle.alloc_event.specs.Decisions.{decided, has_waiting, late_failure, mark_of}
 use Rattle.alloc_event.specs.Falls.{given_all}
 use Rattle.alloc_event.specs.Forest.{Collection, pages_in, with_nodes}
-use Rattle.alloc_event.specs.Nodes.{after_allocation, given_buffers, is_of, node_of}
+use Rattle.alloc_event.specs.Nodes.{after_allocation, given_buffers}
 use Rattle.alloc_event.specs.Progress.{Given, work}
 use Rattle.alloc_event.specs.Questions.{is_next_node}
 use Rattle.alloc_event.specs.Scenes.{IsSound}
 use Rattle.alloc_event.specs.Settling.{Handles, Rests, Settles, is_root_of, standing}
-use Rattle.alloc_event.proofs.calm.Calming.{AreNone, find_map, kept_rested, later, none_calm}
+use Rattle.alloc_event.proofs.calm.Calming.{AreNone, kept_rested, later, none_calm}
 use Rattle.alloc_event.proofs.calm.Forcing.{forced_made}
 use Rattle.alloc_event.proofs.calm.Movings.{less_left}
 use Rattle.alloc_event.proofs.calm.Settlings.{step_settles}

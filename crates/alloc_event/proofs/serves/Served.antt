@@ -1,5 +1,5 @@
 -- An effect by which an attached unit becomes ready, and its allocation and that of the units that follow, in their places.
-use Rattle.std.proofs.Common.{◌≡◌, ◌≢◌, ℕ, ◌+◌, ◌<◌, ◌==◌, nat_lt, refl, ap, sym, ◌∙◌, subst, Bool, true, false, not, ◌&&◌, ◌||◌, is_none, if◌then◌else◌, inl, inr, List, [], ◌∷◌, map, set, Option, Some, None, option_map, arith}
+use Rattle.std.proofs.Common.{◌≡◌, ◌≢◌, ℕ, ◌+◌, ◌<◌, ◌==◌, nat_lt, refl, ap, sym, ◌∙◌, subst, Bool, true, false, not, ◌&&◌, ◌||◌, is_none, if◌then◌else◌, inl, inr, List, [], ◌∷◌, map, set, Option, Some, None, arith}
 use Rattle.std.proofs.lemmas.Bool.{eqb-false, eqb-true, le-ltb, not-true}
 use Rattle.std.proofs.Math.Bool.{and-false}
 use Rattle.std.specs.List.{find, list_all, list_any, sum_by}
@@ -28,14 +28,13 @@ use Rattle.alloc_event.specs.Forest.{Collection, beside, with_nodes}
 use Rattle.alloc_event.specs.InPlace.{IsDone, IsOpen}
 use Rattle.alloc_event.specs.Kept.{AreRising, Finishes, Shelf, collection_in, forest_of, is_filed, nodes_with, written}
 use Rattle.alloc_event.specs.Falls.{given_all}
-use Rattle.alloc_event.specs.Nodes.{affected, is_of, node_of}
+use Rattle.alloc_event.specs.Nodes.{affected}
 use Rattle.alloc_event.specs.Questions.{demands_of, is_root_left}
 use Rattle.alloc_event.specs.Reserved.{reserved_count}
 use Rattle.alloc_event.specs.Resting.{is_kept_by}
 use Rattle.alloc_event.specs.Scenes.{heads_itself}
 use Rattle.alloc_event.specs.Serving.{AreLess, IsDue, IsGivenAt, IsRoom, IsServed, IsServedAt, IsServing, are_enough, asked_with, given_at, has_turn_at, is_in_some, left_out_at}
 use Rattle.alloc_event.specs.Settling.{Handles, Settles, changed, collection_or_new, given_back, is_root_of, no_key, put, standing}
-use Rattle.alloc_event.proofs.calm.Calming.{find_map}
 use Rattle.alloc_event.proofs.calm.Resting.{back_kept, rests_kept, rests_on, roots_stay}
 use Rattle.alloc_event.proofs.calm.Steps.{all-In, found_by_key}
 use Rattle.alloc_event.proofs.changes.Altering.{Some-shelf, found_filed, found_whole, same_affected}

@@ -140,6 +140,75 @@ fn a_root_is_served_with_a_unit_that_is_ready_on(
     Ok(())
 }
 
+// Both nodes of the unit ask, and so many buffers are camped on by the first.
+fn camp_in(ground: &mut Ground, unit: [NodeKey; 2], camping: u8) -> Result<(), Fail> {
+    ground.ask(unit[1], demand(0, 1, 100)?)?;
+    ground.ask(unit[0], demand(camping, 0, 4096)?)
+}
+
+// Whether the unit's head failed, since the buffers were too few.
+fn has_too_few(ground: &Ground, unit: [NodeKey; 2]) -> bool {
+    match ground.forest().node(unit[0]) {
+        Some(head) => head.gone && head.fault == failed(Failure::TooFew, unit[0]),
+        None => false,
+    }
+}
+
+#[test]
+fn what_follows_a_root_camps_on_its_buffers(rt: HostRuntime) -> Result<(), Fail> {
+    let (mut ground, root, others) = root_beside(rt.alloc(), 5)?;
+    what_follows_a_root_camps_on_its_buffers_on(&rt, &mut ground, root, &others)
+}
+
+// The same, on this ground.
+fn what_follows_a_root_camps_on_its_buffers_on(
+    rt: &impl Abort,
+    ground: &mut Ground,
+    root: NodeKey,
+    others: &[NodeKey],
+) -> Result<(), Fail> {
+    let unit = pair(ground, root)?;
+    let low = pair(ground, unit[1])?;
+    ask_each(ground, others)?;
+    camp_in(ground, low, 1)?;
+    camp_in(ground, unit, 1)?;
+    ground.ask(root, demand(0, 3, 4096)?)?;
+    assert!(rt; is_allocated(ground, root) && has_buffers(ground, 3, 4096, 13));
+    assert!(rt; are_served(ground, unit) && are_served(ground, low));
+    let third = pair(ground, root)?;
+    camp_in(ground, third, 2)?;
+    let fourth = pair(ground, root)?;
+    camp_in(ground, fourth, 1)?;
+    assert!(rt; has_too_few(ground, third) && are_served(ground, fourth));
+    Ok(())
+}
+
+#[test]
+fn what_follows_a_root_fails_alone_where_too_few_are_left(rt: HostRuntime) -> Result<(), Fail> {
+    let (mut ground, root, others) = root_beside(rt.alloc(), 5)?;
+    what_follows_a_root_fails_alone_where_too_few_are_left_on(&rt, &mut ground, root, &others)
+}
+
+// The same, on this ground.
+fn what_follows_a_root_fails_alone_where_too_few_are_left_on(
+    rt: &impl Abort,
+    ground: &mut Ground,
+    root: NodeKey,
+    others: &[NodeKey],
+) -> Result<(), Fail> {
+    let unit = pair(ground, root)?;
+    let low = pair(ground, unit[1])?;
+    let third = pair(ground, root)?;
+    ask_each(ground, others)?;
+    camp_in(ground, low, 2)?;
+    camp_in(ground, unit, 1)?;
+    camp_in(ground, third, 1)?;
+    ground.ask(root, demand(0, 2, 4096)?)?;
+    assert!(rt; is_allocated(ground, root) && has_buffers(ground, 2, 4096, 14));
+    assert!(rt; are_served(ground, unit) && has_too_few(ground, low) && are_served(ground, third));
+    Ok(())
+}
+
 #[test]
 fn a_root_fails_where_the_pool_is_too_small(rt: HostRuntime) -> Result<(), Fail> {
     let (mut ground, root, others) = root_beside(rt.alloc(), 5)?;

@@ -1,5 +1,5 @@
 -- The first allocation is made in its place, and the entry has the buffers.
-use Rattle.std.proofs.Common.{◌≡◌, ◌∙◌, List, Some, [], ◌∷◌, set, is_some, refl, sym, ap, subst, arith}
+use Rattle.std.proofs.Common.{◌≡◌, ◌∙◌, List, Some, set, is_some, refl, sym, ap, subst, arith}
 use Rattle.std.proofs.lemmas.List.{get_or_default}
 use Rattle.sm_names.specs.declared.keys.HeldBuffer.{HeldBuffer}
 use Rattle.sm_names.specs.declared.keys.NodeKey.{NodeKey}

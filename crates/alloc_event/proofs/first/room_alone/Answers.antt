@@ -1,5 +1,5 @@
 -- The root's unit is alone, and what it wants is enough for it.
-use Rattle.std.proofs.Common.{rules, ◌≡◌, ℕ, ◌∙◌, sym, ap, subst, inl, refl, List, [], ◌∷◌, max}
+use Rattle.std.proofs.Common.{rules, ◌≡◌, ◌∙◌, sym, subst, inl, refl, List, [], ◌∷◌, max}
 use Rattle.sm_names.specs.declared.keys.NodeKey.{NodeKey}
 use Rattle.sm_names.specs.declared.outcomes.Buffers.{Buffers}
 use Rattle.alloc_event.specs.First.{IsFirstRoom, wanted_of}
