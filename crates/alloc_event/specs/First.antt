@@ -1,4 +1,4 @@
--- The first allocation of a collection, made in its place. No public clause cites this module.
+-- The first allocation of a collection, made in its place with those of the units that follow. No public clause cites this module.
 use Rattle.std.specs.Prelude.{◌≡◌, ℕ, ◌≤◌, ◌^◌, ◌++◌, ◌⊎◌, Bool, true, false, nat_lt, max, List, [], ◌∷◌, length, Some, None}
 use Rattle.std.specs.List.{list_any, sum_by}
 use Rattle.std.specs.List.Sorted.{IsSorted}

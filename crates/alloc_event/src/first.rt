@@ -1,4 +1,4 @@
-//! The first allocation of a collection, made in its place.
+//! The first allocation of a collection, made in its place, with those of the units that follow.
 ghost use Rattle.std.specs.List.{list_any};
 ghost use Rattle.std.specs.List.Sorted.{IsSorted};
 ghost use Rattle.std.specs.Prelude.{◌≡◌, ◌≤◌, ◌^◌, max, Some, true, IfSome, IsSome};

@@ -89,9 +89,10 @@ impl Forest {
     /// loss.
     ///
     /// Where it is the root's and the collection has no buffers, something holds it and a strong node
-    /// stays live, no unit right below it is ready, what is asked for is some and within the limits,
-    /// and the pool has places, it is allocated in its place too, which costs a few reads of each node
-    /// of the collection, a write of each node of the unit, and what the places cost.
+    /// stays live, what it asks for is some, within the limits and enough for each unit that follows
+    /// so, and the pool has places, all these are allocated in their places too, which costs a few reads
+    /// of each node of the collection, a write of each node of the units, and what the places cost;
+    /// where others follow, some more reads of each node, and a logarithm of their number for each.
     ///
     /// A loss costs what `fall` costs and a binary search, where something still holds the unit above
     /// what it takes, and where that unit does not become ready by it or has its buffers. So does the

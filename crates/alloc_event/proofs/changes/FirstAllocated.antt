@@ -290,8 +290,8 @@ module _ (handles : Handles) (t : Table Node) (es : List Entry) (id at : ℕ) (o
   sound1 = IsSound-map f (same_affected key effect) (collection_in t s) whole.sound
 
   wants_are : wanted_by first.node.head nodes1 ≡ plan.wants
-  wants_are = sym (first.room.wants_are ∙ (ap (λ (m : Node). wanted_of (asked_with t old.keys.items (first.node.head ∷ []) m)) first.after_is
-      ∙ ap wanted_of done.asks))
+  wants_are = sym (first.room.wants_are
+      ∙ (ap (λ (m : Node). wanted_of (asked_with t old.keys.items (first.node.head ∷ []) m)) first.after_is ∙ ap wanted_of done.asks))
 
   strong_now : has_strong (nodes_with now old.keys.items) ≡ true
   strong_now = strong_lives (nodes_with now old.keys.items) plan.left first.strong done.strong

@@ -89,7 +89,8 @@ module _ (t : Table Node) (ss : List Shelf) (kept : IsStored t ss) (s : Shelf) (
         (chain_up nodes whole.sound.distinct whole.sound.heads whole.rooted whole.united w.above.head top)
         (in_unit_below nodes whole.sound.distinct whole.sound.heads whole.rooted whole.united w.above w.above_on w.above_here) in
         let next : length (above w.bare.head.key) ≡ length (w.above.key ∷ above w.above.key) =
-        ap length (step nodes whole.sound.distinct whole.sound.heads whole.rooted whole.united w.bare.head w.bare.on w.bare.here w.above.key w.up) in
+        ap length (step nodes whole.sound.distinct whole.sound.heads whole.rooted whole.united w.bare.head w.bare.on w.bare.here
+        w.above.key w.up) in
         let same : length (above j) ≡ length (above w.bare.head.key) = ap (λ (i : NodeKey). length (above i)) (sym w.bare.key) in
         omega arith
 
