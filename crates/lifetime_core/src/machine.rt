@@ -418,12 +418,12 @@ impl Core {
     /// none the collection fails. A buffer that comes home costs a pass over their names. A node that
     /// is forgotten costs a binary search among the nodes of its collection and a move of the keys on
     /// its shorter side; where more than 64 go in one event whose ends were spent before, or all
-    /// that is left of a collection goes, all its nodes are looked at instead. A Take costs at most five look-ups more for each buffer,
-    /// and fewer where the counts of the buffers stand one after the other, as the first Take left
-    /// them. An event that changes something in a collection costs one test for each node and each
-    /// buffer that trackers wait for there, two for a node of which lifetimes are waited for too,
-    /// however many wait for the same. A TrackLifetime or TrackWeak costs a test of its own
-    /// tracker, unless that fires.
+    /// that is left of a collection goes, all its nodes are looked at instead. A Take costs at most
+    /// five look-ups more for each buffer, and fewer where the counts of the buffers stand one after
+    /// the other, as the first Take left them. An event that changes something in a collection costs
+    /// one test for each node and each buffer that trackers wait for there, two for a node of which
+    /// lifetimes are waited for too, however many wait for the same. A TrackLifetime or TrackWeak
+    /// costs a test of its own tracker, unless that fires.
     pub fn step(&mut self, client: ClientId, call: Call) -> Result<Reply, StepFault>
         ensures answer { IfOk result (λ reply.
             IsAnswer self.old.limits (readings_of self.old) client call reply) }
