@@ -79,6 +79,12 @@ fn wanted(asks: &Asks) -> Option<Buffers>
     })
 }
 
+/// The most that a collection is given.
+const MOST: Buffers = Buffers {
+    count: 64,
+    size: 1073741824,
+};
+
 /// The buffers that the root's unit, with this head, wants once this node is in the place of the one
 /// with its key, and how many of them are camped on then: if all of these keys are of nodes of this
 /// collection, no attached unit right below is ready, and the buffers are some, and not too many. The
@@ -95,7 +101,7 @@ fn room_alone(
     ensures { IfSome result (λ found. IsFirstRoom table.now keys.now units.now id head after.now heads.new.items found.0 found.1) }
 {
     let one = [head];
-    let asks = asks_with(table, keys, units, id, &one, &one, after)?;
+    let asks = asks_with(table, keys, units, id, &one, &one, after, MOST)?;
     let wants = wanted(&asks)?;
     heads.clear();
     if heads.push(head).is_err() {
@@ -127,7 +133,7 @@ fn room_with(
         return None;
     }
     let one = [head];
-    let asks = asks_with(table, keys, units, id, heads, &one, after)?;
+    let asks = asks_with(table, keys, units, id, &[], &one, after, MOST)?;
     let wants = wanted(&asks)?;
     let camping = room_for(table, keys, units, id, 0, wants, heads, after)?;
     Some((wants, camping))

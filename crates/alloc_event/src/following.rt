@@ -27,7 +27,7 @@ pub(crate) fn is_one_of(heads: &[NodeKey], key: NodeKey) -> bool
 }
 
 /// Whether there is a node with this key, of a unit with one of these heads, which stand in order.
-pub(crate) fn is_of_some(table: &NodeTable<Node>, heads: &[NodeKey], key: NodeKey) -> bool
+fn is_of_some(table: &NodeTable<Node>, heads: &[NodeKey], key: NodeKey) -> bool
     requires { IsSorted key_order heads.now }
     ensures { result ≡ is_of_some table.now heads.now key }
 {

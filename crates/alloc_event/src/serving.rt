@@ -23,9 +23,7 @@ ghost use Rattle.alloc_event.specs.Serving.{AreLess, IsDue, IsGivenAt, IsRoom, I
 use crate::asks::Asks;
 use crate::change::Effect;
 use crate::entry::{Entry, place_of};
-use crate::following::{
-    hangs_below, heads_among, is_of_some, is_one_of, is_waiting_head, walk_units,
-};
+use crate::following::{hangs_below, heads_among, is_one_of, is_waiting_head, walk_units};
 use crate::in_place::{affected_by, less};
 use crate::kept::is_strong;
 use crate::node::Node;
@@ -97,7 +95,7 @@ fn is_left_out(table: &NodeTable<Node>, units: &[Unit], heads: &[NodeKey], node:
     requires { IsSorted key_order heads.now }
     ensures { result ≡ is_left_out table.now units.now heads.now node.now }
 {
-    hangs_below(table, units, heads, node) && !is_one_of(heads, node.key)
+    is_waiting_head(node) && !is_one_of(heads, node.key) && hangs_below(table, units, heads, node)
 }
 
 /// Whether the node with this key does, or is not of this collection.
@@ -149,8 +147,16 @@ fn asked_at(
     }
 }
 
+/// Whether these buffers are too few or too small for what is asked for.
+fn is_more(asks: &Asks, buffers: Buffers) -> bool {
+    asks.camping > buffers.count as u128
+        || asks.at_least as u32 > buffers.count
+        || asks.size > buffers.size
+}
+
 /// What the nodes with these keys ask for so that are of the units with those heads, if all are of this
-/// collection, and none of them is left out. Both lists of heads stand in order.
+/// collection, and none of them is left out. Both lists of heads stand in order. `None` also where it is
+/// seen on the way that these buffers are too few or too small.
 pub(crate) fn asks_with(
     table: &NodeTable<Node>,
     keys: &[NodeKey],
@@ -159,6 +165,7 @@ pub(crate) fn asks_with(
     heads: &[NodeKey],
     those: &[NodeKey],
     after: &Node,
+    most: Buffers,
 ) -> Option<Asks>
     requires sorted { IsSorted key_order heads.now }
     requires those { IsSorted key_order those.now }
@@ -180,6 +187,9 @@ pub(crate) fn asks_with(
             asks.camping += demand.camping() as u128;
             asks.at_least = asks.at_least.max(demand.at_least());
             asks.size = asks.size.max(demand.size());
+            if is_more(&asks, most) {
+                return None;
+            }
         }
     }
     Some(asks)
@@ -215,7 +225,7 @@ pub(crate) fn room_for(
     requires { IsSorted key_order heads.now }
     ensures { IfSome result (λ sum. IsRoom table.now keys.now units.now id reserved buffers heads.now after.now sum) }
 {
-    let asks = asks_with(table, keys, units, id, heads, heads, after)?;
+    let asks = asks_with(table, keys, units, id, heads, heads, after, buffers)?;
     let sum = with_room(buffers.count, reserved, asks.camping)?;
     if buffers.count >= asks.at_least as u32 && buffers.size >= asks.size {
         Some(sum)
@@ -259,20 +269,15 @@ fn give_at(table: &mut NodeTable<Node>, key: NodeKey, heads: &[NodeKey])
     requires named { (key : Key) (n : Kept) → node_at table.old key ≡ Some n → n.key ≡ key }
     ensures { IsGivenAt table.old table.new heads.now (key ∷ []) }
 {
-    if is_of_some(table, heads, key) {
-        give_one(table, key, heads);
+    let Some(node) = table.get(key) else {
+        return;
+    };
+    if !is_one_of(heads, node.head) {
+        return;
     }
-}
-
-/// The same, by a copy of the node.
-fn give_one(table: &mut NodeTable<Node>, key: NodeKey, heads: &[NodeKey])
-    requires sorted { IsSorted key_order heads.now }
-    requires named { (key : Key) (n : Kept) → node_at table.old key ≡ Some n → n.key ≡ key }
-    ensures { IsGivenAt table.old table.new heads.now (key ∷ []) }
-{
-    if let Some(node) = table.get(key).copied() {
-        write(table, given(node, heads));
-    }
+    let mut given = *node;
+    given.allocated = true;
+    write(table, given);
 }
 
 /// The node once the units with these heads, which stand in order, are allocated.
