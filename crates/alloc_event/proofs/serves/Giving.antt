@@ -2,7 +2,6 @@
 use Rattle.std.proofs.Common.{◌≡◌, refl, ap, sym, ◌∙◌, subst, Bool, true, false, ◌||◌, if◌then◌else◌, List, [], ◌∷◌, ◌++◌, Option, Some, None, option_map}
 use Rattle.std.proofs.lemmas.List.Folds.{list_any-append}
 use Rattle.std.specs.List.{list_any}
-use Rattle.std.specs.Option.{option_map_or}
 use Rattle.sm_names.specs.declared.keys.NodeKey.{NodeKey}
 use Rattle.sm_names.specs.Sameness.{same_key}
 use Rattle.sm_names.proofs.SamenessLaws.{false_if, same_key-refl, same_key-true}
@@ -11,7 +10,7 @@ use Rattle.node_table.specs.Lending.{table_with_node}
 use Rattle.node_table.specs.Table.{Table, node_at}
 use Rattle.alloc_event.specs.declared.node.Node.{Node}
 use Rattle.alloc_event.specs.Falls.{given_all}
-use Rattle.alloc_event.specs.Serving.{IsGivenAt, given_at, is_of_some}
+use Rattle.alloc_event.specs.Serving.{IsGivenAt, given_at}
 use Rattle.alloc_event.proofs.tables.Writing.{IsSameNode, look-changed, parents-written}
 
 -- each node is as it was otherwise
@@ -39,11 +38,6 @@ given_in heads keys n e = λ i. if e i then given_all heads n else n
 
 pub given_out : (heads keys : List NodeKey) (n : Node) → list_any (same_key n.key) keys ≡ false → given_at heads keys n ≡ n
 given_out heads keys n e = λ i. if e i then given_all heads n else n
-
--- what is there, and stays
-each_still : (f : Node → Node) (o : Option Node) → ((n : Node) → o ≡ Some n → f n ≡ n) → o ≡ option_map f o
-each_still f None same = refl
-each_still f (Some n) same = ap Some (sym (same n refl))
 
 -- once more makes no difference
 or_twice : (a b : Bool) → (a || (a || b)) ≡ (a || b)
@@ -81,27 +75,6 @@ given_more t u now heads k keys before one = record {
 
 module _ (t : Table Node) (named : (key : NodeKey) (n : Node) → node_at t key ≡ Some n → n.key ≡ key) (heads : List NodeKey)
     (key : NodeKey) where
-  -- by whether it has the key
-  by_key : (n : Node) (b : Bool) → (b ≡ true → given_all heads n ≡ n) → (if b || false then given_all heads n else n) ≡ n
-  by_key n true same = same refl
-  by_key n false same = refl
-
-  -- one that has them, or is of another unit, stays
-  pub given_still : ((n : Node) → node_at t key ≡ Some n → given_all heads n ≡ n) → IsGivenAt t t heads (key ∷ [])
-  given_still same = record {
-    look = λ k. each_still (given_at heads (key ∷ [])) (node_at t k) (λ n is. by_key n (same_key n.key key) (λ e.
-        same n (ap (node_at t) (sym (same_key-true n.key key e) ∙ named k n is) ∙ is)));
-    parents = λ k. refl;
-    same = record { first = refl; nexts = refl; limit = refl; len = refl };
-  }
-
-  -- one of another unit does
-  pub given_apart : is_of_some t heads key ≡ false → IsGivenAt t t heads (key ∷ [])
-  given_apart e = given_still (λ n is.
-      let apart : list_any (same_key n.head) heads ≡ false =
-      sym (ap (λ (o : Option Node). option_map_or (λ (m : Node). list_any (same_key m.head) heads) o false) is) ∙ e in
-      λ i. record n { allocated = apart i || n.allocated })
-
   -- a node is written so
   pub given_written : (now : Table Node) (n : Node) → node_at t key ≡ Some n →
       now ≡ table_with_node t (given_all heads n).key (given_all heads n) →
