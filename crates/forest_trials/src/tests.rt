@@ -20,6 +20,7 @@ mod first;
 mod ground;
 mod held;
 mod many;
+mod plays;
 mod refusing;
 mod serving;
 mod waiting;

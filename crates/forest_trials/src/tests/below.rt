@@ -1,6 +1,7 @@
 //! Units that are ready below one that becomes ready: they are allocated by the same call.
 use super::ground::{Ground, HERE};
-use super::many::{are_allocated, ask_each, failed, family, hang_chain, is_allocated};
+use super::many::{are_allocated, ask_each, failed, hang_chain, is_allocated};
+use super::plays::{family, on_root};
 use super::serving::{are_served, pair};
 use super::{demand, failed as fault};
 use sm_names::{Failure, NodeKey};
@@ -9,14 +10,14 @@ use std::process::Abort;
 use std::test::Fail;
 
 // A root that was given ten buffers of 4,096 bytes, and 300 nodes of its unit.
-fn ten_buffers(alloc: Global) -> Result<(Ground, NodeKey), Fail> {
-    let (mut ground, keys) = family(alloc, 300, false)?;
+fn ten_buffers(alloc: Global, ground: &mut Ground) -> Result<NodeKey, Fail> {
+    let keys = family(alloc, ground, 300, false)?;
     let Some((root, others)) = keys.split_first() else {
         return Err(Fail::from("no root"));
     };
-    ask_each(&mut ground, others)?;
+    ask_each(ground, others)?;
     ground.ask(*root, demand(0, 10, 4096)?)?;
-    Ok((ground, *root))
+    Ok(*root)
 }
 
 // Each of these camps on so many.
@@ -39,8 +40,10 @@ fn served_with(ground: &mut Ground, unit: [NodeKey; 2], below: &[NodeKey]) -> Re
 
 #[test]
 fn a_chain_of_ready_units_is_served_with_the_one_above(rt: HostRuntime) -> Result<(), Fail> {
-    let (mut ground, root) = ten_buffers(rt.alloc())?;
-    a_chain_of_ready_units_is_served_with_the_one_above_on(&rt, rt.alloc(), &mut ground, root)
+    let alloc = rt.alloc();
+    on_root(alloc, ten_buffers, |ground, root| {
+        a_chain_of_ready_units_is_served_with_the_one_above_on(&rt, alloc, ground, root)
+    })
 }
 
 // The same, on this ground.
@@ -61,8 +64,10 @@ fn a_chain_of_ready_units_is_served_with_the_one_above_on(
 // Ten camp on a buffer each, and there are ten.
 #[test]
 fn the_buffers_are_enough_for_a_chain(rt: HostRuntime) -> Result<(), Fail> {
-    let (mut ground, root) = ten_buffers(rt.alloc())?;
-    the_buffers_are_enough_for_a_chain_on(&rt, rt.alloc(), &mut ground, root)
+    let alloc = rt.alloc();
+    on_root(alloc, ten_buffers, |ground, root| {
+        the_buffers_are_enough_for_a_chain_on(&rt, alloc, ground, root)
+    })
 }
 
 // The same, on this ground.
@@ -121,30 +126,40 @@ fn ready_each(ground: &mut Ground, units: &[[NodeKey; 2]]) -> Result<(), Fail> {
 
 #[test]
 fn a_tree_of_ready_units_is_served_as_a_node_is_released(rt: HostRuntime) -> Result<(), Fail> {
-    let (mut ground, root) = ten_buffers(rt.alloc())?;
-    a_tree_of_ready_units_is_served_as_a_node_is_released_on(&rt, rt.alloc(), &mut ground, root)
+    let alloc = rt.alloc();
+    let served = on_root(alloc, ten_buffers, |ground, root| {
+        serve_tree(alloc, ground, root)
+    })?;
+    assert!(rt; served);
+    Ok(())
 }
 
-// The same, on this ground.
-fn a_tree_of_ready_units_is_served_as_a_node_is_released_on(
-    rt: &impl Abort,
-    alloc: Global,
+// Whether three layers that are ready wait for the unit above them, and are served with it.
+fn serve_layers(
     ground: &mut Ground,
-    root: NodeKey,
-) -> Result<(), Fail> {
+    top: [NodeKey; 2],
+    first: &[[NodeKey; 2]],
+    second: &[[NodeKey; 2]],
+    third: &[[NodeKey; 2]],
+) -> Result<bool, Fail> {
+    ready_each(ground, third)?;
+    ready_each(ground, first)?;
+    ready_each(ground, second)?;
+    ground.ask(top[0], demand(0, 1, 4096)?)?;
+    let waited = all_served(ground, first, false) && all_served(ground, third, false);
+    ground.release(top[1])?;
+    let served = are_served(ground, top) && all_served(ground, first, true);
+    let below = all_served(ground, second, true) && all_served(ground, third, true);
+    Ok(waited && served && below)
+}
+
+// The same, in a tree below the root.
+fn serve_tree(alloc: Global, ground: &mut Ground, root: NodeKey) -> Result<bool, Fail> {
     let top = pair(ground, root)?;
     let first = branch(alloc, ground, &[top])?;
     let second = branch(alloc, ground, &first)?;
     let third = branch(alloc, ground, &second)?;
-    ready_each(ground, &third)?;
-    ready_each(ground, &first)?;
-    ready_each(ground, &second)?;
-    ground.ask(top[0], demand(0, 1, 4096)?)?;
-    assert!(rt; all_served(ground, &first, false) && all_served(ground, &third, false));
-    ground.release(top[1])?;
-    assert!(rt; are_served(ground, top) && all_served(ground, &first, true));
-    assert!(rt; all_served(ground, &second, true) && all_served(ground, &third, true));
-    Ok(())
+    serve_layers(ground, top, &first, &second, &third)
 }
 
 // Whether the units before this place of the chain are served, and it waits with those behind it.
@@ -159,8 +174,10 @@ fn serves_up_to(ground: &Ground, below: &[NodeKey], at: usize) -> bool {
 
 #[test]
 fn a_unit_that_waits_stops_those_below_it(rt: HostRuntime) -> Result<(), Fail> {
-    let (mut ground, root) = ten_buffers(rt.alloc())?;
-    a_unit_that_waits_stops_those_below_it_on(&rt, rt.alloc(), &mut ground, root)
+    let alloc = rt.alloc();
+    on_root(alloc, ten_buffers, |ground, root| {
+        a_unit_that_waits_stops_those_below_it_on(&rt, alloc, ground, root)
+    })
 }
 
 // The same, on this ground.
@@ -208,29 +225,45 @@ fn fails_alone(ground: &Ground, keys: [NodeKey; 3], why: Failure) -> bool {
     is_so && is_allocated(ground, keys[0]) && is_allocated(ground, keys[2])
 }
 
+// Whether the unit is served, and of those below the second alone fails so.
+fn fails_below(
+    ground: &mut Ground,
+    root: NodeKey,
+    asked: (u8, u32),
+    why: Failure,
+) -> Result<bool, Fail> {
+    let unit = pair(ground, root)?;
+    let keys = two_and_one(ground, unit, asked.0, asked.1)?;
+    Ok(is_allocated(ground, unit[0]) && fails_alone(ground, keys, why))
+}
+
 #[test]
 fn one_that_asks_for_too_many_fails_alone(rt: HostRuntime) -> Result<(), Fail> {
-    let (mut ground, root) = ten_buffers(rt.alloc())?;
-    let unit = pair(&mut ground, root)?;
-    let keys = two_and_one(&mut ground, unit, 4, 4096)?;
-    assert!(rt; is_allocated(&ground, unit[0]) && fails_alone(&ground, keys, Failure::TooFew));
+    let fails = on_root(rt.alloc(), ten_buffers, |ground, root| {
+        fails_below(ground, root, (4, 4096), Failure::TooFew)
+    })?;
+    assert!(rt; fails);
     Ok(())
 }
 
 #[test]
 fn one_that_asks_for_larger_ones_fails_alone(rt: HostRuntime) -> Result<(), Fail> {
-    let (mut ground, root) = ten_buffers(rt.alloc())?;
-    let unit = pair(&mut ground, root)?;
-    let keys = two_and_one(&mut ground, unit, 1, 9000)?;
-    assert!(rt; is_allocated(&ground, unit[0]) && fails_alone(&ground, keys, Failure::TooSmall));
+    let fails = on_root(rt.alloc(), ten_buffers, |ground, root| {
+        fails_below(ground, root, (1, 9000), Failure::TooSmall)
+    })?;
+    assert!(rt; fails);
     Ok(())
+}
+
+// Whether the unit and all below it are served.
+fn all_have_enough(ground: &mut Ground, root: NodeKey) -> Result<bool, Fail> {
+    let unit = pair(ground, root)?;
+    let keys = two_and_one(ground, unit, 1, 4096)?;
+    Ok(is_allocated(ground, unit[0]) && are_allocated(ground, &keys, true))
 }
 
 #[test]
 fn two_units_and_one_below_have_just_enough(rt: HostRuntime) -> Result<(), Fail> {
-    let (mut ground, root) = ten_buffers(rt.alloc())?;
-    let unit = pair(&mut ground, root)?;
-    let keys = two_and_one(&mut ground, unit, 1, 4096)?;
-    assert!(rt; is_allocated(&ground, unit[0]) && are_allocated(&ground, &keys, true));
+    assert!(rt; on_root(rt.alloc(), ten_buffers, all_have_enough)?);
     Ok(())
 }

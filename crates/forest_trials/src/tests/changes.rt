@@ -2,6 +2,7 @@
 ghost use Rattle.std.specs.Prelude.{true, is_some};
 
 use super::ground::{Ground, HERE};
+use super::plays::{on_forest, on_ground};
 use super::{LOW, MIDDLE, ROOT, demand, failed};
 use alloc_event::births::{new_child, new_root};
 use alloc_event::forest::Forest;
@@ -39,12 +40,11 @@ struct Outcome {
     free_pages: u32,
 }
 
-fn three_units(alloc: Global) -> Result<(Ground, [NodeKey; 3]), Fail> {
-    let mut ground = Ground::new(alloc)?;
+fn three_units(ground: &mut Ground) -> Result<[NodeKey; 3], Fail> {
     let root = ground.bear(None, false)?;
     let middle = ground.bear(Some(root), true)?;
     let low = ground.bear(Some(middle), true)?;
-    Ok((ground, [root, middle, low]))
+    Ok([root, middle, low])
 }
 
 fn key_of(keys: &[NodeKey; 3], at: usize) -> Result<NodeKey, Fail> {
@@ -115,18 +115,21 @@ fn went(allocated: bool, fault: Option<Fault>) -> Option<Fate> {
     })
 }
 
-fn after(alloc: Global, steps: &[Step]) -> Result<(Ground, [NodeKey; 3]), Fail> {
-    let (mut ground, keys) = three_units(alloc)?;
+fn after(ground: &mut Ground, steps: &[Step]) -> Result<[NodeKey; 3], Fail> {
+    let keys = three_units(ground)?;
     for step in steps {
-        take_step(&mut ground, &keys, *step)?;
+        take_step(ground, &keys, *step)?;
     }
-    Ok((ground, keys))
+    Ok(keys)
 }
 
 // Whether the steps come to this.
 fn comes_to(alloc: Global, steps: &[Step], wanted: &Outcome) -> Result<bool, Fail> {
-    let (ground, keys) = after(alloc, steps)?;
-    Ok(seen(&ground, &keys) == *wanted)
+    let outcome = on_ground(alloc, |_alloc, ground| {
+        let keys = after(ground, steps)?;
+        Ok(seen(ground, &keys))
+    })?;
+    Ok(outcome == *wanted)
 }
 
 fn is_as_born(forest: &Forest, keys: &[NodeKey; 3]) -> bool {
@@ -140,10 +143,14 @@ fn is_as_born(forest: &Forest, keys: &[NodeKey; 3]) -> bool {
         && !forest.strong_live(HERE + 1)
 }
 
+fn are_born(_alloc: Global, ground: &mut Ground) -> Result<bool, Fail> {
+    let keys = three_units(ground)?;
+    Ok(is_as_born(ground.forest(), &keys))
+}
+
 #[test]
 fn nodes_are_born_below_their_parents(rt: HostRuntime) -> Result<(), Fail> {
-    let (ground, keys) = three_units(rt.alloc())?;
-    assert!(rt; is_as_born(ground.forest(), &keys));
+    assert!(rt; on_ground(rt.alloc(), are_born)?);
     Ok(())
 }
 
@@ -272,10 +279,11 @@ fn forgets(rt: &impl Abort, forest: &mut Forest, keys: &[NodeKey; 3]) {
 
 #[test]
 fn what_is_over_is_forgotten(rt: HostRuntime) -> Result<(), Fail> {
-    let (ground, keys) = after(rt.alloc(), &[Step::Lose(0)])?;
-    let mut forest = ground.into_forest();
-    forgets(&rt, &mut forest, &keys);
-    Ok(())
+    on_forest(
+        rt.alloc(),
+        |_alloc, ground| after(ground, &[Step::Lose(0)]),
+        |forest, keys| forgets(&rt, forest, keys),
+    )
 }
 
 // Two are gone, and one of them is over.
@@ -289,8 +297,9 @@ fn forgets_at_once(rt: &impl Abort, forest: &mut Forest, keys: &[NodeKey; 3]) {
 
 #[test]
 fn one_pass_forgets_all_that_is_over(rt: HostRuntime) -> Result<(), Fail> {
-    let (ground, keys) = after(rt.alloc(), &[Step::Lose(1)])?;
-    let mut forest = ground.into_forest();
-    forgets_at_once(&rt, &mut forest, &keys);
-    Ok(())
+    on_forest(
+        rt.alloc(),
+        |_alloc, ground| after(ground, &[Step::Lose(1)]),
+        |forest, keys| forgets_at_once(&rt, forest, keys),
+    )
 }

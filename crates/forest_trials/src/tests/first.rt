@@ -1,6 +1,7 @@
 //! First allocations, made in their places.
 use super::ground::{Ground, HERE};
-use super::many::{are_allocated, ask_each, bear_each, is_allocated, release_each};
+use super::many::{are_allocated, ask_each, is_allocated, release_each};
+use super::plays::{bear_each, on_ground};
 use super::serving::{are_served, pair};
 use super::{demand, failed};
 use sm_names::{Buffers, Constraints, Failure, NodeKey};
@@ -9,15 +10,32 @@ use std::process::Abort;
 use std::test::Fail;
 
 // A root and so many nodes of its unit, whose keys come last, beside ten attached units.
-fn root_beside(alloc: Global, count: usize) -> Result<(Ground, NodeKey, Vec<NodeKey>), Fail> {
-    let mut ground = Ground::new(alloc)?;
+fn root_beside(
+    alloc: Global,
+    ground: &mut Ground,
+    count: usize,
+) -> Result<(NodeKey, Vec<NodeKey>), Fail> {
     let root = ground.bear(None, false)?;
     for _ in 0..10 {
-        pair(&mut ground, root)?;
+        pair(ground, root)?;
     }
     let mut others = Vec::new(alloc);
-    bear_each(&mut ground, &mut others, root, count, false)?;
-    Ok((ground, root, others))
+    bear_each(ground, &mut others, root, count, false)?;
+    Ok((root, others))
+}
+
+// Plays on such a root.
+fn on_root_beside<T: Drop, F: FnOnce(&mut Ground, NodeKey, &[NodeKey]) -> Result<T, Fail>>(
+    alloc: Global,
+    count: usize,
+    play: F,
+) -> Result<T, Fail>
+    requires { F.IsAlwaysCallable play }
+{
+    on_ground(alloc, |alloc, ground| {
+        let (root, others) = root_beside(alloc, ground, count)?;
+        play(ground, root, &others)
+    })
 }
 
 // Whether the collection was given these buffers, which are held, and so many pages are free.
@@ -42,8 +60,9 @@ fn has_failed(ground: &Ground, root: NodeKey, why: Failure) -> bool {
 
 #[test]
 fn a_root_alone_is_given_what_it_asks_for(rt: HostRuntime) -> Result<(), Fail> {
-    let mut ground = Ground::new(rt.alloc())?;
-    a_root_alone_is_given_what_it_asks_for_on(&rt, &mut ground)
+    on_ground(rt.alloc(), |_alloc, ground| {
+        a_root_alone_is_given_what_it_asks_for_on(&rt, ground)
+    })
 }
 
 // The same, on this ground.
@@ -66,59 +85,53 @@ fn a_root_alone_is_given_what_it_asks_for_on(
 
 #[test]
 fn a_root_is_served_beside_units_that_wait(rt: HostRuntime) -> Result<(), Fail> {
-    let (mut ground, root, others) = root_beside(rt.alloc(), 20)?;
-    a_root_is_served_beside_units_that_wait_on(&rt, &mut ground, root, &others)
+    assert!(rt; on_root_beside(rt.alloc(), 20, serve_beside_waiting)?);
+    Ok(())
 }
 
-// The same, on this ground.
-fn a_root_is_served_beside_units_that_wait_on(
-    rt: &impl Abort,
+// Whether the root's unit is served while another waits, which is served as it asks.
+fn serve_beside_waiting(
     ground: &mut Ground,
     root: NodeKey,
     others: &[NodeKey],
-) -> Result<(), Fail> {
+) -> Result<bool, Fail> {
     let unit = pair(ground, root)?;
     ask_each(ground, others)?;
-    assert!(rt; !is_allocated(ground, root));
+    let waited = !is_allocated(ground, root);
     ground.ask(root, demand(0, 2, 4097)?)?;
-    assert!(rt; is_allocated(ground, root) && are_allocated(ground, others, true));
-    assert!(rt; has_buffers(ground, 2, 4097, 12) && !is_allocated(ground, unit[0]));
+    let served = is_allocated(ground, root) && are_allocated(ground, others, true);
+    let alone = has_buffers(ground, 2, 4097, 12) && !is_allocated(ground, unit[0]);
     ask_each(ground, &unit)?;
-    assert!(rt; are_served(ground, unit));
-    Ok(())
+    Ok(waited && served && alone && are_served(ground, unit))
 }
 
 #[test]
 fn a_root_is_served_by_a_release(rt: HostRuntime) -> Result<(), Fail> {
-    let (mut ground, root, others) = root_beside(rt.alloc(), 20)?;
-    a_root_is_served_by_a_release_on(&rt, &mut ground, root, &others)
+    assert!(rt; on_root_beside(rt.alloc(), 20, serve_by_release)?);
+    Ok(())
 }
 
-// The same, on this ground.
-fn a_root_is_served_by_a_release_on(
-    rt: &impl Abort,
-    ground: &mut Ground,
-    root: NodeKey,
-    others: &[NodeKey],
-) -> Result<(), Fail> {
+// Whether the root, which is released, is served with the others as the last of them is released.
+fn serve_by_release(ground: &mut Ground, root: NodeKey, others: &[NodeKey]) -> Result<bool, Fail> {
     let Some((last, more)) = others.split_last() else {
         return Err(Fail::from("no other node"));
     };
     ground.release(root)?;
     ask_each(ground, more)?;
-    assert!(rt; !is_allocated(ground, root));
+    let waited = !is_allocated(ground, root);
     ground.release(*last)?;
-    assert!(rt; is_allocated(ground, root) && has_buffers(ground, 1, 4096, 15));
-    assert!(rt; ground.forest().strong_live(HERE));
+    let served = is_allocated(ground, root) && has_buffers(ground, 1, 4096, 15);
+    let strong = ground.forest().strong_live(HERE);
     release_each(ground, more)?;
-    assert!(rt; is_allocated(ground, root) && ground.forest().strong_live(HERE));
-    Ok(())
+    let stays = is_allocated(ground, root) && ground.forest().strong_live(HERE);
+    Ok(waited && served && strong && stays)
 }
 
 #[test]
 fn a_root_is_served_with_a_unit_that_is_ready(rt: HostRuntime) -> Result<(), Fail> {
-    let (mut ground, root, others) = root_beside(rt.alloc(), 5)?;
-    a_root_is_served_with_a_unit_that_is_ready_on(&rt, &mut ground, root, &others)
+    on_root_beside(rt.alloc(), 5, |ground, root, others| {
+        a_root_is_served_with_a_unit_that_is_ready_on(&rt, ground, root, others)
+    })
 }
 
 // The same, on this ground.
@@ -154,48 +167,32 @@ fn has_too_few(ground: &Ground, unit: [NodeKey; 2]) -> bool {
     }
 }
 
-#[test]
-fn what_follows_a_root_camps_on_its_buffers(rt: HostRuntime) -> Result<(), Fail> {
-    let (mut ground, root, others) = root_beside(rt.alloc(), 5)?;
-    what_follows_a_root_camps_on_its_buffers_on(&rt, &mut ground, root, &others)
-}
-
-// The same, on this ground.
-fn what_follows_a_root_camps_on_its_buffers_on(
-    rt: &impl Abort,
-    ground: &mut Ground,
-    root: NodeKey,
-    others: &[NodeKey],
-) -> Result<(), Fail> {
+// Whether two units, one below the other, camp on two of the root's three buffers, so that of two
+// others the one that asks for two fails, and the one that asks for one is served.
+fn camp_below(ground: &mut Ground, root: NodeKey, others: &[NodeKey]) -> Result<bool, Fail> {
     let unit = pair(ground, root)?;
     let low = pair(ground, unit[1])?;
     ask_each(ground, others)?;
     camp_in(ground, low, 1)?;
     camp_in(ground, unit, 1)?;
     ground.ask(root, demand(0, 3, 4096)?)?;
-    assert!(rt; is_allocated(ground, root) && has_buffers(ground, 3, 4096, 13));
-    assert!(rt; are_served(ground, unit) && are_served(ground, low));
+    let given = is_allocated(ground, root) && has_buffers(ground, 3, 4096, 13);
+    let both = are_served(ground, unit) && are_served(ground, low);
     let third = pair(ground, root)?;
     camp_in(ground, third, 2)?;
     let fourth = pair(ground, root)?;
     camp_in(ground, fourth, 1)?;
-    assert!(rt; has_too_few(ground, third) && are_served(ground, fourth));
-    Ok(())
+    Ok(given && both && has_too_few(ground, third) && are_served(ground, fourth))
 }
 
 #[test]
-fn what_follows_a_root_fails_alone_where_too_few_are_left(rt: HostRuntime) -> Result<(), Fail> {
-    let (mut ground, root, others) = root_beside(rt.alloc(), 5)?;
-    what_follows_a_root_fails_alone_where_too_few_are_left_on(&rt, &mut ground, root, &others)
+fn what_follows_a_root_camps_on_its_buffers(rt: HostRuntime) -> Result<(), Fail> {
+    assert!(rt; on_root_beside(rt.alloc(), 5, camp_below)?);
+    Ok(())
 }
 
-// The same, on this ground.
-fn what_follows_a_root_fails_alone_where_too_few_are_left_on(
-    rt: &impl Abort,
-    ground: &mut Ground,
-    root: NodeKey,
-    others: &[NodeKey],
-) -> Result<(), Fail> {
+// Whether a unit fails that camps on more than is left, and those before and behind it are served.
+fn one_has_too_few(ground: &mut Ground, root: NodeKey, others: &[NodeKey]) -> Result<bool, Fail> {
     let unit = pair(ground, root)?;
     let low = pair(ground, unit[1])?;
     let third = pair(ground, root)?;
@@ -204,24 +201,38 @@ fn what_follows_a_root_fails_alone_where_too_few_are_left_on(
     camp_in(ground, unit, 1)?;
     camp_in(ground, third, 1)?;
     ground.ask(root, demand(0, 2, 4096)?)?;
-    assert!(rt; is_allocated(ground, root) && has_buffers(ground, 2, 4096, 14));
-    assert!(rt; are_served(ground, unit) && has_too_few(ground, low) && are_served(ground, third));
+    let given = is_allocated(ground, root) && has_buffers(ground, 2, 4096, 14);
+    let two = are_served(ground, unit) && are_served(ground, third);
+    Ok(given && two && has_too_few(ground, low))
+}
+
+#[test]
+fn what_follows_a_root_fails_alone_where_too_few_are_left(rt: HostRuntime) -> Result<(), Fail> {
+    assert!(rt; on_root_beside(rt.alloc(), 5, one_has_too_few)?);
     Ok(())
+}
+
+// Whether the root fails, which asks for more pages than there are.
+fn ask_for_too_many(ground: &mut Ground, root: NodeKey, others: &[NodeKey]) -> Result<bool, Fail> {
+    ask_all(ground, root, others, demand(0, 17, 4096)?)?;
+    Ok(has_failed(ground, root, Failure::PoolFull))
 }
 
 #[test]
 fn a_root_fails_where_the_pool_is_too_small(rt: HostRuntime) -> Result<(), Fail> {
-    let (mut ground, root, others) = root_beside(rt.alloc(), 5)?;
-    ask_all(&mut ground, root, &others, demand(0, 17, 4096)?)?;
-    assert!(rt; has_failed(&ground, root, Failure::PoolFull));
+    assert!(rt; on_root_beside(rt.alloc(), 5, ask_for_too_many)?);
     Ok(())
+}
+
+// Whether it is served, where it asks for all pages.
+fn ask_for_all(ground: &mut Ground, root: NodeKey, others: &[NodeKey]) -> Result<bool, Fail> {
+    ask_all(ground, root, others, demand(16, 3, 4096)?)?;
+    Ok(is_allocated(ground, root) && has_buffers(ground, 16, 4096, 0))
 }
 
 #[test]
 fn a_root_is_served_where_the_pool_is_just_large_enough(rt: HostRuntime) -> Result<(), Fail> {
-    let (mut ground, root, others) = root_beside(rt.alloc(), 5)?;
-    ask_all(&mut ground, root, &others, demand(16, 3, 4096)?)?;
-    assert!(rt; is_allocated(&ground, root) && has_buffers(&ground, 16, 4096, 0));
+    assert!(rt; on_root_beside(rt.alloc(), 5, ask_for_all)?);
     Ok(())
 }
 
@@ -238,8 +249,9 @@ fn ask_all(
 
 #[test]
 fn a_root_fails_where_too_much_is_asked_for(rt: HostRuntime) -> Result<(), Fail> {
-    let (mut ground, root, others) = root_beside(rt.alloc(), 1)?;
-    a_root_fails_where_too_much_is_asked_for_on(&rt, &mut ground, root, &others)
+    on_root_beside(rt.alloc(), 1, |ground, root, others| {
+        a_root_fails_where_too_much_is_asked_for_on(&rt, ground, root, others)
+    })
 }
 
 // The same, on this ground.
@@ -260,8 +272,9 @@ fn a_root_fails_where_too_much_is_asked_for_on(
 
 #[test]
 fn a_root_fails_where_nothing_is_asked_for(rt: HostRuntime) -> Result<(), Fail> {
-    let (mut ground, root, others) = root_beside(rt.alloc(), 1)?;
-    a_root_fails_where_nothing_is_asked_for_on(&rt, &mut ground, root, &others)
+    on_root_beside(rt.alloc(), 1, |ground, root, others| {
+        a_root_fails_where_nothing_is_asked_for_on(&rt, ground, root, others)
+    })
 }
 
 // The same, on this ground.

@@ -1,6 +1,7 @@
 //! Units without a live node, which others right below hold.
 use super::ground::Ground;
 use super::many::{failed, left};
+use super::plays::on_root;
 use sm_names::NodeKey;
 use std::alloc::Global;
 use std::process::Abort;
@@ -21,10 +22,8 @@ struct Held {
     two: NodeKey,
 }
 
-fn new_ground(rt: HostRuntime) -> Result<(Ground, NodeKey), Fail> {
-    let mut ground = Ground::new(rt.alloc())?;
-    let root = ground.bear(None, false)?;
-    Ok((ground, root))
+fn bear_root(_alloc: Global, ground: &mut Ground) -> Result<NodeKey, Fail> {
+    ground.bear(None, false)
 }
 
 // A unit of two nodes below the node.
@@ -67,8 +66,9 @@ fn leaves_with(ground: &mut Ground, unit: Pair, below: NodeKey) -> Result<bool, 
 
 #[test]
 fn a_head_that_is_no_first_child_holds_a_unit(rt: HostRuntime) -> Result<(), Fail> {
-    let (mut ground, root) = new_ground(rt)?;
-    a_head_that_is_no_first_child_holds_a_unit_on(&rt, &mut ground, root)
+    on_root(rt.alloc(), bear_root, |ground, root| {
+        a_head_that_is_no_first_child_holds_a_unit_on(&rt, ground, root)
+    })
 }
 
 // The same, on this ground.
@@ -86,8 +86,9 @@ fn a_head_that_is_no_first_child_holds_a_unit_on(
 
 #[test]
 fn a_head_under_another_node_holds_a_unit(rt: HostRuntime) -> Result<(), Fail> {
-    let (mut ground, root) = new_ground(rt)?;
-    a_head_under_another_node_holds_a_unit_on(&rt, &mut ground, root)
+    on_root(rt.alloc(), bear_root, |ground, root| {
+        a_head_under_another_node_holds_a_unit_on(&rt, ground, root)
+    })
 }
 
 // The same, on this ground.
@@ -114,10 +115,20 @@ fn leaves_with_second(ground: &mut Ground, held: Held) -> Result<bool, Fail> {
 
 #[test]
 fn two_heads_hold_a_unit_until_both_went(rt: HostRuntime) -> Result<(), Fail> {
-    let (mut ground, root) = new_ground(rt)?;
-    let held = bear_held(&mut ground, root)?;
-    assert!(rt; leaves_with_second(&mut ground, held)?);
-    assert!(rt; !left(&ground, root));
+    on_root(rt.alloc(), bear_root, |ground, root| {
+        two_heads_hold_a_unit_until_both_went_on(&rt, ground, root)
+    })
+}
+
+// The same, on this ground.
+fn two_heads_hold_a_unit_until_both_went_on(
+    rt: &impl Abort,
+    ground: &mut Ground,
+    root: NodeKey,
+) -> Result<(), Fail> {
+    let held = bear_held(ground, root)?;
+    assert!(rt; leaves_with_second(ground, held)?);
+    assert!(rt; !left(ground, root));
     Ok(())
 }
 
@@ -132,8 +143,9 @@ fn climbs(ground: &mut Ground, high: Pair, low: Pair, last: NodeKey) -> Result<b
 
 #[test]
 fn an_end_goes_up_over_units_that_nothing_else_holds(rt: HostRuntime) -> Result<(), Fail> {
-    let (mut ground, root) = new_ground(rt)?;
-    an_end_goes_up_over_units_that_nothing_else_holds_on(&rt, &mut ground, root)
+    on_root(rt.alloc(), bear_root, |ground, root| {
+        an_end_goes_up_over_units_that_nothing_else_holds_on(&rt, ground, root)
+    })
 }
 
 // The same, on this ground.
@@ -162,8 +174,9 @@ fn stops_at(ground: &mut Ground, high: Pair, low: Held, other: NodeKey) -> Resul
 
 #[test]
 fn an_end_stops_at_a_unit_that_another_holds(rt: HostRuntime) -> Result<(), Fail> {
-    let (mut ground, root) = new_ground(rt)?;
-    an_end_stops_at_a_unit_that_another_holds_on(&rt, &mut ground, root)
+    on_root(rt.alloc(), bear_root, |ground, root| {
+        an_end_stops_at_a_unit_that_another_holds_on(&rt, ground, root)
+    })
 }
 
 // The same, on this ground.
@@ -200,8 +213,10 @@ fn end_each(ground: &mut Ground, units: &[Held]) -> Result<bool, Fail> {
 
 #[test]
 fn many_units_end_as_those_that_hold_them_fail(rt: HostRuntime) -> Result<(), Fail> {
-    let (mut ground, root) = new_ground(rt)?;
-    many_units_end_as_those_that_hold_them_fail_on(&rt, rt.alloc(), &mut ground, root)
+    let alloc = rt.alloc();
+    on_root(alloc, bear_root, |ground, root| {
+        many_units_end_as_those_that_hold_them_fail_on(&rt, alloc, ground, root)
+    })
 }
 
 // The same, on this ground.

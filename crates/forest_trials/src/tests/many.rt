@@ -1,40 +1,13 @@
 //! Collections of 1,000 nodes.
 use super::demand;
 use super::ground::{Ground, HERE};
+use super::plays::{family, on_chain, on_family, on_forest};
 use alloc_event::forest::Forest;
 use alloc_event::node::End;
 use sm_names::NodeKey;
 use std::alloc::Global;
+use std::process::Abort;
 use std::test::Fail;
-
-// So many children of the node, whose keys are added.
-pub(super) fn bear_each(
-    ground: &mut Ground,
-    keys: &mut Vec<NodeKey>,
-    root: NodeKey,
-    count: usize,
-    attached: bool,
-) -> Result<(), Fail> {
-    for _ in 0..count {
-        let key = ground.bear(Some(root), attached)?;
-        keys.push(key)?;
-    }
-    Ok(())
-}
-
-// A root and so many children of its unit, or each of a unit of its own; the root's key comes first.
-pub(super) fn family(
-    alloc: Global,
-    children: usize,
-    attached: bool,
-) -> Result<(Ground, Vec<NodeKey>), Fail> {
-    let mut ground = Ground::new(alloc)?;
-    let mut keys = Vec::new(alloc);
-    let root = ground.bear(None, false)?;
-    keys.push(root)?;
-    bear_each(&mut ground, &mut keys, root, children, attached)?;
-    Ok((ground, keys))
-}
 
 pub(super) fn ask_each(ground: &mut Ground, keys: &[NodeKey]) -> Result<(), Fail> {
     let asked = demand(0, 1, 4096)?;
@@ -96,23 +69,30 @@ fn wait_for_first(ground: &mut Ground, keys: &[NodeKey], release: bool) -> Resul
 
 #[test]
 fn a_unit_of_many_waits_for_the_last(rt: HostRuntime) -> Result<(), Fail> {
-    let (mut ground, keys) = family(rt.alloc(), 999, false)?;
-    assert!(rt; wait_for_last(&mut ground, &keys)?);
+    assert!(rt; on_family(rt.alloc(), 999, false, wait_for_last)?);
     Ok(())
+}
+
+// Whether they wait while the others are released, and a strong node is live then.
+fn wait_for_none_released(ground: &mut Ground, keys: &[NodeKey]) -> Result<bool, Fail> {
+    let waited = wait_for_first(ground, keys, true)?;
+    Ok(waited && ground.forest().strong_live(HERE))
 }
 
 #[test]
 fn a_unit_of_many_waits_for_none_that_is_released(rt: HostRuntime) -> Result<(), Fail> {
-    let (mut ground, keys) = family(rt.alloc(), 999, false)?;
-    assert!(rt; wait_for_first(&mut ground, &keys, true)?);
-    assert!(rt; ground.forest().strong_live(HERE));
+    assert!(rt; on_family(rt.alloc(), 999, false, wait_for_none_released)?);
     Ok(())
+}
+
+// Whether they wait while the others ask.
+fn wait_for_first_asked(ground: &mut Ground, keys: &[NodeKey]) -> Result<bool, Fail> {
+    wait_for_first(ground, keys, false)
 }
 
 #[test]
 fn many_waiting_units_are_allocated_by_one_call(rt: HostRuntime) -> Result<(), Fail> {
-    let (mut ground, keys) = family(rt.alloc(), 300, true)?;
-    assert!(rt; wait_for_first(&mut ground, &keys, false)?);
+    assert!(rt; on_family(rt.alloc(), 900, true, wait_for_first_asked)?);
     Ok(())
 }
 
@@ -130,15 +110,13 @@ fn allocate_from_above(ground: &mut Ground, keys: &[NodeKey]) -> Result<bool, Fa
 
 #[test]
 fn a_chain_of_units_waits_for_the_highest(rt: HostRuntime) -> Result<(), Fail> {
-    let (mut ground, keys) = chain(rt.alloc(), 200, true)?;
-    assert!(rt; wait_for_first(&mut ground, &keys, false)?);
+    assert!(rt; on_chain(rt.alloc(), 200, true, wait_for_first_asked)?);
     Ok(())
 }
 
 #[test]
 fn a_chain_of_units_is_allocated_from_above(rt: HostRuntime) -> Result<(), Fail> {
-    let (mut ground, keys) = chain(rt.alloc(), 200, true)?;
-    assert!(rt; allocate_from_above(&mut ground, &keys)?);
+    assert!(rt; on_chain(rt.alloc(), 200, true, allocate_from_above)?);
     Ok(())
 }
 
@@ -172,9 +150,12 @@ fn wait_for_root(ground: &mut Ground, keys: &[NodeKey], others: &[NodeKey]) -> R
 
 #[test]
 fn units_that_a_release_makes_ready_wait_for_the_root(rt: HostRuntime) -> Result<(), Fail> {
-    let (mut ground, keys) = family(rt.alloc(), 200, true)?;
-    let others = bear_below_each(rt.alloc(), &mut ground, &keys)?;
-    assert!(rt; wait_for_root(&mut ground, &keys, &others)?);
+    let alloc = rt.alloc();
+    let waited = on_family(alloc, 200, true, |ground, keys| {
+        let others = bear_below_each(alloc, ground, keys)?;
+        wait_for_root(ground, keys, &others)
+    })?;
+    assert!(rt; waited);
     Ok(())
 }
 
@@ -208,8 +189,7 @@ fn fall_in_turn(ground: &mut Ground, keys: &[NodeKey]) -> Result<bool, Fail> {
 
 #[test]
 fn many_units_fail_in_turn(rt: HostRuntime) -> Result<(), Fail> {
-    let (mut ground, keys) = family(rt.alloc(), 999, true)?;
-    assert!(rt; fall_in_turn(&mut ground, &keys)?);
+    assert!(rt; on_family(rt.alloc(), 999, true, fall_in_turn)?);
     Ok(())
 }
 
@@ -246,29 +226,16 @@ fn release_back(ground: &mut Ground, keys: &[NodeKey]) -> Result<bool, Fail> {
     Ok(stayed && have_left(ground, keys, true))
 }
 
-#[test]
-fn the_last_release_of_many_ends_the_collection(rt: HostRuntime) -> Result<(), Fail> {
-    let (mut ground, keys) = family(rt.alloc(), 999, false)?;
-    assert!(rt; release_back(&mut ground, &keys)?);
-    assert!(rt; !ground.forest().strong_live(HERE));
-    Ok(())
+// The same, and no strong node is live then.
+fn end_by_release(ground: &mut Ground, keys: &[NodeKey]) -> Result<bool, Fail> {
+    let ended = release_back(ground, keys)?;
+    Ok(ended && !ground.forest().strong_live(HERE))
 }
 
-// So many nodes, each below the one before, of one unit or each of a unit of its own.
-pub(super) fn chain(
-    alloc: Global,
-    nodes: usize,
-    attached: bool,
-) -> Result<(Ground, Vec<NodeKey>), Fail> {
-    let mut ground = Ground::new(alloc)?;
-    let mut keys = Vec::new(alloc);
-    let mut above = None;
-    for _ in 0..nodes {
-        let key = ground.bear(above, attached && above.is_some())?;
-        keys.push(key)?;
-        above = Some(key);
-    }
-    Ok((ground, keys))
+#[test]
+fn the_last_release_of_many_ends_the_collection(rt: HostRuntime) -> Result<(), Fail> {
+    assert!(rt; on_family(rt.alloc(), 999, false, end_by_release)?);
+    Ok(())
 }
 
 // Whether each unit ends as it is released, from below.
@@ -291,8 +258,7 @@ fn end_from_below(ground: &mut Ground, keys: &[NodeKey]) -> Result<bool, Fail> {
 
 #[test]
 fn a_chain_of_units_ends_from_below(rt: HostRuntime) -> Result<(), Fail> {
-    let (mut ground, keys) = chain(rt.alloc(), 500, true)?;
-    assert!(rt; end_from_below(&mut ground, &keys)?);
+    assert!(rt; on_chain(rt.alloc(), 500, true, end_from_below)?);
     Ok(())
 }
 
@@ -307,14 +273,18 @@ fn end_at_once(ground: &mut Ground, keys: &[NodeKey]) -> Result<bool, Fail> {
     Ok(stayed && have_left(ground, keys, true))
 }
 
-#[test]
-fn a_chain_of_units_ends_at_once_below_the_root(rt: HostRuntime) -> Result<(), Fail> {
-    let (mut ground, keys) = chain(rt.alloc(), 200, true)?;
+// The same of those below the root, which stays.
+fn end_below_root(ground: &mut Ground, keys: &[NodeKey]) -> Result<bool, Fail> {
     let Some((root, others)) = keys.split_first() else {
         return Err(Fail::from("no root"));
     };
-    assert!(rt; end_at_once(&mut ground, others)?);
-    assert!(rt; !left(&ground, *root));
+    let ended = end_at_once(ground, others)?;
+    Ok(ended && !left(ground, *root))
+}
+
+#[test]
+fn a_chain_of_units_ends_at_once_below_the_root(rt: HostRuntime) -> Result<(), Fail> {
+    assert!(rt; on_chain(rt.alloc(), 200, true, end_below_root)?);
     Ok(())
 }
 
@@ -335,8 +305,7 @@ fn end_with_loss(ground: &mut Ground, keys: &[NodeKey]) -> Result<bool, Fail> {
 
 #[test]
 fn a_loss_ends_a_chain_of_units_below_the_root(rt: HostRuntime) -> Result<(), Fail> {
-    let (mut ground, keys) = chain(rt.alloc(), 200, true)?;
-    assert!(rt; end_with_loss(&mut ground, &keys)?);
+    assert!(rt; on_chain(rt.alloc(), 200, true, end_with_loss)?);
     Ok(())
 }
 
@@ -370,9 +339,12 @@ fn end_by_dispensable(
 
 #[test]
 fn units_end_as_their_dispensable_nodes_fail(rt: HostRuntime) -> Result<(), Fail> {
-    let (mut ground, keys) = family(rt.alloc(), 60, true)?;
-    let others = bear_below_each(rt.alloc(), &mut ground, &keys)?;
-    assert!(rt; end_by_dispensable(&mut ground, &keys, &others)?);
+    let alloc = rt.alloc();
+    let ended = on_family(alloc, 60, true, |ground, keys| {
+        let others = bear_below_each(alloc, ground, keys)?;
+        end_by_dispensable(ground, keys, &others)
+    })?;
+    assert!(rt; ended);
     Ok(())
 }
 
@@ -394,8 +366,7 @@ fn goes_up_to_second(ground: &mut Ground, keys: &[NodeKey]) -> Result<bool, Fail
 
 #[test]
 fn a_loss_goes_up_as_far_as_links_let_it(rt: HostRuntime) -> Result<(), Fail> {
-    let (mut ground, keys) = chain(rt.alloc(), 3, false)?;
-    assert!(rt; goes_up_to_second(&mut ground, &keys)?);
+    assert!(rt; on_chain(rt.alloc(), 3, false, goes_up_to_second)?);
     Ok(())
 }
 
@@ -419,15 +390,13 @@ pub(super) fn have_failed(ground: &Ground, keys: &[NodeKey]) -> bool {
 
 #[test]
 fn many_siblings_fall_with_the_root(rt: HostRuntime) -> Result<(), Fail> {
-    let (mut ground, keys) = family(rt.alloc(), 999, false)?;
-    assert!(rt; fall_together(&mut ground, &keys)?);
+    assert!(rt; on_family(rt.alloc(), 999, false, fall_together)?);
     Ok(())
 }
 
 #[test]
 fn a_long_chain_falls(rt: HostRuntime) -> Result<(), Fail> {
-    let (mut ground, keys) = chain(rt.alloc(), 1000, false)?;
-    assert!(rt; fall_together(&mut ground, &keys)?);
+    assert!(rt; on_chain(rt.alloc(), 1000, false, fall_together)?);
     Ok(())
 }
 
@@ -446,8 +415,7 @@ fn fail_at_once(ground: &mut Ground, keys: &[NodeKey]) -> Result<bool, Fail> {
 
 #[test]
 fn many_units_that_ask_for_too_much_fail_by_one_call(rt: HostRuntime) -> Result<(), Fail> {
-    let (mut ground, keys) = family(rt.alloc(), 900, true)?;
-    assert!(rt; fail_at_once(&mut ground, &keys)?);
+    assert!(rt; on_family(rt.alloc(), 900, true, fail_at_once)?);
     Ok(())
 }
 
@@ -467,8 +435,7 @@ fn ask_for_too_many(ground: &mut Ground, keys: &[NodeKey]) -> Result<bool, Fail>
 
 #[test]
 fn a_long_chain_that_asks_for_too_many_fails(rt: HostRuntime) -> Result<(), Fail> {
-    let (mut ground, keys) = chain(rt.alloc(), 1000, false)?;
-    assert!(rt; ask_for_too_many(&mut ground, &keys)?);
+    assert!(rt; on_chain(rt.alloc(), 1000, false, ask_for_too_many)?);
     Ok(())
 }
 
@@ -502,20 +469,28 @@ pub(super) fn hang_chain(
     Ok(keys)
 }
 
-#[test]
-fn many_released_heads_stay_over_a_node_far_below(rt: HostRuntime) -> Result<(), Fail> {
-    let (mut ground, keys) = family(rt.alloc(), 100, false)?;
+// Whether 300 heads that hang below the first of these stay so.
+fn hold_under_root(alloc: Global, ground: &mut Ground, keys: &[NodeKey]) -> Result<bool, Fail> {
     let Some(root) = keys.first() else {
         return Err(Fail::from("no root"));
     };
-    let heads = hang_chain(rt.alloc(), &mut ground, *root, 300)?;
-    assert!(rt; hold_from_below(&mut ground, &keys, &heads)?);
+    let heads = hang_chain(alloc, ground, *root, 300)?;
+    hold_from_below(ground, keys, &heads)
+}
+
+#[test]
+fn many_released_heads_stay_over_a_node_far_below(rt: HostRuntime) -> Result<(), Fail> {
+    let alloc = rt.alloc();
+    let stayed = on_family(alloc, 100, false, |ground, keys| {
+        hold_under_root(alloc, ground, keys)
+    })?;
+    assert!(rt; stayed);
     Ok(())
 }
 
 // Whether each node is forgotten once its end is spent, in this order, and the collection with the
 // last.
-fn forget_in_turn(mut forest: Forest, keys: &[NodeKey]) -> bool {
+fn forget_in_turn(forest: &mut Forest, keys: &[NodeKey]) -> bool {
     let count = keys.len();
     for at in 0..count {
         let key = keys[at];
@@ -531,29 +506,55 @@ fn forget_in_turn(mut forest: Forest, keys: &[NodeKey]) -> bool {
     forest.collections() == 0
 }
 
+// A family of 1,000 that fell together.
+fn fallen_family(
+    rt: &impl Abort,
+    alloc: Global,
+    ground: &mut Ground,
+) -> Result<Vec<NodeKey>, Fail> {
+    let keys = family(alloc, ground, 999, false)?;
+    assert!(rt; fall_together(ground, &keys)?);
+    Ok(keys)
+}
+
 #[test]
 fn many_that_fell_are_forgotten_in_turn(rt: HostRuntime) -> Result<(), Fail> {
-    let (mut ground, keys) = family(rt.alloc(), 999, false)?;
-    assert!(rt; fall_together(&mut ground, &keys)?);
-    assert!(rt; forget_in_turn(ground.into_forest(), &keys));
+    let all = on_forest(
+        rt.alloc(),
+        |alloc, ground| fallen_family(&rt, alloc, ground),
+        |forest, keys| forget_in_turn(forest, keys),
+    )?;
+    assert!(rt; all);
     Ok(())
 }
 
 #[test]
 fn many_that_fell_are_forgotten_from_the_last(rt: HostRuntime) -> Result<(), Fail> {
-    let (mut ground, mut keys) = family(rt.alloc(), 999, false)?;
-    assert!(rt; fall_together(&mut ground, &keys)?);
-    keys.reverse();
-    assert!(rt; forget_in_turn(ground.into_forest(), &keys));
+    let all = on_forest(
+        rt.alloc(),
+        |alloc, ground| {
+            let mut keys = fallen_family(&rt, alloc, ground)?;
+            keys.reverse();
+            Ok(keys)
+        },
+        |forest, keys| forget_in_turn(forest, keys),
+    )?;
+    assert!(rt; all);
     Ok(())
 }
 
 #[test]
 fn many_that_fell_are_forgotten_from_the_middle(rt: HostRuntime) -> Result<(), Fail> {
-    let (mut ground, mut keys) = family(rt.alloc(), 999, false)?;
-    assert!(rt; fall_together(&mut ground, &keys)?);
-    let middle = keys.len() / 2;
-    keys.rotate_left(middle);
-    assert!(rt; forget_in_turn(ground.into_forest(), &keys));
+    let all = on_forest(
+        rt.alloc(),
+        |alloc, ground| {
+            let mut keys = fallen_family(&rt, alloc, ground)?;
+            let middle = keys.len() / 2;
+            keys.rotate_left(middle);
+            Ok(keys)
+        },
+        |forest, keys| forget_in_turn(forest, keys),
+    )?;
+    assert!(rt; all);
     Ok(())
 }

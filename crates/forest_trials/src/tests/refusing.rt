@@ -1,6 +1,7 @@
 //! Attached units that become ready, and for which the buffers are too few or too small.
 use super::ground::{Ground, HERE};
-use super::many::{family, is_allocated, release_each};
+use super::many::{is_allocated, release_each};
+use super::plays::{family, on_root};
 use super::{demand, failed};
 use sm_names::{Cause, Failure, Fault, NodeKey};
 use std::alloc::Global;
@@ -9,13 +10,13 @@ use std::test::Fail;
 
 // A root that has three buffers of 4,096 bytes and camps on one of them, beside 300 nodes of its
 // unit that are released.
-fn served_root(alloc: Global) -> Result<(Ground, NodeKey), Fail> {
-    let (mut ground, keys) = family(alloc, 300, false)?;
+fn served_root(alloc: Global, ground: &mut Ground) -> Result<NodeKey, Fail> {
+    let keys = family(alloc, ground, 300, false)?;
     match keys.split_first() {
         Some((root, others)) => {
-            release_each(&mut ground, others)?;
+            release_each(ground, others)?;
             ground.ask(*root, demand(1, 3, 4096)?)?;
-            Ok((ground, *root))
+            Ok(*root)
         }
         None => Err(Fail::from("no root")),
     }
@@ -69,8 +70,9 @@ fn are_served(ground: &Ground, keys: &[NodeKey]) -> bool {
 
 #[test]
 fn units_are_refused_more_than_is_left(rt: HostRuntime) -> Result<(), Fail> {
-    let (mut ground, root) = served_root(rt.alloc())?;
-    units_are_refused_more_than_is_left_on(&rt, &mut ground, root)
+    on_root(rt.alloc(), served_root, |ground, root| {
+        units_are_refused_more_than_is_left_on(&rt, ground, root)
+    })
 }
 
 // The same, on this ground.
@@ -96,8 +98,9 @@ fn units_are_refused_more_than_is_left_on(
 
 #[test]
 fn a_unit_is_refused_more_at_least(rt: HostRuntime) -> Result<(), Fail> {
-    let (mut ground, root) = served_root(rt.alloc())?;
-    a_unit_is_refused_more_at_least_on(&rt, &mut ground, root)
+    on_root(rt.alloc(), served_root, |ground, root| {
+        a_unit_is_refused_more_at_least_on(&rt, ground, root)
+    })
 }
 
 // The same, on this ground.
@@ -116,8 +119,9 @@ fn a_unit_is_refused_more_at_least_on(
 
 #[test]
 fn a_unit_is_refused_larger_buffers_as_a_node_leaves(rt: HostRuntime) -> Result<(), Fail> {
-    let (mut ground, root) = served_root(rt.alloc())?;
-    a_unit_is_refused_larger_buffers_as_a_node_leaves_on(&rt, &mut ground, root)
+    on_root(rt.alloc(), served_root, |ground, root| {
+        a_unit_is_refused_larger_buffers_as_a_node_leaves_on(&rt, ground, root)
+    })
 }
 
 // The same, on this ground.
@@ -140,8 +144,9 @@ fn a_unit_is_refused_larger_buffers_as_a_node_leaves_on(
 
 #[test]
 fn too_few_is_told_before_too_small(rt: HostRuntime) -> Result<(), Fail> {
-    let (mut ground, root) = served_root(rt.alloc())?;
-    too_few_is_told_before_too_small_on(&rt, &mut ground, root)
+    on_root(rt.alloc(), served_root, |ground, root| {
+        too_few_is_told_before_too_small_on(&rt, ground, root)
+    })
 }
 
 // The same, on this ground.
@@ -163,8 +168,9 @@ fn too_few_is_told_before_too_small_on(
 
 #[test]
 fn what_is_below_goes_with_a_unit_that_is_refused(rt: HostRuntime) -> Result<(), Fail> {
-    let (mut ground, root) = served_root(rt.alloc())?;
-    what_is_below_goes_with_a_unit_that_is_refused_on(&rt, &mut ground, root)
+    on_root(rt.alloc(), served_root, |ground, root| {
+        what_is_below_goes_with_a_unit_that_is_refused_on(&rt, ground, root)
+    })
 }
 
 // The same, on this ground.
@@ -190,8 +196,9 @@ fn what_is_below_goes_with_a_unit_that_is_refused_on(
 
 #[test]
 fn a_unit_that_is_held_by_one_below_alone_is_refused(rt: HostRuntime) -> Result<(), Fail> {
-    let (mut ground, root) = served_root(rt.alloc())?;
-    a_unit_that_is_held_by_one_below_alone_is_refused_on(&rt, &mut ground, root)
+    on_root(rt.alloc(), served_root, |ground, root| {
+        a_unit_that_is_held_by_one_below_alone_is_refused_on(&rt, ground, root)
+    })
 }
 
 // The same, on this ground.
@@ -213,8 +220,9 @@ fn a_unit_that_is_held_by_one_below_alone_is_refused_on(
 
 #[test]
 fn a_unit_above_one_that_is_refused_stays(rt: HostRuntime) -> Result<(), Fail> {
-    let (mut ground, root) = served_root(rt.alloc())?;
-    a_unit_above_one_that_is_refused_stays_on(&rt, &mut ground, root)
+    on_root(rt.alloc(), served_root, |ground, root| {
+        a_unit_above_one_that_is_refused_stays_on(&rt, ground, root)
+    })
 }
 
 // The same, on this ground.
@@ -237,37 +245,34 @@ fn a_unit_above_one_that_is_refused_stays_on(
 
 #[test]
 fn units_above_one_that_is_refused_end(rt: HostRuntime) -> Result<(), Fail> {
-    let (mut ground, root) = served_root(rt.alloc())?;
-    units_above_one_that_is_refused_end_on(&rt, &mut ground, root)
+    assert!(rt; on_root(rt.alloc(), served_root, end_above_refused)?);
+    Ok(())
 }
 
-// The same, on this ground.
-fn units_above_one_that_is_refused_end_on(
-    rt: &impl Abort,
-    ground: &mut Ground,
-    root: NodeKey,
-) -> Result<(), Fail> {
+// Whether the two units above the one that is refused stay until then, and end.
+fn end_above_refused(ground: &mut Ground, root: NodeKey) -> Result<bool, Fail> {
     let upper = served_pair(ground, root)?;
     let middle = served_pair(ground, upper[0])?;
     let lower = pair(ground, middle[1])?;
     let beside = pair(ground, middle[0])?;
     release_each(ground, &upper)?;
     release_each(ground, &middle)?;
-    assert!(rt; are_served(ground, &upper) && are_served(ground, &middle));
+    let first = are_served(ground, &upper) && are_served(ground, &middle);
     release_each(ground, &beside)?;
     ground.ask(lower[0], demand(0, 0, 9000)?)?;
-    assert!(rt; are_served(ground, &upper) && are_served(ground, &middle));
+    let second = are_served(ground, &upper) && are_served(ground, &middle);
     ground.ask(lower[1], demand(0, 1, 4096)?)?;
-    assert!(rt; went(ground, &lower, failed(Failure::TooSmall, lower[0])));
-    assert!(rt; left(ground, &upper) && left(ground, &middle));
-    assert!(rt; is_allocated(ground, root) && ground.forest().strong_live(HERE));
-    Ok(())
+    let refused = went(ground, &lower, failed(Failure::TooSmall, lower[0]));
+    let ended = left(ground, &upper) && left(ground, &middle);
+    let stays = is_allocated(ground, root) && ground.forest().strong_live(HERE);
+    Ok(first && second && refused && ended && stays)
 }
 
 #[test]
 fn a_chain_above_one_that_is_refused_ends(rt: HostRuntime) -> Result<(), Fail> {
-    let (mut ground, root) = served_root(rt.alloc())?;
-    a_chain_above_one_that_is_refused_ends_on(&rt, &mut ground, root)
+    on_root(rt.alloc(), served_root, |ground, root| {
+        a_chain_above_one_that_is_refused_ends_on(&rt, ground, root)
+    })
 }
 
 // The same, on this ground.
@@ -297,8 +302,9 @@ fn a_chain_above_one_that_is_refused_ends_on(
 
 #[test]
 fn nothing_is_left_where_the_last_unit_is_refused(rt: HostRuntime) -> Result<(), Fail> {
-    let (mut ground, root) = served_root(rt.alloc())?;
-    nothing_is_left_where_the_last_unit_is_refused_on(&rt, &mut ground, root)
+    on_root(rt.alloc(), served_root, |ground, root| {
+        nothing_is_left_where_the_last_unit_is_refused_on(&rt, ground, root)
+    })
 }
 
 // The same, on this ground.
@@ -319,8 +325,9 @@ fn nothing_is_left_where_the_last_unit_is_refused_on(
 
 #[test]
 fn no_strong_node_is_left_where_the_last_is_refused(rt: HostRuntime) -> Result<(), Fail> {
-    let (mut ground, root) = served_root(rt.alloc())?;
-    no_strong_node_is_left_where_the_last_is_refused_on(&rt, &mut ground, root)
+    on_root(rt.alloc(), served_root, |ground, root| {
+        no_strong_node_is_left_where_the_last_is_refused_on(&rt, ground, root)
+    })
 }
 
 // The same, on this ground.
@@ -354,8 +361,9 @@ fn no_strong_node_is_left_where_the_last_is_refused_on(
 
 #[test]
 fn an_open_handle_keeps_what_a_refused_unit_leaves(rt: HostRuntime) -> Result<(), Fail> {
-    let (mut ground, root) = served_root(rt.alloc())?;
-    an_open_handle_keeps_what_a_refused_unit_leaves_on(&rt, &mut ground, root)
+    on_root(rt.alloc(), served_root, |ground, root| {
+        an_open_handle_keeps_what_a_refused_unit_leaves_on(&rt, ground, root)
+    })
 }
 
 // The same, on this ground.

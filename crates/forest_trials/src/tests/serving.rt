@@ -1,6 +1,7 @@
 //! Attached units that become ready beside many other nodes.
 use super::ground::{Ground, HERE};
-use super::many::{ask_each, family, is_allocated};
+use super::many::{ask_each, is_allocated};
+use super::plays::{family, on_root};
 use super::{demand, failed};
 use sm_names::{Failure, NodeKey};
 use std::alloc::Global;
@@ -8,11 +9,11 @@ use std::process::Abort;
 use std::test::Fail;
 
 // A root that has one buffer, and 900 nodes of its unit.
-fn served_family(alloc: Global) -> Result<(Ground, NodeKey), Fail> {
-    let (mut ground, keys) = family(alloc, 900, false)?;
-    ask_each(&mut ground, &keys)?;
+fn served_family(alloc: Global, ground: &mut Ground) -> Result<NodeKey, Fail> {
+    let keys = family(alloc, ground, 900, false)?;
+    ask_each(ground, &keys)?;
     match keys.first() {
-        Some(root) => Ok((ground, *root)),
+        Some(root) => Ok(*root),
         None => Err(Fail::from("no root")),
     }
 }
@@ -41,32 +42,28 @@ fn has_failed(ground: &Ground, unit: [NodeKey; 2]) -> bool {
 
 #[test]
 fn an_attached_unit_is_served_beside_many(rt: HostRuntime) -> Result<(), Fail> {
-    let (mut ground, root) = served_family(rt.alloc())?;
-    an_attached_unit_is_served_beside_many_on(&rt, &mut ground, root)
+    assert!(rt; on_root(rt.alloc(), served_family, serve_two)?);
+    Ok(())
 }
 
-// The same, on this ground.
-fn an_attached_unit_is_served_beside_many_on(
-    rt: &impl Abort,
-    ground: &mut Ground,
-    root: NodeKey,
-) -> Result<(), Fail> {
+// Whether each of two units is served as its second node asks, or is released.
+fn serve_two(ground: &mut Ground, root: NodeKey) -> Result<bool, Fail> {
     let first = pair(ground, root)?;
     let second = pair(ground, root)?;
     ground.ask(first[0], demand(1, 1, 4096)?)?;
-    assert!(rt; !is_allocated(ground, first[0]));
+    let waited = !is_allocated(ground, first[0]);
     ground.ask(first[1], demand(0, 1, 100)?)?;
-    assert!(rt; are_served(ground, first) && !is_allocated(ground, second[0]));
+    let alone = are_served(ground, first) && !is_allocated(ground, second[0]);
     ground.ask(second[1], demand(0, 1, 4096)?)?;
     ground.release(second[0])?;
-    assert!(rt; are_served(ground, first) && are_served(ground, second));
-    Ok(())
+    Ok(waited && alone && are_served(ground, first) && are_served(ground, second))
 }
 
 #[test]
 fn an_attached_unit_that_asks_for_too_many_fails_beside_many(rt: HostRuntime) -> Result<(), Fail> {
-    let (mut ground, root) = served_family(rt.alloc())?;
-    an_attached_unit_that_asks_for_too_many_fails_beside_many_on(&rt, &mut ground, root)
+    on_root(rt.alloc(), served_family, |ground, root| {
+        an_attached_unit_that_asks_for_too_many_fails_beside_many_on(&rt, ground, root)
+    })
 }
 
 // The same, on this ground.
@@ -88,27 +85,23 @@ fn an_attached_unit_that_asks_for_too_many_fails_beside_many_on(
 
 #[test]
 fn a_unit_is_served_above_one_that_waits_or_is_ready(rt: HostRuntime) -> Result<(), Fail> {
-    let (mut ground, root) = served_family(rt.alloc())?;
-    a_unit_is_served_above_one_that_waits_or_is_ready_on(&rt, &mut ground, root)
+    assert!(rt; on_root(rt.alloc(), served_family, serve_upper)?);
+    Ok(())
 }
 
-// The same, on this ground.
-fn a_unit_is_served_above_one_that_waits_or_is_ready_on(
-    rt: &impl Abort,
-    ground: &mut Ground,
-    root: NodeKey,
-) -> Result<(), Fail> {
+// Whether the upper unit is served where the lower one waits, and both where it is ready.
+fn serve_upper(ground: &mut Ground, root: NodeKey) -> Result<bool, Fail> {
     let upper = pair(ground, root)?;
     let lower = pair(ground, upper[1])?;
     ask_each(ground, &upper)?;
-    assert!(rt; are_served(ground, upper) && !is_allocated(ground, lower[0]));
+    let first = are_served(ground, upper) && !is_allocated(ground, lower[0]);
     ask_each(ground, &lower)?;
-    assert!(rt; are_served(ground, lower));
+    let second = are_served(ground, lower);
     let upper = pair(ground, root)?;
     let lower = pair(ground, upper[0])?;
     ask_each(ground, &lower)?;
-    assert!(rt; !is_allocated(ground, lower[0]));
+    let waited = !is_allocated(ground, lower[0]);
     ask_each(ground, &upper)?;
-    assert!(rt; are_served(ground, upper) && are_served(ground, lower));
-    Ok(())
+    let both = are_served(ground, upper) && are_served(ground, lower);
+    Ok(first && second && waited && both)
 }

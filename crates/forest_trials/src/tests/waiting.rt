@@ -1,7 +1,8 @@
 //! Units that wait for one call, of which some fail.
 use super::demand;
 use super::ground::Ground;
-use super::many::{chain, failed, family, is_allocated};
+use super::many::{failed, is_allocated};
+use super::plays::{on_chain, on_family};
 use sm_names::NodeKey;
 use std::test::Fail;
 
@@ -43,27 +44,36 @@ fn ask_too_much(ground: &mut Ground, keys: &[NodeKey]) -> Result<(), Fail> {
     ask_before_root(ground, keys, 0)
 }
 
+fn one_fails(ground: &mut Ground, keys: &[NodeKey]) -> Result<bool, Fail> {
+    ask_too_much(ground, keys)?;
+    Ok(fails_at(ground, keys, 30, false))
+}
+
 #[test]
 fn one_of_many_waiting_units_fails(rt: HostRuntime) -> Result<(), Fail> {
-    let (mut ground, keys) = family(rt.alloc(), 60, true)?;
-    ask_too_much(&mut ground, &keys)?;
-    assert!(rt; fails_at(&ground, &keys, 30, false));
+    assert!(rt; on_family(rt.alloc(), 60, true, one_fails)?);
     Ok(())
+}
+
+fn fail_from_one(ground: &mut Ground, keys: &[NodeKey]) -> Result<bool, Fail> {
+    ask_too_much(ground, keys)?;
+    Ok(fails_at(ground, keys, 30, true))
 }
 
 #[test]
 fn one_of_a_chain_of_waiting_units_fails(rt: HostRuntime) -> Result<(), Fail> {
-    let (mut ground, keys) = chain(rt.alloc(), 60, true)?;
-    ask_too_much(&mut ground, &keys)?;
-    assert!(rt; fails_at(&ground, &keys, 30, true));
+    assert!(rt; on_chain(rt.alloc(), 60, true, fail_from_one)?);
     Ok(())
 }
 
 // Ten buffers are camped on, so the units that were born later get none.
+fn run_out(ground: &mut Ground, keys: &[NodeKey]) -> Result<bool, Fail> {
+    ask_before_root(ground, keys, 1)?;
+    Ok(fails_at(ground, keys, 11, true))
+}
+
 #[test]
 fn the_buffers_run_out_among_waiting_units(rt: HostRuntime) -> Result<(), Fail> {
-    let (mut ground, keys) = family(rt.alloc(), 20, true)?;
-    ask_before_root(&mut ground, &keys, 1)?;
-    assert!(rt; fails_at(&ground, &keys, 11, true));
+    assert!(rt; on_family(rt.alloc(), 20, true, run_out)?);
     Ok(())
 }

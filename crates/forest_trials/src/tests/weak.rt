@@ -1,22 +1,21 @@
 //! Collections of 1,000 weak nodes, whose buffer an open strong handle keeps.
 use super::demand;
 use super::ground::{Ground, HERE};
-use super::many::{
-    ask_each, bear_each, failed, family, have_failed, have_left, is_allocated, left, release_each,
-};
+use super::many::{ask_each, failed, have_failed, have_left, is_allocated, left, release_each};
+use super::plays::{bear_each, family, on_ground};
 use sm_names::NodeKey;
 use std::alloc::Global;
 use std::test::Fail;
 
 // A root and nine children of its unit, which has its buffer, kept by a handle. All are weak.
-fn weak_family(alloc: Global) -> Result<(Ground, Vec<NodeKey>), Fail> {
-    let (mut ground, keys) = family(alloc, 9, false)?;
-    ask_each(&mut ground, &keys)?;
+fn weak_family(alloc: Global, ground: &mut Ground) -> Result<Vec<NodeKey>, Fail> {
+    let keys = family(alloc, ground, 9, false)?;
+    ask_each(ground, &keys)?;
     ground.open()?;
     for key in &keys {
         ground.weaken(*key)?;
     }
-    Ok((ground, keys))
+    Ok(keys)
 }
 
 pub(super) fn root_of(keys: &[NodeKey]) -> Result<NodeKey, Fail> {
@@ -26,12 +25,12 @@ pub(super) fn root_of(keys: &[NodeKey]) -> Result<NodeKey, Fail> {
     }
 }
 
-// The same, with so many more children, born weak.
-fn more_weak(alloc: Global, more: usize) -> Result<(Ground, Vec<NodeKey>), Fail> {
-    let (mut ground, mut keys) = weak_family(alloc)?;
+// The same, with 990 more children, born weak.
+fn more_weak(alloc: Global, ground: &mut Ground) -> Result<Vec<NodeKey>, Fail> {
+    let mut keys = weak_family(alloc, ground)?;
     let root = root_of(&keys)?;
-    bear_each(&mut ground, &mut keys, root, more, false)?;
-    Ok((ground, keys))
+    bear_each(ground, &mut keys, root, 990, false)?;
+    Ok(keys)
 }
 
 // Whether the buffer is held, though no strong node is live.
@@ -55,13 +54,19 @@ fn change_each(ground: &mut Ground, keys: &[NodeKey]) -> Result<(), Fail> {
     ask_each(ground, keys)
 }
 
+// Whether the buffer is held while more are born and all change, until the handle is closed.
+fn change_while_open(alloc: Global, ground: &mut Ground) -> Result<bool, Fail> {
+    let keys = more_weak(alloc, ground)?;
+    let kept = is_kept(ground);
+    change_each(ground, &keys)?;
+    let still = is_kept(ground);
+    let fell = fall_with_handle(ground, &keys)?;
+    Ok(kept && still && fell)
+}
+
 #[test]
 fn weak_nodes_are_born_and_change_while_a_handle_is_open(rt: HostRuntime) -> Result<(), Fail> {
-    let (mut ground, keys) = more_weak(rt.alloc(), 990)?;
-    assert!(rt; is_kept(&ground));
-    change_each(&mut ground, &keys)?;
-    assert!(rt; is_kept(&ground));
-    assert!(rt; fall_with_handle(&mut ground, &keys)?);
+    assert!(rt; on_ground(rt.alloc(), change_while_open)?);
     Ok(())
 }
 
@@ -76,10 +81,15 @@ fn release_to_the_last(ground: &mut Ground, keys: &[NodeKey]) -> Result<bool, Fa
     Ok(stayed && have_left(ground, keys, true) && is_kept(ground))
 }
 
+// The same of 1,000 weak nodes.
+fn release_weak(alloc: Global, ground: &mut Ground) -> Result<bool, Fail> {
+    let keys = more_weak(alloc, ground)?;
+    release_to_the_last(ground, &keys)
+}
+
 #[test]
 fn weak_nodes_are_released_until_the_collection_ends(rt: HostRuntime) -> Result<(), Fail> {
-    let (mut ground, keys) = more_weak(rt.alloc(), 990)?;
-    assert!(rt; release_to_the_last(&mut ground, &keys)?);
+    assert!(rt; on_ground(rt.alloc(), release_weak)?);
     Ok(())
 }
 
@@ -111,33 +121,52 @@ fn fail_in_turn(ground: &mut Ground, keys: &[NodeKey]) -> Result<bool, Fail> {
     Ok(true)
 }
 
+// 990 units below the root of this family.
+fn more_units(alloc: Global, ground: &mut Ground, keys: &[NodeKey]) -> Result<Vec<NodeKey>, Fail> {
+    let mut units = Vec::new(alloc);
+    bear_each(ground, &mut units, root_of(keys)?, 990, true)?;
+    Ok(units)
+}
+
+fn serve_weak_units(alloc: Global, ground: &mut Ground) -> Result<bool, Fail> {
+    let keys = weak_family(alloc, ground)?;
+    let units = more_units(alloc, ground, &keys)?;
+    let served = serve_in_turn(ground, &units)?;
+    let fell = fall_with_handle(ground, &keys)?;
+    Ok(served && fell)
+}
+
 #[test]
 fn weak_units_are_allocated_and_end_in_turn(rt: HostRuntime) -> Result<(), Fail> {
-    let (mut ground, keys) = weak_family(rt.alloc())?;
-    let mut units = Vec::new(rt.alloc());
-    bear_each(&mut ground, &mut units, root_of(&keys)?, 990, true)?;
-    assert!(rt; serve_in_turn(&mut ground, &units)?);
-    assert!(rt; fall_with_handle(&mut ground, &keys)?);
+    assert!(rt; on_ground(rt.alloc(), serve_weak_units)?);
     Ok(())
+}
+
+fn fail_weak_units(alloc: Global, ground: &mut Ground) -> Result<bool, Fail> {
+    let keys = weak_family(alloc, ground)?;
+    let units = more_units(alloc, ground, &keys)?;
+    let all = fail_in_turn(ground, &units)?;
+    let fell = fall_with_handle(ground, &keys)?;
+    Ok(all && fell)
 }
 
 #[test]
 fn weak_units_fail_in_turn(rt: HostRuntime) -> Result<(), Fail> {
-    let (mut ground, keys) = weak_family(rt.alloc())?;
-    let mut units = Vec::new(rt.alloc());
-    bear_each(&mut ground, &mut units, root_of(&keys)?, 990, true)?;
-    assert!(rt; fail_in_turn(&mut ground, &units)?);
-    assert!(rt; fall_with_handle(&mut ground, &keys)?);
+    assert!(rt; on_ground(rt.alloc(), fail_weak_units)?);
     Ok(())
+}
+
+// Whether one more that is born once the handle is closed fails with all.
+fn bear_without_handle(alloc: Global, ground: &mut Ground) -> Result<bool, Fail> {
+    let mut keys = weak_family(alloc, ground)?;
+    let root = root_of(&keys)?;
+    let closed = ground.close();
+    bear_each(ground, &mut keys, root, 1, false)?;
+    Ok(closed && have_failed(ground, &keys) && ground.free_pages() == 16)
 }
 
 #[test]
 fn a_weak_node_that_is_born_without_a_handle_fails_with_all(rt: HostRuntime) -> Result<(), Fail> {
-    let (mut ground, mut keys) = weak_family(rt.alloc())?;
-    let root = root_of(&keys)?;
-    assert!(rt; ground.close());
-    bear_each(&mut ground, &mut keys, root, 1, false)?;
-    assert!(rt; have_failed(&ground, &keys));
-    assert!(rt; ground.free_pages() == 16);
+    assert!(rt; on_ground(rt.alloc(), bear_without_handle)?);
     Ok(())
 }
