@@ -62,6 +62,12 @@ fn is_some_served(table: &NodeTable<Node>, keys: &[NodeKey]) -> bool
     keys.iter().any(|key| is_served_there(table, *key))
 }
 
+/// The most that a collection is given.
+const MOST: Buffers = Buffers {
+    count: 64,
+    size: 1073741824,
+};
+
 /// The buffers that are wanted where so much is asked for, if they are some, and not too many.
 fn wanted(asks: &Asks) -> Option<Buffers>
     ensures count { IfSome result (λ wants. wants.count ≡ max asks.now.camping asks.now.at_least) }
@@ -70,7 +76,7 @@ fn wanted(asks: &Asks) -> Option<Buffers>
     ensures sized { IfSome result (λ wants. (1 ≤ wants.size) × (wants.size ≤ 2 ^ 30)) }
 {
     let count = asks.camping.max(asks.at_least as u128);
-    if count == 0 || count > 64 || asks.size == 0 || asks.size > 1073741824 {
+    if count == 0 || count > MOST.count as u128 || asks.size == 0 || asks.size > MOST.size {
         return None;
     }
     Some(Buffers {
@@ -78,12 +84,6 @@ fn wanted(asks: &Asks) -> Option<Buffers>
         size: asks.size,
     })
 }
-
-/// The most that a collection is given.
-const MOST: Buffers = Buffers {
-    count: 64,
-    size: 1073741824,
-};
 
 /// The buffers that the root's unit, with this head, wants once this node is in the place of the one
 /// with its key, and how many of them are camped on then: if all of these keys are of nodes of this
