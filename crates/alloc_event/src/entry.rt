@@ -1,5 +1,5 @@
 //! A collection as it is kept, and the collections by their ids.
-ghost use Rattle.std.specs.Prelude.{◌≡◌, ◌==◌, nat_lt, option_copied};
+ghost use Rattle.std.specs.Prelude.{◌≡◌, ◌==◌, nat_lt, option_copied, IfSome};
 ghost use Rattle.std.specs.List.{prefix_len, find};
 ghost use Rattle.alloc_event.specs.Kept.{AreRising, place_in, shelves_of};
 
@@ -26,12 +26,30 @@ pub(crate) struct Entry {
     pub(crate) noted: Vec<NodeKey>,
 }
 
-/// How many collections have a smaller id.
+/// How many collections have a smaller id, if the last one tells it: it has this id or a smaller one.
+fn before_last(entries: &[Entry], id: CollectionId) -> Option<usize>
+    requires { AreRising (shelves_of entries.now) }
+    ensures { IfSome result (λ at. at ≡ prefix_len (λ e. nat_lt e.id id) entries.now) }
+{
+    let last = entries.len().checked_sub(1)?;
+    if entries[last].id < id {
+        Some(entries.len())
+    } else if entries[last].id == id {
+        Some(last)
+    } else {
+        None
+    }
+}
+
+/// How many collections have a smaller id. A look at the last one, and else a binary search.
 pub(crate) fn entries_before(entries: &[Entry], id: CollectionId) -> usize
     requires { AreRising (shelves_of entries.now) }
     ensures { result ≡ prefix_len (λ e. nat_lt e.id id) entries.now }
 {
-    entries.partition_point(|entry| entry.id < id)
+    match before_last(entries, id) {
+        Some(at) => at,
+        None => entries.partition_point(|entry| entry.id < id),
+    }
 }
 
 /// Where the collection with this id stands.

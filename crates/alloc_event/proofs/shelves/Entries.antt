@@ -28,6 +28,16 @@ rises (e ∷ es) rising zero (suc j) d le within =
 rises (e ∷ es) rising (suc i) zero d le within = absurd (omega arith)
 rises (e ∷ es) rising (suc i) (suc j) d le within = rises es rising.1 i j d (omega arith) (omega arith)
 
+-- and is smaller than each of those
+pub rises_above : (es : List Entry) → AreRising (shelves_of es) → (i j : ℕ) (d : Entry) → i < j → j < length es →
+    (get_or es i d).id < (get_or es j d).id
+rises_above [] rising i j d less within = absurd (omega arith)
+rises_above (e ∷ es) rising zero zero d less within = absurd (omega arith)
+rises_above (e ∷ es) rising zero (suc j) d less within =
+    All-from_recursion (λ (later : Entry). e.id < later.id) es (above_shelves e.id es rising.0) j d (omega arith)
+rises_above (e ∷ es) rising (suc i) zero d less within = absurd (omega arith)
+rises_above (e ∷ es) rising (suc i) (suc j) d less within = rises_above es rising.1 i j d (omega arith) (omega arith)
+
 -- a partition point is the length of the longest front that passes
 pub prefix_len-partition : {X : Type 0} (p : X → Bool) (xs : List X) (n : ℕ) → n ≤ length xs →
     IsPartitionPoint (λ y. p y ≡ true) (λ y. p y ≡ false) xs n → n ≡ prefix_len p xs
@@ -38,6 +48,24 @@ prefix_len-partition p (x ∷ xs) n le h =
 -- how many ids are smaller
 abbrev pub before : ℕ → List Entry → ℕ
 before id es = prefix_len (λ (e : Entry). nat_lt e.id id) es
+
+-- where the last id is smaller, all are
+pub before_greater : (id : ℕ) (es : List Entry) (last : ℕ) (d : Entry) → AreRising (shelves_of es) → last + 1 ≡ length es →
+    (get_or es last d).id < id → length es ≡ before id es
+before_greater id es last d rising end less =
+    sym (prefix_len_is (λ (e : Entry). nat_lt e.id id) es (length es) d (omega arith)
+    (λ k within. lt-ltb (get_or es k d).id id
+    (let rise : (get_or es k d).id ≤ (get_or es last d).id = rises es rising k last d (omega arith) (omega arith) in omega arith))
+    (λ out. absurd (omega arith)))
+
+-- where it is this one, all before it are
+pub before_equal : (id : ℕ) (es : List Entry) (last : ℕ) (d : Entry) → AreRising (shelves_of es) → last + 1 ≡ length es →
+    (get_or es last d).id ≡ id → last ≡ before id es
+before_equal id es last d rising end same =
+    sym (prefix_len_is (λ (e : Entry). nat_lt e.id id) es last d (omega arith)
+    (λ k within. lt-ltb (get_or es k d).id id
+    (let rise : (get_or es k d).id < (get_or es last d).id = rises_above es rising k last d within (omega arith) in omega arith))
+    (λ within. le-ltb (get_or es last d).id id (omega arith)))
 
 -- no more than there are
 pub before_within : (id : ℕ) (es : List Entry) → before id es ≤ length es

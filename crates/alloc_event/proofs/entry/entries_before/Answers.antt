@@ -5,8 +5,8 @@ use Rattle.alloc_event.specs.declared.entry.Entry.{Entry}
 use Rattle.alloc_event.proofs.shelves.Entries.{rises, prefix_len-partition}
 use Rattle.alloc_event.proofs.entry.entries_before.Goals as goal
 
-pub returns : goal.returns
-returns c =
+pub returns-in-None : goal.returns-in-None
+returns-in-None c =
     let p = λ (e : Entry). nat_lt e.id c.args.id in
     prefix_len-partition p c.args.entries.now c.partition_point.result c.partition_point.ensures.bound
     (IsPartitionPoint-from_clause p c.args.entries.now c.partition_point.result c.partition_point.ensures.partitioned
