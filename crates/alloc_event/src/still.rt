@@ -9,7 +9,7 @@ use crate::deciding::decide;
 use crate::marks::Marks;
 use crate::questions::some_strong_live;
 use crate::scene::Scene;
-use buffer_holds::{Holds, Spot};
+use buffer_holds::Holds;
 use sm_names::HeldBuffer;
 
 /// Whether no step is forced, and no buffer that is held is home: then a birth forces nothing, and
@@ -34,10 +34,9 @@ pub(crate) fn is_still(scene: &Scene, marks: &mut Marks, holds: &Holds) -> bool
 pub(crate) fn are_out(held: &[HeldBuffer], holds: &Holds, strong_live: bool) -> bool
     ensures { result ≡ list_all (is_out (total holds.now) strong_live) held.now }
 {
-    let mut near = Spot::new();
     let mut rest = held;
     'on: while let Some((one, more)) = rest.split_first() {
-        if holds.home_near(one.buffer, strong_live, &mut near) {
+        if holds.home(one.buffer, strong_live) {
             return false;
         }
         rest = more;

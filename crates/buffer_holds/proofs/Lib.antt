@@ -1,4 +1,5 @@
 pub mod KindLemmas
+pub mod Most
 pub mod Opening
 pub mod Outcomes
 pub mod RowLemmas

@@ -1,5 +1,5 @@
 -- What a change of one entry of a map does to its entries.
-use Rattle.std.proofs.Common.{◌≡◌, ◌+◌, ◌≤◌, ◌<◌, refl, sym, ap, subst, ◌∙◌, ℕ, zero, suc, Bool, true, false, cond, List, [], ◌∷◌, Option, Some, None, arith, sum_by, IsSome, length, get_or, slice_get, MutBor, IfSome}
+use Rattle.std.proofs.Common.{◌≡◌, ◌+◌, ◌≤◌, ◌<◌, refl, sym, ap, subst, ◌∙◌, ℕ, zero, suc, Bool, true, false, cond, List, [], ◌∷◌, Option, Some, None, arith, sum_by, IsSome, length, get_or, slice_get, unwrap_or, Bor, MutBor, IfSome}
 use Rattle.std.proofs.lemmas.List.Sums.{sum_by-cons, sum_by-append, sum_by-swap_remove}
 use Rattle.std.proofs.lemmas.Map.Entries.{lookup_from_place}
 use Rattle.std.proofs.lemmas.Option.{get_or_from_slice_get, slice_get_within, slice_get-map}
@@ -7,6 +7,7 @@ use Rattle.std.specs.Cmp.{IsEquivalence}
 use Rattle.std.specs.List.{IsDistinct, swap_remove}
 use Rattle.std.specs.Option.{option_copied_mut, option_map}
 use Rattle.std.specs.Map.{lookup, set_value, remove_entry}
+use Rattle.std.specs.Map.Iter.{deref_pair}
 use Rattle.std.specs.HashMap.{HashMap, get, values, IsUnique, Updates, UpdatesBy, WritesThrough}
 use Rattle.indexmap.specs.IndexMap.{insert_entry, set_value_at, with_value_at}
 use Rattle.indexmap.proofs.CallerLemmas.{insert_entry-new, keys-with_value_at, updates-with_value_at}
@@ -132,6 +133,25 @@ module _ {K X S : Type 0} (m : HashMap K X S) (place : ℕ) (key : K) (v : X) (s
     where
       injected : Some r.now ≡ Some v → r.now ≡ v
       injected e = cc
+
+-- what is read at a place
+module _ {K X S : Type 0} (eq : K → K → Bool) (m : HashMap K X S) (place : ℕ) (key : K) (v : X)
+    (stands : slice_get m.entries place ≡ Some (key, v)) (lent : Option (Bor K × Bor X))
+    (entry : option_map deref_pair lent ≡ slice_get m.entries place) (value : IfSome lent (λ p. get eq m p.0.now ≡ Some p.1.now))
+    (read : Bor K × Bor X) (is_read : lent ≡ Some read) where
+  pair : slice_get m.entries place ≡ Some (read.0.now, read.1.now)
+  pair = sym entry ∙ ap (option_map deref_pair) is_read
+
+  this : read.0.now ≡ key
+  this = ap (λ (o : Option (K × X)). (unwrap_or o (key, v)).0) (sym pair ∙ stands)
+
+  pub stands_read_at : slice_get m.entries place ≡ Some (key, read.1.now)
+  stands_read_at = pair ∙ ap (λ k. Some (k, read.1.now)) this
+
+  pub lookup_read_at : lookup (eq key) m.entries ≡ Some read.1.now
+  lookup_read_at =
+      subst (λ k. lookup (eq k) m.entries ≡ Some read.1.now) this (subst (λ o. IfSome o (λ p. get eq m p.0.now ≡ Some p.1.now)) is_read
+      value)
 
 module _ {K X S : Type 0} (eq same : K → K → Bool) (is : eq ≡ same) (one : (a b : K) → same a b ≡ true → a ≡ b) (itself : (a : K) →
     same a a ≡ true) (m n : HashMap K X S) (key : K) where

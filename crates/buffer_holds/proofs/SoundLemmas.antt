@@ -67,6 +67,11 @@ pub one_row-IsSome : (row : Option ℕ) → IsSome row → one_row row ≡ 1
 one_row-IsSome None is = cc
 one_row-IsSome (Some count) is = refl
 
+-- what is less than one row is none
+pub no_row : (row : Option ℕ) → one_row row < 1 → row ≡ None
+no_row None less = refl
+no_row (Some count) less = absurd (omega (arith, less))
+
 -- where there is no row, one is added
 pub one_row-added : (row : Option ℕ) → one_row row + (if is_some row then 0 else 1) ≡ 1
 one_row-added None = refl

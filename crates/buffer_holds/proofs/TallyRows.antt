@@ -1,9 +1,9 @@
 -- What the calls of the map of tallies find and write, by the specs' own test of kinds.
-use Rattle.std.proofs.Common.{◌≡◌, ◌<◌, ◌+◌, ◌∙◌, ℕ, refl, sym, ap, subst, Option, None, Some, IfSome, IsSome, slice_get, unwrap_or, Bor, MutBor}
+use Rattle.std.proofs.Common.{◌≡◌, ◌<◌, ◌+◌, ◌∙◌, ℕ, refl, sym, ap, subst, Option, None, Some, IfSome, IfNone, IsSome, slice_get, unwrap_or, Bor, MutBor}
 use Rattle.std.specs.Map.{lookup}
 use Rattle.std.specs.Map.Iter.{deref_pair}
 use Rattle.std.specs.Option.{option_copied_mut, option_map}
-use Rattle.std.specs.HashMap.{HashMap, get, values, IsUnique, WritesThrough}
+use Rattle.std.specs.HashMap.{HashMap, get, values, IsUnique}
 use Rattle.buffer_holds.specs.declared.kinds.HandleKind.{HandleKind}
 use Rattle.buffer_holds.specs.declared.tally.Tally.{Tally}
 use Rattle.buffer_holds.specs.contracts.kinds.HandleKindPartialEq.TheImpl.{eq-value as derived}
@@ -12,40 +12,13 @@ use Rattle.buffer_holds.specs.Rows.{Resets, StandsAt}
 use Rattle.buffer_holds.specs.Sound.{tally_row, tally_at, no_tally}
 use Rattle.buffer_holds.proofs.SoundLemmas.{kept_from_something}
 use Rattle.buffer_holds.proofs.KindLemmas.{derived_kind, same_kind-one, same_kind-refl}
-use Rattle.buffer_holds.proofs.RowLemmas.{lookup_found, lookup_placed, resets_written, value_lent_at}
+use Rattle.indexmap.specs.IndexMap.{set_value_at}
+use Rattle.buffer_holds.proofs.RowLemmas.{lookup_found, lookup_placed, resets_placed, value_lent_at, IsSome-lent_at}
 
 module _ {S : Type 0} (tallies : HashMap HandleKind Tally S) (kind : HandleKind) where
   -- the tally that a look-up found
   row_found : (found : Option Tally) → found ≡ get derived.it tallies kind → tally_row tallies.entries kind ≡ found
   row_found found is = lookup_found derived.it same_kind derived_kind same_kind-one tallies tallies kind found is
-
-  -- a tally that says something is lent
-  pub lent_from_something : (lent : Option (MutBor Tally)) → option_copied_mut lent ≡ get derived.it tallies kind
-      → 0 < (tally_at tallies.entries kind).clients + (tally_at tallies.entries kind).moving → IsSome lent
-  lent_from_something lent value some =
-      of_copied lent (subst IsSome (row_found (option_copied_mut lent) value) (kept_from_something (tally_row tallies.entries kind) some))
-    where
-      of_copied : (o : Option (MutBor Tally)) → IsSome (option_copied_mut o) → IsSome o
-      of_copied None some = some
-      of_copied (Some x) some = refl
-
-  module _ (lent : Option (MutBor Tally)) (tally : MutBor Tally) (is : lent ≡ Some tally) (value : option_copied_mut lent ≡ get derived.it
-      tallies kind) where
-    -- the tally that was lent is the one that is kept
-    kept : Some tally.now ≡ get derived.it tallies kind
-    kept = subst (λ o. option_copied_mut o ≡ get derived.it tallies kind) is value
-
-    pub row_lent : tally_row tallies.entries kind ≡ Some tally.now
-    row_lent = row_found (Some tally.now) kept
-
-    pub tally_lent : tally_at tallies.entries kind ≡ tally.now
-    tally_lent = ap (λ o. unwrap_or o no_tally) row_lent
-
-    -- what was written through it
-    pub row_written : (new : HashMap HandleKind Tally S) (after : Tally) → WritesThrough derived.it (derived.it kind) tallies after new
-        → Resets same_kind tallies.entries new.entries kind (tally_row tallies.entries kind) (Some after)
-    row_written new after written =
-        resets_written derived.it same_kind derived_kind same_kind-one tallies new kind tally.now after kept written
 
   -- a tally that is read at its place
   module _ (searched : Option ℕ) (found : IfSome searched (λ place. StandsAt tallies.entries place kind)) (place : ℕ)
@@ -81,3 +54,30 @@ module _ {S : Type 0} (tallies : HashMap HandleKind Tally S) (kind : HandleKind)
       ap (λ o. unwrap_or o no_tally) (lookup_placed derived.it same_kind derived_kind same_kind-one same_kind-refl tallies tallies kind
       place there.0 there.1 unique)
       ∙ sym (value_lent_at tallies place kind there.0 there.1 lent value tally is)
+
+  -- a tally that says something is found
+  pub placed_from_something : (searched : Option ℕ) → IfNone searched (tally_row tallies.entries kind ≡ None)
+      → 0 < (tally_at tallies.entries kind).clients + (tally_at tallies.entries kind).moving → IsSome searched
+  placed_from_something None none some = subst IsSome none (kept_from_something (tally_row tallies.entries kind) some)
+  placed_from_something (Some place) none some = refl
+
+  -- a tally that is lent at the place where a search found it
+  module _ (searched : Option ℕ) (found : IfSome searched (λ place. StandsAt tallies.entries place kind)) (place : ℕ)
+      (is_place : searched ≡ Some place) (lent : Option (MutBor Tally))
+      (value : option_copied_mut lent ≡ slice_get (values tallies) place) where
+    placed : StandsAt tallies.entries place kind
+    placed = subst (λ o. IfSome o (λ place. StandsAt tallies.entries place kind)) is_place found
+
+    pub lent_there : IsSome lent
+    lent_there = IsSome-lent_at tallies place kind placed.0 placed.1 lent value
+
+    module _ (unique : IsUnique derived.it tallies) where
+      pub tally_lent : (tally : MutBor Tally) → lent ≡ Some tally → tally_at tallies.entries kind ≡ tally.now
+      tally_lent tally is = tally_lent_at place placed lent value unique tally is
+
+      -- what is written there
+      pub row_written : (after : Tally)
+          → Resets same_kind tallies.entries (set_value_at tallies.entries place after) kind (tally_row tallies.entries kind) (Some after)
+      row_written after =
+          resets_placed derived.it same_kind derived_kind same_kind-one same_kind-refl tallies tallies kind place placed.0 placed.1 unique
+          after

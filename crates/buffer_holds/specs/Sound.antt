@@ -50,3 +50,7 @@ pub record IsSound (limit : ℕ) (rows : List (Hold × ℕ)) (tallies : List (Ha
   pub tallied : (kind : HandleKind) → Tallies limit rows kind (tally_at tallies kind)
   pub needed : (kind : HandleKind) → IsSome (lookup (same_kind kind) tallies) →
       0 < (tally_at tallies kind).clients + (tally_at tallies kind).moving
+
+-- no more than so many of one kind are open
+abbrev pub AreUpTo : ℕ → List (HandleKind × Tally) → Type 0
+AreUpTo most tallies = (kind : HandleKind) → (tally_at tallies kind).total ≤ most

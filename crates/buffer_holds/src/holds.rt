@@ -1,5 +1,5 @@
 //! The counts of open handles.
-ghost use Rattle.std.specs.Prelude.{[], ◌≡◌, ◌+◌, ◌-◌, ◌<◌, ◌≤◌, ◌↔◌, IsTrue, OnOk, OnErr, IsOk, IsErrOf, IsOkUnless};
+ghost use Rattle.std.specs.Prelude.{[], ◌≡◌, ◌+◌, ◌-◌, ◌<◌, ◌≤◌, ◌↔◌, true, IsTrue, OnOk, OnErr, IsOk, IsErrOf, IsOkUnless};
 ghost use Rattle.std.specs.Bool.{OnTrue, OnFalse};
 ghost use Rattle.std.specs.List.{IsDistinct};
 ghost use Rattle.std.specs.Map.{keys_of};
@@ -11,9 +11,9 @@ ghost use Rattle.buffer_holds.specs.Changes.{Sets, Tidies};
 use crate::fault::HoldFault;
 use crate::hashing::CountHash;
 use crate::kinds::{HandleKind, Hold};
-use crate::rows::{Rows, forget, lower, raise};
-use crate::spot::Spot;
-use crate::tally::{Tallies, leave, open, tally_near, tally_of};
+use crate::rows::{Rows, count_of, forget, lower, raise};
+use crate::spot::{Last, Spot};
+use crate::tally::{Tallies, leave, open, tally_by_hash, tally_near, tally_of, tally_place};
 use indexmap::IndexMap;
 use sm_names::{BufferName, ClientId, NoMemory, Strength};
 use std::alloc::Global;
@@ -28,16 +28,21 @@ use std::marker::Model;
 /// a `sub` or a `lift` stands for good, else what was open keeps its memory. A room that was taken
 /// back is used again; the memory is as much as was needed at once.
 ///
-/// Each call looks for one client's row, for the tally of one kind of handle, or for both, in a
-/// hash table each, and never goes over all clients. A new row is amortised: where a table grows,
-/// its entries are moved. `total_near` and `add_near` look behind the last entry that was found
-/// first: handles that are opened one after the other lie so, until others that were opened before
-/// them are tidied away and leave their places to the last ones.
+/// Each call looks for one client's row, for the tally of one kind of handle, or for both, and never
+/// goes over all clients: a look-up is one at the place where the last one ended and at the one behind
+/// it, and where the counts stand elsewhere one in a hash table. Where the last one ended changes what
+/// a call costs, and no count. A new row is amortised: where a table grows, its entries are moved.
+/// `total_near` and `add_near` look behind the last entry that was found first: handles that are opened
+/// one after the other lie so, until others that were opened before them are tidied away and leave
+/// their places to the last ones.
 #[derive(Drop)]
 pub struct Holds {
     limit: u32,
+    // No more than so many of one kind were ever open.
+    most: u32,
     rows: Rows,
     tallies: Tallies,
+    last: Last,
 }
 
 impl Model for Holds {
@@ -45,7 +50,7 @@ impl Model for Holds {
 
     ghost Value = { Counts };
 
-    ghost use Rattle.buffer_holds.specs.Sound.{IsSound, parcels_in};
+    ghost use Rattle.buffer_holds.specs.Sound.{AreUpTo, IsSound, parcels_in};
 
     ghost view = { λ h. record {
       limit = h.limit;
@@ -53,7 +58,7 @@ impl Model for Holds {
       parcels = parcels_in h.tallies.entries;
     } };
 
-    ghost invariant = { λ h. IsSound h.limit h.rows.entries h.tallies.entries };
+    ghost invariant = { λ h. IsSound h.limit h.rows.entries h.tallies.entries × AreUpTo h.most h.tallies.entries };
 }
 
 impl Holds {
@@ -74,8 +79,10 @@ impl Holds {
         let hash = CountHash::new(seed);
         Holds {
             limit,
+            most: 0,
             rows: IndexMap::with_hasher(alloc, hash),
             tallies: IndexMap::with_hasher(alloc, hash),
+            last: Last::new(),
         }
     }
 
@@ -85,7 +92,7 @@ impl Holds {
         ensures { result ≡ of self.now client buffer strength }
     {
         let kind = HandleKind { buffer, strength };
-        self.rows.get(&Hold { client, kind }).copied().unwrap_or(0)
+        count_of(&self.rows, Hold { client, kind }, &self.last.row)
     }
 
     /// How many of these handles are in parcels. One look-up.
@@ -93,7 +100,7 @@ impl Holds {
         ensures { result ≡ moving self.now buffer strength }
     {
         let kind = HandleKind { buffer, strength };
-        tally_of(&self.tallies, kind).moving
+        tally_of(&self.tallies, kind, self.last.tally(strength)).moving
     }
 
     /// How many of these handles are open, in parcels and out of them: what was opened, less what
@@ -105,7 +112,7 @@ impl Holds {
         ensures one_row_each { IsDistinct same_hold (keys_of self.now.rows) }
     {
         let kind = HandleKind { buffer, strength };
-        tally_of(&self.tallies, kind).total
+        tally_of(&self.tallies, kind, self.last.tally(strength)).total
     }
 
     /// What `total` says. It looks at the spot first, which goes on behind what it finds, and takes
@@ -116,7 +123,30 @@ impl Holds {
         ensures one_row_each { IsDistinct same_hold (keys_of self.now.rows) }
     {
         let kind = HandleKind { buffer, strength };
-        tally_near(&self.tallies, kind, &mut near.tally).total
+        tally_near(
+            &self.tallies,
+            kind,
+            &mut near.tally,
+            self.last.tally(strength),
+        )
+        .total
+    }
+
+    // What `total` says, by the hash alone.
+    fn total_by_hash(&self, buffer: BufferName, strength: Strength) -> u32
+        ensures { result ≡ total self.now buffer strength }
+    {
+        let kind = HandleKind { buffer, strength };
+        tally_by_hash(&self.tallies, kind).total
+    }
+
+    /// Whether it is known of each kind of handle that fewer are open than may be. It is, until as many
+    /// of one kind were open at once. It costs a constant.
+    pub fn have_room(&self) -> bool
+        ensures { result ≡ true →
+            (buffer : BufferName) (strength : Strength) → total self.now buffer strength < self.now.limit }
+    {
+        self.most < self.limit
     }
 
     /// Whether nothing strong keeps this buffer of an allocated collection any longer: neither an
@@ -144,7 +174,7 @@ impl Holds {
     {
         !strong_live
             && self.total_near(buffer, Strength::Strong, near) == 0
-            && self.total(buffer, Strength::Weak) == 0
+            && self.total_by_hash(buffer, Strength::Weak) == 0
     }
 
     /// Opens one more of these handles for the client.
@@ -163,7 +193,8 @@ impl Holds {
         ensures room { IsTrue (has_handle_room self.old client buffer strength) → IsOkUnless result HoldFault.TooMany }
         ensures err { OnErr result (self.new ≡ self.old) }
     {
-        self.add_near(client, buffer, strength, &mut Spot::new())
+        let mut near = self.last.spot(strength);
+        self.add_near(client, buffer, strength, &mut near)
     }
 
     /// Does what `add` does. It looks at the spot first, which goes on behind what it finds, and
@@ -183,7 +214,15 @@ impl Holds {
     {
         let kind = HandleKind { buffer, strength };
         let hold = Hold { client, kind };
-        open(&mut self.rows, &mut self.tallies, hold, self.limit, near)
+        open(
+            &mut self.rows,
+            &mut self.tallies,
+            hold,
+            self.limit,
+            near,
+            &self.last,
+            &mut self.most,
+        )
     }
 
     /// Closes one of the client's handles, and answers whether it had one. Without one nothing
@@ -196,10 +235,11 @@ impl Holds {
         ensures unchanged { OnFalse result (self.new ≡ self.old) }
     {
         let kind = HandleKind { buffer, strength };
-        if !lower(&mut self.rows, Hold { client, kind }) {
+        if !lower(&mut self.rows, Hold { client, kind }, &self.last.row) {
             return false;
         }
-        let tally = self.tallies.get_mut(&kind).unwrap();
+        let place = tally_place(&self.tallies, kind, self.last.tally(strength)).unwrap();
+        let tally = self.tallies.get_index_mut(place).unwrap();
         tally.total -= 1;
         true
     }
@@ -210,8 +250,8 @@ impl Holds {
         ensures { Tidies self.old self.new client buffer strength }
     {
         let kind = HandleKind { buffer, strength };
-        if forget(&mut self.rows, Hold { client, kind }) {
-            leave(&mut self.tallies, kind);
+        if forget(&mut self.rows, Hold { client, kind }, &self.last.row) {
+            leave(&mut self.tallies, kind, self.last.tally(strength));
         }
     }
 
@@ -225,10 +265,11 @@ impl Holds {
         ensures unchanged { OnFalse result (self.new ≡ self.old) }
     {
         let kind = HandleKind { buffer, strength };
-        if !lower(&mut self.rows, Hold { client, kind }) {
+        if !lower(&mut self.rows, Hold { client, kind }, &self.last.row) {
             return false;
         }
-        let tally = self.tallies.get_mut(&kind).unwrap();
+        let place = tally_place(&self.tallies, kind, self.last.tally(strength)).unwrap();
+        let tally = self.tallies.get_index_mut(place).unwrap();
         tally.moving += 1;
         true
     }
@@ -250,10 +291,16 @@ impl Holds {
     {
         let kind = HandleKind { buffer, strength };
         let before = self.rows.len();
-        let Ok(()) = raise(&mut self.rows, Hold { client, kind }, &mut 0) else {
+        let Ok(()) = raise(
+            &mut self.rows,
+            Hold { client, kind },
+            &mut 0,
+            &self.last.row,
+        ) else {
             return Err(NoMemory);
         };
-        let tally = self.tallies.get_mut(&kind).unwrap();
+        let place = tally_place(&self.tallies, kind, self.last.tally(strength)).unwrap();
+        let tally = self.tallies.get_index_mut(place).unwrap();
         tally.moving -= 1;
         tally.clients += self.rows.len() - before;
         Ok(())

@@ -1,5 +1,5 @@
 //! The rows of counts: one for each client and kind of handle.
-ghost use Rattle.std.specs.Prelude.{◌≡◌, ◌+◌, ◌-◌, ◌^◌, ◌<◌, ◌↔◌, IsTrue, Some, None, IfSome, IfNone, OnOk, OnErr, IsSome, IsOk};
+ghost use Rattle.std.specs.Prelude.{◌≡◌, ◌+◌, ◌-◌, ◌^◌, ◌<◌, ◌↔◌, true, IsTrue, Some, None, IfSome, IfNone, OnOk, OnErr, IsSome, IsOk};
 ghost use Rattle.std.specs.Bool.{OnTrue, OnFalse};
 ghost use Rattle.buffer_holds.specs.Kinds.{same_hold};
 ghost use Rattle.buffer_holds.specs.Rows.{row_at, count_at, Resets, Raises, StandsAt};
@@ -8,39 +8,81 @@ use crate::hashing::CountHash;
 use crate::kinds::Hold;
 use indexmap::IndexMap;
 use std::alloc::AllocError;
+use std::cell::Cell;
 
 // The rows of all clients.
 pub(crate) type Rows = IndexMap<Hold, u32, CountHash>;
 
-// The place of this hold's row, by its hash.
+// The place of this hold's row, by its hash. It is noted as the last one.
 #[inline(never)]
-fn find_row(rows: &Rows, hold: Hold) -> Option<usize>
+fn find_row(rows: &Rows, hold: Hold, last: &Cell<usize>) -> Option<usize>
     ensures found { IfSome result (λ place. StandsAt rows.now.entries place hold) }
     ensures none { IfNone result (row_at rows.now.entries hold ≡ None) }
 {
     match rows.get_full(&hold) {
-        Some((place, _, _)) => Some(place),
+        Some((place, _, _)) => {
+            last.set(place);
+            Some(place)
+        }
         None => None,
     }
 }
 
-// The same, which is looked for at the guess first.
+// Whether the row at this place is that of the hold.
 #[inline(always)]
-fn row_place(rows: &Rows, hold: Hold, guess: usize) -> Option<usize>
+fn is_row_at(rows: &Rows, hold: Hold, place: usize) -> bool
+    ensures { result ≡ true → StandsAt rows.now.entries place hold }
+{
+    match rows.get_index(place) {
+        Some((key, _)) => *key == hold,
+        None => false,
+    }
+}
+
+// The place of this hold's row: the last one that was found or the one behind it, and else by its hash.
+#[inline(always)]
+fn row_place(rows: &Rows, hold: Hold, last: &Cell<usize>) -> Option<usize>
     ensures found { IfSome result (λ place. StandsAt rows.now.entries place hold) }
     ensures none { IfNone result (row_at rows.now.entries hold ≡ None) }
 {
-    if let Some((key, _)) = rows.get_index(guess) {
-        if *key == hold {
-            return Some(guess);
-        }
+    let place = last.get();
+    if is_row_at(rows, hold, place) {
+        return Some(place);
     }
-    find_row(rows, hold)
+    let next = place.wrapping_add(1);
+    if is_row_at(rows, hold, next) {
+        last.set(next);
+        return Some(next);
+    }
+    find_row(rows, hold, last)
+}
+
+// The same, which is looked for at the guess first.
+#[inline(always)]
+fn row_place_near(rows: &Rows, hold: Hold, guess: usize, last: &Cell<usize>) -> Option<usize>
+    ensures found { IfSome result (λ place. StandsAt rows.now.entries place hold) }
+    ensures none { IfNone result (row_at rows.now.entries hold ≡ None) }
+{
+    if is_row_at(rows, hold, guess) {
+        return Some(guess);
+    }
+    row_place(rows, hold, last)
+}
+
+// How many of these handles the client has open.
+#[inline(always)]
+pub(crate) fn count_of(rows: &Rows, hold: Hold, last: &Cell<usize>) -> u32
+    ensures { result ≡ count_at rows.now.entries hold }
+{
+    match row_place(rows, hold, last) {
+        Some(place) => *rows.get_index(place).unwrap().1,
+        None => 0,
+    }
 }
 
 // A row of one handle, where there is none.
 #[inline(never)]
-fn add_row(rows: &mut Rows, hold: Hold, place: &mut usize) -> Result<(), AllocError>
+pub(crate) fn add_row(rows: &mut Rows, hold: Hold, place: &mut usize) -> Result<(), AllocError>
     requires { row_at rows.old.entries hold ≡ None }
     ensures ok { OnOk result (Raises rows.old.entries rows.new.entries hold) }
     ensures err { OnErr result (rows.new.entries ≡ rows.old.entries) }
@@ -52,13 +94,18 @@ fn add_row(rows: &mut Rows, hold: Hold, place: &mut usize) -> Result<(), AllocEr
 
 // One handle more. Only a new row takes memory. The row is looked for at the place first, which becomes the one behind it.
 #[inline(always)]
-pub(crate) fn raise(rows: &mut Rows, hold: Hold, place: &mut usize) -> Result<(), AllocError>
+pub(crate) fn raise(
+    rows: &mut Rows,
+    hold: Hold,
+    place: &mut usize,
+    last: &Cell<usize>,
+) -> Result<(), AllocError>
     requires { count_at rows.old.entries hold + 1 < 2 ^ 32 }
     ensures ok { OnOk result (Raises rows.old.entries rows.new.entries hold) }
     ensures room { IsSome (row_at rows.old.entries hold) → IsOk result }
     ensures err { OnErr result (rows.new.entries ≡ rows.old.entries) }
 {
-    let Some(found) = row_place(rows, hold, *place) else {
+    let Some(found) = row_place_near(rows, hold, *place, last) else {
         return add_row(rows, hold, place);
     };
     let count = rows.get_index_mut(found).unwrap();
@@ -68,15 +115,16 @@ pub(crate) fn raise(rows: &mut Rows, hold: Hold, place: &mut usize) -> Result<()
 }
 
 // One handle less, where there is one. The row stays, though it may be of 0.
-pub(crate) fn lower(rows: &mut Rows, hold: Hold) -> bool
+pub(crate) fn lower(rows: &mut Rows, hold: Hold, last: &Cell<usize>) -> bool
     ensures had { IsTrue result ↔ (0 < count_at rows.old.entries hold) }
     ensures lowered { OnTrue result (Resets same_hold rows.old.entries rows.new.entries hold
         (row_at rows.old.entries hold) (Some (count_at rows.old.entries hold - 1))) }
     ensures unchanged { OnFalse result (rows.new.entries ≡ rows.old.entries) }
 {
-    let Some(count) = rows.get_mut(&hold) else {
+    let Some(place) = row_place(rows, hold, last) else {
         return false;
     };
+    let count = rows.get_index_mut(place).unwrap();
     if *count == 0 {
         return false;
     }
@@ -85,16 +133,16 @@ pub(crate) fn lower(rows: &mut Rows, hold: Hold) -> bool
 }
 
 // Takes the row away if it is of 0.
-pub(crate) fn forget(rows: &mut Rows, hold: Hold) -> bool
+pub(crate) fn forget(rows: &mut Rows, hold: Hold, last: &Cell<usize>) -> bool
     ensures idle { IsTrue result ↔ (row_at rows.old.entries hold ≡ Some 0) }
     ensures forgotten { OnTrue result (Resets same_hold rows.old.entries rows.new.entries hold
         (row_at rows.old.entries hold) None) }
     ensures unchanged { OnFalse result (rows.new.entries ≡ rows.old.entries) }
 {
-    let Some((place, _, count)) = rows.get_full(&hold) else {
+    let Some(place) = row_place(rows, hold, last) else {
         return false;
     };
-    if *count != 0 {
+    if *rows.get_index(place).unwrap().1 != 0 {
         return false;
     }
     rows.swap_remove_index(place);

@@ -39,7 +39,7 @@ pub(crate) fn hand_over(
         }
         Call::DupHandle(buffer, strength) => {
             if let Reply::Done = *reply {
-                return open(holds, client, buffer, strength, &mut Spot::new());
+                return open_one(holds, client, buffer, strength);
             }
         }
         Call::DropHandle(buffer, strength) => {
@@ -235,6 +235,25 @@ fn open(
     ensures limit { holds.new.limit ≡ holds.old.limit }
 {
     match holds.add_near(client, buffer, strength, near) {
+        Ok(()) => Ok(()),
+        Err(HoldFault::NoMemory) => Err(NoMemory),
+        Err(HoldFault::TooMany) => unreachable!(),
+    }
+}
+
+// Opens a handle that is looked for where the last one was.
+fn open_one(
+    holds: &mut Holds,
+    client: ClientId,
+    buffer: BufferName,
+    strength: Strength,
+) -> Result<(), NoMemory>
+    requires { total holds.old buffer strength < holds.old.limit }
+    ensures ok { OnOk result (Opens holds.old holds.new client (is_the buffer strength)) }
+    ensures err { OnErr result (holds.new ≡ holds.old) }
+    ensures limit { holds.new.limit ≡ holds.old.limit }
+{
+    match holds.add(client, buffer, strength) {
         Ok(()) => Ok(()),
         Err(HoldFault::NoMemory) => Err(NoMemory),
         Err(HoldFault::TooMany) => unreachable!(),

@@ -3,6 +3,7 @@ ghost use Rattle.std.specs.Prelude.{◌≡◌, ◌+◌, ◌<◌, ◌≤◌, ◌�
 ghost use Rattle.std.specs.Prelude.{[], List, length, slice_get, option_map, if◌then◌else◌, IfOk, IfErr, IfSome};
 ghost use Rattle.std.specs.Prelude.{AllPairs, OnErr, false, true, None, is_some, option_copied};
 ghost use Rattle.sm_names.specs.declared.outcomes.Fault.{Fault};
+ghost use Rattle.sm_names.specs.declared.keys.BufferName.{BufferName as Buffer};
 ghost use Rattle.sm_names.specs.declared.keys.Strength.{Strength};
 ghost use Rattle.sm_names.specs.Answers.{IsAnswer, answer as answer_of, is_at_limit};
 ghost use Rattle.sm_names.specs.Handles.{is_doomed};
@@ -241,8 +242,26 @@ impl Core {
         self.contents.holds.total(buffer, strength)
     }
 
-    // Whether as many of these handles are open as may be. They are looked for near the spot.
-    pub(crate) fn has_all_handles(
+    // Whether it is known that one more handle may be opened, whichever it is.
+    pub(crate) fn have_room(&self) -> bool
+        ensures { result ≡ true → (buffer : Buffer) (strength : Strength) →
+            is_at_limit self.now.limits (readings_of self.now) strength buffer ≡ false }
+    {
+        self.contents.holds.have_room()
+    }
+
+    // Whether as many of these handles are open as may be.
+    pub(crate) fn has_all_handles(&self, buffer: BufferName, strength: Strength) -> bool
+        ensures { result ≡ is_at_limit self.now.limits (readings_of self.now) strength buffer }
+    {
+        if self.have_room() {
+            return false;
+        }
+        self.limits.handles() <= self.contents.holds.total(buffer, strength)
+    }
+
+    // The same. They are looked for near the spot.
+    pub(crate) fn has_all_handles_near(
         &self,
         buffer: BufferName,
         strength: Strength,

@@ -20,11 +20,15 @@ pub(crate) fn strength_of(weak: bool) -> Strength
 }
 
 /// Whether as many handles of this strength as may be are open on one of the buffers that would be
-/// opened. It costs two look-ups for each buffer at most.
+/// opened. It costs a constant until as many handles of one kind were open at once as may be, and then
+/// two look-ups for each buffer at most.
 pub(crate) fn is_one_full(core: &Core, collection: CollectionId, strength: Strength) -> bool
     ensures { result ≡ list_any (is_at_limit core.now.limits (readings_of core.now) strength)
         (to_open_in core.now collection) }
 {
+    if core.have_room() {
+        return false;
+    }
     let Some(buffers) = core.buffers_of(collection) else {
         return false;
     };
@@ -33,7 +37,7 @@ pub(crate) fn is_one_full(core: &Core, collection: CollectionId, strength: Stren
     for index in 0..buffers.count as u8 {
         let buffer = BufferName { collection, index };
         if !core.is_doomed(buffer, strong_live)
-            && core.has_all_handles(buffer, strength, &mut near)
+            && core.has_all_handles_near(buffer, strength, &mut near)
         {
             return true;
         }

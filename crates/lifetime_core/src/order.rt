@@ -22,7 +22,6 @@ use crate::machine::Core;
 use crate::opening::{is_one_full, strength_of};
 use crate::traits::{Made, Named, Traits, is_acquired};
 use alloc_event::{End, Node};
-use buffer_holds::Spot;
 use sm_names::{Call, ClientId, Kind, Misuse, Refusal, Reply};
 
 /// The kind of the node's end.
@@ -231,9 +230,7 @@ fn opens_too_many(core: &Core, on: Named, node: Option<&Node>) -> bool
             }
             None => false,
         },
-        Named::Handle(buffer, strength) => {
-            core.has_all_handles(buffer, strength, &mut Spot::new())
-        }
+        Named::Handle(buffer, strength) => { core.has_all_handles(buffer, strength) }
     }
 }
 

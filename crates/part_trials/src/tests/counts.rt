@@ -285,3 +285,15 @@ fn counts_are_found_wherever_they_went(rt: HostRuntime) {
         assert_eq!(rt; holds.of(1, buffer, Strength::Strong), all / 2);
     }
 }
+
+#[test]
+fn there_is_room_until_one_kind_is_full(rt: HostRuntime) {
+    let mut holds = Holds::new(rt.alloc(), 2);
+    assert!(rt; holds.have_room());
+    assert_eq!(rt; holds.add(1, FIRST, Strength::Strong), Ok(()));
+    assert_eq!(rt; holds.add(1, SECOND, Strength::Strong), Ok(()));
+    assert!(rt; holds.have_room());
+    assert_eq!(rt; holds.add(2, FIRST, Strength::Strong), Ok(()));
+    assert!(rt; !holds.have_room());
+    assert!(rt; !Holds::new(rt.alloc(), 0).have_room());
+}

@@ -10,7 +10,7 @@ use Rattle.buffer_holds.proofs.tally.leave.Goals as goal
 
 pub overflow_sub-left : goal.overflow_sub-left
 overflow_sub-left c =
-    let row = row_read c.args.tallies.now c.args.kind c.find_tally.result c.find_tally.ensures.found c.unwrap-place.result
+    let row = row_read c.args.tallies.now c.args.kind c.tally_place.result c.tally_place.ensures.found c.unwrap-place.result
     c.unwrap-place.ensures
     c.get_index.result c.get_index.ensures.entry c.get_index.ensures.value c.unwrap.result c.unwrap.ensures in
     subst (λ o. 0 < (unwrap_or o no_tally).clients) row c.requires
@@ -24,11 +24,11 @@ returns-then-is_idle c =
     let tally = c.unwrap.result.1.now in
     let left : Tally = record tally { clients = tally.clients - 1 } in
     let at = c.get_index.ensures in
-    let stands = stands_read tallies kind c.find_tally.result c.find_tally.ensures.found place c.unwrap-place.ensures c.get_index.result
+    let stands = stands_read tallies kind c.tally_place.result c.tally_place.ensures.found place c.unwrap-place.ensures c.get_index.result
     at.entry at.value c.unwrap.result c.unwrap.ensures in
-    let found = found_read tallies kind c.find_tally.result c.find_tally.ensures.found place c.unwrap-place.ensures c.get_index.result
+    let found = found_read tallies kind c.tally_place.result c.tally_place.ensures.found place c.unwrap-place.ensures c.get_index.result
     at.entry at.value c.unwrap.result c.unwrap.ensures in
-    let row = row_read tallies kind c.find_tally.result c.find_tally.ensures.found place c.unwrap-place.ensures c.get_index.result at.entry
+    let row = row_read tallies kind c.tally_place.result c.tally_place.ensures.found place c.unwrap-place.ensures c.get_index.result at.entry
     at.value c.unwrap.result c.unwrap.ensures in
     let none = ap (λ o. without_client (unwrap_or o no_tally)) row ∙ ap (λ (b : Bool). if b then None else Some left) (sym c.is_idle.ensures
     ∙ c.if-is_idle.true) in
@@ -47,9 +47,9 @@ returns-else-is_idle c =
     let tally = c.unwrap.result.1.now in
     let left : Tally = record tally { clients = tally.clients - 1 } in
     let at = c.get_index.ensures in
-    let stands = stands_read tallies kind c.find_tally.result c.find_tally.ensures.found place c.unwrap-place.ensures c.get_index.result
+    let stands = stands_read tallies kind c.tally_place.result c.tally_place.ensures.found place c.unwrap-place.ensures c.get_index.result
     at.entry at.value c.unwrap.result c.unwrap.ensures in
-    let row = row_read tallies kind c.find_tally.result c.find_tally.ensures.found place c.unwrap-place.ensures c.get_index.result at.entry
+    let row = row_read tallies kind c.tally_place.result c.tally_place.ensures.found place c.unwrap-place.ensures c.get_index.result at.entry
     at.value c.unwrap.result c.unwrap.ensures in
     let some = ap (λ o. without_client (unwrap_or o no_tally)) row ∙ ap (λ (b : Bool). if b then None else Some left) (sym c.is_idle.ensures
     ∙ c.if-is_idle.false) in

@@ -1,4 +1,5 @@
 use Rattle.std.proofs.Common.{◌≡◌, ◌-◌, ◌∙◌, ap, subst, sym, refl, Some, length, arith}
+use Rattle.std.proofs.lemmas.Grind.{common_steps}
 use Rattle.indexmap.specs.IndexMap.{set_value_at}
 use Rattle.buffer_holds.specs.declared.tally.Tally.{Tally}
 use Rattle.buffer_holds.specs.contracts.kinds.HandleKindPartialEq.TheImpl.{eq-value as derived}
@@ -93,3 +94,9 @@ returns-clause-tallied c =
     λ i. one_more (sym kept i) (c.len.ensures.len i - c.len-before.ensures.len i) in
     subst (λ now. Resets same_kind tallies.entries after kind (tally_row tallies.entries kind) (Some now)) same
     (resets_placed derived.it same_kind derived_kind same_kind-one same_kind-refl tallies tallies kind place found.0 found.1 unique more)
+
+pub returns-clause-most : goal.returns-clause-most
+returns-clause-most c =
+    let kept = tally_lent_at c.args.tallies.now c.args.hold.kind c.in-Some.place c.in-Some.ensures.found c.get_index_mut.result
+    c.get_index_mut.ensures.value c.get_index_mut.ensures.unique c.unwrap-tally.result c.unwrap-tally.ensures in
+    grind (arith, common_steps, ap (λ (t : Tally). t.total) kept)

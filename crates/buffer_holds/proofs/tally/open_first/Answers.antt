@@ -23,7 +23,7 @@ returns-clause-tallied c =
     let first : Tally = record { total = 1; moving = 0; clients = count } in
     let done : IsOk c.insert.result = c.insert.ensures.succeeds (omega (arith, c.in-Ok.ensures.ok)) in
     let absent = c.requires.first in
-    let counted : count ≡ 0 + (length c.raise.new.rows.entries - length c.args.rows.now.entries) =
+    let counted : count ≡ 0 + (length c.add_row.new.rows.entries - length c.args.rows.now.entries) =
     omega (arith, c.len.ensures.len, c.len-before.ensures.len) in
     let same : roomy.entries ≡ tallies.entries = c.reserve.ensures.entries in
     let added : Resets same_kind roomy.entries new.entries kind (tally_row roomy.entries kind) (Some first) =
@@ -32,8 +32,8 @@ returns-clause-tallied c =
     (at_ok (new.entries ≡ insert_entry derived.it roomy.entries kind first) c.insert.result done c.insert.ensures.entries)
     (at_ok (Updates derived.it roomy new kind (Some first)) c.insert.result done c.insert.ensures.updates)
     c.insert.ensures.unique in
-    let is_one_more : first ≡ one_more (tally_at tallies.entries kind) (length c.raise.new.rows.entries - length c.args.rows.now.entries) =
+    let is_one_more : first ≡ one_more (tally_at tallies.entries kind) (length c.add_row.new.rows.entries - length c.args.rows.now.entries) =
     (λ i. record { total = 1; moving = 0; clients = counted i })
-    ∙ ap (λ o. one_more (unwrap_or o no_tally) (length c.raise.new.rows.entries - length c.args.rows.now.entries)) (sym absent) in
+    ∙ ap (λ o. one_more (unwrap_or o no_tally) (length c.add_row.new.rows.entries - length c.args.rows.now.entries)) (sym absent) in
     subst (λ now. Resets same_kind tallies.entries new.entries kind (tally_row tallies.entries kind) (Some now)) is_one_more
     (subst (λ es. Resets same_kind es new.entries kind (tally_row es kind) (Some first)) same added)

@@ -1,11 +1,19 @@
-use Rattle.std.proofs.Common.{◌≡◌, refl, ap, sym, ◌∙◌, ◌+◌, Bool, false, ◌&&◌, ◌||◌}
+use Rattle.std.proofs.Common.{◌≡◌, refl, ap, sym, ◌∙◌, ◌+◌, Bool, false, ◌&&◌, ◌||◌, get_or}
+use Rattle.std.proofs.lemmas.List.Folds.{list_any_none}
 use Rattle.std.specs.List.{list_any}
 use Rattle.sm_names.specs.declared.keys.BufferName.{BufferName}
 use Rattle.sm_names.specs.Answers.{is_at_limit}
-use Rattle.lifetime_core.specs.Reads.{readings_of}
+use Rattle.lifetime_core.specs.Reads.{readings_of, to_open_in}
 use Rattle.lifetime_core.proofs.handles.ToOpen.{all_to_open, keeps_buffer, kept_from, next_passes, none_kept}
-use Rattle.lifetime_core.proofs.opening.is_one_full.Goals.{else-not-is_doomed-via-then-not-is_doomed+else-has_all_handles, else-not-is_doomed-via-else-not-is_doomed}
+use Rattle.lifetime_core.proofs.opening.is_one_full.Goals.{else-not-is_doomed-via-then-not-is_doomed+else-has_all_handles_near, else-not-is_doomed-via-else-not-is_doomed}
 use Rattle.lifetime_core.proofs.opening.is_one_full.Goals as goal
+
+-- none is
+pub returns-then-have_room : goal.returns-then-have_room
+returns-then-have_room c =
+    let full : BufferName → Bool = is_at_limit c.args.core.now.limits (readings_of c.args.core.now) c.args.strength in
+    sym (list_any_none full (to_open_in c.args.core.now c.args.collection) (λ i d within.
+    c.have_room.ensures c.if-have_room.true (get_or (to_open_in c.args.core.now c.args.collection) i d) c.args.strength))
 
 pub loop-index-init : goal.loop-index-init
 loop-index-init c =
@@ -14,12 +22,12 @@ loop-index-init c =
     (all_to_open c.args.core.now c.args.collection c.in-Some.buffers (sym c.in-Some.ensures.value)))
 
 -- this one is full
-pub returns-then-has_all_handles : goal.returns-then-has_all_handles
-returns-then-has_all_handles c =
+pub returns-then-has_all_handles_near : goal.returns-then-has_all_handles_near
+returns-then-has_all_handles_near c =
     let full : BufferName → Bool = is_at_limit c.args.core.now.limits (readings_of c.args.core.now) c.args.strength in
     sym (next_passes full c.args.core.now c.args.collection c.strong_live-strong_live.result c.loop-index.index c.in-Some.buffers.count
     c.loop-index-test.true
-    ∙ rw (← c.if-not-is_doomed.ensures, ← c.if-has_all_handles.ensures) refl)
+    ∙ rw (← c.if-not-is_doomed.ensures, ← c.if-has_all_handles_near.ensures) refl)
     ∙ c.loop-index.invariant
 
 -- this one is doomed, or not full
@@ -31,8 +39,8 @@ loop-index-preserved c =
     c.in-Some.buffers.count) in
     let passes_not : (keeps_buffer c.args.core.now c.strong_live-strong_live.result name && full name) ≡ false =
     elim c.else-not-is_doomed.branch [
-      | else-not-is_doomed-via-then-not-is_doomed+else-has_all_handles w ↦
-          rw (← w.if-not-is_doomed.ensures, ← w.if-has_all_handles.ensures) refl
+      | else-not-is_doomed-via-then-not-is_doomed+else-has_all_handles_near w ↦
+          rw (← w.if-not-is_doomed.ensures, ← w.if-has_all_handles_near.ensures) refl
       | else-not-is_doomed-via-else-not-is_doomed w ↦ rw (← w.if-not-is_doomed.ensures) refl
     ] in
     sym (next_passes full c.args.core.now c.args.collection c.strong_live-strong_live.result c.loop-index.index c.in-Some.buffers.count

@@ -1,49 +1,71 @@
-use Rattle.std.proofs.Common.{◌≡◌, ◌+◌, refl, sym, ap, subst, ◌∙◌, arith, IsTrue}
+use Rattle.std.proofs.Common.{◌≡◌, ◌≤◌, ◌+◌, refl, sym, ap, subst, ◌∙◌, arith, unwrap_or, IsTrue}
 use Rattle.buffer_holds.specs.declared.fault.HoldFault.TheVariants.{TooMany}
 use Rattle.buffer_holds.specs.Counts.{total, has_handle_room}
 use Rattle.buffer_holds.specs.Kinds.{kind_of, hold_of}
 use Rattle.buffer_holds.specs.Rows.{Raises, row_at}
-use Rattle.buffer_holds.specs.Sound.{IsSound, tally_row}
+use Rattle.buffer_holds.specs.Sound.{IsSound, no_tally, tally_at, tally_row}
 use Rattle.buffer_holds.specs.Stored.{Opens}
+use Rattle.buffer_holds.proofs.Most.{up_to_after}
 use Rattle.buffer_holds.proofs.Opening.{Step-opened}
 use Rattle.buffer_holds.proofs.Outcomes.{by_outcome, at_ok, at_err, on_ok, ok-not-err}
-use Rattle.buffer_holds.proofs.SoundLemmas.{total_is, count_at-le-total, clients-le-length, one_row-le-clients, one_row-IsSome, kept_from_something}
+use Rattle.buffer_holds.proofs.SoundLemmas.{total_is, count_at-le-total, clients-le-length, one_row-le-clients, one_row-IsSome, no_row, kept_from_something}
 use Rattle.buffer_holds.proofs.Steps.{sound_after, sets_by}
 use Rattle.buffer_holds.proofs.holds.Holds.add_near.Goals as goal
 
 pub open-requires-clause-within : goal.open-requires-clause-within
 open-requires-clause-within c =
     let kind = kind_of c.args.buffer c.args.strength in
-    omega (arith, (c.self.invariant.tallied kind).within)
+    omega (arith, (c.self.invariant.0.tallied kind).within)
 
 pub open-requires-clause-counted : goal.open-requires-clause-counted
 open-requires-clause-counted c =
     let inside = c.self.inside in
     let hold = hold_of c.args.client c.args.buffer c.args.strength in
-    omega (arith, count_at-le-total inside.limit inside.rows.entries inside.tallies.entries c.self.invariant hold)
+    omega (arith, count_at-le-total inside.limit inside.rows.entries inside.tallies.entries c.self.invariant.0 hold)
+
+-- without a tally no client has a row
+pub open-requires-clause-with : goal.open-requires-clause-with
+open-requires-clause-with c = λ none.
+    let inside = c.self.inside in
+    let hold = hold_of c.args.client c.args.buffer c.args.strength in
+    no_row (row_at inside.rows.entries hold) (omega (
+      arith,
+      one_row-le-clients inside.limit inside.rows.entries inside.tallies.entries c.self.invariant.0 hold,
+      ap (λ o. (unwrap_or o no_tally).clients) none,
+    ))
 
 pub open-requires-clause-listed : goal.open-requires-clause-listed
 open-requires-clause-listed c =
     let inside = c.self.inside in
     let hold = hold_of c.args.client c.args.buffer c.args.strength in
-    omega (arith, clients-le-length inside.limit inside.rows.entries inside.tallies.entries c.self.invariant hold)
+    omega (arith, clients-le-length inside.limit inside.rows.entries inside.tallies.entries c.self.invariant.0 hold)
 
 pub invariant_of-self : goal.invariant_of-self
 invariant_of-self c =
     let inside = c.self.inside in
     let hold = hold_of c.args.client c.args.buffer c.args.strength in
-    let rows' = c.open.new.rows.entries in
-    by_outcome c.open.result
-    (λ ok. sound_after (Step-opened inside.limit inside.rows.entries rows' inside.tallies.entries c.open.new.tallies.entries
-    c.self.invariant hold
-    (at_ok (Raises inside.rows.entries rows' hold) c.open.result ok c.open.ensures.raised)
-    (at_ok (Opens inside.rows.entries rows' inside.tallies.entries c.open.new.tallies.entries hold.kind) c.open.result ok
-    c.open.ensures.tallied)
-    (λ full. ok-not-err c.open.result TooMany ok (c.open.ensures.too_many.1 full))))
-    (λ err. subst (λ rows. IsSound inside.limit rows c.open.new.tallies.entries)
-    (sym (at_err (rows' ≡ inside.rows.entries) c.open.result err c.open.ensures.err_rows))
-    (subst (IsSound inside.limit inside.rows.entries) (sym (at_err (c.open.new.tallies.entries ≡ inside.tallies.entries) c.open.result err
-    c.open.ensures.err_tallies)) c.self.invariant))
+    let rows' = c.open.new.rows.entries in (
+      by_outcome c.open.result
+          (λ ok. sound_after (Step-opened inside.limit inside.rows.entries rows' inside.tallies.entries c.open.new.tallies.entries
+          c.self.invariant.0 hold
+          (at_ok (Raises inside.rows.entries rows' hold) c.open.result ok c.open.ensures.raised)
+          (at_ok (Opens inside.rows.entries rows' inside.tallies.entries c.open.new.tallies.entries hold.kind) c.open.result ok
+          c.open.ensures.tallied)
+          (λ full. ok-not-err c.open.result TooMany ok (c.open.ensures.too_many.1 full))))
+          (λ err. subst (λ rows. IsSound inside.limit rows c.open.new.tallies.entries)
+          (sym (at_err (rows' ≡ inside.rows.entries) c.open.result err c.open.ensures.err_rows))
+          (subst (IsSound inside.limit inside.rows.entries) (sym (at_err (c.open.new.tallies.entries ≡ inside.tallies.entries) c.open.result err
+          c.open.ensures.err_tallies)) c.self.invariant.0)),
+      by_outcome c.open.result (λ ok.
+          let opens = at_ok (Opens inside.rows.entries rows' inside.tallies.entries c.open.new.tallies.entries hold.kind) c.open.result ok
+          c.open.ensures.tallied in
+          up_to_after inside.most c.open.new.most inside.tallies.entries c.open.new.tallies.entries hold.kind _ _ opens c.open.ensures.more
+          (at_ok ((tally_at inside.tallies.entries hold.kind).total + 1 ≤ c.open.new.most) c.open.result ok c.open.ensures.most)
+          c.self.invariant.1) (λ err. λ kind.
+          let same : c.open.new.tallies.entries ≡ inside.tallies.entries =
+          at_err (c.open.new.tallies.entries ≡ inside.tallies.entries) c.open.result err c.open.ensures.err_tallies in
+          omega (arith, c.self.invariant.1 kind, c.open.ensures.more, ap (λ es. (tally_at es kind).total) same)),
+    )
 
 pub returns-clause-opened : goal.returns-clause-opened
 returns-clause-opened c =
@@ -51,7 +73,7 @@ returns-clause-opened c =
     let hold = hold_of c.args.client c.args.buffer c.args.strength in
     let rows' = c.open.new.rows.entries in
     on_ok _ c.open.result (λ ok. sets_by c.args.client c.args.buffer c.args.strength
-    (Step-opened inside.limit inside.rows.entries rows' inside.tallies.entries c.open.new.tallies.entries c.self.invariant hold
+    (Step-opened inside.limit inside.rows.entries rows' inside.tallies.entries c.open.new.tallies.entries c.self.invariant.0 hold
     (at_ok (Raises inside.rows.entries rows' hold) c.open.result ok c.open.ensures.raised)
     (at_ok (Opens inside.rows.entries rows' inside.tallies.entries c.open.new.tallies.entries hold.kind) c.open.result ok
     c.open.ensures.tallied)
@@ -65,7 +87,7 @@ returns-clause-too_many c =
     let inside = c.self.inside in
     let kind = kind_of c.args.buffer c.args.strength in
     let all = ap (λ counts. total counts c.args.buffer c.args.strength) (sym c.self.view_is)
-    ∙ total_is inside.limit inside.rows.entries inside.tallies.entries c.self.invariant c.args.buffer c.args.strength in
+    ∙ total_is inside.limit inside.rows.entries inside.tallies.entries c.self.invariant.0 c.args.buffer c.args.strength in
     let most = ap (λ counts. counts.limit) c.self.view_is in
     (λ refused. all ∙ c.open.ensures.too_many.0 refused ∙ most, λ full. c.open.ensures.too_many.1 (sym all ∙ full ∙ sym most))
 
@@ -79,6 +101,6 @@ returns-clause-room c = λ room.
     (omega (
       arith,
       one_row-IsSome (row_at inside.rows.entries hold) row,
-      one_row-le-clients inside.limit inside.rows.entries inside.tallies.entries c.self.invariant hold,
+      one_row-le-clients inside.limit inside.rows.entries inside.tallies.entries c.self.invariant.0 hold,
     )) in
     c.open.ensures.room row kept

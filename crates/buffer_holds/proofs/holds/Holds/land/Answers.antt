@@ -1,10 +1,11 @@
-use Rattle.std.proofs.Common.{◌-◌, ◌+◌, ◌<◌, refl, sym, ap, arith}
+use Rattle.std.proofs.Common.{◌-◌, ◌+◌, ◌<◌, refl, sym, ap, arith, Some}
 use Rattle.buffer_holds.specs.declared.tally.Tally.{Tally}
 use Rattle.buffer_holds.specs.Counts.{moving}
 use Rattle.buffer_holds.specs.Kinds.{kind_of, hold_of}
+use Rattle.buffer_holds.proofs.Most.{up_to_after}
 use Rattle.buffer_holds.proofs.SoundLemmas.{moving_is, count_at-le-total, clients-le-length}
 use Rattle.buffer_holds.proofs.Steps.{Step-raised, sound_after, sets_by}
-use Rattle.buffer_holds.proofs.TallyRows.{lent_from_something, tally_lent, row_written}
+use Rattle.buffer_holds.proofs.TallyRows.{placed_from_something, lent_there, tally_lent, row_written}
 use Rattle.buffer_holds.proofs.holds.Holds.land.Goals as goal
 
 -- one lies in a parcel, and so there is room for it
@@ -17,21 +18,26 @@ raise-requires c =
       c.requires,
       ap (λ counts. moving counts c.args.buffer c.args.strength) c.self.view_is,
       moving_is inside.limit inside.rows.entries inside.tallies.entries c.args.buffer c.args.strength,
-      count_at-le-total inside.limit inside.rows.entries inside.tallies.entries c.self.invariant hold,
-      (c.self.invariant.tallied hold.kind).within,
+      count_at-le-total inside.limit inside.rows.entries inside.tallies.entries c.self.invariant.0 hold,
+      (c.self.invariant.0.tallied hold.kind).within,
     )
 
 -- and so there is a tally
-pub unwrap-tally-requires : goal.unwrap-tally-requires
-unwrap-tally-requires c =
+pub unwrap-place-requires : goal.unwrap-place-requires
+unwrap-place-requires c =
     let inside = c.self.inside in
-    lent_from_something inside.tallies (kind_of c.args.buffer c.args.strength) _ c.get_mut.ensures.value
+    placed_from_something inside.tallies (kind_of c.args.buffer c.args.strength) c.tally_place.result c.tally_place.ensures.none
     (omega (
       arith,
       c.requires,
       ap (λ counts. moving counts c.args.buffer c.args.strength) c.self.view_is,
       moving_is inside.limit inside.rows.entries inside.tallies.entries c.args.buffer c.args.strength,
     ))
+
+pub unwrap-tally-requires : goal.unwrap-tally-requires
+unwrap-tally-requires c =
+    lent_there c.self.inside.tallies (kind_of c.args.buffer c.args.strength) c.tally_place.result c.tally_place.ensures.found
+    c.unwrap-place.result c.unwrap-place.ensures c.get_index_mut.result c.get_index_mut.ensures.value
 
 pub overflow_sub-tally : goal.overflow_sub-tally
 overflow_sub-tally c =
@@ -42,7 +48,8 @@ overflow_sub-tally c =
       c.requires,
       ap (λ counts. moving counts c.args.buffer c.args.strength) c.self.view_is,
       moving_is inside.limit inside.rows.entries inside.tallies.entries c.args.buffer c.args.strength,
-      ap (λ (t : Tally). t.moving) (tally_lent inside.tallies kind _ c.unwrap-tally.result c.unwrap-tally.ensures c.get_mut.ensures.value),
+      ap (λ (t : Tally). t.moving) (tally_lent inside.tallies kind c.tally_place.result c.tally_place.ensures.found c.unwrap-place.result c.unwrap-place.ensures
+          c.get_index_mut.result c.get_index_mut.ensures.value c.get_index_mut.ensures.unique c.unwrap-tally.result c.unwrap-tally.ensures),
     )
 
 -- no more clients are counted than there are rows
@@ -56,9 +63,9 @@ overflow_add-tally c =
       c.len.ensures.small,
       c.len-before.ensures.len,
       c.len-before.ensures.small,
-      clients-le-length inside.limit inside.rows.entries inside.tallies.entries c.self.invariant hold,
-      ap (λ (t : Tally). t.clients) (tally_lent inside.tallies hold.kind _ c.unwrap-tally.result c.unwrap-tally.ensures
-          c.get_mut.ensures.value),
+      clients-le-length inside.limit inside.rows.entries inside.tallies.entries c.self.invariant.0 hold,
+      ap (λ (t : Tally). t.clients) (tally_lent inside.tallies hold.kind c.tally_place.result c.tally_place.ensures.found c.unwrap-place.result c.unwrap-place.ensures
+          c.get_index_mut.result c.get_index_mut.ensures.value c.get_index_mut.ensures.unique c.unwrap-tally.result c.unwrap-tally.ensures),
     )
 
 pub invariant_of-self-2 : goal.invariant_of-self-2
@@ -68,7 +75,8 @@ invariant_of-self-2 c =
     let tally = c.unwrap-tally.result.now in
     let landed : Tally =
     record { total = tally.total; moving = tally.moving - 1; clients = tally.clients + (c.len.result - c.len-before.result) } in
-    let kept = tally_lent inside.tallies hold.kind _ c.unwrap-tally.result c.unwrap-tally.ensures c.get_mut.ensures.value in
+    let kept = tally_lent inside.tallies hold.kind c.tally_place.result c.tally_place.ensures.found c.unwrap-place.result c.unwrap-place.ensures
+    c.get_index_mut.result c.get_index_mut.ensures.value c.get_index_mut.ensures.unique c.unwrap-tally.result c.unwrap-tally.ensures in
     let lies : 0 < tally.moving = omega (
       arith,
       c.requires,
@@ -76,12 +84,16 @@ invariant_of-self-2 c =
       moving_is inside.limit inside.rows.entries inside.tallies.entries c.args.buffer c.args.strength,
       ap (λ (t : Tally). t.moving) kept,
     ) in
-    sound_after (Step-raised inside.limit inside.rows.entries c.raise.new.rows.entries inside.tallies.entries _ c.self.invariant hold landed
-    (row_written inside.tallies hold.kind _ c.unwrap-tally.result c.unwrap-tally.ensures c.get_mut.ensures.value
-    (c.get_mut.follows.lender landed) landed (c.get_mut.follows.holds landed))
-    c.in-Ok.ensures.ok (omega (arith, c.len.ensures.len, c.len-before.ensures.len, ap (λ (t : Tally). t.clients) kept))
-    (omega (arith, (c.self.invariant.tallied hold.kind).within, ap (λ (t : Tally). t.total) kept))
-    (omega (arith, lies, ap (λ (t : Tally). t.total) kept, ap (λ (t : Tally). t.moving) kept)))
+    let after = row_written inside.tallies hold.kind c.tally_place.result c.tally_place.ensures.found c.unwrap-place.result
+    c.unwrap-place.ensures c.get_index_mut.result c.get_index_mut.ensures.value c.get_index_mut.ensures.unique landed in (
+      sound_after (Step-raised inside.limit inside.rows.entries c.raise.new.rows.entries inside.tallies.entries _ c.self.invariant.0 hold landed
+          after
+          c.in-Ok.ensures.ok (omega (arith, c.len.ensures.len, c.len-before.ensures.len, ap (λ (t : Tally). t.clients) kept))
+          (omega (arith, (c.self.invariant.0.tallied hold.kind).within, ap (λ (t : Tally). t.total) kept))
+          (omega (arith, lies, ap (λ (t : Tally). t.total) kept, ap (λ (t : Tally). t.moving) kept))),
+      up_to_after inside.most inside.most inside.tallies.entries _ hold.kind _ (Some landed) after (omega arith)
+          (omega (arith, c.self.invariant.1 hold.kind, ap (λ (t : Tally). t.total) kept)) c.self.invariant.1,
+    )
 
 pub returns-clause-landed : goal.returns-clause-landed
 returns-clause-landed c =
@@ -90,7 +102,8 @@ returns-clause-landed c =
     let tally = c.unwrap-tally.result.now in
     let landed : Tally =
     record { total = tally.total; moving = tally.moving - 1; clients = tally.clients + (c.len.result - c.len-before.result) } in
-    let kept = tally_lent inside.tallies hold.kind _ c.unwrap-tally.result c.unwrap-tally.ensures c.get_mut.ensures.value in
+    let kept = tally_lent inside.tallies hold.kind c.tally_place.result c.tally_place.ensures.found c.unwrap-place.result c.unwrap-place.ensures
+    c.get_index_mut.result c.get_index_mut.ensures.value c.get_index_mut.ensures.unique c.unwrap-tally.result c.unwrap-tally.ensures in
     let lies : 0 < tally.moving = omega (
       arith,
       c.requires,
@@ -98,11 +111,11 @@ returns-clause-landed c =
       moving_is inside.limit inside.rows.entries inside.tallies.entries c.args.buffer c.args.strength,
       ap (λ (t : Tally). t.moving) kept,
     ) in
-    let step = Step-raised inside.limit inside.rows.entries c.raise.new.rows.entries inside.tallies.entries _ c.self.invariant hold landed
-    (row_written inside.tallies hold.kind _ c.unwrap-tally.result c.unwrap-tally.ensures c.get_mut.ensures.value
-    (c.get_mut.follows.lender landed) landed (c.get_mut.follows.holds landed))
+    let step = Step-raised inside.limit inside.rows.entries c.raise.new.rows.entries inside.tallies.entries _ c.self.invariant.0 hold landed
+    (row_written inside.tallies hold.kind c.tally_place.result c.tally_place.ensures.found c.unwrap-place.result c.unwrap-place.ensures
+    c.get_index_mut.result c.get_index_mut.ensures.value c.get_index_mut.ensures.unique landed)
     c.in-Ok.ensures.ok (omega (arith, c.len.ensures.len, c.len-before.ensures.len, ap (λ (t : Tally). t.clients) kept))
-    (omega (arith, (c.self.invariant.tallied hold.kind).within, ap (λ (t : Tally). t.total) kept))
+    (omega (arith, (c.self.invariant.0.tallied hold.kind).within, ap (λ (t : Tally). t.total) kept))
     (omega (arith, lies, ap (λ (t : Tally). t.total) kept, ap (λ (t : Tally). t.moving) kept)) in
     sets_by c.args.client c.args.buffer c.args.strength step c.args.self.now c.self.view_is (λ n. n + 1) (λ n. n - 1) (λ n. n)
     refl (ap (λ (t : Tally). t.moving - 1) (sym kept)) (ap (λ (t : Tally). t.total) (sym kept))

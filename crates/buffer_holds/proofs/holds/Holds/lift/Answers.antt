@@ -1,23 +1,29 @@
-use Rattle.std.proofs.Common.{◌-◌, ◌+◌, refl, sym, ap, arith}
+use Rattle.std.proofs.Common.{◌-◌, ◌+◌, refl, sym, ap, arith, Some}
 use Rattle.buffer_holds.specs.declared.tally.Tally.{Tally}
-use Rattle.buffer_holds.specs.Kinds.{hold_of}
+use Rattle.buffer_holds.specs.Kinds.{hold_of, kind_of}
 use Rattle.buffer_holds.specs.Rows.{row_at}
+use Rattle.buffer_holds.proofs.Most.{up_to_after}
 use Rattle.buffer_holds.proofs.SoundLemmas.{one_row-some, count_at-le-total, one_row-le-clients}
 use Rattle.buffer_holds.proofs.Steps.{Step-lowered, sound_after, sets_by}
-use Rattle.buffer_holds.proofs.TallyRows.{lent_from_something, tally_lent, row_written}
+use Rattle.buffer_holds.proofs.TallyRows.{placed_from_something, lent_there, tally_lent, row_written}
 use Rattle.buffer_holds.proofs.holds.Holds.lift.Goals as goal
 
 -- the client has a row, so there is a tally
-pub unwrap-tally-requires : goal.unwrap-tally-requires
-unwrap-tally-requires c =
+pub unwrap-place-requires : goal.unwrap-place-requires
+unwrap-place-requires c =
     let inside = c.self.inside in
     let hold = hold_of c.args.client c.args.buffer c.args.strength in
-    lent_from_something inside.tallies hold.kind _ c.get_mut.ensures.value
+    placed_from_something inside.tallies hold.kind c.tally_place.result c.tally_place.ensures.none
     (omega (
       arith,
       one_row-some (row_at inside.rows.entries hold) (c.if-not-lower.ensures.had.0 refl),
-      one_row-le-clients inside.limit inside.rows.entries inside.tallies.entries c.self.invariant hold,
+      one_row-le-clients inside.limit inside.rows.entries inside.tallies.entries c.self.invariant.0 hold,
     ))
+
+pub unwrap-tally-requires : goal.unwrap-tally-requires
+unwrap-tally-requires c =
+    lent_there c.self.inside.tallies (kind_of c.args.buffer c.args.strength) c.tally_place.result c.tally_place.ensures.found
+    c.unwrap-place.result c.unwrap-place.ensures c.get_index_mut.result c.get_index_mut.ensures.value
 
 -- the client's handle is not among those in parcels
 pub overflow_add-tally : goal.overflow_add-tally
@@ -27,10 +33,10 @@ overflow_add-tally c =
     omega (
       arith,
       c.if-not-lower.ensures.had.0 refl,
-      count_at-le-total inside.limit inside.rows.entries inside.tallies.entries c.self.invariant hold,
-      ap (λ (t : Tally). t.moving) (tally_lent inside.tallies hold.kind _ c.unwrap-tally.result c.unwrap-tally.ensures
-          c.get_mut.ensures.value),
-      (c.self.invariant.tallied hold.kind).within,
+      count_at-le-total inside.limit inside.rows.entries inside.tallies.entries c.self.invariant.0 hold,
+      ap (λ (t : Tally). t.moving) (tally_lent inside.tallies hold.kind c.tally_place.result c.tally_place.ensures.found c.unwrap-place.result c.unwrap-place.ensures
+          c.get_index_mut.result c.get_index_mut.ensures.value c.get_index_mut.ensures.unique c.unwrap-tally.result c.unwrap-tally.ensures),
+      (c.self.invariant.0.tallied hold.kind).within,
     )
 
 pub invariant_of-self-2 : goal.invariant_of-self-2
@@ -39,15 +45,20 @@ invariant_of-self-2 c =
     let hold = hold_of c.args.client c.args.buffer c.args.strength in
     let tally = c.unwrap-tally.result.now in
     let left : Tally = record tally { moving = tally.moving + 1 } in
-    let kept = tally_lent inside.tallies hold.kind _ c.unwrap-tally.result c.unwrap-tally.ensures c.get_mut.ensures.value in
+    let kept = tally_lent inside.tallies hold.kind c.tally_place.result c.tally_place.ensures.found c.unwrap-place.result c.unwrap-place.ensures
+    c.get_index_mut.result c.get_index_mut.ensures.value c.get_index_mut.ensures.unique c.unwrap-tally.result c.unwrap-tally.ensures in
     let had = c.if-not-lower.ensures.had.0 refl in
-    let among = count_at-le-total inside.limit inside.rows.entries inside.tallies.entries c.self.invariant hold in
-    sound_after (Step-lowered inside.limit inside.rows.entries c.lower.new.rows.entries inside.tallies.entries _ c.self.invariant hold left
-    (row_written inside.tallies hold.kind _ c.unwrap-tally.result c.unwrap-tally.ensures c.get_mut.ensures.value
-    (c.get_mut.follows.lender left) left (c.get_mut.follows.holds left))
-    had (c.if-not-lower.ensures.lowered)
-    (ap (λ (t : Tally). t.clients) (sym kept)) (omega (arith, ap (λ (t : Tally). t.total) kept))
-    (omega (arith, had, among, ap (λ (t : Tally). t.total) kept, ap (λ (t : Tally). t.moving) kept)))
+    let among = count_at-le-total inside.limit inside.rows.entries inside.tallies.entries c.self.invariant.0 hold in
+    let after = row_written inside.tallies hold.kind c.tally_place.result c.tally_place.ensures.found c.unwrap-place.result
+    c.unwrap-place.ensures c.get_index_mut.result c.get_index_mut.ensures.value c.get_index_mut.ensures.unique left in (
+      sound_after (Step-lowered inside.limit inside.rows.entries c.lower.new.rows.entries inside.tallies.entries _ c.self.invariant.0 hold left
+          after
+          had (c.if-not-lower.ensures.lowered)
+          (ap (λ (t : Tally). t.clients) (sym kept)) (omega (arith, ap (λ (t : Tally). t.total) kept))
+          (omega (arith, had, among, ap (λ (t : Tally). t.total) kept, ap (λ (t : Tally). t.moving) kept))),
+      up_to_after inside.most inside.most inside.tallies.entries _ hold.kind _ (Some left) after (omega arith)
+          (omega (arith, c.self.invariant.1 hold.kind, ap (λ (t : Tally). t.total) kept)) c.self.invariant.1,
+    )
 
 pub returns-clause-lifted : goal.returns-clause-lifted
 returns-clause-lifted c =
@@ -55,12 +66,13 @@ returns-clause-lifted c =
     let hold = hold_of c.args.client c.args.buffer c.args.strength in
     let tally = c.unwrap-tally.result.now in
     let left : Tally = record tally { moving = tally.moving + 1 } in
-    let kept = tally_lent inside.tallies hold.kind _ c.unwrap-tally.result c.unwrap-tally.ensures c.get_mut.ensures.value in
+    let kept = tally_lent inside.tallies hold.kind c.tally_place.result c.tally_place.ensures.found c.unwrap-place.result c.unwrap-place.ensures
+    c.get_index_mut.result c.get_index_mut.ensures.value c.get_index_mut.ensures.unique c.unwrap-tally.result c.unwrap-tally.ensures in
     let had = c.if-not-lower.ensures.had.0 refl in
-    let among = count_at-le-total inside.limit inside.rows.entries inside.tallies.entries c.self.invariant hold in
-    let step = Step-lowered inside.limit inside.rows.entries c.lower.new.rows.entries inside.tallies.entries _ c.self.invariant hold left
-    (row_written inside.tallies hold.kind _ c.unwrap-tally.result c.unwrap-tally.ensures c.get_mut.ensures.value
-    (c.get_mut.follows.lender left) left (c.get_mut.follows.holds left))
+    let among = count_at-le-total inside.limit inside.rows.entries inside.tallies.entries c.self.invariant.0 hold in
+    let step = Step-lowered inside.limit inside.rows.entries c.lower.new.rows.entries inside.tallies.entries _ c.self.invariant.0 hold left
+    (row_written inside.tallies hold.kind c.tally_place.result c.tally_place.ensures.found c.unwrap-place.result c.unwrap-place.ensures
+    c.get_index_mut.result c.get_index_mut.ensures.value c.get_index_mut.ensures.unique left)
     had (c.if-not-lower.ensures.lowered)
     (ap (λ (t : Tally). t.clients) (sym kept)) (omega (arith, ap (λ (t : Tally). t.total) kept))
     (omega (arith, had, among, ap (λ (t : Tally). t.total) kept, ap (λ (t : Tally). t.moving) kept)) in

@@ -8,5 +8,5 @@ pub returns-clause-value : goal.returns-clause-value
 returns-clause-value c =
     let inside = c.self.inside in
     ap (λ tally. tally.total) c.tally_near.ensures
-    ∙ sym (total_is inside.limit inside.rows.entries inside.tallies.entries c.self.invariant c.args.buffer c.args.strength)
+    ∙ sym (total_is inside.limit inside.rows.entries inside.tallies.entries c.self.invariant.0 c.args.buffer c.args.strength)
     ∙ ap (λ counts. total counts c.args.buffer c.args.strength) c.self.view_is

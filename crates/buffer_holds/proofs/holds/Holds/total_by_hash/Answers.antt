@@ -1,0 +1,12 @@
+use Rattle.std.proofs.Common.{sym, ap, ◌∙◌}
+use Rattle.buffer_holds.specs.Counts.{total}
+use Rattle.buffer_holds.proofs.SoundLemmas.{total_is}
+use Rattle.buffer_holds.proofs.holds.Holds.total_by_hash.Goals as goal
+
+-- the tally has it
+pub returns : goal.returns
+returns c =
+    let inside = c.self.inside in
+    ap (λ tally. tally.total) c.tally_by_hash.ensures
+    ∙ sym (total_is inside.limit inside.rows.entries inside.tallies.entries c.self.invariant.0 c.args.buffer c.args.strength)
+    ∙ ap (λ counts. total counts c.args.buffer c.args.strength) c.self.view_is

@@ -1,0 +1,12 @@
+use Rattle.std.proofs.Common.{◌≡◌, false, subst, arith}
+use Rattle.std.proofs.lemmas.Bool.{lt-leb}
+use Rattle.sm_names.specs.Answers.{is_at_limit}
+use Rattle.lifetime_core.specs.Reads.{readings_of}
+use Rattle.lifetime_core.specs.State.{State}
+use Rattle.lifetime_core.proofs.machine.Core.have_room.Goals as goal
+
+-- the counts have the core's own limit
+pub returns : goal.returns
+returns c = λ known buffer strength.
+    subst (λ (s : State). is_at_limit s.limits (readings_of s) strength buffer ≡ false) c.self.view_is
+    (lt-leb _ _ (omega (arith, c.have_room.ensures known buffer strength, c.self.invariant.handle_limit)))
