@@ -1,5 +1,6 @@
 -- The counts of units, and what they tell.
 pub mod Amounts
+pub mod AtOnce
 pub mod Holding
 pub mod Hung
 pub mod Reckoning

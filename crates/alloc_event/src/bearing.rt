@@ -22,6 +22,7 @@ use crate::store::put_entry;
 use crate::units::{Unit, bound, count_at, start};
 use node_table::NodeTable;
 use sm_names::{ClientId, CollectionId, NoMemory, NodeKey};
+use std::cell::Cell;
 
 // The key of a node that was given none yet.
 const NO_KEY: NodeKey = NodeKey {
@@ -196,6 +197,7 @@ fn bear_first(
             reserved: 0,
             tidy: true,
             noted: Vec::new(alloc),
+            guess: Cell::new(0),
         },
     );
     Ok(key)

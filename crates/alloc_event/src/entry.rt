@@ -5,25 +5,30 @@ ghost use Rattle.alloc_event.specs.Kept.{AreRising, place_in, shelves_of};
 
 use crate::key_list::KeyList;
 use sm_names::{Buffers, CollectionId, HeldBuffer, NodeKey};
+use std::cell::Cell;
 
 /// A collection, with the keys of its nodes.
+///
+/// The fields stand so that it is 128 bytes long: the collections behind one that ends move.
 #[derive(Drop)]
 pub(crate) struct Entry {
+    /// How many buffers its nodes of allocated units camp on that are not gone.
+    pub(crate) reserved: u128,
     pub(crate) id: CollectionId,
     /// The keys of the kept nodes, by birth.
     pub(crate) keys: KeyList,
-    /// What it was given.
-    pub(crate) buffers: Option<Buffers>,
     /// The buffers whose pages were not given back, by index.
     pub(crate) held: Vec<HeldBuffer>,
-    /// How many of its nodes are live and strong.
-    pub(crate) strong: usize,
-    /// How many buffers its nodes of allocated units camp on that are not gone.
-    pub(crate) reserved: u128,
-    /// It is known that none of its nodes is over, but for those that are noted.
-    pub(crate) tidy: bool,
     /// The keys of nodes that are over, until they are forgotten.
     pub(crate) noted: Vec<NodeKey>,
+    /// How many of its nodes are live and strong.
+    pub(crate) strong: usize,
+    /// What it was given.
+    pub(crate) buffers: Option<Buffers>,
+    /// Where it stands first, the place at which the last collection was found by a search: a guess.
+    pub(crate) guess: Cell<u16>,
+    /// It is known that none of its nodes is over, but for those that are noted.
+    pub(crate) tidy: bool,
 }
 
 /// How many collections have a smaller id, if the last one tells it: it has this id or a smaller one.
@@ -41,14 +46,50 @@ fn before_last(entries: &[Entry], id: CollectionId) -> Option<usize>
     }
 }
 
-/// How many collections have a smaller id. A look at the last one, and else a binary search.
+/// The place that is guessed, if the collection with this id stands there.
+fn guessed(entries: &[Entry], id: CollectionId) -> Option<usize>
+    requires { AreRising (shelves_of entries.now) }
+    ensures { IfSome result (λ at. at ≡ prefix_len (λ e. nat_lt e.id id) entries.now) }
+{
+    let at = entries.first()?.guess.get() as usize;
+    if at < entries.len() && entries[at].id == id {
+        Some(at)
+    } else {
+        None
+    }
+}
+
+/// Keeps the place as the one that is guessed, if it is a small number.
+fn keep_guess(entries: &[Entry], at: usize) {
+    if let Some(first) = entries.first() {
+        if at <= u16::MAX as usize {
+            first.guess.set(at as u16);
+        }
+    }
+}
+
+/// How many collections have a smaller id, by a binary search, which is the next guess.
+fn searched(entries: &[Entry], id: CollectionId) -> usize
+    requires { AreRising (shelves_of entries.now) }
+    ensures { result ≡ prefix_len (λ e. nat_lt e.id id) entries.now }
+{
+    let at = entries.partition_point(|entry| entry.id < id);
+    keep_guess(entries, at);
+    at
+}
+
+/// How many collections have a smaller id. A look at the last one and at the one that was found last,
+/// and else a binary search.
 pub(crate) fn entries_before(entries: &[Entry], id: CollectionId) -> usize
     requires { AreRising (shelves_of entries.now) }
     ensures { result ≡ prefix_len (λ e. nat_lt e.id id) entries.now }
 {
-    match before_last(entries, id) {
+    if let Some(at) = before_last(entries, id) {
+        return at;
+    }
+    match guessed(entries, id) {
         Some(at) => at,
-        None => entries.partition_point(|entry| entry.id < id),
+        None => searched(entries, id),
     }
 }
 

@@ -23,6 +23,7 @@ use buffer_pool::Pool;
 use node_table::NodeTable;
 use sm_names::NoMemory;
 use std::alloc::Global;
+use std::cell::Cell;
 
 /// Makes the forced steps of the scene, gives back the pages of buffers that are home, and puts
 /// the collection back: into the table, where all its nodes have their places, and the entries.
@@ -88,6 +89,7 @@ pub(crate) fn store_settled(
             reserved,
             tidy,
             noted,
+            guess: Cell::new(0),
         },
     );
     Ok(())

@@ -11,8 +11,8 @@ ghost use Rattle.alloc_event.specs.declared.node.Node.{Node as Kept};
 ghost use Rattle.alloc_event.specs.declared.entry.Entry.{Entry as KeptEntry};
 ghost use Rattle.alloc_event.specs.Calm.{AreCounted, over_but};
 ghost use Rattle.alloc_event.specs.Forest.{without_over_in};
-ghost use Rattle.alloc_event.specs.Forgetting.{AreAllOver, AreMore, IsChild, IsForgettable, IsNotedIn, IsNoting, IsPlace, IsThinned, Unlinks, TakesOut, is_found, is_left_by, is_own_if_over, left_at, thinned, thin_in, without_bare};
-ghost use Rattle.alloc_event.specs.Kept.{AreRising, IsStored, Shelf, are_apart, collection_in, nodes_with, shelves_of};
+ghost use Rattle.alloc_event.specs.Forgetting.{AreAllOver, AreMore, IsChild, IsForgettable, IsNotedIn, IsNoting, IsPlace, IsThinned, Unlinks, TakesOut, is_bare, is_found, is_left_by, is_own_if_over, left_at, thinned, thin_in, without_bare};
+ghost use Rattle.alloc_event.specs.Kept.{AreRising, IsStored, Shelf, are_apart, collection_in, nodes_with, shelf_of, shelves_of};
 ghost use Rattle.alloc_event.specs.Nodes.{is_over};
 
 use crate::entry::{Entry, place_of};
@@ -131,12 +131,15 @@ fn found_at(keys: &[NodeKey], at: usize, key: NodeKey) -> Option<usize>
     }
 }
 
-/// The place of the key among these, which stand by birth: a constant for the first and the last,
-/// and else a binary search.
+/// The place of the key among these, which stand by birth: a constant for the first, for the one behind
+/// it, which is the oldest below a root that stays, and for the last, and else a binary search.
 fn place_by_birth(table: &NodeTable<Node>, keys: &[NodeKey], key: NodeKey) -> Option<usize>
     ensures { IfSome result (λ at. IsPlace keys.now key at) }
 {
     if let Some(at) = found_at(keys, 0, key) {
+        return Some(at);
+    }
+    if let Some(at) = found_at(keys, 1, key) {
         return Some(at);
     }
     if let Some(at) = found_at(keys, keys.len().saturating_sub(1), key) {
@@ -222,6 +225,13 @@ fn forget_of(table: &mut NodeTable<Node>, entry: &mut Entry)
     entry.tidy = true;
 }
 
+/// Whether the collection has no node and no page.
+fn is_bare(entry: &Entry) -> bool
+    ensures { result ≡ is_bare (shelf_of entry.now) }
+{
+    entry.keys.len() == 0 && entry.held.is_empty()
+}
+
 /// Takes the collection away, if it has no node and no page. It takes no memory.
 pub(crate) fn drop_bare(entries: &mut Vec<Entry>, id: CollectionId)
     requires { AreRising (shelves_of entries.old.items) }
@@ -229,7 +239,7 @@ pub(crate) fn drop_bare(entries: &mut Vec<Entry>, id: CollectionId)
     ensures counted { (t : Table Kept) → AreCounted t entries.old.items → AreCounted t entries.new.items }
 {
     if let Some(at) = place_of(entries, id) {
-        if entries[at].keys.as_slice().is_empty() && entries[at].held.is_empty() {
+        if is_bare(&entries[at]) {
             entries.remove(at);
         }
     }
@@ -238,8 +248,8 @@ pub(crate) fn drop_bare(entries: &mut Vec<Entry>, id: CollectionId)
 /// Forgets the nodes of the collection that are over. Where it is known that none is, it costs a binary
 /// search of the collection alone. Where those that are over are noted, each costs a binary search among
 /// the collection's nodes and a move of the keys on its shorter side besides, and else it costs a pass
-/// over the collection's nodes.
-fn forget_nodes(table: &mut NodeTable<Node>, entries: &mut Vec<Entry>, id: CollectionId)
+/// over the collection's nodes. Answers whether nothing is left of it then.
+fn forget_nodes(table: &mut NodeTable<Node>, entries: &mut Vec<Entry>, id: CollectionId) -> bool
     requires kept { IsStored table.old (shelves_of entries.old.items) }
     requires counted { AreCounted table.old entries.old.items }
     ensures shelves { shelves_of entries.new.items ≡ thin_in table.new id (shelves_of entries.old.items) }
@@ -249,14 +259,17 @@ fn forget_nodes(table: &mut NodeTable<Node>, entries: &mut Vec<Entry>, id: Colle
     ensures kept { IsStored table.new (map (thinned table.new) (shelves_of entries.old.items)) }
     ensures counted { AreCounted table.new entries.new.items }
     ensures keys { SameKeys table.old table.new }
+    ensures full { result ≡ false → without_bare id (shelves_of entries.new.items) ≡ shelves_of entries.new.items }
 {
     let Some(at) = place_of(entries, id) else {
-        return;
+        return false;
     };
     if is_tidy(&entries[at]) {
-        return;
+        return is_bare(&entries[at]);
     }
-    forget_of(table, &mut entries[at]);
+    let entry = &mut entries[at];
+    forget_of(table, entry);
+    is_bare(entry)
 }
 
 /// Takes the nodes of the collection that are over out, and the collection where nothing is left
@@ -270,8 +283,9 @@ pub(crate) fn forget_over(table: &mut NodeTable<Node>, entries: &mut Vec<Entry>,
     ensures counted { AreCounted table.new entries.new.items }
     ensures keys { SameKeys table.old table.new }
 {
-    forget_nodes(table, entries, id);
-    drop_bare(entries, id);
+    if forget_nodes(table, entries, id) {
+        drop_bare(entries, id);
+    }
 }
 
 /// Notes the key of a node that is over, or where there is no room for it, that more may be over than

@@ -8,7 +8,7 @@ ghost use Rattle.node_table.specs.Lending.{table_with_node};
 ghost use Rattle.node_table.specs.Table.{node_at};
 ghost use Rattle.alloc_event.specs.declared.node.Node.{Node as Kept};
 ghost use Rattle.alloc_event.specs.Calm.{strong_count};
-ghost use Rattle.alloc_event.specs.Falling.{IsOrdered, gone_by, stays_by, unhung, unreckoned, untallied};
+ghost use Rattle.alloc_event.specs.Falling.{IsOrdered, gone_by, stays_by, unreckoned};
 ghost use Rattle.alloc_event.specs.Kept.{Stores, all_of, nodes_with};
 ghost use Rattle.alloc_event.specs.Nodes.{is_over};
 ghost use Rattle.alloc_event.specs.Reserved.{reserved_count};
@@ -78,42 +78,16 @@ pub(crate) fn are_of(table: &NodeTable<Node>, keys: &[NodeKey], id: CollectionId
     true
 }
 
-/// Counts the node with this key no longer for its unit, if it is there and not gone.
+/// Counts the node with this key no longer, if it is there and not gone: for its unit, and for the one
+/// right above that, if it heads one.
 fn untally_one(table: &NodeTable<Node>, units: &mut Vec<Unit>, key: NodeKey)
-    ensures { units.new.items ≡ untallied (nodes_with table.now (key ∷ [])) units.old.items }
+    ensures { units.new.items ≡ unreckoned table.now (nodes_with table.now (key ∷ [])) units.old.items }
 {
     if let Some(node) = table.get(key) {
         if !node.gone {
             uncount(units, node);
         }
-    }
-}
-
-/// Counts the node with this key no longer for the unit right above the one that it heads, if it
-/// heads one and is not gone.
-fn unhang_one(table: &NodeTable<Node>, units: &mut Vec<Unit>, key: NodeKey)
-    ensures { units.new.items ≡ unhung table.now (nodes_with table.now (key ∷ [])) units.old.items }
-{
-    if let Some(node) = table.get(key) {
         uncount_below(units, head_above(table, node));
-    }
-}
-
-/// Counts the nodes with these keys no longer for their units.
-fn untally_each(table: &NodeTable<Node>, units: &mut Vec<Unit>, keys: &[NodeKey])
-    ensures { units.new.items ≡ untallied (nodes_with table.now keys.now) units.old.items }
-{
-    for key in keys {
-        untally_one(table, units, *key);
-    }
-}
-
-/// Counts the nodes with these keys no longer for the units right above those that they head.
-fn unhang_each(table: &NodeTable<Node>, units: &mut Vec<Unit>, keys: &[NodeKey])
-    ensures { units.new.items ≡ unhung table.now (nodes_with table.now keys.now) units.old.items }
-{
-    for key in keys {
-        unhang_one(table, units, *key);
     }
 }
 
@@ -121,8 +95,9 @@ fn unhang_each(table: &NodeTable<Node>, units: &mut Vec<Unit>, keys: &[NodeKey])
 pub(crate) fn untally(table: &NodeTable<Node>, units: &mut Vec<Unit>, keys: &[NodeKey])
     ensures { units.new.items ≡ unreckoned table.now (nodes_with table.now keys.now) units.old.items }
 {
-    untally_each(table, units, keys);
-    unhang_each(table, units, keys);
+    for key in keys {
+        untally_one(table, units, *key);
+    }
 }
 
 /// The node with this key goes, if it is there. Answers whether it is over then.

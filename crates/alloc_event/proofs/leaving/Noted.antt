@@ -49,10 +49,6 @@ more_noted few more all (n ∷ ns) none =
     more_noted few more all ns (or_none_right (over_but few n) (list_any (over_but few) ns) none) in
     rw (here, rest) refl
 
--- keys that are noted stay so where more are
-pub more_still : (few more most : List NodeKey) → AreMore few more → AreMore more most → AreMore few most
-more_still few more most first second key on = second key (first key on)
-
 -- where none is noted, none is over
 pub none_noted : (ns : List Node) → list_any (over_but []) ns ≡ false → list_any is_over ns ≡ false
 none_noted [] none = refl

@@ -1,5 +1,6 @@
 -- Entries of which one loses keys, or goes.
 use Rattle.std.proofs.Common.{◌≡◌, ℕ, zero, suc, ◌+◌, ◌==◌, Bool, true, false, List, [], ◌∷◌, get_or, set, remove, Option, Some, None, option_map, cond, refl, sym, ap, subst, ◌∙◌, arith}
+use Rattle.std.proofs.lemmas.Bool.{eq-eqb}
 use Rattle.std.specs.List.{find}
 use Rattle.sm_names.proofs.SamenessLaws.{some-injective}
 use Rattle.node_table.specs.Table.{Table}
@@ -15,10 +16,7 @@ use Rattle.alloc_event.proofs.leaving.Tidying.{above_other, bare_others, none_ot
 pub no_shelf : (id : ℕ) (es : List Entry) → place_in id es ≡ None → find (λ (s : Shelf). s.id == id) (shelves_of es) ≡ None
 no_shelf id es none = shelf_found id es ∙ ap (option_map shelf_of) (none_in id es none)
 
--- and nothing changes
-pub thin_none : (t : Table Node) (id : ℕ) (es : List Entry) → place_in id es ≡ None → shelves_of es ≡ thin_in t id (shelves_of es)
-thin_none t id es none = sym (thin_others t id (shelves_of es) (none_others id (shelves_of es) (no_shelf id es none)))
-
+-- and nothing goes
 pub bare_none : (id : ℕ) (es : List Entry) → place_in id es ≡ None → shelves_of es ≡ without_bare id (shelves_of es)
 bare_none id es none = sym (bare_others id (shelves_of es) (none_others id (shelves_of es) (no_shelf id es none)))
 
@@ -68,3 +66,13 @@ keep_bare id (x ∷ es) at d rising told bare =
     shelf_of x ∷ l) (sym (bare_others id (shelves_of es) (above_other id x.id (shelves_of es) rising.0 same)))))
     (λ n other told bare. rw other (ap (λ l. shelf_of x ∷ l) (keep_bare id es n d rising.1 told bare)))
     bare
+
+-- nor does one that is put in its place, if that is not bare
+pub keep_set : (id : ℕ) (es : List Entry) (at : ℕ) (e : Entry) → AreRising (shelves_of es) → place_in id es ≡ Some at → e.id ≡ id →
+    is_bare (shelf_of e) ≡ false → without_bare id (shelves_of (set es at e)) ≡ shelves_of (set es at e)
+keep_set id [] at e rising told own bare = absurd (cc)
+keep_set id (x ∷ es) at e rising told own bare =
+    place_cases id x es at (λ at. without_bare id (shelves_of (set (x ∷ es) at e)) ≡ shelves_of (set (x ∷ es) at e)) told
+    (λ same. rw (eq-eqb e.id id own, bare) (ap (λ l.
+    shelf_of e ∷ l) (bare_others id (shelves_of es) (above_other id x.id (shelves_of es) rising.0 same))))
+    (λ n other told. rw other (ap (λ l. shelf_of x ∷ l) (keep_set id es n e rising.1 told own bare)))

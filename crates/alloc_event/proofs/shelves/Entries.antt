@@ -58,14 +58,14 @@ before_greater id es last d rising end less =
     (let rise : (get_or es k d).id ≤ (get_or es last d).id = rises es rising k last d (omega arith) (omega arith) in omega arith))
     (λ out. absurd (omega arith)))
 
--- where it is this one, all before it are
-pub before_equal : (id : ℕ) (es : List Entry) (last : ℕ) (d : Entry) → AreRising (shelves_of es) → last + 1 ≡ length es →
-    (get_or es last d).id ≡ id → last ≡ before id es
-before_equal id es last d rising end same =
-    sym (prefix_len_is (λ (e : Entry). nat_lt e.id id) es last d (omega arith)
-    (λ k within. lt-ltb (get_or es k d).id id
-    (let rise : (get_or es k d).id < (get_or es last d).id = rises_above es rising k last d within (omega arith) in omega arith))
-    (λ within. le-ltb (get_or es last d).id id (omega arith)))
+-- where it stands at a place, all before that are smaller
+pub before_equal : (id : ℕ) (es : List Entry) (at : ℕ) (d : Entry) → AreRising (shelves_of es) → at < length es →
+    (get_or es at d).id ≡ id → at ≡ before id es
+before_equal id es at d rising within same =
+    sym (prefix_len_is (λ (e : Entry). nat_lt e.id id) es at d (omega arith)
+    (λ k less. lt-ltb (get_or es k d).id id
+    (let rise : (get_or es k d).id < (get_or es at d).id = rises_above es rising k at d less within in omega arith))
+    (λ less. le-ltb (get_or es at d).id id (omega arith)))
 
 -- no more than there are
 pub before_within : (id : ℕ) (es : List Entry) → before id es ≤ length es

@@ -51,15 +51,11 @@ module _ (c : goal.After-part-2) where
   old = c.index_mut-entry.result.now
 
   abbrev new : Entry
-  new = record {
-    id = c.index_mut-entry.result.now.id;
-    keys = c.index_mut-entry.result.now.keys;
-    buffers = c.index_mut-entry.result.now.buffers;
+  new = record (c.index_mut-entry.result.now) {
     held = c.send_home.new.held;
     strong = 0;
     reserved = 0;
     tidy = c.is_tidy_still-entry.result;
-    noted = c.index_mut-entry.result.now.noted;
   }
 
   told : place_in c.args.id c.args.entries.now.items ≡ Some c.in-Some.at

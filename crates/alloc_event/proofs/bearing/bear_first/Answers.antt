@@ -17,6 +17,7 @@ returns-clause-entries c =
       reserved = 0;
       tidy = true;
       noted = c.new-2.result;
+      guess = c.new-3.result;
     } in
     let items : c.push.new.self.items ≡ c.in_ok-key.key ∷ [] = search rules in
     let held : c.new.result.items ≡ [] = c.new.ensures.items in

@@ -75,16 +75,7 @@ module _ (c : goal.After-part-2) where
   old = c.index_mut.result.now
 
   abbrev new : Entry
-  new = record {
-    id = c.index_mut.result.now.id;
-    keys = c.index_mut.result.now.keys;
-    buffers = c.index_mut.result.now.buffers;
-    held = c.return_home.new.held;
-    strong = c.index_mut.result.now.strong;
-    tidy = c.index_mut.result.now.tidy;
-    reserved = c.index_mut.result.now.reserved;
-    noted = c.index_mut.result.now.noted;
-  }
+  new = record (c.index_mut.result.now) { held = c.return_home.new.held }
 
   told : place_in c.args.buffer.collection c.args.entries.now.items ≡ Some c.in-Some.at
   told = sym (rw c.deref.ensures.value at c.place_of.ensures) ∙ c.in-Some.is

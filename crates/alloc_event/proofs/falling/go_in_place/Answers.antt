@@ -102,15 +102,9 @@ module _ (c : goal.After-entries-1) where
 
   -- the entry before it is noted which nodes are over
   abbrev counts : Entry
-  counts = record {
-    id = c.index_mut-entry.result.now.id;
-    keys = c.index_mut-entry.result.now.keys;
-    buffers = c.index_mut-entry.result.now.buffers;
-    held = c.index_mut-entry.result.now.held;
+  counts = record (c.index_mut-entry.result.now) {
     strong = c.in-Some-fell.left;
     reserved = c.without-entry.result;
-    tidy = c.index_mut-entry.result.now.tidy;
-    noted = c.index_mut-entry.result.now.noted;
   }
 
   abbrev new : Entry

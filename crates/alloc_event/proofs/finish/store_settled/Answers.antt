@@ -103,6 +103,7 @@ returns-clause-counted c =
       reserved = c.reserved-reserved.result;
       tidy = not c.is_some_over-tidy.result;
       noted = c.in-Ok-notes_for.noted;
+      guess = c.new.result;
     } in
     let placed : c.put_entry.new.entries.items ≡ put_in new es = rw c.reserve.ensures.items at c.put_entry.ensures.items in
     rw placed (finished-counted (total c.args.holds.now) c.args.table.now es c.args.scene c.settle_whole.new.scene c.give_back.new.scene

@@ -73,15 +73,11 @@ module _ (c : goal.After-drop-entry) where
   held = c.in-Some-2.held.items
 
   abbrev new : Entry
-  new = record {
-    id = c.index_mut-entry.result.now.id;
-    keys = c.index_mut-entry.result.now.keys;
+  new = record (c.index_mut-entry.result.now) {
     buffers = Some c.in-Some-planned.plan.wants;
     held = c.in-Some-2.held;
     strong = c.in-Some-planned.plan.left;
     reserved = c.in-Some-planned.plan.camping;
-    tidy = c.index_mut-entry.result.now.tidy;
-    noted = c.index_mut-entry.result.now.noted;
   }
 
   told : place_in c.args.id c.args.entries.now.items ≡ Some c.in-Some.at

@@ -8,7 +8,7 @@ use Rattle.node_table.specs.Table.{Table}
 use Rattle.alloc_event.specs.declared.entry.Entry.{Entry}
 use Rattle.alloc_event.specs.declared.node.Node.{Node}
 use Rattle.alloc_event.specs.Calm.{AreCounted, over_but}
-use Rattle.alloc_event.specs.Forgetting.{IsForgettable, IsThinned, left_at, thinned}
+use Rattle.alloc_event.specs.Forgetting.{IsForgettable, IsThinned, is_bare, left_at, thinned}
 use Rattle.alloc_event.specs.Kept.{IsStored, Shelf, nodes_with, place_in, shelf_of, shelves_of}
 use Rattle.alloc_event.specs.Nodes.{is_over}
 use Rattle.alloc_event.proofs.calm.Watched.{found_counted}
@@ -19,7 +19,7 @@ use Rattle.alloc_event.proofs.leaving.Places.{found_apart}
 use Rattle.alloc_event.proofs.leaving.Thinning.{all_thinned-same}
 use Rattle.alloc_event.proofs.serves.Before.{key_listed}
 use Rattle.alloc_event.proofs.shelves.Counted.{counted_thinned, dropped_all, drops_over}
-use Rattle.alloc_event.proofs.shelves.Dropping.{no_shelf, set_thin}
+use Rattle.alloc_event.proofs.shelves.Dropping.{bare_none, keep_bare, keep_set, no_shelf, set_thin}
 use Rattle.alloc_event.proofs.shelves.Entries.{IsPlace, place_is}
 use Rattle.alloc_event.proofs.shelves.Showing.{shelf_found}
 use Rattle.alloc_event.proofs.tables.LeftParents.{in_shelf}
@@ -37,6 +37,10 @@ returns-in_default-clause-look c s found k =
     sym (rw c.deref.ensures.value at c.place_of.ensures) ∙ c.in_default.is in
     let no : None ≡ Some s = sym (no_shelf c.args.id c.args.entries.now.items told) ∙ found in
     absurd (cc)
+
+pub returns-in_default-clause-full : goal.returns-in_default-clause-full
+returns-in_default-clause-full c is =
+    sym (bare_none c.args.id c.args.entries.now.items (sym (rw c.deref.ensures.value at c.place_of.ensures) ∙ c.in_default.is))
 
 pub returns-in_default-clause-kept : goal.returns-in_default-clause-kept
 returns-in_default-clause-kept c =
@@ -79,8 +83,8 @@ index-requires c =
     sym (rw c.deref.ensures.value at c.place_of.ensures) ∙ c.in-Some.is in
     omega (arith, (place_is c.args.id c.args.entries.now.items c.in-Some.at told).within)
 
-pub index_mut-requires : goal.index_mut-requires
-index_mut-requires c =
+pub index_mut-entry-requires : goal.index_mut-entry-requires
+index_mut-entry-requires c =
     let told : place_in c.args.id c.args.entries.now.items ≡ Some c.in-Some.at =
     sym (rw c.deref.ensures.value at c.place_of.ensures) ∙ c.in-Some.is in
     omega (arith, (place_is c.args.id c.args.entries.now.items c.in-Some.at told).within)
@@ -109,6 +113,19 @@ returns-then-is_tidy-clause-look c s known k =
     ∙ tidy t es c.requires.kept c.requires.counted c.args.id c.in-Some.at told old is tidied.0) in
     tidy_left t s.keys (ap (λ (x : Shelf). list_any is_over (nodes_with t x.keys)) (sym one) ∙ none) k
 
+pub index-requires-then-is_tidy : goal.index-requires-then-is_tidy
+index-requires-then-is_tidy c =
+    let told : place_in c.args.id c.args.entries.now.items ≡ Some c.in-Some.at =
+    sym (rw c.deref.ensures.value at c.place_of.ensures) ∙ c.in-Some.is in
+    omega (arith, (place_is c.args.id c.args.entries.now.items c.in-Some.at told).within)
+
+pub returns-then-is_tidy-clause-full : goal.returns-then-is_tidy-clause-full
+returns-then-is_tidy-clause-full c left =
+    let es = c.args.entries.now.items in
+    let told : place_in c.args.id es ≡ Some c.in-Some.at = sym (rw c.deref.ensures.value at c.place_of.ensures) ∙ c.in-Some.is in
+    sym (keep_bare c.args.id es c.in-Some.at c.index-then-is_tidy.result.now c.requires.kept.rising told
+    (ap (λ (x : Entry). is_bare (shelf_of x)) (sym c.index-then-is_tidy.ensures) ∙ sym c.is_bare.ensures ∙ left))
+
 pub returns-then-is_tidy-clause-kept : goal.returns-then-is_tidy-clause-kept
 returns-then-is_tidy-clause-kept c =
     subst (IsStored c.args.table.now) (sym (all_thinned-same c.args.table.now (shelves_of c.args.entries.now.items) c.requires.kept.filed))
@@ -120,8 +137,8 @@ pub forget_of-requires : goal.forget_of-requires
 forget_of-requires c =
     let es = c.args.entries.now.items in
     let told : place_in c.args.id es ≡ Some c.in-Some.at = sym (rw c.deref.ensures.value at c.place_of.ensures) ∙ c.in-Some.is in
-    forgettable c.args.table.now es c.requires.kept c.requires.counted c.args.id c.in-Some.at told c.index_mut.result.now
-    (λ d within. c.index_mut.ensures.value ∙ get_or_default es c.in-Some.at c.index_mut.result.now d within)
+    forgettable c.args.table.now es c.requires.kept c.requires.counted c.args.id c.in-Some.at told c.index_mut-entry.result.now
+    (λ d within. c.index_mut-entry.ensures.value ∙ get_or_default es c.in-Some.at c.index_mut-entry.result.now d within)
 
 module _ (c : goal.After-entries-1) where
   abbrev t : Table Node
@@ -134,7 +151,7 @@ module _ (c : goal.After-entries-1) where
   es = c.args.entries.now.items
 
   abbrev old : Entry
-  old = c.index_mut.result.now
+  old = c.index_mut-entry.result.now
 
   abbrev new : Entry
   new = c.forget_of.new.entry
@@ -143,7 +160,7 @@ module _ (c : goal.After-entries-1) where
   told = sym (rw c.deref.ensures.value at c.place_of.ensures) ∙ c.in-Some.is
 
   is : (d : Entry) → c.in-Some.at < length es → old ≡ get_or es c.in-Some.at d
-  is d within = c.index_mut.ensures.value ∙ get_or_default es c.in-Some.at old d within
+  is d within = c.index_mut-entry.ensures.value ∙ get_or_default es c.in-Some.at old d within
 
   thin_shelf : shelf_of new ≡ thinned now (shelf_of old)
   thin_shelf = λ i. record {
@@ -179,3 +196,10 @@ returns-clause-counted c =
     (λ within k. c.forget_of.ensures.look k ∙ ap (λ (e : Entry). left_at (t c) e.keys.items k) (is c (new c) within))
     (dropped_all (t c) (now c) c.requires.kept.named (drops_over (t c) (now c) (old c).keys.items c.forget_of.ensures.look) (es c)
     c.requires.kept.whole c.requires.counted)
+
+pub returns-clause-full : goal.returns-clause-full
+returns-clause-full c left =
+    let within = (place_is c.args.id (es c) c.in-Some.at (told c)).within in
+    keep_set c.args.id (es c) c.in-Some.at (new c) c.requires.kept.rising (told c)
+    (c.forget_of.ensures.entry.id ∙ own (t c) (es c) c.requires.kept c.requires.counted c.args.id c.in-Some.at (told c) (old c) (is c))
+    (sym c.is_bare-2.ensures ∙ left)

@@ -50,15 +50,9 @@ module _ (c : goal.After-entries-1) where
   old = c.index-entry.result.now
 
   abbrev new : Entry
-  new = record {
-    id = c.index_mut-entry.result.now.id;
-    keys = c.index_mut-entry.result.now.keys;
-    buffers = c.index_mut-entry.result.now.buffers;
-    held = c.index_mut-entry.result.now.held;
+  new = record (c.index_mut-entry.result.now) {
     strong = c.in-Some-change_in_place.left;
     reserved = c.in-Some-reserved_after.reserved;
-    tidy = c.index_mut-entry.result.now.tidy;
-    noted = c.index_mut-entry.result.now.noted;
   }
 
   told : place_in c.args.id es ≡ Some c.in-Some.at

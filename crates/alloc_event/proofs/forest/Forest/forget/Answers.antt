@@ -34,16 +34,7 @@ pub invariant_of-self : goal.invariant_of-self
 invariant_of-self c =
     let told : place_in c.take_out-node.result.collection c.self.inside.entries.items ≡ Some c.in-Some.at =
     sym (rw c.deref.ensures.value at c.place_of.ensures) ∙ c.in-Some.is in
-    let e : Entry = record {
-      id = c.index_mut.result.now.id;
-      keys = c.forget.new.self;
-      buffers = c.index_mut.result.now.buffers;
-      held = c.index_mut.result.now.held;
-      strong = c.index_mut.result.now.strong;
-      reserved = c.index_mut.result.now.reserved;
-      tidy = c.index_mut.result.now.tidy;
-      noted = c.index_mut.result.now.noted;
-    } in
+    let e : Entry = record (c.index_mut.result.now) { keys = c.forget.new.self } in
     let within = (place_is c.take_out-node.result.collection c.self.inside.entries.items c.in-Some.at told).within in
     let was : c.index_mut.result.now ≡ get_or c.self.inside.entries.items c.in-Some.at e =
     c.index_mut.ensures.value ∙ get_or_default c.self.inside.entries.items c.in-Some.at c.index_mut.result.now e within in
@@ -96,16 +87,7 @@ pub returns-in-Some-clause-nodes : goal.returns-in-Some-clause-nodes
 returns-in-Some-clause-nodes c =
     let told : place_in c.take_out-node.result.collection c.self.inside.entries.items ≡ Some c.in-Some.at =
     sym (rw c.deref.ensures.value at c.place_of.ensures) ∙ c.in-Some.is in
-    let e : Entry = record {
-      id = c.index_mut.result.now.id;
-      keys = c.forget.new.self;
-      buffers = c.index_mut.result.now.buffers;
-      held = c.index_mut.result.now.held;
-      strong = c.index_mut.result.now.strong;
-      reserved = c.index_mut.result.now.reserved;
-      tidy = c.index_mut.result.now.tidy;
-      noted = c.index_mut.result.now.noted;
-    } in
+    let e : Entry = record (c.index_mut.result.now) { keys = c.forget.new.self } in
     let within = (place_is c.take_out-node.result.collection c.self.inside.entries.items c.in-Some.at told).within in
     let was : c.index_mut.result.now ≡ get_or c.self.inside.entries.items c.in-Some.at e =
     c.index_mut.ensures.value ∙ get_or_default c.self.inside.entries.items c.in-Some.at c.index_mut.result.now e within in

@@ -3,12 +3,12 @@ use Rattle.std.proofs.lemmas.List.Sorted.{IsPartitionedBy-ltb, IsPartitionPoint-
 use Rattle.std.proofs.Common.{rules, nat_lt}
 use Rattle.alloc_event.specs.declared.entry.Entry.{Entry}
 use Rattle.alloc_event.proofs.shelves.Entries.{rises, prefix_len-partition}
-use Rattle.alloc_event.proofs.entry.entries_before.Goals as goal
+use Rattle.alloc_event.proofs.entry.searched.Goals as goal
 
-pub returns-in-None : goal.returns-in-None
-returns-in-None c =
+pub returns : goal.returns
+returns c =
     let p = λ (e : Entry). nat_lt e.id c.args.id in
-    prefix_len-partition p c.args.entries.now c.partition_point.result c.partition_point.ensures.bound
-    (IsPartitionPoint-from_clause p c.args.entries.now c.partition_point.result c.partition_point.ensures.partitioned
+    prefix_len-partition p c.args.entries.now c.partition_point-at.result c.partition_point-at.ensures.bound
+    (IsPartitionPoint-from_clause p c.args.entries.now c.partition_point-at.result c.partition_point-at.ensures.partitioned
     (IsPartitionedBy-ltb (λ (e : Entry). e.id) c.args.entries.now c.args.id (rises c.args.entries.now c.requires))
     (λ a r q k. search rules))

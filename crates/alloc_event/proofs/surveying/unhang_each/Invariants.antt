@@ -1,9 +1,0 @@
-use Rattle.std.proofs.Common.{◌≡◌, drop}
-use Rattle.alloc_event.specs.Falling.{unhung}
-use Rattle.alloc_event.specs.Kept.{nodes_with}
-use Rattle.alloc_event.proofs.surveying.unhang_each.Given as goal
-
--- what is made with the rest is what is made with all
-abbrev pub invariant-loop-key : goal.invariant-loop-key
-invariant-loop-key l = unhung l.table (nodes_with l.table (drop l.key-index l.keys)) l.units.items
-    ≡ unhung l.table (nodes_with l.table l.keys) l.initial.units.items

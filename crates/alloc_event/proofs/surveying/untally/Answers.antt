@@ -1,0 +1,21 @@
+-- One node after another, each at once.
+use Rattle.std.proofs.Common.{List, ap, get_or, drop, ◌+◌, sym, ◌∙◌}
+use Rattle.std.proofs.lemmas.List.{drop_more}
+use Rattle.sm_names.specs.declared.keys.NodeKey.{NodeKey}
+use Rattle.alloc_event.specs.Falling.{unreckoned}
+use Rattle.alloc_event.specs.Kept.{nodes_with}
+use Rattle.alloc_event.proofs.tallies.AtOnce.{unreckoned_on}
+use Rattle.alloc_event.proofs.surveying.untally.Goals as goal
+
+pub loop-key-preserved : goal.loop-key-preserved
+loop-key-preserved c =
+    let t = c.args.table.now in
+    let keys = c.args.keys.now in
+    let none : NodeKey = record { slot = 0; generation = 0 } in
+    let i = c.loop-key.key-index in
+    let us = c.loop-key.units.items in
+    let later = drop (i + 1) keys in
+    ap (unreckoned t (nodes_with t later)) c.untally_one.ensures
+    ∙ unreckoned_on t (get_or keys i none) later us
+    ∙ ap (λ (ks : List NodeKey). unreckoned t (nodes_with t ks) us) (sym (drop_more keys i none c.loop-key-test.true))
+    ∙ c.loop-key.invariant
