@@ -1,6 +1,7 @@
 pub mod Outcomes
 pub mod calm
 pub mod changes
+pub mod contests
 pub mod failures
 pub mod intervals
 pub mod leaving
@@ -12,3 +13,6 @@ pub mod shelves
 pub mod tables
 pub mod tallies
 pub mod turns
+pub mod waiting
+pub mod waits
+pub mod yields

@@ -1,5 +1,6 @@
 -- Attached units that become ready and are allocated in their places.
 pub mod Allocated
+pub mod Among
 pub mod Next
 pub mod Rounds
 pub mod Enough

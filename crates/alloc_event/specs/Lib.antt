@@ -1,4 +1,5 @@
 pub mod Calm
+pub mod Coming
 pub mod Counts
 pub mod Decisions
 pub mod Dropped
@@ -28,4 +29,7 @@ pub mod Serving
 pub mod Settling
 pub mod Still
 pub mod Ties
+pub mod Turning
 pub mod Units
+pub mod Waiters
+pub mod Yielding

@@ -7,6 +7,7 @@ ghost use Rattle.alloc_event.specs.Kept.{shelves_of, forest_of};
 ghost use Rattle.alloc_event.specs.Outcomes.{IsOutcome, IsOutcomeIn, IsReady, was_made};
 
 use crate::change::{Change, Effect};
+use crate::contesting::contest;
 use crate::emptied::{fail_in_place, leave_in_place};
 use crate::entry::Entry;
 use crate::first::allocate_first;
@@ -49,8 +50,32 @@ fn make_effect(
     serve_in_place(table, entries, units, holds, id, key, effect, room)
 }
 
+/// Makes an effect in its place with the failure of the node's unit, as `refuse_in_place` does, or of
+/// some of those that follow it, as `contest` does.
+fn refuse_or_contest(
+    table: &mut NodeTable<Node>,
+    entries: &mut Vec<Entry>,
+    units: &mut Vec<Unit>,
+    holds: &Holds,
+    id: CollectionId,
+    key: NodeKey,
+    effect: &Effect,
+    room: &mut Room,
+) -> Result<bool, NoMemory>
+    requires { IsReady table.old entries.old.items units.old.items id (Changed.Effect key effect.now) }
+    ensures outcome { IsOutcome (was_made result) (total holds.now) table.old table.new entries.old.items entries.new.items
+        id (Changed.Effect key effect.now) }
+    ensures units { HaveUnits units.new.items table.new entries.new.items }
+{
+    if refuse_in_place(table, entries, units, holds, id, key, effect, room)? {
+        return Ok(true);
+    }
+    Ok(contest(table, entries, units, holds, id, key, effect, room))
+}
+
 /// Makes an effect in its place, as `make_effect` does, or with the failure of the node's unit, to which
-/// the buffers are refused, as `refuse_in_place` does.
+/// the buffers are refused, as `refuse_in_place` does, or of some of those that follow it, as `contest`
+/// does.
 fn make_or_refuse(
     table: &mut NodeTable<Node>,
     entries: &mut Vec<Entry>,
@@ -69,7 +94,7 @@ fn make_or_refuse(
     if make_effect(table, entries, units, holds, id, key, effect, room) {
         return Ok(true);
     }
-    refuse_in_place(table, entries, units, holds, id, key, effect, room)
+    refuse_or_contest(table, entries, units, holds, id, key, effect, room)
 }
 
 /// Makes an effect in its place, if the counts tell that nothing is forced by it, or nothing but

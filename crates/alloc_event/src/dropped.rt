@@ -43,7 +43,7 @@ fn is_given_root(table: &NodeTable<Node>, key: NodeKey) -> bool
 }
 
 /// Whether the first of these keys is.
-fn has_given_root(table: &NodeTable<Node>, keys: &[NodeKey]) -> bool
+pub(crate) fn has_given_root(table: &NodeTable<Node>, keys: &[NodeKey]) -> bool
     ensures { result ≡ has_given_root table.now keys.now }
 {
     match keys.first() {

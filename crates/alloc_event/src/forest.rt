@@ -86,7 +86,10 @@ impl Forest {
     /// right below them, and a write of each node of the units; where others are ready below it, also
     /// a logarithm of their number for each node. What lies deeper costs nothing. Where the buffers
     /// are too few or too small for it, it fails in its place, at the cost of those reads and of a
-    /// loss.
+    /// loss. Where they are enough for it and for some of those that follow, each of these is allocated
+    /// or fails in its turn by birth, in its place too: that costs a logarithm of the number of the
+    /// collection's nodes for each of these units besides, and twice what a loss of each that fails
+    /// costs. Only where one fails right below a unit without a live node, nothing of this is so.
     ///
     /// Where it is the root's and the collection has no buffers, something holds it and a strong node
     /// stays live, what it asks for is some, within the limits and enough for each unit that follows

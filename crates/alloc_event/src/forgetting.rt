@@ -133,7 +133,11 @@ fn found_at(keys: &[NodeKey], at: usize, key: NodeKey) -> Option<usize>
 
 /// The place of the key among these, which stand by birth: a constant for the first, for the one behind
 /// it, which is the oldest below a root that stays, and for the last, and else a binary search.
-fn place_by_birth(table: &NodeTable<Node>, keys: &[NodeKey], key: NodeKey) -> Option<usize>
+pub(crate) fn place_by_birth(
+    table: &NodeTable<Node>,
+    keys: &[NodeKey],
+    key: NodeKey,
+) -> Option<usize>
     ensures { IfSome result (λ at. IsPlace keys.now key at) }
 {
     if let Some(at) = found_at(keys, 0, key) {

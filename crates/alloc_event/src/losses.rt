@@ -1,5 +1,5 @@
 //! What a failure takes.
-ghost use Rattle.std.specs.Prelude.{◌≡◌, length, map, reverse, OnOk, true};
+ghost use Rattle.std.specs.Prelude.{◌≡◌, length, map, reverse, MatchOption, OnOk, true, false};
 ghost use Rattle.std.specs.List.{list_any};
 ghost use Rattle.std.specs.List.Sorted.{IsSorted};
 ghost use Rattle.sm_names.specs.Losses.{top as topmost};
@@ -7,6 +7,7 @@ ghost use Rattle.sm_names.specs.Sameness.{same_key};
 ghost use Rattle.sm_names.specs.declared.keys.NodeKey.{NodeKey as Key};
 ghost use Rattle.alloc_event.specs.Decisions.{is_left_of};
 ghost use Rattle.alloc_event.specs.Falling.{key_order};
+ghost use Rattle.alloc_event.specs.Forgetting.{IsPlace};
 ghost use Rattle.alloc_event.specs.Marks.{AreMarked};
 ghost use Rattle.alloc_event.specs.Nodes.{above_among, after_loss, lost};
 ghost use Rattle.alloc_event.specs.Questions.{blocks_here, is_below};
@@ -61,6 +62,14 @@ pub(crate) fn order(keys: &mut Vec<NodeKey>)
     ensures same { (key : Key) → list_any (same_key key) keys.new.items ≡ list_any (same_key key) keys.old.items }
 {
     keys.sort_unstable();
+}
+
+/// Where the key stands among these, which stand in order, if it does. A binary search.
+pub(crate) fn place_among(keys: &[NodeKey], key: NodeKey) -> Option<usize>
+    requires { IsSorted key_order keys.now }
+    ensures { MatchOption result (list_any (same_key key) keys.now ≡ false) (λ at. IsPlace keys.now key at) }
+{
+    keys.binary_search(&key).ok()
 }
 
 /// Whether the key is one of these, which stand in order. A binary search.

@@ -1,7 +1,7 @@
 //! Attached units that become ready by an effect, and for which the buffers are too few or too small:
 //! they fail in their places.
 ghost use Rattle.std.specs.List.{filter_map, sum_by};
-ghost use Rattle.std.specs.Prelude.{◌≡◌, Some, true, false, IfSome, IsSome};
+ghost use Rattle.std.specs.Prelude.{◌≡◌, ◌+◌, ◌<◌, ◌≤◌, ◌^◌, nat_lt, Some, true, false, IfSome, IsSome, vec_capacity};
 ghost use Rattle.buffer_holds.specs.Counts.{total};
 ghost use Rattle.node_table.specs.Table.{node_at, row_at};
 ghost use Rattle.sm_names.specs.Demands.{Demand};
@@ -36,17 +36,27 @@ use sm_names::{Buffers, Cause, CollectionId, Constraints, Failure, Fault, NoMemo
 
 /// Why the buffers are not enough, of which so many are reserved, where this is asked for besides:
 /// they are too few, or else too small.
-fn refusal(buffers: Buffers, reserved: u128, asks: &Asks) -> Option<Failure>
-    ensures { IfSome result (λ failure. why buffers reserved asks.now.camping asks.now.at_least asks.now.size ≡ Some failure) }
+pub(crate) fn refusal(buffers: Buffers, reserved: u128, asks: &Asks) -> Option<Failure>
+    ensures { result ≡ why buffers reserved asks.now.camping asks.now.at_least asks.now.size }
 {
-    let sum = reserved.checked_add(asks.camping)?;
     let count = buffers.count as u128;
-    if count < sum || count < asks.at_least as u128 {
+    if is_more(count, reserved, asks.camping) || count < asks.at_least as u128 {
         Some(Failure::TooFew)
     } else if buffers.size < asks.size {
         Some(Failure::TooSmall)
     } else {
         None
+    }
+}
+
+/// Whether the two are more than this together, which is no great number.
+fn is_more(count: u128, reserved: u128, camping: u128) -> bool
+    requires { count < 2 ^ 32 }
+    ensures { result ≡ nat_lt count (reserved + camping) }
+{
+    match reserved.checked_add(camping) {
+        Some(sum) => count < sum,
+        None => true,
     }
 }
 
@@ -98,9 +108,10 @@ fn demand_after(
 
 /// Lists the keys of the node with this key and of all below it, if it is attached. Answers whether
 /// it did; if not, the room for them was refused. It costs their number.
-fn list_below(table: &NodeTable<Node>, head: NodeKey, keys: &mut Vec<NodeKey>) -> bool
+pub(crate) fn list_below(table: &NodeTable<Node>, head: NodeKey, keys: &mut Vec<NodeKey>) -> bool
     requires { IsSome (row_at table.now head) }
-    ensures { result ≡ true → IsTaken table.now head keys.new.items }
+    ensures taken { result ≡ true → IsTaken table.now head keys.new.items }
+    ensures room { vec_capacity keys.old ≤ vec_capacity keys.new }
 {
     fall_into(table, head, keys).is_ok()
 }

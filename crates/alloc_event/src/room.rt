@@ -1,17 +1,22 @@
-//! Room for the keys of what a failure takes.
+//! Room for the keys of what a failure takes, and of what is allocated together.
 ghost use Rattle.std.specs.Prelude.{◌≡◌, ◌≤◌, OnOk, true, vec_capacity};
 
+use crate::waiters::Waiter;
 use sm_names::{NoMemory, NodeKey};
 use std::alloc::Global;
 
-/// Two lists of keys, with room for as many as there are nodes: births make it, so that what falls
-/// takes no memory.
+/// Three lists of keys, with room for as many as there are nodes: births make it, so that what falls
+/// takes no memory. And one of units that wait for one event, which grows where it is first needed.
 #[derive(Drop)]
 pub struct Room {
-    /// What fails.
+    /// What fails, or the heads of what is allocated.
     pub failing: Vec<NodeKey>,
-    /// What goes with it.
+    /// What goes with it, or the nodes of what is allocated.
     pub going: Vec<NodeKey>,
+    /// What falls with units that are refused.
+    pub falling: Vec<NodeKey>,
+    /// Units that wait for one event.
+    pub(crate) waiters: Vec<Waiter>,
 }
 
 impl Room {
@@ -20,16 +25,22 @@ impl Room {
         Room {
             failing: Vec::new(alloc),
             going: Vec::new(alloc),
+            falling: Vec::new(alloc),
+            waiters: Vec::new(alloc),
         }
     }
 
-    /// Makes room for the keys of so many nodes in each list. It costs a constant, growth spread over
-    /// the calls.
+    /// Makes room for the keys of so many nodes in each list of keys. It costs a constant, growth spread
+    /// over the calls.
     pub(crate) fn make(&mut self, nodes: usize) -> Result<(), NoMemory>
         ensures failing { OnOk result (nodes ≤ vec_capacity self.new.failing) }
         ensures going { OnOk result (nodes ≤ vec_capacity self.new.going) }
+        ensures falling { OnOk result (nodes ≤ vec_capacity self.new.falling) }
     {
-        if make_in(&mut self.failing, nodes) && make_in(&mut self.going, nodes) {
+        if make_in(&mut self.failing, nodes)
+            && make_in(&mut self.going, nodes)
+            && make_in(&mut self.falling, nodes)
+        {
             Ok(())
         } else {
             Err(NoMemory)

@@ -99,7 +99,7 @@ fn is_left_out(table: &NodeTable<Node>, units: &[Unit], heads: &[NodeKey], node:
 }
 
 /// Whether the node with this key does, or is not of this collection.
-fn bars_at(
+pub(crate) fn bars_at(
     table: &NodeTable<Node>,
     units: &[Unit],
     id: CollectionId,

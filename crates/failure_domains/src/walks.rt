@@ -61,6 +61,7 @@ pub fn fall_into<N: Link>(
         visits ≤ vec_len keys.new + depth_at table.now origin) }
     ensures room { table_len table.now ≤ vec_capacity keys.old → IsOk result }
     ensures capacity { vec_capacity keys.old ≤ vec_capacity keys.new }
+    ensures forest { OnOk result (IsForest table.now) }
 {
     let (top, steps) = climb(table, origin);
     let below = walk(table, top, keys, &Unbounded)?;

@@ -155,7 +155,7 @@ module _ (t : Table Node) (us : List Unit) (ss : List Shelf) (s : Shelf) (going 
       in_all (λ (m : Node). m.key.slot < length us → unit_at us m.key.slot ≡ unit_of nodes m.key) nodes unit_has n on inside
 
   -- each unit has the counts of what is left
-  unit_after : (n : Node) → In n nodes → n.key.slot < length us → unit_at new n.key.slot ≡ unit_of (map f nodes) n.key
+  pub unit_after : (n : Node) → In n nodes → n.key.slot < length us → unit_at new n.key.slot ≡ unit_of (map f nodes) n.key
   unit_after n on inside =
       let was = unit_before n on inside in
       let a : (unit_at us n.key.slot).live ≡ times (lives_in n.key) nodes = ap (λ (u : Unit). u.live) was in

@@ -1,6 +1,6 @@
 -- The nodes of the units that are allocated together, among the keys that are listed for them.
-use Rattle.std.proofs.Common.{◌≡◌, ℕ, ◌+◌, nat_lt, ◌==◌, refl, ap, sym, ◌∙◌, subst, Bool, true, false, not, ◌||◌, if◌then◌else◌, inl, inr, List, map, Option, Some, None, option_map}
-use Rattle.std.proofs.lemmas.Bool.{eqb-true, not-true}
+use Rattle.std.proofs.Common.{◌≡◌, ℕ, ◌+◌, ◌≤◌, nat_lt, ◌==◌, refl, ap, sym, ◌∙◌, subst, Bool, true, false, not, ◌||◌, if◌then◌else◌, inl, inr, List, map, Option, Some, None, option_map, arith}
+use Rattle.std.proofs.lemmas.Bool.{eqb-true, le-ltb, ltb-false, not-true}
 use Rattle.std.specs.List.{find, list_any, sum_by}
 use Rattle.std.specs.Option.{option_map_or}
 use Rattle.sm_names.specs.declared.keys.NodeKey.{NodeKey}
@@ -16,7 +16,6 @@ use Rattle.alloc_event.specs.declared.falling.Going.{Going}
 use Rattle.alloc_event.specs.declared.node.Node.{Node}
 use Rattle.alloc_event.specs.declared.units.Unit.{Unit}
 use Rattle.alloc_event.specs.Counts.{HasUnits}
-use Rattle.alloc_event.specs.Falls.{given_all}
 use Rattle.alloc_event.specs.Kept.{IsStored, IsWhole, Shelf, collection_in, nodes_with, written}
 use Rattle.alloc_event.specs.Questions.{demands_of}
 use Rattle.alloc_event.specs.Serving.{IsGathered, IsGivenAt, are_enough, asked_with, bars_at, given_at, hangs_below, is_in_some, is_left_out, left_out_at}
@@ -24,7 +23,7 @@ use Rattle.alloc_event.proofs.failures.GoneNodes.{in_looked}
 use Rattle.alloc_event.proofs.serves.Before.{IsBareHead, any_key, at_key, key_listed, node_there, whole_before}
 use Rattle.alloc_event.proofs.serves.Chains.{unitwide}
 use Rattle.alloc_event.proofs.serves.Gathered.{follows, hangs_inside, of_unit}
-use Rattle.alloc_event.proofs.serves.Giving.{given_in, given_out}
+use Rattle.alloc_event.proofs.serves.Giving.{given_alike, given_in, given_other, given_out}
 use Rattle.alloc_event.proofs.serves.Sums.{asked_back, asked_is, asked_of, asks_passes, greatest_fewer}
 use Rattle.alloc_event.proofs.tables.Hanging.{in_all, looked_there}
 use Rattle.alloc_event.proofs.tables.LeftParents.{in_shelf}
@@ -81,46 +80,46 @@ module _ (t : Table Node) (ss : List Shelf) (kept : IsStored t ss) (s : Shelf) (
 
     -- ---- what the units ask for
 
-    module _ (after : Node) (outside : (m : Node) → In m nodes → list_any (same_key m.key) ks ≡ false →
-        is_in_some hs (written after m) ≡ false) where
-      below_asks : asked_with t ks hs after ≡ demands_of (is_in_some hs) (map (written after) (nodes_with t ks))
-      below_asks = asked_is t ks hs after
+    module _ (os : List NodeKey) (after : Node) (outside : (m : Node) → In m nodes → list_any (same_key m.key) ks ≡ false →
+        is_in_some os (written after m) ≡ false) where
+      below_asks : asked_with t ks os after ≡ demands_of (is_in_some os) (map (written after) (nodes_with t ks))
+      below_asks = asked_is t ks os after
 
-      all_ask : asked_with t s.keys hs after ≡ demands_of (is_in_some hs) (map (written after) nodes)
-      all_ask = asked_is t s.keys hs after
+      all_ask : asked_with t s.keys os after ≡ demands_of (is_in_some os) (map (written after) nodes)
+      all_ask = asked_is t s.keys os after
 
       -- those below camp on all that is camped on
-      pub sum_below : sum_by (λ (d : Demand). d.camping) (asked_with t ks hs after)
-          ≡ sum_by (λ (d : Demand). d.camping) (asked_with t s.keys hs after)
+      pub sum_below : sum_by (λ (d : Demand). d.camping) (asked_with t ks os after)
+          ≡ sum_by (λ (d : Demand). d.camping) (asked_with t s.keys os after)
       sum_below =
           ap (sum_by (λ (d : Demand). d.camping)) below_asks
-          ∙ (camped_sum (is_in_some hs) (map (written after) (nodes_with t ks))
-          ∙ (amount_map (camped_if (is_in_some hs)) (written after) (nodes_with t ks)
-          ∙ (amount_within t nodes whole.sound.distinct at kept.named (λ n. camped_if (is_in_some hs) (written after n)) ks
+          ∙ (camped_sum (is_in_some os) (map (written after) (nodes_with t ks))
+          ∙ (amount_map (camped_if (is_in_some os)) (written after) (nodes_with t ks)
+          ∙ (amount_within t nodes whole.sound.distinct at kept.named (λ n. camped_if (is_in_some os) (written after n)) ks
           gathered.walked.once within
           (λ n on out. none n (outside n on out))
-          ∙ (sym (amount_map (camped_if (is_in_some hs)) (written after) nodes)
-          ∙ (sym (camped_sum (is_in_some hs) (map (written after) nodes))
+          ∙ (sym (amount_map (camped_if (is_in_some os)) (written after) nodes)
+          ∙ (sym (camped_sum (is_in_some os) (map (written after) nodes))
           ∙ ap (sum_by (λ (d : Demand). d.camping)) (sym all_ask))))))
         where
-          none : (n : Node) → is_in_some hs (written after n) ≡ false → camped_if (is_in_some hs) (written after n) ≡ 0
+          none : (n : Node) → is_in_some os (written after n) ≡ false → camped_if (is_in_some os) (written after n) ≡ 0
           none n e = ap (λ (b : Bool). option_map_or (λ (d : Demand). d.camping) (if b then (written after n).constraints else None) 0) e
 
       -- what is asked for is asked for by one of them
-      fewer : (d : Demand) → In d (asked_with t s.keys hs after) → In d (asked_with t ks hs after)
+      fewer : (d : Demand) → In d (asked_with t s.keys os after) → In d (asked_with t ks os after)
       fewer d on =
-          let x = asked_of (is_in_some hs) (map (written after) nodes) d (subst (λ (ds : List Demand). In d ds) all_ask on) in
+          let x = asked_of (is_in_some os) (map (written after) nodes) d (subst (λ (ds : List Demand). In d ds) all_ask on) in
           let y = from x.0 x.1 in
-          let passes : is_in_some hs (written after y.0) ≡ true =
-          ap (is_in_some hs) (sym y.2) ∙ asks_passes (is_in_some hs x.0) x.0.constraints d x.2 in
+          let passes : is_in_some os (written after y.0) ≡ true =
+          ap (is_in_some os) (sym y.2) ∙ asks_passes (is_in_some os x.0) x.0.constraints d x.2 in
           let listed : list_any (same_key y.0.key) ks ≡ true = elim (either_way (list_any (same_key y.0.key) ks)) [
             | inl e ↦ e
-            | inr e ↦ both_ways (is_in_some hs (written after y.0)) passes (outside y.0 y.1 e)
+            | inr e ↦ both_ways (is_in_some os (written after y.0)) passes (outside y.0 y.1 e)
           ] in
           let there : In y.0 (nodes_with t ks) = in_looked t kept.named (Going.Leaves k) ks y.0 (at y.0 y.1) listed in
           subst (λ (ds : List Demand). In d ds) (sym below_asks)
-          (asked_back (is_in_some hs) (map (written after) (nodes_with t ks)) (written after y.0) d
-          (into (nodes_with t ks) y.0 there) ((λ i. if is_in_some hs (sym y.2 i) then (sym y.2 i).constraints else None) ∙ x.2))
+          (asked_back (is_in_some os) (map (written after) (nodes_with t ks)) (written after y.0) d
+          (into (nodes_with t ks) y.0 there) ((λ i. if is_in_some os (sym y.2 i) then (sym y.2 i).constraints else None) ∙ x.2))
         where
           from : (x : Node) → In x (map (written after) nodes) → (m : Node) × In m nodes × (x ≡ written after m)
           from x on = In-map (written after) nodes x on
@@ -128,38 +127,48 @@ module _ (t : Table Node) (ss : List Shelf) (kept : IsStored t ss) (s : Shelf) (
           into : (ns : List Node) (m : Node) → In m ns → In (written after m) (map (written after) ns)
           into ns m on = In-map-back (written after) ns m on
 
-      pub enough_below : (b : Buffers) (reserved : ℕ) → are_enough b reserved (asked_with t ks hs after) ≡ true →
-          are_enough b reserved (asked_with t s.keys hs after) ≡ true
+      pub enough_below : (b : Buffers) (reserved : ℕ) → are_enough b reserved (asked_with t ks os after) ≡ true →
+          are_enough b reserved (asked_with t s.keys os after) ≡ true
       enough_below b reserved h =
-          let sums : not (nat_lt b.count (reserved + sum_by (λ (d : Demand). d.camping) (asked_with t ks hs after))
-          || nat_lt b.count (greatest (λ d. d.at_least) (asked_with t ks hs after))) ≡ true = and_left (not _) _ h in
+          let sums : not (nat_lt b.count (reserved + sum_by (λ (d : Demand). d.camping) (asked_with t ks os after))
+          || nat_lt b.count (greatest (λ d. d.at_least) (asked_with t ks os after))) ≡ true = and_left (not _) _ h in
           let two = not-true _ sums in
-          let first : nat_lt b.count (reserved + sum_by (λ (d : Demand). d.camping) (asked_with t s.keys hs after)) ≡ false =
+          let first : nat_lt b.count (reserved + sum_by (λ (d : Demand). d.camping) (asked_with t s.keys os after)) ≡ false =
           subst (λ (n : ℕ). nat_lt b.count (reserved + n) ≡ false) sum_below (or_none_left _ _ two) in
-          let second = greatest_fewer (λ d. d.at_least) b.count (asked_with t s.keys hs after) (asked_with t ks hs after) fewer
+          let second = greatest_fewer (λ d. d.at_least) b.count (asked_with t s.keys os after) (asked_with t ks os after) fewer
           (or_none_right _ _ two) in
-          let third = greatest_fewer (λ d. d.size) b.size (asked_with t s.keys hs after) (asked_with t ks hs after) fewer
+          let third = greatest_fewer (λ d. d.size) b.size (asked_with t s.keys os after) (asked_with t ks os after) fewer
           (not-true _ (and_right (not _) _ h)) in
           rw (first, second, third) refl
+
+      -- and the other way round
+      more : (d : Demand) → In d (asked_with t ks os after) → In d (asked_with t s.keys os after)
+      more d on =
+          let x = asked_of (is_in_some os) (map (written after) (nodes_with t ks)) d
+          (subst (λ (ds : List Demand). In d ds) below_asks on) in
+          let y = In-map (written after) (nodes_with t ks) x.0 x.1 in
+          subst (λ (ds : List Demand). In d ds) (sym all_ask)
+          (asked_back (is_in_some os) (map (written after) nodes) x.0 d
+          (subst (λ (m : Node). In m (map (written after) nodes)) (sym y.2) (In-map-back (written after) nodes y.0 (within y.0 y.1))) x.2)
+
+      pub greatest_below : (f : Demand → ℕ) → greatest f (asked_with t ks os after) ≡ greatest f (asked_with t s.keys os after)
+      greatest_below f =
+          let below = greatest f (asked_with t ks os after) in
+          let all = greatest f (asked_with t s.keys os after) in
+          let one : below ≤ all = ltb-false all below (greatest_fewer f all (asked_with t ks os after) (asked_with t s.keys os after) more
+          (le-ltb all all (omega arith))) in
+          let two : all ≤ below = ltb-false below all
+          (greatest_fewer f below (asked_with t s.keys os after) (asked_with t ks os after) fewer
+          (le-ltb below below (omega arith))) in
+          omega arith
 
     -- ---- the units are given their buffers
 
     -- where each node of them is there still, those below are all of them
     pub given_all_below : (between : Table Node) → IsGivenAt t between hs ks → IsGivenAt t between hs s.keys
-    given_all_below between given = record {
-      look = λ key. given.look key ∙ each (node_at t key) (λ n is. one n (ap (node_at t) (kept.named key n is) ∙ is));
-      parents = given.parents;
-      same = given.same;
-    }
+    given_all_below between =
+        given_alike t between hs ks s.keys (λ key n is. one n (ap (node_at t) (kept.named key n is) ∙ is))
       where
-        each : (o : Option Node) → ((n : Node) → o ≡ Some n → given_at hs ks n ≡ given_at hs s.keys n) →
-            option_map (given_at hs ks) o ≡ option_map (given_at hs s.keys) o
-        each None same = refl
-        each (Some n) same = ap Some (same n refl)
-
-        other : (n : Node) → list_any (same_key n.head) hs ≡ false → n ≡ given_all hs n
-        other n e = λ i. record n { allocated = sym e i || n.allocated }
-
         one : (n : Node) → node_at t n.key ≡ Some n → given_at hs ks n ≡ given_at hs s.keys n
         one n is = elim (either_way (list_any (same_key n.key) s.keys)) [
           | inl e ↦ elim (either_way (list_any (same_key n.key) ks)) [
@@ -170,7 +179,7 @@ module _ (t : Table Node) (ss : List Shelf) (kept : IsStored t ss) (s : Shelf) (
                 both_ways (list_any (same_key n.key) ks)
                 (of_unit t ss kept s found us counts k top hs ks gathered n on
                 (unitwide t ss kept s found k top hs (follows t ss kept s found us counts k top hs ks gathered) n on own).1 own) h) in
-                given_out hs ks n h ∙ (other n apart ∙ sym (given_in hs s.keys n e))
+                given_out hs ks n h ∙ (given_other hs n apart ∙ sym (given_in hs s.keys n e))
           ]
           | inr e ↦
               let out : list_any (same_key n.key) ks ≡ false = false_if (list_any (same_key n.key) ks) (λ h.

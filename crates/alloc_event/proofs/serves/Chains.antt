@@ -117,7 +117,7 @@ module _ (t : Table Node) (ss : List Shelf) (kept : IsStored t ss) (s : Shelf) (
       (allocated : (m : Node) → (f m).allocated ≡ m.allocated) (stays : (m : Node) → In m nodes → same_key m.head k ≡ false → f m ≡ m)
       (ready : list_all (is_ready_node k) (map f nodes) ≡ true) where
     -- the others are ready still
-    ready_still : (j : NodeKey) → times (waits_in j) nodes ≡ 0 → list_all (is_ready_node j) (map f nodes) ≡ true
+    pub ready_still : (j : NodeKey) → times (waits_in j) nodes ≡ 0 → list_all (is_ready_node j) (map f nodes) ≡ true
     ready_still j idle = elim (either_way (same_key j k)) [
       | inl e ↦ subst (λ (i : NodeKey). list_all (is_ready_node i) (map f nodes) ≡ true) (sym (same_key-true j k e)) ready
       | inr e ↦ all_on (is_ready_node j) (map f nodes) (λ x there.

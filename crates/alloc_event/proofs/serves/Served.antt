@@ -1,8 +1,8 @@
 -- An effect by which an attached unit becomes ready, and its allocation and that of the units that follow, in their places.
-use Rattle.std.proofs.Common.{◌≡◌, ◌≢◌, ℕ, ◌+◌, ◌<◌, ◌==◌, nat_lt, refl, ap, sym, ◌∙◌, subst, Bool, true, false, not, ◌&&◌, ◌||◌, is_none, if◌then◌else◌, inl, inr, List, [], ◌∷◌, map, set, Option, Some, None, arith}
-use Rattle.std.proofs.lemmas.Bool.{eqb-false, eqb-true, le-ltb, not-true}
+use Rattle.std.proofs.Common.{◌≡◌, ℕ, ◌+◌, ◌==◌, refl, ap, sym, ◌∙◌, subst, Bool, true, false, not, ◌&&◌, ◌||◌, is_none, if◌then◌else◌, inl, inr, List, map, set, Option, Some, None}
+use Rattle.std.proofs.lemmas.Bool.{not-true}
 use Rattle.std.proofs.Math.Bool.{and-false}
-use Rattle.std.specs.List.{find, list_all, list_any, sum_by}
+use Rattle.std.specs.List.{list_any, sum_by}
 use Rattle.std.specs.Option.{option_map_or}
 use Rattle.sm_names.specs.declared.keys.Interval.{Interval}
 use Rattle.sm_names.specs.declared.keys.NodeKey.{NodeKey}
@@ -11,7 +11,7 @@ use Rattle.sm_names.specs.declared.outcomes.Cause.{Cause}
 use Rattle.sm_names.specs.Demands.{Demand}
 use Rattle.sm_names.specs.Forced.{forced}
 use Rattle.sm_names.specs.Sameness.{same_key}
-use Rattle.sm_names.proofs.ListLaws.{In, In-find, In-map-back, map-In}
+use Rattle.sm_names.proofs.ListLaws.{In, In-find, In-map-back}
 use Rattle.sm_names.proofs.SamenessLaws.{and_left, and_right, both_ways, either_way, false_if, same_key-refl, same_key-true}
 use Rattle.node_table.specs.Changes.{Writes}
 use Rattle.node_table.specs.Lending.{table_with_node}
@@ -24,9 +24,9 @@ use Rattle.alloc_event.specs.Calm.{IsCalm}
 use Rattle.alloc_event.specs.Counts.{HasUnits}
 use Rattle.alloc_event.specs.Decisions.{late_failure}
 use Rattle.alloc_event.specs.Dropped.{has_given_root}
-use Rattle.alloc_event.specs.Forest.{Collection, beside, with_nodes}
+use Rattle.alloc_event.specs.Forest.{Collection, with_nodes}
 use Rattle.alloc_event.specs.InPlace.{IsDone, IsOpen}
-use Rattle.alloc_event.specs.Kept.{AreRising, Finishes, Shelf, collection_in, forest_of, is_filed, nodes_with, written}
+use Rattle.alloc_event.specs.Kept.{Finishes, Shelf, collection_in, forest_of, nodes_with, written}
 use Rattle.alloc_event.specs.Falls.{given_all}
 use Rattle.alloc_event.specs.Nodes.{affected}
 use Rattle.alloc_event.specs.Questions.{demands_of, is_root_left}
@@ -34,10 +34,10 @@ use Rattle.alloc_event.specs.Reserved.{reserved_count}
 use Rattle.alloc_event.specs.Resting.{is_kept_by}
 use Rattle.alloc_event.specs.Scenes.{heads_itself}
 use Rattle.alloc_event.specs.Serving.{AreLess, IsDue, IsGivenAt, IsRoom, IsServed, IsServedAt, IsServing, are_enough, asked_with, given_at, has_turn_at, is_in_some, left_out_at}
-use Rattle.alloc_event.specs.Settling.{Handles, Settles, changed, collection_or_new, given_back, is_root_of, no_key, put, standing}
-use Rattle.alloc_event.proofs.calm.Resting.{back_kept, rests_kept, rests_on, roots_stay}
+use Rattle.alloc_event.specs.Settling.{Handles, Settles, changed, collection_or_new, is_root_of, no_key, standing}
+use Rattle.alloc_event.proofs.calm.Resting.{roots_stay}
 use Rattle.alloc_event.proofs.calm.Steps.{all-In, found_by_key}
-use Rattle.alloc_event.proofs.changes.Altering.{Some-shelf, found_filed, found_whole, same_affected}
+use Rattle.alloc_event.proofs.changes.Altering.{same_affected}
 use Rattle.alloc_event.proofs.changes.Effecting.{remains_affected}
 use Rattle.alloc_event.proofs.failures.Endings.{change_nodes}
 use Rattle.alloc_event.proofs.serves.Between.{IsMadeAfter, StandsIn, asks_are, bare_then, made_after, reserved_is, stands_in}
@@ -56,28 +56,7 @@ use Rattle.alloc_event.proofs.tables.Rooted.{IsLeft, left_node}
 use Rattle.alloc_event.proofs.tables.Writing.{IsSameNode}
 use Rattle.alloc_event.proofs.tallies.Slots.{all_at}
 use Rattle.alloc_event.proofs.serves.Allocated.{AreChildren, after_all, roots_same}
-
--- one collection that changed is put among the others
-pub put_among : (t now : Table Node) (s : Shelf) (ss : List Shelf) → AreRising ss → find (λ (x : Shelf). x.id == s.id) ss ≡ Some s →
-    ((x : Shelf) → In x ss → x.id ≢ s.id → collection_in now x ≡ collection_in t x) →
-    map (collection_in now) ss ≡ put (collection_in now s) (map (collection_in t) ss)
-put_among t now s [] rising found each = cc
-put_among t now s (x ∷ xs) rising found each = elim (either_way (x.id == s.id)) [
-  | inl e ↦
-      let is : x ≡ s = Some-shelf x s (rw e at found) in
-      let rest = map-In (collection_in now) (collection_in t) xs (λ y on. each y (inr on) (λ same.
-      let above : x.id < y.id = all_at (λ (later : Shelf). x.id < later.id) xs rising.0 y on in
-      let own : x.id ≡ s.id = eqb-true x.id s.id e in
-      omega (arith, above, own, same))) in
-      rw e (λ i. collection_in now (is i) ∷ rest i)
-  | inr e ↦
-      let on : find (λ (y : Shelf). y.id == s.id) xs ≡ Some s = rw e at found in
-      let above : x.id < s.id = all_at (λ (later : Shelf). x.id < later.id) xs rising.0 s
-      (In-find (λ (y : Shelf). y.id == s.id) xs s on).0 in
-      let less : nat_lt s.id x.id ≡ false = le-ltb s.id x.id (omega (arith, above)) in
-      let rest = put_among t now s xs rising.1 on (λ y there. each y (inr there)) in
-      rw (e, less) (λ i. each x (inl refl) (eqb-false x.id s.id e) i ∷ rest i)
-]
+use Rattle.alloc_event.proofs.serves.Among.{finishes_by}
 
 module _ (t : Table Node) (us : List Unit) (key : NodeKey) (effect : Effect) (n : Node) (was : node_at t key ≡ Some n)
     (ss : List Shelf) (s : Shelf) (strong : ℕ) (opens : IsOpen t us ss s (Change.Effect key effect) strong)
@@ -203,25 +182,8 @@ module _ (t : Table Node) (us : List Unit) (key : NodeKey) (effect : Effect) (n 
 
       finishes_now : (pool : ℕ) (handles : Handles) → is_kept_by handles t s lives ≡ true → Finishes pool handles t ss now ss
           (changed (Change.Effect key effect) no_key (collection_or_new (forest_of t ss) s.id))
-      finishes_now pool handles by =
-          let still : is_kept_by handles now s lives ≡ true = rests_on handles t now s lives roots_now by in
-          let filed_now = found_filed now s.id ss s done.kept.filed opens.found in
-          let whole_now = found_whole now s.id ss s done.kept.whole opens.found in
-          let rests = rests_kept handles now s lives filed_now whole_now done.calm done.strong still pool in
-          let back : given_back handles (collection_in now s) ≡ collection_in now s =
-          back_kept handles now s lives filed_now whole_now done.calm done.strong still in
-          subst (λ (c : Collection). Finishes pool handles t ss now ss c)
-          (sym (change_nodes t ss s opens.found (Change.Effect key effect)))
-          (record {
-            after = collection_in now s;
-            settles = settles pool handles (beside (forest_of t ss) s.id) (rests (beside (forest_of t ss) s.id));
-            collections = put_among t now s ss opens.kept.rising opens.found
-                (λ x there differ. after.others x differ
-                (all-In (λ (y : Shelf). list_all (is_filed t y.id) y.keys) ss x there opens.kept.filed))
-                ∙ ap (λ (c : Collection). put c (map (collection_in t) ss)) (sym back);
-            rests = ap (λ (c : Collection). forced pool (standing handles (beside (forest_of now ss) s.id) c)) back
-                ∙ rests (beside (forest_of now ss) s.id);
-          })
+      finishes_now = finishes_by t now ss s opens.kept done.kept opens.found (Change.Effect key effect) (map f nodes)
+          (change_nodes t ss s opens.found (Change.Effect key effect)) settles after.others done.calm lives done.strong roots_now
 
       pub served_made : (camping : ℕ) → camping ≡ reserved_count nodes + sum_by (λ (d : Demand). d.camping)
           (asked_with t s.keys hs (f n)) →
@@ -255,7 +217,7 @@ served_by t now us key effect n was ss s strong opens next lives after is less r
     lives next (subst (λ (m : Node). AreLess us strong n m lives next) is less) all
     (room.sum_is ∙ ((λ i. sum i + sum_by (λ (d : Demand). d.camping) (asked_with t ks hs after))
     ∙ (ap (λ (m : ℕ). reserved_count (nodes_with t s.keys) + m) (sum_below t ss opens.kept s opens.found us counts n.head head hs ks
-    serving.gathered room.clear after outside)
+    serving.gathered room.clear hs after outside)
     ∙ ap (λ (m : Node). reserved_count (nodes_with t s.keys) + sum_by (λ (d : Demand). d.camping) (asked_with t s.keys hs m)) is)))
   where
     hs : List NodeKey
@@ -319,7 +281,7 @@ served_by t now us key effect n was ss s strong opens next lives after is less r
     enough =
         subst (λ (m : Node). are_enough b (reserved_count (nodes_with t s.keys)) (asked_with t s.keys hs m) ≡ true) is
         (subst (λ (r : ℕ). are_enough b r (asked_with t s.keys hs after) ≡ true) sum
-        (enough_below t ss opens.kept s opens.found us counts n.head head hs ks serving.gathered room.clear after outside b reserved
+        (enough_below t ss opens.kept s opens.found us counts n.head head hs ks serving.gathered room.clear hs after outside b reserved
         room.enough))
 
     given : IsGivenAt t served.between hs s.keys

@@ -51,7 +51,7 @@ module _ (nodes : List Node) (strong_open : Bool) where
       from true false false e = cc
       from false s t e = refl
 
-  none_waits : is_unplaced nodes ≡ false → waiting nodes ≡ None
+  pub none_waits : is_unplaced nodes ≡ false → waiting nodes ≡ None
   none_waits placed = from (find is_root_left nodes) refl
     where
       from : (o : Option Node) → find is_root_left nodes ≡ o →
@@ -100,7 +100,7 @@ stays handles old new same = subst (λ (c : Collection). Goes handles old c) (sy
 })
 
 -- where no unit was allocated and none fell, all stand as they were
-stands_still : (nodes ns : List Node) → map (stands nodes [] []) ns ≡ ns
+pub stands_still : (nodes ns : List Node) → map (stands nodes [] []) ns ≡ ns
 stands_still nodes [] = refl
 stands_still nodes (n ∷ ns) = ap (λ ms. n ∷ ms) (stands_still nodes ns)
 

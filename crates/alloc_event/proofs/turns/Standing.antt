@@ -169,7 +169,7 @@ module _ (nodes : List Node) (heads : List NodeKey) (falls : List Fault) where
         from true false e h = sym (fits n on h e)
         from false g e h = refl
 
-    served_same : demands_of is_served (stand nodes heads falls) ≡ demands_of is_served (map (given_all heads) nodes)
+    pub served_same : demands_of is_served (stand nodes heads falls) ≡ demands_of is_served (map (given_all heads) nodes)
     served_same = asked_at is_served is_served (stands nodes heads falls) (given_all heads) nodes
         (λ n on. ap (λ (b : Bool). if b then n.constraints else None) (served_at n on))
 

@@ -20,13 +20,13 @@ place_of (m ∷ ns) n (inl is) = (zero, ap Some (sym is))
 place_of (m ∷ ns) n (inr on) = let r = place_of ns n on in (suc r.0, r.1)
 
 -- what stands before a place
-front_at : (before rest : List Node) (at : ℕ) (m : Node) → slice_get (before ++ rest) at ≡ Some m → at < length before → In m before
+pub front_at : (before rest : List Node) (at : ℕ) (m : Node) → slice_get (before ++ rest) at ≡ Some m → at < length before → In m before
 front_at [] rest at m there within = absurd (omega arith)
 front_at (x ∷ xs) rest zero m there within = let same : Some x ≡ Some m = there in let is : x ≡ m = cc in inl (sym is)
 front_at (x ∷ xs) rest (suc at) m there within = inr (front_at xs rest at m there (omega arith))
 
 -- and where it stands
-at_front : (before rest : List Node) (m : Node) → In m before → (at : ℕ) × (slice_get (before ++ rest) at ≡ Some m) × (at < length before)
+pub at_front : (before rest : List Node) (m : Node) → In m before → (at : ℕ) × (slice_get (before ++ rest) at ≡ Some m) × (at < length before)
 at_front [] rest m on = absurd on
 at_front (x ∷ xs) rest m (inl is) = (zero, ap Some (sym is), omega arith)
 at_front (x ∷ xs) rest m (inr on) = let r = at_front xs rest m on in let less = r.2 in (suc r.0, r.1, omega arith)
@@ -46,7 +46,7 @@ module _ (nodes : List Node) (distinct : are_distinct nodes ≡ true) (grown : A
       | Hangs h ↦ let first = h.first in child at n there here h (grows bound h.place (omega arith) h.above h.found h.here)
     ]
 
-    along : (n : Node) → In n nodes → n.gone ≡ false → P n
+    pub along : (n : Node) → In n nodes → n.gone ≡ false → P n
     along n on here = let p = place_of nodes n on in grows (suc p.0) p.0 (omega arith) n p.1 here
 
   -- one line higher

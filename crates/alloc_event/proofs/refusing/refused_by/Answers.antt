@@ -20,7 +20,7 @@ returns c =
     (sym (rw c.deref-2.ensures.value at c.asks_after-asks.ensures.camping) i)
     (sym (rw c.deref-2.ensures.value at c.asks_after-asks.ensures.at_least) i)
     (sym (rw c.deref-2.ensures.value at c.asks_after-asks.ensures.size) i))
-    ∙ c.in-Some-refusal.ensures in
+    ∙ sym c.in-Some-refusal.ensures in
     record {
       node = n;
       was = sym c.get.ensures ∙ sym c.copied.ensures ∙ c.in-Some.is;
@@ -29,7 +29,7 @@ returns c =
       left = c.in-Some-counts_with.field-0.0;
       next = c.in-Some-counts_with.field-0.1;
       less = rw c.affected_by-after.ensures at c.in-Some-counts_with.ensures;
-      taken = c.list_below.ensures c.if-not-list_below.false;
+      taken = c.list_below.ensures.taken c.if-not-list_below.false;
       own = sym (rw c.deref.ensures.value at c.are_of.ensures) ∙ c.if-not-are_of.false;
       why = c.in-Some-refusal.failure;
       told = subst (λ (asks : List Demand). refused_for buffers reserved asks ≡ Some c.in-Some-refusal.failure)

@@ -1,0 +1,10 @@
+-- The one that was found tells.
+use Rattle.std.proofs.Common.{◌∙◌, sym}
+use Rattle.sm_names.proofs.SamenessLaws.{same_key-true}
+use Rattle.alloc_event.proofs.waiting.Fates.{got_there}
+use Rattle.alloc_event.proofs.turning.has_got.Goals as goal
+
+pub returns-then-eq : goal.returns-then-eq
+returns-then-eq c apart =
+    got_there c.args.waiters.now c.in_ok-at.at _ c.args.head c.in_ok-at.ensures
+    (same_key-true _ c.args.head (sym c.eq.ensures ∙ c.if-eq.true)) apart ∙ sym c.is_given.ensures

@@ -1,0 +1,304 @@
+-- The nodes of a collection stand as its keys do, each behind its parent and the head of its parent's unit.
+use Rattle.std.proofs.Common.{◌≡◌, ℕ, zero, suc, ◌<◌, ◌==◌, refl, ap, sym, ◌∙◌, subst, Bool, true, false, not, ◌||◌, inl, inr, is_none, length, List, [], ◌∷◌, ◌++◌, map, reverse, Option, Some, None, option_map, arith}
+use Rattle.std.proofs.lemmas.List.{append_assoc, reverse-append}
+use Rattle.std.proofs.lemmas.Option.{slice_get-map}
+use Rattle.std.specs.List.{cons_option, find, list_all, slice_get}
+use Rattle.std.specs.Option.{option_map_or}
+use Rattle.sm_names.specs.declared.keys.NodeKey.{NodeKey}
+use Rattle.sm_names.specs.Sameness.{same_key}
+use Rattle.sm_names.proofs.ListLaws.{In, In-reverse}
+use Rattle.sm_names.proofs.SamenessLaws.{and_left, and_right, either_way, or_left, or_right, same_key-refl, same_key-true, some-injective}
+use Rattle.node_table.specs.Table.{Table, node_at}
+use Rattle.alloc_event.specs.declared.node.Node.{Node}
+use Rattle.alloc_event.specs.Decisions.{is_left_of}
+use Rattle.alloc_event.specs.Falls.{AreGrown, Hangs, IsHanging, IsPlaced, Roots}
+use Rattle.alloc_event.specs.InTurn.{IsAbove, IsKeyAt}
+use Rattle.alloc_event.specs.Kept.{IsStored, IsWhole, Shelf, collection_in, is_filed, nodes_with}
+use Rattle.alloc_event.specs.Scenes.{are_distinct, heads_itself}
+use Rattle.alloc_event.specs.Ties.{are_rooted, hangs_on}
+use Rattle.alloc_event.specs.Units.{are_united, is_parent, shares_unit}
+use Rattle.alloc_event.proofs.calm.Steps.{all-In}
+use Rattle.alloc_event.proofs.changes.Altering.{found_filed, found_whole}
+use Rattle.alloc_event.proofs.lists.Lookups.{same_key-swap}
+use Rattle.alloc_event.proofs.serves.Before.{node_there}
+use Rattle.alloc_event.proofs.tables.Rooted.{left_node}
+use Rattle.alloc_event.proofs.tables.Writing.{IsSameNode}
+use Rattle.alloc_event.proofs.turns.Claims.{others_apart}
+use Rattle.alloc_event.proofs.turns.Gifts.{got_In}
+use Rattle.alloc_event.proofs.turns.Inherited.{key_there}
+use Rattle.alloc_event.proofs.turns.Trees.{heads_own}
+
+-- ---- places in lists
+
+-- what stands before a place and behind it
+pub parts : (xs : List Node) (at : ℕ) (x : Node) → slice_get xs at ≡ Some x →
+    (front : List Node) × (rest : List Node) × (xs ≡ front ++ x ∷ rest) × (at ≡ length front)
+parts [] at x on = cc
+parts (y ∷ ys) zero x on = ([], ys, ap (λ (z : Node). z ∷ ys) (some-injective y x on), refl)
+parts (y ∷ ys) (suc at) x on =
+    let r = parts ys at x on in
+    let long = r.3 in
+    (y ∷ r.0, r.1, ap (λ (zs : List Node). y ∷ zs) r.2, omega (arith, long))
+
+-- where one of those before stands
+pub in_front : (front rest : List Node) (x : Node) → In x front →
+    (at : ℕ) × (slice_get (front ++ rest) at ≡ Some x) × (at < length front)
+in_front [] rest x on = absurd on
+in_front (y ∷ ys) rest x (inl is) = (zero, ap Some (sym is), omega arith)
+in_front (y ∷ ys) rest x (inr on) = let r = in_front ys rest x on in let less = r.2 in (suc r.0, r.1, omega (arith, less))
+
+-- nodes with one key stand at one place
+pub at_one_place : (ns : List Node) → are_distinct ns ≡ true → (i l : ℕ) (a b : Node) → slice_get ns i ≡ Some a → slice_get ns l ≡ Some b →
+    a.key ≡ b.key → i ≡ l
+at_one_place [] distinct i l a b on there same = cc
+at_one_place (n ∷ ns) distinct zero zero a b on there same = refl
+at_one_place (n ∷ ns) distinct zero (suc l) a b on there same =
+    absurd (others_apart n ns distinct b (got_In ns l b there) (sym same ∙ ap (λ (x : Node). x.key) (sym (some-injective n a on))))
+at_one_place (n ∷ ns) distinct (suc i) zero a b on there same =
+    absurd (others_apart n ns distinct a (got_In ns i a on) (same ∙ ap (λ (x : Node). x.key) (sym (some-injective n b there))))
+at_one_place (n ∷ ns) distinct (suc i) (suc l) a b on there same =
+    ap suc (at_one_place ns (and_right _ (are_distinct ns) distinct) i l a b on there same)
+
+-- ---- a node and those before it
+
+module _ (nodes : List Node) (rooted : are_rooted (reverse nodes) ≡ true) (united : are_united (reverse nodes) ≡ true) where
+  -- the newest stands first, and those before it behind it
+  rooted_at : (newer : List Node) (n : Node) (older : List Node) → are_rooted (newer ++ n ∷ older) ≡ true → hangs_on older n ≡ true
+  rooted_at [] n older h = and_left (hangs_on older n) (are_rooted older) h
+  rooted_at (m ∷ ms) n older h = rooted_at ms n older (and_right (hangs_on (ms ++ n ∷ older) m) _ h)
+
+  united_at : (newer : List Node) (n : Node) (older : List Node) → are_united (newer ++ n ∷ older) ≡ true →
+      list_all (shares_unit n) older ≡ true
+  united_at [] n older h = and_left (list_all (shares_unit n) older) (are_united older) h
+  united_at (m ∷ ms) n older h = united_at ms n older (and_right (list_all (shares_unit m) (ms ++ n ∷ older)) _ h)
+
+  turned : (xs front rest : List Node) (x : Node) → xs ≡ front ++ x ∷ rest → reverse xs ≡ reverse rest ++ x ∷ reverse front
+  turned xs front rest x is =
+      ap reverse is
+      ∙ (reverse-append front (x ∷ rest)
+      ∙ (ap (λ (ns : List Node). ns ++ reverse front) (reverse-append (x ∷ []) rest)
+      ∙ append_assoc (reverse rest) (x ∷ []) (reverse front)))
+
+  shares : (none attached above same : Bool) → none ≡ false → above ≡ true → ((none || attached) || (not above || same)) ≡ true →
+      (attached || same) ≡ true
+  shares true attached above same e d h = cc
+  shares false true above same e d h = refl
+  shares false false true same e d h = h
+  shares false false false same e d h = cc
+
+  -- each node that is not gone stands behind its parent, which is not gone
+  pub grown_by : AreGrown nodes
+  grown_by at n on here = from n.parent refl
+    where
+      p : (front : List Node) × (rest : List Node) × (nodes ≡ front ++ n ∷ rest) × (at ≡ length front)
+      p = parts nodes at n on
+
+      all : reverse nodes ≡ reverse p.1 ++ n ∷ reverse p.0
+      all = turned nodes p.0 p.1 n p.2
+
+      hangs : hangs_on (reverse p.0) n ≡ true
+      hangs = rooted_at (reverse p.1) n (reverse p.0) (subst (λ (ns : List Node). are_rooted ns ≡ true) all rooted)
+
+      one : list_all (shares_unit n) (reverse p.0) ≡ true
+      one = united_at (reverse p.1) n (reverse p.0) (subst (λ (ns : List Node). are_united ns ≡ true) all united)
+
+      from : (o : Option NodeKey) → n.parent ≡ o → IsPlaced nodes n at
+      from None is = Roots is
+      from (Some key) is =
+          let left : is_left_of (reverse p.0) key ≡ true =
+          subst (λ (o : Option NodeKey). option_map_or (is_left_of (reverse p.0)) o true ≡ true) is (subst (λ (g : Bool).
+          (g || option_map_or (is_left_of (reverse p.0)) n.parent true) ≡ true) here hangs) in
+          let x = left_node (reverse p.0) key left in
+          let q = in_front p.0 (n ∷ p.1) x.node (In-reverse p.0 x.node x.on) in
+          let less = q.2 in
+          let place = p.3 in
+          let parent : is_parent n x.node ≡ true =
+          ap (λ (o : Option NodeKey). option_map_or (λ k. same_key x.node.key k) o false) is
+          ∙ (ap (λ (k : NodeKey). same_key k key) x.is ∙ same_key-refl key) in
+          let both : shares_unit n x.node ≡ true = all-In (shares_unit n) (reverse p.0) x.node x.on one in
+          Hangs (record {
+            place = q.0;
+            above = x.node;
+            first = omega (arith, less, place);
+            found = subst (λ (ns : List Node). slice_get ns q.0 ≡ Some x.node) (sym p.2) q.1;
+            parent = is ∙ ap Some (sym x.is);
+            here = x.here;
+            unit = ap (λ (b : Bool). n.attached || b) (same_key-swap n.head x.node.head)
+                ∙ shares (is_none n.parent) n.attached (is_parent n x.node) (same_key x.node.head n.head) (ap is_none is) parent both;
+          })
+
+-- ---- the head of the unit above
+
+module _ (nodes : List Node) (distinct : are_distinct nodes ≡ true) (owned : list_all heads_itself nodes ≡ true)
+    (grown : AreGrown nodes) where
+  -- a key where a node stands
+  pub key_place : (ns : List Node) (at : ℕ) (n : Node) → slice_get ns at ≡ Some n → IsKeyAt ns n.key at
+  key_place ns at n on = ap (option_map (λ (m : Node). m.key)) on
+
+  -- a head stands where its node does
+  head_place : (at : ℕ) (n : Node) → slice_get nodes at ≡ Some n → (is_none n.parent || n.attached) ≡ true → IsKeyAt nodes n.head at
+  head_place at n on head = subst (λ (k : NodeKey). IsKeyAt nodes k at)
+      (sym (heads_own n (all-In heads_itself nodes n (got_In nodes at n on) owned) head)) (key_place nodes at n on)
+
+  -- and no later than the nodes of its unit
+  head_from : (bound at : ℕ) → at < bound → (n : Node) → slice_get nodes at ≡ Some n → n.gone ≡ false →
+      (i : ℕ) × (IsKeyAt nodes n.head i) × (i < suc at)
+  head_from zero at within n on here = absurd (omega (arith, within))
+  head_from (suc bound) at within n on here = elim (grown at n on here) [
+    | Roots none ↦ (at, head_place at n on (or_left (is_none n.parent) n.attached (ap is_none none)), omega arith)
+    | Hangs h ↦ elim (either_way n.attached) [
+      | inl e ↦ (at, head_place at n on (or_right (is_none n.parent) n.attached e), omega arith)
+      | inr e ↦
+          let first = h.first in
+          let r = head_from bound h.place (omega (arith, within, first)) h.above h.found h.here in
+          let less = r.2 in
+          let same : n.head ≡ h.above.head = same_key-true n.head h.above.head (subst (λ (b : Bool).
+          (b || same_key n.head h.above.head) ≡ true) e h.unit) in
+          (r.0, subst (λ (k : NodeKey). IsKeyAt nodes k r.0) (sym same) r.1, omega (arith, less, first))
+    ]
+  ]
+
+  -- so the head of the unit right above a node stands before the node
+  pub above_place : (at : ℕ) (n : Node) → slice_get nodes at ≡ Some n → (h : IsHanging nodes n at) →
+      (i : ℕ) × (IsKeyAt nodes h.above.head i) × (i < at)
+  above_place at n on h =
+      let r = head_from (suc h.place) h.place (omega arith) h.above h.found h.here in
+      let first = h.first in
+      let less = r.2 in
+      (r.0, r.1, omega (arith, first, less))
+
+  abbrev pub is_above : (at : ℕ) (n : Node) (on : slice_get nodes at ≡ Some n) (h : IsHanging nodes n at) →
+      IsAbove nodes n at h.place (above_place at n on h).0
+  is_above at n on h = record {
+    parent = h.above.key;
+    above = h.above;
+    has = h.parent;
+    found = h.found;
+    key = refl;
+    heads = (above_place at n on h).1;
+    first = (above_place at n on h).2;
+  }
+
+-- ---- nodes that change, but not their links
+
+module _ (f : Node → Node) (same : (m : Node) → IsSameNode (f m) m) (gone : (m : Node) → (f m).gone ≡ m.gone) where
+  mapped_at : (ns : List Node) (at : ℕ) (x : Node) → slice_get (map f ns) at ≡ Some x → (m : Node) × (slice_get ns at ≡ Some m) × (x ≡ f m)
+  mapped_at [] at x on = cc
+  mapped_at (m ∷ ms) zero x on = (m, refl, sym (some-injective (f m) x on))
+  mapped_at (m ∷ ms) (suc at) x on = mapped_at ms at x on
+
+  -- each still stands behind its parent
+  pub grown_map : (nodes : List Node) → AreGrown nodes → AreGrown (map f nodes)
+  grown_map nodes grown at x on here =
+      let r = mapped_at nodes at x on in
+      subst (λ (m : Node). IsPlaced (map f nodes) m at) (sym r.2)
+      (placed r.0 (grown at r.0 r.1 (sym (gone r.0) ∙ (ap (λ (m : Node). m.gone) (sym r.2) ∙ here))))
+    where
+      placed : (m : Node) → IsPlaced nodes m at → IsPlaced (map f nodes) (f m) at
+      placed m (Roots none) = Roots ((same m).parent ∙ none)
+      placed m (Hangs h) = Hangs (record {
+        place = h.place;
+        above = f h.above;
+        first = h.first;
+        found = slice_get-map f nodes h.place ∙ ap (option_map f) h.found;
+        parent = (same m).parent ∙ (h.parent ∙ ap Some (sym (same h.above).key));
+        here = gone h.above ∙ h.here;
+        unit = (λ i. (same m).attached i || same_key ((same m).head i) ((same h.above).head i)) ∙ h.unit;
+      })
+
+-- ---- the nodes and the keys of a collection
+
+module _ (t : Table Node) (id : ℕ) (named : (key : NodeKey) (n : Node) → node_at t key ≡ Some n → n.key ≡ key) where
+  one : (o : Option Node) → option_map_or (λ (n : Node). n.collection == id) o false ≡ true → (n : Node) × (o ≡ Some n)
+  one o h = let r = node_there (λ (n : Node). n.collection == id) o h in (r.0, r.1)
+
+  behind : (keys : List NodeKey) (k : NodeKey) (n : Node) → node_at t k ≡ Some n → nodes_with t (k ∷ keys) ≡ n ∷ nodes_with t keys
+  behind keys k n is = ap (λ (o : Option Node). cons_option o (nodes_with t keys)) is
+
+  node_from : (keys : List NodeKey) → list_all (is_filed t id) keys ≡ true → (i : ℕ) (j : NodeKey) → slice_get keys i ≡ Some j →
+      (m : Node) × (slice_get (nodes_with t keys) i ≡ Some m) × (node_at t j ≡ Some m)
+  node_from [] filed i j on = cc
+  node_from (k ∷ keys) filed zero j on =
+      let r = one (node_at t k) (and_left (is_filed t id k) _ filed) in
+      (r.0, ap (λ (ns : List Node). slice_get ns zero) (behind keys k r.0 r.1), ap (node_at t) (sym (some-injective k j on)) ∙ r.1)
+  node_from (k ∷ keys) filed (suc i) j on =
+      let r = one (node_at t k) (and_left (is_filed t id k) _ filed) in
+      let q = node_from keys (and_right (is_filed t id k) _ filed) i j on in
+      (q.0, ap (λ (ns : List Node). slice_get ns (suc i)) (behind keys k r.0 r.1) ∙ q.1, q.2)
+
+  key_from : (keys : List NodeKey) → list_all (is_filed t id) keys ≡ true → (i : ℕ) (m : Node) →
+      slice_get (nodes_with t keys) i ≡ Some m → slice_get keys i ≡ Some m.key
+  key_from [] filed i m on = cc
+  key_from (k ∷ keys) filed zero m on =
+      let r = one (node_at t k) (and_left (is_filed t id k) _ filed) in
+      let is : r.0 ≡ m = some-injective r.0 m (sym (ap (λ (ns : List Node). slice_get ns zero) (behind keys k r.0 r.1)) ∙ on) in
+      ap Some (sym (named k r.0 r.1) ∙ ap (λ (x : Node). x.key) is)
+  key_from (k ∷ keys) filed (suc i) m on =
+      let r = one (node_at t k) (and_left (is_filed t id k) _ filed) in
+      key_from keys (and_right (is_filed t id k) _ filed) i m
+      (sym (ap (λ (ns : List Node). slice_get ns (suc i)) (behind keys k r.0 r.1)) ∙ on)
+
+  many_from : (keys : List NodeKey) → list_all (is_filed t id) keys ≡ true → length (nodes_with t keys) ≡ length keys
+  many_from [] filed = refl
+  many_from (k ∷ keys) filed =
+      let r = one (node_at t k) (and_left (is_filed t id k) _ filed) in
+      let on = many_from keys (and_right (is_filed t id k) _ filed) in
+      ap length (behind keys k r.0 r.1) ∙ ap suc on
+
+module _ (t : Table Node) (ss : List Shelf) (kept : IsStored t ss) (s : Shelf)
+    (found : find (λ (x : Shelf). x.id == s.id) ss ≡ Some s) where
+  abbrev nodes : List Node
+  nodes = nodes_with t s.keys
+
+  filed : list_all (is_filed t s.id) s.keys ≡ true
+  filed = found_filed t s.id ss s kept.filed found
+
+  whole : IsWhole (collection_in t s)
+  whole = found_whole t s.id ss s kept.whole found
+
+  -- the node of a key stands where the key does
+  pub key_node : (i : ℕ) (j : NodeKey) → slice_get s.keys i ≡ Some j →
+      (m : Node) × (slice_get nodes i ≡ Some m) × (node_at t j ≡ Some m) × (m.key ≡ j)
+  key_node i j on =
+      let r = node_from t s.id kept.named s.keys filed i j on in
+      (r.0, r.1, r.2, kept.named j r.0 r.2)
+
+  -- and the key where the node does
+  pub node_key : (i : ℕ) (m : Node) → slice_get nodes i ≡ Some m → slice_get s.keys i ≡ Some m.key
+  node_key i m on = key_from t s.id kept.named s.keys filed i m on
+
+  pub many : length nodes ≡ length s.keys
+  many = many_from t s.id kept.named s.keys filed
+
+  -- a key stands once
+  pub one_place : (i l : ℕ) (j : NodeKey) → slice_get s.keys i ≡ Some j → slice_get s.keys l ≡ Some j → i ≡ l
+  one_place i l j on there =
+      let a = key_node i j on in
+      let b = key_node l j there in
+      at_one_place nodes whole.sound.distinct i l a.0 b.0 a.1 b.1 (a.3 ∙ sym b.3)
+
+  -- each stands behind its parent
+  pub grown : AreGrown nodes
+  grown = grown_by nodes whole.rooted whole.united
+
+  -- and behind the head of its parent's unit
+  pub above_first : (i h : ℕ) (j p : NodeKey) (x a : Node) → slice_get s.keys i ≡ Some j → node_at t j ≡ Some x → x.gone ≡ false →
+      x.parent ≡ Some p → node_at t p ≡ Some a → slice_get s.keys h ≡ Some a.head → h < i
+  above_first i h j p x a on is here up above there =
+      let q = key_node i j on in
+      let same : q.0 ≡ x = some-injective q.0 x (sym q.2 ∙ is) in
+      let at : slice_get nodes i ≡ Some x = q.1 ∙ ap Some same in
+      elim (grown i x at here) [
+        | Roots none ↦ let both : None ≡ Some p = sym none ∙ up in cc
+        | Hangs g ↦
+            let r = above_place nodes whole.sound.distinct whole.sound.heads grown i x at g in
+            let parent : g.above.key ≡ p = some-injective g.above.key p (sym g.parent ∙ up) in
+            let y = key_node g.place g.above.key (node_key g.place g.above g.found) in
+            let one : g.above ≡ y.0 = some-injective g.above y.0 (sym g.found ∙ y.1) in
+            let is_a : g.above ≡ a = one ∙ some-injective y.0 a (sym y.2 ∙ (ap (node_at t) parent ∙ above)) in
+            let key = key_there nodes r.0 g.above.head r.1 in
+            let same_place : h ≡ r.0 = one_place h r.0 a.head there
+            (node_key r.0 key.0 key.1 ∙ ap Some (key.2 ∙ ap (λ (m : Node). m.head) is_a)) in
+            let first = r.2 in
+            omega (arith, same_place, first)
+      ]
