@@ -15,6 +15,7 @@ use std::test::Fail;
 
 mod below;
 mod changes;
+mod contest;
 mod ending;
 mod first;
 mod ground;

@@ -10,7 +10,7 @@ use std::process::Abort;
 use std::test::Fail;
 
 // A root that was given ten buffers of 4,096 bytes, and 300 nodes of its unit.
-fn ten_buffers(alloc: Global, ground: &mut Ground) -> Result<NodeKey, Fail> {
+pub(super) fn ten_buffers(alloc: Global, ground: &mut Ground) -> Result<NodeKey, Fail> {
     let keys = family(alloc, ground, 300, false)?;
     let Some((root, others)) = keys.split_first() else {
         return Err(Fail::from("no root"));
