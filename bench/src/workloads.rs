@@ -83,6 +83,8 @@ pub const ALL: &[Row] = &[
     sized("i2 short life beside {}", "collections", &[1, 16, 250], among::collections),
     sized("i3 short life beside {}", "clients", &[1, 100, 10_000], among::clients),
     sized("i4 passed on among {}", "clients", &[2, 100, 10_000], among::passed_on),
+    sized("j1 contest among {}", "attached units that have their buffers", &[10, 100, 900], trees::contest_among),
+    sized("j2 {} in a contest /unit", "units that are allocated or refused at once, which divide", &[10, 100, 900], trees::contest),
     sized("k1 weakok among {} weak", WEAK, &[10, 100, 1000], weak::weak_ok),
     sized("k2 attach, close, {} weak", WEAK, &[10, 100, 900], weak::attach),
 ];

@@ -206,6 +206,55 @@ pub fn pairs_among(n: u32) -> Stream {
     d.end()
 }
 
+/// An attached unit that becomes ready with two below it that are: one is allocated with it, and the other one refused, among
+/// others.
+pub fn contest_among(n: u32) -> Stream {
+    let mut d = Driver::new(64, FULL);
+    let (r, _) = attached_units(&mut d, n);
+    d.timed(|d| {
+        for _ in 0..200 {
+            let (t, _) = d.token(Call::AttachToken(r));
+            d.call(Call::Bind(t));
+            let (u, _) = d.token(Call::AttachToken(t));
+            let (v, _) = d.token(Call::AttachToken(t));
+            d.call(Call::Bind(u));
+            d.call(Call::Bind(v));
+            d.call(Call::SetConstraints(u, k(3, 0, 4096)));
+            d.call(Call::SetConstraints(v, k(3, 0, 4096)));
+            d.call(Call::SetConstraints(t, k(1, 0, 4096)));
+            d.call(Call::Check(u));
+            d.call(Call::Check(v));
+            d.call(Call::Close(t));
+            d.call(Call::Close(u));
+            d.call(Call::Close(v));
+        }
+    });
+    d.end()
+}
+
+/// Units below one, which wait for it: every other one is allocated with it, and the others are refused, since they ask for greater
+/// buffers.
+pub fn contest(n: u32) -> Stream {
+    let mut d = Driver::new(64, FULL);
+    for _ in 0..2 {
+        let (r, _) = d.allocated(k(2, 8, 4096));
+        let (t, _) = d.token(Call::AttachToken(r));
+        d.done(Call::Bind(t));
+        let mut all = Vec::new();
+        for i in 0..n {
+            let (x, _) = d.token(Call::AttachToken(t));
+            d.done(Call::Bind(x));
+            d.done(Call::SetConstraints(x, k(0, 0, 4096 + i % 2)));
+            all.push(x);
+        }
+        d.timed_as(n as u64 + 1, |d| d.done(Call::SetConstraints(t, k(1, 0, 4096))));
+        for x in all.iter().chain([&t, &r]) {
+            d.call(Call::Close(*x));
+        }
+    }
+    d.end()
+}
+
 /// Attached units below a released root that end one after another, half of so many.
 pub fn ends_below_released(n: u32) -> Stream {
     let mut d = Driver::new(64, FULL);
