@@ -96,8 +96,7 @@ pub(crate) fn tally_place(tallies: &Tallies, kind: HandleKind, hint: &Hint) -> O
     find_tally(tallies, kind, hint)
 }
 
-// The same, which is looked for at the guess first, and then by its hash, unless the guess is that of a
-// new spot.
+// The same, which is looked for at the guess first.
 #[inline(always)]
 fn tally_place_near(tallies: &Tallies, kind: HandleKind, guess: usize, hint: &Hint) -> Option<usize>
     ensures found { IfSome result (λ place. StandsAt tallies.now.entries place kind) }
@@ -106,8 +105,26 @@ fn tally_place_near(tallies: &Tallies, kind: HandleKind, guess: usize, hint: &Hi
     if is_tally_at(tallies, kind, guess) {
         return Some(guess);
     }
+    tally_place(tallies, kind, hint)
+}
+
+// The same on a walk that is under way, unless the guess is that of a new spot: then by its hash, since
+// what is not there is found nowhere.
+#[inline(always)]
+fn tally_place_on_walk(
+    tallies: &Tallies,
+    kind: HandleKind,
+    guess: usize,
+    hint: &Hint,
+) -> Option<usize>
+    ensures found { IfSome result (λ place. StandsAt tallies.now.entries place kind) }
+    ensures none { IfNone result (tally_row tallies.now.entries kind ≡ None) }
+{
     if guess == 0 {
         return tally_place(tallies, kind, hint);
+    }
+    if is_tally_at(tallies, kind, guess) {
+        return Some(guess);
     }
     find_tally(tallies, kind, hint)
 }
@@ -143,7 +160,7 @@ pub(crate) fn tally_near(
 ) -> Tally
     ensures { result ≡ tally_at tallies.now.entries kind }
 {
-    let Some(found) = tally_place_near(tallies, kind, *place, hint) else {
+    let Some(found) = tally_place_on_walk(tallies, kind, *place, hint) else {
         *place = place.wrapping_add(1);
         return NO_TALLY;
     };
