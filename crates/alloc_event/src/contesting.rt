@@ -24,7 +24,7 @@ use crate::contested::serve_given;
 use crate::dropped::has_given_root;
 use crate::entry::{Entry, place_of};
 use crate::following::{heads_among, walk_units};
-use crate::in_place::{affected_by, is_plain};
+use crate::in_place::{affected_by, is_plain, is_served};
 use crate::losses::order;
 use crate::node::Node;
 use crate::resting::is_kept_by;
@@ -146,21 +146,9 @@ fn planned(
     })
 }
 
-/// Makes an effect in its place by which an attached unit becomes ready, and the unit's allocation with
-/// it, and the allocation or the failure of each attached unit below that is ready, as far as one hangs
-/// right below another one that is allocated: in the order of their births, each as the buffers are
-/// enough for it beside those before it. Answers whether it did; if not, nothing changed.
-///
-/// It does so where the root has its buffers, a strong node of the collection is live after it, or it
-/// rests without one, and a node of each unit is live below which one is refused.
-///
-/// It costs a binary search and a constant; where the unit is ready and due, besides, some reads of each
-/// node of the units that are ready and of each attached node right below them, a write of each node of
-/// those that are allocated, a logarithm of the number of these units for each node, a logarithm of the
-/// number of the collection's nodes for each unit, and twice what a loss of what is refused costs. It
-/// takes memory only where a list has less room than it needs; where that is refused, it does nothing.
+/// The same as `contest`, of a node whose unit has no buffers.
 #[inline(never)]
-pub(crate) fn contest(
+fn contest_bare(
     table: &mut NodeTable<Node>,
     entries: &mut Vec<Entry>,
     units: &mut Vec<Unit>,
@@ -175,9 +163,6 @@ pub(crate) fn contest(
         id (Changed.Effect key effect.now) }
     ensures units { HaveUnits units.new.items table.new entries.new.items }
 {
-    if is_plain(effect) {
-        return false;
-    }
     let Some(at) = place_of(entries, id) else {
         return false;
     };
@@ -201,4 +186,39 @@ pub(crate) fn contest(
         plan.taken,
     );
     true
+}
+
+/// Makes an effect in its place by which an attached unit becomes ready, and the unit's allocation with
+/// it, and the allocation or the failure of each attached unit below that is ready, as far as one hangs
+/// right below another one that is allocated: in the order of their births, each as the buffers are
+/// enough for it beside those before it. Answers whether it did; if not, nothing changed.
+///
+/// It does so where the root has its buffers, a strong node of the collection is live after it, or it
+/// rests without one, and a node of each unit is live below which one is refused.
+///
+/// It costs a binary search and a constant; where the unit is ready and due, besides, some reads of each
+/// node of the units that are ready and of each attached node right below them, a write of each node of
+/// those that are allocated, a logarithm of the number of these units for each node, a logarithm of the
+/// number of the collection's nodes for each unit, and twice what a loss of what is refused costs. It
+/// takes memory only where a list has less room than it needs; where that is refused, it does nothing.
+#[inline(always)]
+pub(crate) fn contest(
+    table: &mut NodeTable<Node>,
+    entries: &mut Vec<Entry>,
+    units: &mut Vec<Unit>,
+    holds: &Holds,
+    id: CollectionId,
+    key: NodeKey,
+    effect: &Effect,
+    room: &mut Room,
+) -> bool
+    requires { IsReady table.old entries.old.items units.old.items id (Changed.Effect key effect.now) }
+    ensures outcome { IsOutcome result (total holds.now) table.old table.new entries.old.items entries.new.items
+        id (Changed.Effect key effect.now) }
+    ensures units { HaveUnits units.new.items table.new entries.new.items }
+{
+    if is_plain(effect) || is_served(table, key) {
+        return false;
+    }
+    contest_bare(table, entries, units, holds, id, key, effect, room)
 }
