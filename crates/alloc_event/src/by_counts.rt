@@ -15,44 +15,25 @@ use crate::in_place::{is_plain, settle_still};
 use crate::node::Node;
 use crate::refusing::refuse_in_place;
 use crate::room::Room;
-use crate::serving::serve_in_place;
+use crate::serving::{has_turn, serve_in_place};
 use crate::units::Unit;
 use buffer_holds::Holds;
 use buffer_pool::Pool;
 use node_table::NodeTable;
 use sm_names::{CollectionId, Fault, NoMemory, NodeKey};
 
-/// Makes an effect in its place, if the counts tell that nothing is forced by it, or nothing but the
-/// allocation of the node's unit, which is made with it. Answers whether it did; if not, the table
-/// and the entries are as they were.
-fn make_effect(
-    table: &mut NodeTable<Node>,
-    entries: &mut Vec<Entry>,
-    units: &mut Vec<Unit>,
-    holds: &Holds,
-    id: CollectionId,
-    key: NodeKey,
-    effect: &Effect,
-    room: &mut Room,
-) -> bool
-    requires { IsReady table.old entries.old.items units.old.items id (Changed.Effect key effect.now) }
-    ensures outcome { IsOutcome result (total holds.now) table.old table.new entries.old.items entries.new.items
-        id (Changed.Effect key effect.now) }
-    ensures units { HaveUnits units.new.items table.new entries.new.items }
-{
-    let change = Change::Effect(key, *effect);
-    if settle_still(table, entries, units, holds, id, &change) {
-        return true;
+/// Whether the unit of the node with this key has no buffers, is attached, and hangs below one that has
+/// them.
+fn is_due_at(table: &NodeTable<Node>, key: NodeKey) -> bool {
+    match table.get(key) {
+        Some(node) => !node.allocated && has_turn(table, node.head),
+        None => false,
     }
-    if is_plain(effect) {
-        return false;
-    }
-    serve_in_place(table, entries, units, holds, id, key, effect, room)
 }
 
-/// Makes an effect in its place with the failure of the node's unit, as `refuse_in_place` does, or of
-/// some of those that follow it, as `contest` does.
-fn refuse_or_contest(
+/// Makes an effect in its place with the failure of some of the units that follow the node's, as
+/// `contest` does, or with that of the node's own unit, as `refuse_in_place` does.
+fn contest_or_refuse(
     table: &mut NodeTable<Node>,
     entries: &mut Vec<Entry>,
     units: &mut Vec<Unit>,
@@ -67,16 +48,16 @@ fn refuse_or_contest(
         id (Changed.Effect key effect.now) }
     ensures units { HaveUnits units.new.items table.new entries.new.items }
 {
-    if refuse_in_place(table, entries, units, holds, id, key, effect, room)? {
+    if contest(table, entries, units, holds, id, key, effect, room) {
         return Ok(true);
     }
-    Ok(contest(table, entries, units, holds, id, key, effect, room))
+    refuse_in_place(table, entries, units, holds, id, key, effect, room)
 }
 
-/// Makes an effect in its place, as `make_effect` does, or with the failure of the node's unit, to which
-/// the buffers are refused, as `refuse_in_place` does, or of some of those that follow it, as `contest`
-/// does.
-fn make_or_refuse(
+/// Makes an effect in its place with the allocation of the node's unit, as `serve_in_place` does, or with
+/// the failure of that unit, to which the buffers are refused, or of some of those that follow it, as
+/// `contest_or_refuse` does. It does nothing where the unit has its buffers, or the one above has none.
+fn serve_or_fail(
     table: &mut NodeTable<Node>,
     entries: &mut Vec<Entry>,
     units: &mut Vec<Unit>,
@@ -91,14 +72,17 @@ fn make_or_refuse(
         id (Changed.Effect key effect.now) }
     ensures units { HaveUnits units.new.items table.new entries.new.items }
 {
-    if make_effect(table, entries, units, holds, id, key, effect, room) {
+    if is_plain(effect) || !is_due_at(table, key) {
+        return Ok(false);
+    }
+    if serve_in_place(table, entries, units, holds, id, key, effect, room) {
         return Ok(true);
     }
-    refuse_or_contest(table, entries, units, holds, id, key, effect, room)
+    contest_or_refuse(table, entries, units, holds, id, key, effect, room)
 }
 
-/// Makes an effect in its place, if the counts tell that nothing is forced by it, or nothing but
-/// the allocation of the node's unit or its failure, or that it is a release by which the unit
+/// Makes an effect in its place, if the counts tell that nothing is forced by it but the allocation of
+/// the node's unit or its failure, with what follows, or that it is a release by which the unit
 /// ends, or all that is left, and no more is forced. Answers whether it did; if not, and with
 /// `NoMemory`, the table, the entries and the pool are as they were. `NoMemory` where the room for what
 /// goes is refused.
@@ -119,7 +103,7 @@ fn settle_effect(
         entries.old.items entries.new.items id (Changed.Effect key effect.now) }
     ensures units { HaveUnits units.new.items table.new entries.new.items }
 {
-    if make_or_refuse(table, entries, units, holds, id, key, effect, room)? {
+    if serve_or_fail(table, entries, units, holds, id, key, effect, room)? {
         return Ok(true);
     }
     match *effect {
@@ -134,40 +118,9 @@ fn settle_effect(
     }
 }
 
-/// Makes a change to a collection that is there in its place, if it is no birth and no loss, and
-/// the counts tell that nothing is forced. Answers whether it did; if not, and with `NoMemory`, the
-/// table, the entries and the pool are as they were. `NoMemory` where the room is refused for what an
-/// end takes.
-#[inline(always)]
-fn settle_counted(
-    table: &mut NodeTable<Node>,
-    entries: &mut Vec<Entry>,
-    units: &mut Vec<Unit>,
-    pool: &mut Pool,
-    holds: &Holds,
-    id: CollectionId,
-    change: &Change,
-    room: &mut Room,
-) -> Result<bool, NoMemory>
-    requires ready { IsReady table.old entries.old.items units.old.items id change.now }
-    requires pool { IsPoolOf pool.old (forest_of table.old (shelves_of entries.old.items)) }
-    ensures outcome { IsOutcomeIn (was_made result) (total holds.now) pool.old pool.new table.old table.new
-        entries.old.items entries.new.items id change.now }
-    ensures units { HaveUnits units.new.items table.new entries.new.items }
-{
-    match *change {
-        Change::Effect(key, effect) => settle_effect(
-            table, entries, units, pool, holds, id, key, &effect, room,
-        ),
-        _ => Ok(settle_still(table, entries, units, holds, id, change)),
-    }
-}
-
-/// Makes a change to a collection that is there in its place, if it is no birth and no loss, as
-/// `settle_counted` does, or an effect with the first allocation, as `allocate_first` does. Answers
-/// whether it did; if not, and with `NoMemory`, the table, the entries and the pool are as they were.
-/// `NoMemory` where room is refused for what an end takes, or for the buffers.
-#[inline(always)]
+/// Makes an effect in its place, as `settle_effect` does, or with the first allocation, as
+/// `allocate_first` does. Answers whether it did; if not, and with `NoMemory`, the table, the entries and
+/// the pool are as they were. `NoMemory` where room is refused for what an end takes, or for the buffers.
 fn settle_or_place(
     table: &mut NodeTable<Node>,
     entries: &mut Vec<Entry>,
@@ -175,6 +128,33 @@ fn settle_or_place(
     pool: &mut Pool,
     holds: &Holds,
     id: CollectionId,
+    key: NodeKey,
+    effect: &Effect,
+    room: &mut Room,
+) -> Result<bool, NoMemory>
+    requires ready { IsReady table.old entries.old.items units.old.items id (Changed.Effect key effect.now) }
+    requires pool { IsPoolOf pool.old (forest_of table.old (shelves_of entries.old.items)) }
+    ensures outcome { IsOutcomeIn (was_made result) (total holds.now) pool.old pool.new table.old table.new
+        entries.old.items entries.new.items id (Changed.Effect key effect.now) }
+    ensures units { HaveUnits units.new.items table.new entries.new.items }
+{
+    if settle_effect(table, entries, units, pool, holds, id, key, effect, room)? {
+        return Ok(true);
+    }
+    allocate_first(table, entries, units, pool, id, key, effect, room)
+}
+
+/// Makes a change in its place by which something is forced, if it is an effect, as `settle_or_place`
+/// does, or a loss, as `fail_in_place` does. Answers whether it did; if not, and with `NoMemory`, the
+/// table, the entries and the pool are as they were.
+#[inline(never)]
+fn settle_forced(
+    table: &mut NodeTable<Node>,
+    entries: &mut Vec<Entry>,
+    units: &mut Vec<Unit>,
+    pool: &mut Pool,
+    holds: &Holds,
+    id: CollectionId,
     change: &Change,
     room: &mut Room,
 ) -> Result<bool, NoMemory>
@@ -184,21 +164,42 @@ fn settle_or_place(
         entries.old.items entries.new.items id change.now }
     ensures units { HaveUnits units.new.items table.new entries.new.items }
 {
-    if settle_counted(table, entries, units, pool, holds, id, change, room)? {
-        return Ok(true);
-    }
     match *change {
-        Change::Effect(key, effect) => allocate_first(
-            table, entries, units, pool, id, key, &effect, room,
+        Change::Effect(key, effect) => settle_or_place(
+            table, entries, units, pool, holds, id, key, &effect, room,
         ),
-        _ => Ok(false),
+        Change::Loss(origin, cause) => {
+            let fault = Fault { cause, origin };
+            fail_in_place(table, entries, units, pool, holds, id, fault, room)
+        }
+        Change::Birth { .. } | Change::Nothing => Ok(false),
+    }
+}
+
+/// Makes a change in its place, if it is no loss, and nothing is forced by it, as `settle_still` does.
+#[inline(always)]
+fn settle_unforced(
+    table: &mut NodeTable<Node>,
+    entries: &mut Vec<Entry>,
+    units: &mut Vec<Unit>,
+    holds: &Holds,
+    id: CollectionId,
+    change: &Change,
+) -> bool
+    requires { IsReady table.old entries.old.items units.old.items id change.now }
+    ensures outcome { IsOutcome result (total holds.now) table.old table.new entries.old.items entries.new.items id change.now }
+    ensures units { HaveUnits units.new.items table.new entries.new.items }
+{
+    match *change {
+        Change::Loss(..) => false,
+        _ => settle_still(table, entries, units, holds, id, change),
     }
 }
 
 /// Makes a change to a collection that is there in its place, if it is no birth, and either a loss of
-/// all that is left, or the counts tell that nothing is forced, or nothing but allocations. Answers
-/// whether it did; if not, and with `NoMemory`, the table, the entries and the pool are as they were.
-/// `NoMemory` where the room is refused for what a loss or an end takes, or for the buffers.
+/// all that is left, or the counts tell that nothing is forced, or what is forced can be told from them.
+/// Answers whether it did; if not, and with `NoMemory`, the table, the entries and the pool are as they
+/// were. `NoMemory` where the room is refused for what a loss or an end takes, or for the buffers.
 #[inline(always)]
 pub(crate) fn settle_there(
     table: &mut NodeTable<Node>,
@@ -216,9 +217,8 @@ pub(crate) fn settle_there(
         entries.old.items entries.new.items id change.now }
     ensures units { HaveUnits units.new.items table.new entries.new.items }
 {
-    if let Change::Loss(origin, cause) = *change {
-        let fault = Fault { cause, origin };
-        return fail_in_place(table, entries, units, pool, holds, id, fault, room);
+    if settle_unforced(table, entries, units, holds, id, change) {
+        return Ok(true);
     }
-    settle_or_place(table, entries, units, pool, holds, id, change, room)
+    settle_forced(table, entries, units, pool, holds, id, change, room)
 }

@@ -24,14 +24,14 @@ use crate::contested::serve_given;
 use crate::dropped::has_given_root;
 use crate::entry::{Entry, place_of};
 use crate::following::{heads_among, walk_units};
-use crate::in_place::{affected_by, is_plain, is_served};
+use crate::in_place::affected_by;
 use crate::losses::order;
 use crate::node::Node;
 use crate::resting::is_kept_by;
 use crate::room::Room;
 use crate::serving::{buffers_due, counts_with};
 use crate::turning::turns_in;
-use crate::units::Unit;
+use crate::units::{Unit, unit_in};
 use crate::waiters::{Fate, Waiter};
 use crate::yielding::{yield_all, yields};
 use buffer_holds::Holds;
@@ -146,9 +146,18 @@ fn planned(
     })
 }
 
-/// The same as `contest`, of a node whose unit has no buffers.
+/// Whether a unit hangs right below that of the node with this key, by the counts.
+fn has_below(table: &NodeTable<Node>, units: &[Unit], key: NodeKey) -> bool {
+    let Some(node) = table.get(key) else {
+        return false;
+    };
+    let slot = node.head.slot as usize;
+    slot < units.len() && unit_in(units, slot).below > 0
+}
+
+/// The same as `contest`, of a node whose unit others may follow.
 #[inline(never)]
-fn contest_bare(
+fn contest_followed(
     table: &mut NodeTable<Node>,
     entries: &mut Vec<Entry>,
     units: &mut Vec<Unit>,
@@ -217,8 +226,8 @@ pub(crate) fn contest(
         id (Changed.Effect key effect.now) }
     ensures units { HaveUnits units.new.items table.new entries.new.items }
 {
-    if is_plain(effect) || is_served(table, key) {
+    if !has_below(table, units, key) {
         return false;
     }
-    contest_bare(table, entries, units, holds, id, key, effect, room)
+    contest_followed(table, entries, units, holds, id, key, effect, room)
 }

@@ -24,7 +24,7 @@ use crate::in_place::affected_by;
 use crate::node::Node;
 use crate::placing::lay_in;
 use crate::room::Room;
-use crate::serving::{asks_with, counts_with, is_served_there, room_for, serve};
+use crate::serving::{asks_of, asks_with, counts_with, is_served_there, room_for, serve};
 use crate::units::{Unit, put_unit};
 use buffer_pool::Pool;
 use node_table::NodeTable;
@@ -133,8 +133,7 @@ fn room_with(
         return None;
     }
     let one = [head];
-    let asks = asks_with(table, keys, units, id, &[], &one, after, MOST)?;
-    let wants = wanted(&asks)?;
+    let wants = wanted(&asks_of(table, keys, &one, after))?;
     let camping = room_for(table, keys, units, id, 0, wants, heads, after)?;
     Some((wants, camping))
 }

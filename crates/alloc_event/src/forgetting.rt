@@ -154,6 +154,21 @@ pub(crate) fn place_by_birth(
     found_at(keys, at, key)
 }
 
+/// The same, which is looked for at this place first.
+pub(crate) fn place_near(
+    table: &NodeTable<Node>,
+    keys: &[NodeKey],
+    near: usize,
+    key: NodeKey,
+) -> Option<usize>
+    ensures { IfSome result (λ at. IsPlace keys.now key at) }
+{
+    match found_at(keys, near, key) {
+        Some(at) => Some(at),
+        None => place_by_birth(table, keys, key),
+    }
+}
+
 /// Whether the node with this key, if it is over, is of this collection.
 fn is_own_if_over(table: &NodeTable<Node>, id: CollectionId, key: NodeKey) -> bool
     ensures { result ≡ is_own_if_over table.now id key }

@@ -98,6 +98,18 @@ fn find_at(nodes: &[Node], places: &[KeyPlace], key: NodeKey) -> Option<usize>
     }
 }
 
+/// The same, which is looked for at this place first.
+fn find_near(nodes: &[Node], places: &[KeyPlace], near: usize, key: NodeKey) -> Option<usize>
+    ensures here { IfSome result (IsKeyAt nodes.now key) }
+    ensures within { IfSome result (λ at. at < length nodes.now) }
+{
+    if near < nodes.len() && nodes[near].key == key {
+        Some(near)
+    } else {
+        find_at(nodes, places, key)
+    }
+}
+
 /// The claim with what the node asks for, unless a sum has no room.
 fn joined(claim: Claim, node: &Node) -> Option<Claim>
     requires { node.now.gone ≡ false }
@@ -120,8 +132,15 @@ fn joined(claim: Claim, node: &Node) -> Option<Claim>
     })
 }
 
-/// Counts the node for its unit, if the place of its head is found and the sums have room.
-fn count(claims: &mut Vec<Claim>, nodes: &[Node], places: &[KeyPlace], node: &Node) -> bool
+/// Counts the node, which stands here, for its unit, if the place of its head is found and the sums have
+/// room.
+fn count(
+    claims: &mut Vec<Claim>,
+    nodes: &[Node],
+    places: &[KeyPlace],
+    here: usize,
+    node: &Node,
+) -> bool
     requires distinct { are_distinct nodes.now ≡ true }
     requires as_long { length claims.old.items ≡ length nodes.now }
     ensures counted { result ≡ true → (of : Key → Claimed) → claims.old.items ≡ map (λ n. of n.key) nodes.now →
@@ -131,7 +150,7 @@ fn count(claims: &mut Vec<Claim>, nodes: &[Node], places: &[KeyPlace], node: &No
     if node.gone {
         return true;
     }
-    let Some(at) = find_at(nodes, places, node.head) else {
+    let Some(at) = find_near(nodes, places, here, node.head) else {
         return false;
     };
     let Some(claim) = joined(claims[at], node) else {
@@ -166,10 +185,12 @@ fn claims_of(alloc: Global, nodes: &[Node], places: &[KeyPlace]) -> Option<Vec<C
     ensures { IfSome result (λ claims. claims.items ≡ map (λ n. claim_of nodes.now n.key) nodes.now) }
 {
     let mut claims = no_claims(alloc, nodes)?;
+    let mut here: usize = 0;
     for node in nodes {
-        if !count(&mut claims, nodes, places, node) {
+        if !count(&mut claims, nodes, places, here, node) {
             return None;
         }
+        here = here.wrapping_add(1);
     }
     Some(claims)
 }
@@ -182,8 +203,8 @@ fn above_of(nodes: &[Node], places: &[KeyPlace], node: &Node, at: usize) -> Opti
     ensures head { IfSome result (λ found. found.1 < length nodes.now) }
 {
     let parent = node.parent?;
-    let up = find_at(nodes, places, parent)?;
-    let head = find_at(nodes, places, nodes[up].head)?;
+    let up = find_near(nodes, places, 0, parent)?;
+    let head = find_near(nodes, places, up, nodes[up].head)?;
     if head < at { Some((up, head)) } else { None }
 }
 
@@ -240,7 +261,7 @@ fn is_placed(nodes: &[Node], places: &[KeyPlace], node: &Node, at: usize) -> boo
     if node.gone {
         return true;
     }
-    let Some(up) = find_at(nodes, places, parent) else {
+    let Some(up) = find_near(nodes, places, 0, parent) else {
         return false;
     };
     up < at && is_over(&nodes[up], node)
@@ -286,7 +307,7 @@ fn inherited(
     if node.gone {
         return Some(None);
     }
-    let up = find_at(nodes, places, parent)?;
+    let up = find_near(nodes, places, 0, parent)?;
     if up < fell.len() {
         Some(fell[up])
     } else {

@@ -74,7 +74,7 @@ pub(crate) fn is_served_there(table: &NodeTable<Node>, key: NodeKey) -> bool
 }
 
 /// Whether the unit with this head is attached and has no buffers, and the one above it has them.
-fn has_turn(table: &NodeTable<Node>, head: NodeKey) -> bool
+pub(crate) fn has_turn(table: &NodeTable<Node>, head: NodeKey) -> bool
     ensures { result ≡ has_turn_at table.now head }
 {
     let Some(node) = table.get(head) else {
@@ -99,6 +99,7 @@ fn is_left_out(table: &NodeTable<Node>, units: &[Unit], heads: &[NodeKey], node:
 }
 
 /// Whether the node with this key does, or is not of this collection.
+#[inline(always)]
 pub(crate) fn bars_at(
     table: &NodeTable<Node>,
     units: &[Unit],
@@ -130,6 +131,7 @@ fn unit_demand(node: &Node, heads: &[NodeKey]) -> Option<Constraints>
 
 /// What the node with this key asks for, if it is of one of these units and not gone, where this
 /// node is in the place of the one with its key.
+#[inline(always)]
 fn asked_at(
     table: &NodeTable<Node>,
     heads: &[NodeKey],
@@ -193,6 +195,33 @@ pub(crate) fn asks_with(
         }
     }
     Some(asks)
+}
+
+/// What the nodes with these keys ask for so that are of the units with those heads, which stand in order.
+pub(crate) fn asks_of(
+    table: &NodeTable<Node>,
+    keys: &[NodeKey],
+    those: &[NodeKey],
+    after: &Node,
+) -> Asks
+    requires { IsSorted key_order those.now }
+    ensures camping { result.camping ≡ sum_by (λ (d : Demand). d.camping) (asked_with table.now keys.now those.now after.now) }
+    ensures at_least { result.at_least ≡ greatest (λ d. d.at_least) (asked_with table.now keys.now those.now after.now) }
+    ensures size { result.size ≡ greatest (λ d. d.size) (asked_with table.now keys.now those.now after.now) }
+{
+    let mut asks = Asks {
+        camping: 0,
+        at_least: 0,
+        size: 0,
+    };
+    for key in keys {
+        if let Some(demand) = asked_at(table, those, after, *key) {
+            asks.camping += demand.camping() as u128;
+            asks.at_least = asks.at_least.max(demand.at_least());
+            asks.size = asks.size.max(demand.size());
+        }
+    }
+    asks
 }
 
 /// What is reserved where so much is camped on besides, if so many buffers are enough for it.

@@ -43,9 +43,23 @@ fn is_given(fate: &Fate) -> bool
     matches!(fate, Fate::Gets)
 }
 
+/// Whether the unit that stands here among those that wait is allocated so far, if it has this head.
+fn got_at(waiters: &[Waiter], at: usize, head: NodeKey) -> Option<bool>
+    ensures { IfSome result (λ got. are_apart (heads_of waiters.now) ≡ true → list_any (same_key head) (gets waiters.now) ≡ got) }
+{
+    if at >= waiters.len() {
+        return None;
+    }
+    if waiters[at].head == head {
+        Some(is_given(&waiters[at].fate))
+    } else {
+        None
+    }
+}
+
 /// Whether the unit with this head, which is one of those that wait, is allocated so far. They stand by
-/// birth, as the keys of their collection do. `None` where it isn't found among them. Two binary
-/// searches.
+/// birth, as the keys of their collection do, the first of all in front. `None` where it isn't found among
+/// them. A look, and else two binary searches.
 fn has_got(
     table: &NodeTable<Node>,
     keys: &[NodeKey],
@@ -54,19 +68,15 @@ fn has_got(
 ) -> Option<bool>
     ensures { IfSome result (λ got. are_apart (heads_of waiters.now) ≡ true → list_any (same_key head) (gets waiters.now) ≡ got) }
 {
-    let place = place_by_birth(table, keys, head)?;
-    let at = found_at(waiters, place)?;
-    if waiters[at].head == head {
-        Some(is_given(&waiters[at].fate))
-    } else {
-        None
+    if let Some(got) = got_at(waiters, 0, head) {
+        return Some(got);
     }
+    let place = place_by_birth(table, keys, head)?;
+    got_at(waiters, found_at(waiters, place)?, head)
 }
 
 /// Where the waiter with this place stands. A binary search.
-fn found_at(waiters: &[Waiter], place: usize) -> Option<usize>
-    ensures { IfSome result (λ at. at < length waiters.now) }
-{
+fn found_at(waiters: &[Waiter], place: usize) -> Option<usize> {
     waiters
         .binary_search_by_key(&place, |waiter| waiter.place)
         .ok()

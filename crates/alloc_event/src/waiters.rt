@@ -10,7 +10,7 @@ ghost use Rattle.alloc_event.specs.Kept.{are_apart};
 ghost use Rattle.alloc_event.specs.Waiters.{IsListed, Lists, asking, asking_at, asks_and, demand_in, demand_there, heads_of, unasked};
 
 use crate::asks::Asks;
-use crate::forgetting::place_by_birth;
+use crate::forgetting::place_near;
 use crate::losses::place_among;
 use crate::node::Node;
 use node_table::NodeTable;
@@ -43,7 +43,7 @@ pub(crate) struct Waiter {
 /// Lists the units with these heads as they are before their turn, in the same order, where nothing is
 /// asked for yet. Answers whether it did; if not, the room for them was refused, or one of the heads
 /// wasn't found among the keys of the collection, which stand by birth. It costs a logarithm of the
-/// collection's nodes for each head.
+/// collection's nodes for each head, and a constant where the nodes were born one after another.
 pub(crate) fn list_waiters(
     table: &NodeTable<Node>,
     keys: &[NodeKey],
@@ -62,6 +62,15 @@ pub(crate) fn list_waiters(
     true
 }
 
+/// The place behind that of the last one: where nodes were born one after another the next head stands
+/// there.
+fn next_place(waiters: &[Waiter]) -> usize {
+    match waiters.last() {
+        Some(last) => last.place.wrapping_add(1),
+        None => 0,
+    }
+}
+
 /// Lists one more, with this head. Answers whether it did.
 fn list_waiter(
     table: &NodeTable<Node>,
@@ -71,7 +80,7 @@ fn list_waiter(
 ) -> bool
     ensures { result ≡ true → Lists keys.now head waiters.old.items waiters.new.items }
 {
-    let Some(place) = place_by_birth(table, keys, head) else {
+    let Some(place) = place_near(table, keys, next_place(waiters), head) else {
         return false;
     };
     let asks = Asks {

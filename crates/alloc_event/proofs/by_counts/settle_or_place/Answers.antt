@@ -5,11 +5,10 @@ use Rattle.alloc_event.proofs.by_counts.settle_or_place.Goals as goal
 
 pub allocate_first-requires-clause-ready : goal.allocate_first-requires-clause-ready
 allocate_first-requires-clause-ready c =
-    rw c.in-Effect.is at (still_ready (c.in_ok-settle_counted.ensures.outcome.unchanged c.if-branch.false) c.requires.ready
-    c.settle_counted.ensures.units)
+    still_ready (c.in_ok-settle_effect.ensures.outcome.unchanged c.if-branch.false) c.requires.ready c.settle_effect.ensures.units
 
-pub returns-in-Effect-clause-outcome : goal.returns-in-Effect-clause-outcome
-returns-in-Effect-clause-outcome c =
-    let first = c.in_ok-settle_counted.ensures.outcome in
+pub returns-clause-outcome : goal.returns-clause-outcome
+returns-clause-outcome c =
+    let first = c.in_ok-settle_effect.ensures.outcome in
     later_in (first.unchanged c.if-branch.false) (first.same_pool c.if-branch.false)
-    (rw (← c.in-Effect.is) at (c.allocate_first.ensures.outcome (total c.args.holds.now)))
+    (c.allocate_first.ensures.outcome (total c.args.holds.now))

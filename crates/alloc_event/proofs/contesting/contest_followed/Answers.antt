@@ -22,7 +22,7 @@ use Rattle.alloc_event.proofs.contests.Joined.{YieldsAll, fallen, judged, kept_m
 use Rattle.alloc_event.proofs.shelves.Entries.{IsPlace, place_is}
 use Rattle.alloc_event.proofs.tables.Storing.{row_there}
 use Rattle.alloc_event.proofs.yields.Rounds.{node_there}
-use Rattle.alloc_event.proofs.contesting.contest_bare.Goals as goal
+use Rattle.alloc_event.proofs.contesting.contest_followed.Goals as goal
 
 pub index-entry-requires : goal.index-entry-requires
 index-entry-requires c =
