@@ -106,6 +106,7 @@ impl Holds {
     /// How many of these handles are open, in parcels and out of them: what was opened, less what
     /// was closed. It is the sum over all clients, which has one row for each, and the parcels. One
     /// look-up.
+    #[inline(always)]
     pub fn total(&self, buffer: BufferName, strength: Strength) -> u32
         ensures value { result ≡ total self.now buffer strength }
         ensures within { result ≤ self.now.limit }
