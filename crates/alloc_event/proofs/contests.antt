@@ -1,5 +1,4 @@
 -- The end of an event by which some of the units that wait for it are allocated, and others refused.
-pub mod Grown
 pub mod Held
 pub mod Steps
 pub mod Above

@@ -1,6 +1,7 @@
 -- Attached units that are allocated or fail in one walk.
 pub mod Claims
 pub mod Gifts
+pub mod Grown
 pub mod Trees
 pub mod Standing
 pub mod Holding

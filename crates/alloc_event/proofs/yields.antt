@@ -1,6 +1,5 @@
 -- Attached units that are refused, and fall one after another while others are to be allocated.
 pub mod Links
-pub mod Grown
 pub mod Fitting
 pub mod Rounds
 pub mod Tops

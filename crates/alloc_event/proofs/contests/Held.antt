@@ -18,7 +18,7 @@ use Rattle.alloc_event.specs.Kept.{IsWhole}
 use Rattle.alloc_event.specs.Questions.{is_below, is_deserted_node, is_live_node}
 use Rattle.alloc_event.proofs.calm.Calming.{none_calm}
 use Rattle.alloc_event.proofs.calm.Keeping.{held_still, lives_held}
-use Rattle.alloc_event.proofs.contests.Grown.{whole_grown}
+use Rattle.alloc_event.proofs.turns.Grown.{grown_by}
 use Rattle.alloc_event.proofs.tables.Rooted.{distinct_one, left_in}
 use Rattle.alloc_event.proofs.tables.Writing.{IsSameNode}
 use Rattle.alloc_event.proofs.tallies.Holding.{are_held, below_self, below_through, head_above, head_there, held_where, in_unit_below, line, none_deserted, own_head, step}
@@ -105,7 +105,7 @@ module _ (c : Collection) (whole : IsWhole c) (falls : List Fault)
             (left_in nodes x.node x.on live)
             (subst (λ (i : NodeKey). is_left_of nodes i ≡ true) h.2 (left_in nodes h.0 h.1 h.3))
             (in_unit_below nodes whole.sound.distinct whole.sound.heads whole.rooted whole.united x.node x.on live) of.1 in
-            elim (either_above nodes whole.sound.distinct (whole_grown c whole) g.origin m.key x.node x.on live by_g x.below) [
+            elim (either_above nodes whole.sound.distinct (grown_by c.nodes whole.rooted whole.united) g.origin m.key x.node x.on live by_g x.below) [
               | inl over ↦ absurd (spared g of.0 over)
               | inr under ↦
                   let other : same_key m.key k.node.key ≡ false = false_if (same_key m.key k.node.key) (λ s.

@@ -1,13 +1,12 @@
 -- What is found before an event and what its losses leave are all that is asked for before the rest is written.
-use Rattle.std.proofs.Common.{◌≡◌, ◌≢◌, ℕ, ◌+◌, ◌-◌, ◌<◌, ◌≤◌, nat_lt, refl, ap, sym, ◌∙◌, subst, Bool, true, false, ◌||◌, is_some, inl, inr, List, [], ◌∷◌, map, length, Option, Some, None, arith}
+use Rattle.std.proofs.Common.{◌≡◌, ℕ, ◌+◌, ◌-◌, ◌<◌, ◌≤◌, nat_lt, refl, sym, subst, true, false, inl, inr, List, length, arith}
 use Rattle.std.proofs.lemmas.Bool.{lt-ltb, ltb-true}
 use Rattle.std.specs.List.{list_any}
 use Rattle.sm_names.specs.declared.outcomes.Buffers.{Buffers}
 use Rattle.sm_names.specs.declared.keys.NodeKey.{NodeKey}
 use Rattle.sm_names.specs.Sameness.{same_key}
-use Rattle.sm_names.proofs.ListLaws.{In, In-map-back}
 use Rattle.sm_names.proofs.SamenessLaws.{or_cases, or_left, or_right}
-use Rattle.node_table.specs.Table.{Table, node_at}
+use Rattle.node_table.specs.Table.{Table}
 use Rattle.alloc_event.specs.declared.change.Change.{Change}
 use Rattle.alloc_event.specs.declared.change.Effect.{Effect}
 use Rattle.alloc_event.specs.declared.entry.Entry.{Entry}
@@ -22,11 +21,9 @@ use Rattle.alloc_event.specs.Reserved.{reserved_count}
 use Rattle.alloc_event.specs.Resting.{is_at_rest, is_kept_by}
 use Rattle.alloc_event.specs.Serving.{AreLess, IsLess}
 use Rattle.alloc_event.specs.Settling.{Handles}
-use Rattle.alloc_event.specs.Turning.{IsContest, IsJudged, IsPlanned, IsTurned, IsYielded, Yields, falls, gets, yielded}
-use Rattle.alloc_event.proofs.changes.Altering.{same_affected}
+use Rattle.alloc_event.specs.Turning.{IsContest, IsJudged, IsPlanned, IsTurned, IsYielded, Yields, falls, gets}
 use Rattle.alloc_event.proofs.contests.Told.{contest_by, live_by, placed_by}
 use Rattle.alloc_event.proofs.serves.Between.{StandsIn, stands_in}
-use Rattle.alloc_event.proofs.tables.Hanging.{in_all, looked_there}
 use Rattle.alloc_event.proofs.yields.Fitting.{fits_by}
 
 -- what keeps a collection with fewer strong nodes keeps it with more

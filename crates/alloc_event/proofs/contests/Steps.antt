@@ -33,7 +33,7 @@ use Rattle.alloc_event.proofs.calm.Calming.{any_map, calm_none, kept_rested, lat
 use Rattle.alloc_event.proofs.calm.Together.{together_effect}
 use Rattle.alloc_event.proofs.changes.Altering.{same_affected}
 use Rattle.alloc_event.proofs.changes.Effecting.{alone_affected, remains_affected}
-use Rattle.alloc_event.proofs.contests.Grown.{whole_grown}
+use Rattle.alloc_event.proofs.turns.Grown.{grown_by}
 use Rattle.alloc_event.proofs.contests.Held.{IsHeldAbove, held_fallen, none_deserted_then}
 use Rattle.alloc_event.proofs.tables.Writing.{IsSameNode, IsWhole-map}
 use Rattle.alloc_event.proofs.tallies.Holding.{own_head}
@@ -54,7 +54,7 @@ pub record IsRootOf (nodes : List Node) : Type 0 where
 
 -- where a node is not gone its root is not
 pub root_there : (c : Collection) → IsWhole c → (n : Node) → In n c.nodes → n.gone ≡ false → IsRootOf c.nodes
-root_there c whole n on here = along c.nodes whole.sound.distinct (whole_grown c whole) (λ m. IsRootOf c.nodes)
+root_there c whole n on here = along c.nodes whole.sound.distinct (grown_by c.nodes whole.rooted whole.united) (λ m. IsRootOf c.nodes)
     (λ at m there stays none. record { node = m; on = got_In c.nodes at m there; top = none; here = stays })
     (λ at m there stays (h : IsHanging c.nodes m at) up. up) n on here
 
@@ -201,7 +201,7 @@ module _ (c0 : Collection) (whole : IsWhole c0) (calm : IsCalm c0) (b : Buffers)
           after = now;
           given = has;
           runs = record {
-            grown = whole_grown c1 whole_then;
+            grown = grown_by c1.nodes whole_then.rooted whole_then.united;
             run = record { heads = heads; falls = falls; serves = serves; is = refl };
             no_end = no_end;
             no_root = placed_then;

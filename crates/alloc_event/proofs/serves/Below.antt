@@ -1,5 +1,5 @@
 -- The nodes of the units that are allocated together, among the keys that are listed for them.
-use Rattle.std.proofs.Common.{◌≡◌, ℕ, ◌+◌, ◌≤◌, nat_lt, ◌==◌, refl, ap, sym, ◌∙◌, subst, Bool, true, false, not, ◌||◌, if◌then◌else◌, inl, inr, List, map, Option, Some, None, option_map, arith}
+use Rattle.std.proofs.Common.{◌≡◌, ℕ, ◌+◌, ◌≤◌, nat_lt, ◌==◌, refl, ap, sym, ◌∙◌, subst, Bool, true, false, not, ◌||◌, if◌then◌else◌, inl, inr, List, map, Option, Some, None, arith}
 use Rattle.std.proofs.lemmas.Bool.{eqb-true, le-ltb, ltb-false, not-true}
 use Rattle.std.specs.List.{find, list_any, sum_by}
 use Rattle.std.specs.Option.{option_map_or}

@@ -1,51 +1,28 @@
 -- The nodes of a collection stand as its keys do, each behind its parent and the head of its parent's unit.
-use Rattle.std.proofs.Common.{◌≡◌, ℕ, zero, suc, ◌<◌, ◌==◌, refl, ap, sym, ◌∙◌, subst, Bool, true, false, not, ◌||◌, inl, inr, is_none, length, List, [], ◌∷◌, ◌++◌, map, reverse, Option, Some, None, option_map, arith}
-use Rattle.std.proofs.lemmas.List.{append_assoc, reverse-append}
+use Rattle.std.proofs.Common.{◌≡◌, ℕ, zero, suc, ◌<◌, ◌==◌, refl, ap, sym, ◌∙◌, subst, Bool, true, false, ◌||◌, inl, inr, is_none, length, List, [], ◌∷◌, map, Option, Some, None, option_map, arith}
 use Rattle.std.proofs.lemmas.Option.{slice_get-map}
 use Rattle.std.specs.List.{cons_option, find, list_all, slice_get}
 use Rattle.std.specs.Option.{option_map_or}
 use Rattle.sm_names.specs.declared.keys.NodeKey.{NodeKey}
 use Rattle.sm_names.specs.Sameness.{same_key}
-use Rattle.sm_names.proofs.ListLaws.{In, In-reverse}
-use Rattle.sm_names.proofs.SamenessLaws.{and_left, and_right, either_way, or_left, or_right, same_key-refl, same_key-true, some-injective}
+use Rattle.sm_names.proofs.SamenessLaws.{and_left, and_right, either_way, or_left, or_right, same_key-true, some-injective}
 use Rattle.node_table.specs.Table.{Table, node_at}
 use Rattle.alloc_event.specs.declared.node.Node.{Node}
-use Rattle.alloc_event.specs.Decisions.{is_left_of}
 use Rattle.alloc_event.specs.Falls.{AreGrown, Hangs, IsHanging, IsPlaced, Roots}
 use Rattle.alloc_event.specs.InTurn.{IsAbove, IsKeyAt}
 use Rattle.alloc_event.specs.Kept.{IsStored, IsWhole, Shelf, collection_in, is_filed, nodes_with}
 use Rattle.alloc_event.specs.Scenes.{are_distinct, heads_itself}
-use Rattle.alloc_event.specs.Ties.{are_rooted, hangs_on}
-use Rattle.alloc_event.specs.Units.{are_united, is_parent, shares_unit}
 use Rattle.alloc_event.proofs.calm.Steps.{all-In}
 use Rattle.alloc_event.proofs.changes.Altering.{found_filed, found_whole}
-use Rattle.alloc_event.proofs.lists.Lookups.{same_key-swap}
 use Rattle.alloc_event.proofs.serves.Before.{node_there}
-use Rattle.alloc_event.proofs.tables.Rooted.{left_node}
 use Rattle.alloc_event.proofs.tables.Writing.{IsSameNode}
 use Rattle.alloc_event.proofs.turns.Claims.{others_apart}
 use Rattle.alloc_event.proofs.turns.Gifts.{got_In}
+use Rattle.alloc_event.proofs.turns.Grown.{grown_by}
 use Rattle.alloc_event.proofs.turns.Inherited.{key_there}
 use Rattle.alloc_event.proofs.turns.Trees.{heads_own}
 
 -- ---- places in lists
-
--- what stands before a place and behind it
-pub parts : (xs : List Node) (at : ℕ) (x : Node) → slice_get xs at ≡ Some x →
-    (front : List Node) × (rest : List Node) × (xs ≡ front ++ x ∷ rest) × (at ≡ length front)
-parts [] at x on = cc
-parts (y ∷ ys) zero x on = ([], ys, ap (λ (z : Node). z ∷ ys) (some-injective y x on), refl)
-parts (y ∷ ys) (suc at) x on =
-    let r = parts ys at x on in
-    let long = r.3 in
-    (y ∷ r.0, r.1, ap (λ (zs : List Node). y ∷ zs) r.2, omega (arith, long))
-
--- where one of those before stands
-pub in_front : (front rest : List Node) (x : Node) → In x front →
-    (at : ℕ) × (slice_get (front ++ rest) at ≡ Some x) × (at < length front)
-in_front [] rest x on = absurd on
-in_front (y ∷ ys) rest x (inl is) = (zero, ap Some (sym is), omega arith)
-in_front (y ∷ ys) rest x (inr on) = let r = in_front ys rest x on in let less = r.2 in (suc r.0, r.1, omega (arith, less))
 
 -- nodes with one key stand at one place
 pub at_one_place : (ns : List Node) → are_distinct ns ≡ true → (i l : ℕ) (a b : Node) → slice_get ns i ≡ Some a → slice_get ns l ≡ Some b →
@@ -58,74 +35,6 @@ at_one_place (n ∷ ns) distinct (suc i) zero a b on there same =
     absurd (others_apart n ns distinct a (got_In ns i a on) (same ∙ ap (λ (x : Node). x.key) (sym (some-injective n b there))))
 at_one_place (n ∷ ns) distinct (suc i) (suc l) a b on there same =
     ap suc (at_one_place ns (and_right _ (are_distinct ns) distinct) i l a b on there same)
-
--- ---- a node and those before it
-
-module _ (nodes : List Node) (rooted : are_rooted (reverse nodes) ≡ true) (united : are_united (reverse nodes) ≡ true) where
-  -- the newest stands first, and those before it behind it
-  rooted_at : (newer : List Node) (n : Node) (older : List Node) → are_rooted (newer ++ n ∷ older) ≡ true → hangs_on older n ≡ true
-  rooted_at [] n older h = and_left (hangs_on older n) (are_rooted older) h
-  rooted_at (m ∷ ms) n older h = rooted_at ms n older (and_right (hangs_on (ms ++ n ∷ older) m) _ h)
-
-  united_at : (newer : List Node) (n : Node) (older : List Node) → are_united (newer ++ n ∷ older) ≡ true →
-      list_all (shares_unit n) older ≡ true
-  united_at [] n older h = and_left (list_all (shares_unit n) older) (are_united older) h
-  united_at (m ∷ ms) n older h = united_at ms n older (and_right (list_all (shares_unit m) (ms ++ n ∷ older)) _ h)
-
-  turned : (xs front rest : List Node) (x : Node) → xs ≡ front ++ x ∷ rest → reverse xs ≡ reverse rest ++ x ∷ reverse front
-  turned xs front rest x is =
-      ap reverse is
-      ∙ (reverse-append front (x ∷ rest)
-      ∙ (ap (λ (ns : List Node). ns ++ reverse front) (reverse-append (x ∷ []) rest)
-      ∙ append_assoc (reverse rest) (x ∷ []) (reverse front)))
-
-  shares : (none attached above same : Bool) → none ≡ false → above ≡ true → ((none || attached) || (not above || same)) ≡ true →
-      (attached || same) ≡ true
-  shares true attached above same e d h = cc
-  shares false true above same e d h = refl
-  shares false false true same e d h = h
-  shares false false false same e d h = cc
-
-  -- each node that is not gone stands behind its parent, which is not gone
-  pub grown_by : AreGrown nodes
-  grown_by at n on here = from n.parent refl
-    where
-      p : (front : List Node) × (rest : List Node) × (nodes ≡ front ++ n ∷ rest) × (at ≡ length front)
-      p = parts nodes at n on
-
-      all : reverse nodes ≡ reverse p.1 ++ n ∷ reverse p.0
-      all = turned nodes p.0 p.1 n p.2
-
-      hangs : hangs_on (reverse p.0) n ≡ true
-      hangs = rooted_at (reverse p.1) n (reverse p.0) (subst (λ (ns : List Node). are_rooted ns ≡ true) all rooted)
-
-      one : list_all (shares_unit n) (reverse p.0) ≡ true
-      one = united_at (reverse p.1) n (reverse p.0) (subst (λ (ns : List Node). are_united ns ≡ true) all united)
-
-      from : (o : Option NodeKey) → n.parent ≡ o → IsPlaced nodes n at
-      from None is = Roots is
-      from (Some key) is =
-          let left : is_left_of (reverse p.0) key ≡ true =
-          subst (λ (o : Option NodeKey). option_map_or (is_left_of (reverse p.0)) o true ≡ true) is (subst (λ (g : Bool).
-          (g || option_map_or (is_left_of (reverse p.0)) n.parent true) ≡ true) here hangs) in
-          let x = left_node (reverse p.0) key left in
-          let q = in_front p.0 (n ∷ p.1) x.node (In-reverse p.0 x.node x.on) in
-          let less = q.2 in
-          let place = p.3 in
-          let parent : is_parent n x.node ≡ true =
-          ap (λ (o : Option NodeKey). option_map_or (λ k. same_key x.node.key k) o false) is
-          ∙ (ap (λ (k : NodeKey). same_key k key) x.is ∙ same_key-refl key) in
-          let both : shares_unit n x.node ≡ true = all-In (shares_unit n) (reverse p.0) x.node x.on one in
-          Hangs (record {
-            place = q.0;
-            above = x.node;
-            first = omega (arith, less, place);
-            found = subst (λ (ns : List Node). slice_get ns q.0 ≡ Some x.node) (sym p.2) q.1;
-            parent = is ∙ ap Some (sym x.is);
-            here = x.here;
-            unit = ap (λ (b : Bool). n.attached || b) (same_key-swap n.head x.node.head)
-                ∙ shares (is_none n.parent) n.attached (is_parent n x.node) (same_key x.node.head n.head) (ap is_none is) parent both;
-          })
 
 -- ---- the head of the unit above
 

@@ -32,7 +32,7 @@ use Rattle.alloc_event.proofs.tables.Hanging.{in_all, looked_hung, looked_there,
 use Rattle.alloc_event.proofs.tables.Links.{below_by_links, link_of, map-kept}
 use Rattle.alloc_event.proofs.tables.Rooted.{left_in}
 use Rattle.alloc_event.proofs.turns.Trees.{unit_below}
-use Rattle.alloc_event.proofs.yields.Grown.{grown_by}
+use Rattle.alloc_event.proofs.turns.Grown.{grown_by}
 
 -- what was found to fall with one of the faults
 pub yielding_of : (t : Table Node) (us : List Unit) (id : ℕ) (heads : List NodeKey) (fs : List Fault) (lost : ℕ) →

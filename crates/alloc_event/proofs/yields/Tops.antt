@@ -1,5 +1,5 @@
 -- What falls with an attached node begins with it, below a unit that it does not reach.
-use Rattle.std.proofs.Common.{◌≡◌, ℕ, ◌==◌, refl, ap, sym, ◌∙◌, subst, Bool, true, false, ◌||◌, ◌&&◌, inl, inr, List, [], ◌∷◌, Option, Some, None, arith}
+use Rattle.std.proofs.Common.{◌≡◌, ℕ, ◌==◌, refl, ap, sym, ◌∙◌, subst, Bool, true, false, ◌||◌, ◌&&◌, inl, inr, suc, List, [], ◌∷◌, ◌++◌, take, drop, Option, Some, None}
 use Rattle.std.proofs.lemmas.Map.Views.{list_any-from_Contains}
 use Rattle.std.specs.List.{Contains, find, list_any, slice_get}
 use Rattle.std.specs.Option.{option_map_or}
@@ -18,11 +18,11 @@ use Rattle.alloc_event.specs.Falls.{Hangs, IsPlaced, Roots}
 use Rattle.alloc_event.specs.Kept.{IsStored, Shelf}
 use Rattle.alloc_event.specs.Questions.{is_below}
 use Rattle.alloc_event.specs.Ties.{is_blocking}
+use Rattle.alloc_event.proofs.calm.Lines.{before_at, parted_at}
 use Rattle.alloc_event.proofs.failures.Ties.{fall_below, key_equivalence}
 use Rattle.alloc_event.proofs.tables.Rooted.{left_in}
-use Rattle.alloc_event.proofs.turns.Trees.{front_at, not_below, place_of}
+use Rattle.alloc_event.proofs.turns.Trees.{not_below, place_of}
 use Rattle.alloc_event.proofs.yields.Fitting.{at_key, grown, linked, nodes, tied, whole}
-use Rattle.alloc_event.proofs.yields.Grown.{IsParted, parted_at}
 
 module _ (t : Table Node) (ss : List Shelf) (s : Shelf) (kept : IsStored t ss)
     (found : find (λ (x : Shelf). x.id == s.id) ss ≡ Some s) (o a : Node)
@@ -40,15 +40,11 @@ module _ (t : Table Node) (ss : List Shelf) (s : Shelf) (kept : IsStored t ss)
       by : (at : ℕ) → slice_get ns at ≡ Some o → IsPlaced ns o at → is_below ns o.key a.key ≡ false
       by at there (Roots none) = let no : Some a.key ≡ None = sym up ∙ none in cc
       by at there (Hangs h) =
-          let part : IsParted ns at o = parted_at ns at o there in
+          let part : ns ≡ take at ns ++ o ∷ drop (suc at) ns = parted_at ns at o there in
           let key : h.above.key ≡ a.key = some-injective h.above.key a.key (sym h.parent ∙ up) in
-          let long = part.long in
-          let first = h.first in
-          let front : In h.above part.before =
-          front_at part.before (o ∷ part.behind) h.place h.above (ap (λ (xs : List Node). slice_get xs h.place) (sym part.whole) ∙ h.found)
-          (omega arith) in
+          let front : In h.above (take at ns) = before_at ns at h.place h.above h.first h.found in
           subst (λ (k : NodeKey). is_below ns o.key k ≡ false) key
-          (not_below ns (whole t ss s kept found).sound.distinct (grown t ss s kept found) part.before part.behind o part.whole h.above
+          (not_below ns (whole t ss s kept found).sound.distinct (grown t ss s kept found) (take at ns) (drop (suc at) ns) o part h.above
           front h.here)
 
   blocks : blocked_at is_blocking t o.key ≡ true

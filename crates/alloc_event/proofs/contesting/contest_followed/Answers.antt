@@ -1,5 +1,5 @@
 -- The event is made in its place, and the entry of the collection has the counts.
-use Rattle.std.proofs.Common.{◌≡◌, ◌-◌, is_some, true, false, List, Some, map, get_or, set, refl, sym, ◌∙◌, ap, subst, arith}
+use Rattle.std.proofs.Common.{◌≡◌, ◌-◌, is_some, true, false, List, Some, map, set, refl, sym, ◌∙◌, ap, subst, arith}
 use Rattle.std.proofs.lemmas.List.{get_or_default}
 use Rattle.std.specs.List.{list_any}
 use Rattle.sm_names.specs.declared.keys.NodeKey.{NodeKey}

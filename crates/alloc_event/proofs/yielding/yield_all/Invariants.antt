@@ -1,9 +1,7 @@
 use Rattle.std.proofs.Common.{◌≡◌, ◌≤◌, take, length, Some, IsSome, vec_capacity}
 use Rattle.sm_names.specs.declared.keys.NodeKey.{NodeKey}
-use Rattle.sm_names.specs.Elements.{In}
 use Rattle.node_table.specs.Table.{node_at, row_at, table_len}
 use Rattle.alloc_event.specs.declared.node.Node.{Node}
-use Rattle.alloc_event.specs.declared.waiters.Waiter.{Waiter}
 use Rattle.alloc_event.specs.Turning.{falls}
 use Rattle.alloc_event.specs.Yielding.{LeadsTo}
 use Rattle.alloc_event.proofs.yields.Links.{IsLinked}

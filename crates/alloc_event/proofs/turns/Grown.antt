@@ -10,8 +10,6 @@ use Rattle.sm_names.proofs.SamenessLaws.{and_left, and_right, same_key-comm, sam
 use Rattle.alloc_event.specs.declared.node.Node.{Node}
 use Rattle.alloc_event.specs.Decisions.{is_left_of}
 use Rattle.alloc_event.specs.Falls.{AreGrown, Hangs, IsPlaced, Roots}
-use Rattle.alloc_event.specs.Forest.{Collection}
-use Rattle.alloc_event.specs.Kept.{IsWhole}
 use Rattle.alloc_event.specs.Ties.{are_rooted, hangs_on}
 use Rattle.alloc_event.specs.Units.{are_united, is_parent, shares_unit}
 use Rattle.alloc_event.proofs.calm.Lines.{parted_at}
@@ -34,27 +32,27 @@ united_back : (front back : List Node) → are_united (front ++ back) ≡ true �
 united_back [] back h = h
 united_back (n ∷ ns) back h = united_back ns back (and_right (list_all (shares_unit n) (ns ++ back)) (are_united (ns ++ back)) h)
 
-pub whole_grown : (c : Collection) → IsWhole c → AreGrown c.nodes
-whole_grown c whole at n there here = from n.parent refl
+pub grown_by : (nodes : List Node) → are_rooted (reverse nodes) ≡ true → are_united (reverse nodes) ≡ true → AreGrown nodes
+grown_by nodes rooted united at n there here = from n.parent refl
   where
     older : List Node
-    older = take at c.nodes
+    older = take at nodes
 
     newer : List Node
-    newer = drop (suc at) c.nodes
+    newer = drop (suc at) nodes
 
-    turned : reverse c.nodes ≡ reverse newer ++ n ∷ reverse older
-    turned = ap reverse (parted_at c.nodes at n there)
+    turned : reverse nodes ≡ reverse newer ++ n ∷ reverse older
+    turned = ap reverse (parted_at nodes at n there)
         ∙ (reverse-append older (n ∷ newer)
         ∙ (ap (λ ns. ns ++ reverse older) (reverse-append (n ∷ []) newer) ∙ append_assoc (reverse newer) (n ∷ []) (reverse older)))
 
     hangs : hangs_on (reverse older) n ≡ true
     hangs = and_left (hangs_on (reverse older) n) (are_rooted (reverse older))
-        (rooted_back (reverse newer) (n ∷ reverse older) (ap are_rooted (sym turned) ∙ whole.rooted))
+        (rooted_back (reverse newer) (n ∷ reverse older) (ap are_rooted (sym turned) ∙ rooted))
 
     shares : list_all (shares_unit n) (reverse older) ≡ true
     shares = and_left (list_all (shares_unit n) (reverse older)) (are_united (reverse older))
-        (united_back (reverse newer) (n ∷ reverse older) (ap are_united (sym turned) ∙ whole.united))
+        (united_back (reverse newer) (n ∷ reverse older) (ap are_united (sym turned) ∙ united))
 
     unit : (attached is : Bool) (head above : NodeKey) → is ≡ true → (attached || (not is || same_key above head)) ≡ true →
         (attached || same_key head above) ≡ true
@@ -62,12 +60,12 @@ whole_grown c whole at n there here = from n.parent refl
     unit false true head above e h = same_key-comm above head h
     unit false false head above e h = cc
 
-    from : (o : Option NodeKey) → n.parent ≡ o → IsPlaced c.nodes n at
+    from : (o : Option NodeKey) → n.parent ≡ o → IsPlaced nodes n at
     from None none = Roots none
     from (Some p) up =
         let left : is_left_of (reverse older) p ≡ true = rw (here, up) at hangs in
         let x = left_node (reverse older) p left in
-        let place = front_place c.nodes at x.node (In-reverse older x.node x.on) in
+        let place = front_place nodes at x.node (In-reverse older x.node x.on) in
         let is : is_parent n x.node ≡ true =
         ap (λ (o : Option NodeKey). option_map_or (λ k. same_key x.node.key k) o false) up
         ∙ (ap (λ (k : NodeKey). same_key k p) x.is ∙ same_key-refl p) in
