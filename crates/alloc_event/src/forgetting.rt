@@ -154,7 +154,7 @@ pub(crate) fn place_by_birth(
     found_at(keys, at, key)
 }
 
-/// The same, which is looked for at this place first.
+/// The same, which is looked for behind this place first, and before it.
 pub(crate) fn place_near(
     table: &NodeTable<Node>,
     keys: &[NodeKey],
@@ -163,10 +163,13 @@ pub(crate) fn place_near(
 ) -> Option<usize>
     ensures { IfSome result (λ at. IsPlace keys.now key at) }
 {
-    match found_at(keys, near, key) {
-        Some(at) => Some(at),
-        None => place_by_birth(table, keys, key),
+    if let Some(at) = found_at(keys, near.wrapping_add(1), key) {
+        return Some(at);
     }
+    if let Some(at) = found_at(keys, near.wrapping_sub(1), key) {
+        return Some(at);
+    }
+    place_by_birth(table, keys, key)
 }
 
 /// Whether the node with this key, if it is over, is of this collection.

@@ -91,6 +91,7 @@ pub(crate) fn has_turn(table: &NodeTable<Node>, head: NodeKey) -> bool
 
 /// Whether the node heads a unit without buffers that waits for no node, right below one of those
 /// with these heads, which stand in order, and is none of these heads.
+#[inline(always)]
 fn is_left_out(table: &NodeTable<Node>, units: &[Unit], heads: &[NodeKey], node: &Node) -> bool
     requires { IsSorted key_order heads.now }
     ensures { result ≡ is_left_out table.now units.now heads.now node.now }

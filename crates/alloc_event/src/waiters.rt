@@ -62,11 +62,10 @@ pub(crate) fn list_waiters(
     true
 }
 
-/// The place behind that of the last one: where nodes were born one after another the next head stands
-/// there.
-fn next_place(waiters: &[Waiter]) -> usize {
+/// The place of the last one. Where nodes were born one after another the next head stands beside it.
+fn last_place(waiters: &[Waiter]) -> usize {
     match waiters.last() {
-        Some(last) => last.place.wrapping_add(1),
+        Some(last) => last.place,
         None => 0,
     }
 }
@@ -80,7 +79,7 @@ fn list_waiter(
 ) -> bool
     ensures { result ≡ true → Lists keys.now head waiters.old.items waiters.new.items }
 {
-    let Some(place) = place_near(table, keys, next_place(waiters), head) else {
+    let Some(place) = place_near(table, keys, last_place(waiters), head) else {
         return false;
     };
     let asks = Asks {
