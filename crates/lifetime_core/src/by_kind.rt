@@ -47,99 +47,77 @@ pub(crate) fn take_by_kind(
 fn join(core: &mut Core, client: ClientId) -> Result<Reply, StepFault>
     ensures { Stepped core.old core.new client Call.Join result }
 {
-    let call = Call::Join;
-    let asked = core.asked_of(client, &call);
-    core.take_answered(client, &call, asked)
+    core.take_call(client, &Call::Join)
 }
 
 #[inline(never)]
 fn shut(core: &mut Core, client: ClientId) -> Result<Reply, StepFault>
     ensures { Stepped core.old core.new client Call.Shut result }
 {
-    let call = Call::Shut;
-    let asked = core.asked_of(client, &call);
-    core.take_answered(client, &call, asked)
+    core.take_call(client, &Call::Shut)
 }
 
 #[inline(never)]
 fn open_root(core: &mut Core, client: ClientId) -> Result<Reply, StepFault>
     ensures { Stepped core.old core.new client Call.OpenRoot result }
 {
-    let call = Call::OpenRoot;
-    let asked = core.asked_of(client, &call);
-    core.take_answered(client, &call, asked)
+    core.take_call(client, &Call::OpenRoot)
 }
 
 #[inline(never)]
 fn duplicate(core: &mut Core, client: ClientId, key: NodeKey) -> Result<Reply, StepFault>
     ensures { Stepped core.old core.new client (Call.Duplicate key) result }
 {
-    let call = Call::Duplicate(key);
-    let asked = core.asked_of(client, &call);
-    core.take_answered(client, &call, asked)
+    core.take_call(client, &Call::Duplicate(key))
 }
 
 #[inline(never)]
 fn attach_token(core: &mut Core, client: ClientId, key: NodeKey) -> Result<Reply, StepFault>
     ensures { Stepped core.old core.new client (Call.AttachToken key) result }
 {
-    let call = Call::AttachToken(key);
-    let asked = core.asked_of(client, &call);
-    core.take_answered(client, &call, asked)
+    core.take_call(client, &Call::AttachToken(key))
 }
 
 #[inline(never)]
 fn sync(core: &mut Core, client: ClientId, key: NodeKey) -> Result<Reply, StepFault>
     ensures { Stepped core.old core.new client (Call.Sync key) result }
 {
-    let call = Call::Sync(key);
-    let asked = core.asked_of(client, &call);
-    core.take_answered(client, &call, asked)
+    core.take_call(client, &Call::Sync(key))
 }
 
 #[inline(never)]
 fn give(core: &mut Core, client: ClientId, key: NodeKey, to: ClientId) -> Result<Reply, StepFault>
     ensures { Stepped core.old core.new client (Call.Give key to) result }
 {
-    let call = Call::Give(key, to);
-    let asked = core.asked_of(client, &call);
-    core.take_answered(client, &call, asked)
+    core.take_call(client, &Call::Give(key, to))
 }
 
 #[inline(never)]
 fn collect(core: &mut Core, client: ClientId) -> Result<Reply, StepFault>
     ensures { Stepped core.old core.new client Call.Collect result }
 {
-    let call = Call::Collect;
-    let asked = core.asked_of(client, &call);
-    core.take_answered(client, &call, asked)
+    core.take_call(client, &Call::Collect)
 }
 
 #[inline(never)]
 fn bind(core: &mut Core, client: ClientId, key: NodeKey) -> Result<Reply, StepFault>
     ensures { Stepped core.old core.new client (Call.Bind key) result }
 {
-    let call = Call::Bind(key);
-    let asked = core.asked_of(client, &call);
-    core.take_answered(client, &call, asked)
+    core.take_call(client, &Call::Bind(key))
 }
 
 #[inline(never)]
 fn set_dispensable(core: &mut Core, client: ClientId, key: NodeKey) -> Result<Reply, StepFault>
     ensures { Stepped core.old core.new client (Call.SetDispensable key) result }
 {
-    let call = Call::SetDispensable(key);
-    let asked = core.asked_of(client, &call);
-    core.take_answered(client, &call, asked)
+    core.take_call(client, &Call::SetDispensable(key))
 }
 
 #[inline(never)]
 fn set_weak(core: &mut Core, client: ClientId, key: NodeKey) -> Result<Reply, StepFault>
     ensures { Stepped core.old core.new client (Call.SetWeak key) result }
 {
-    let call = Call::SetWeak(key);
-    let asked = core.asked_of(client, &call);
-    core.take_answered(client, &call, asked)
+    core.take_call(client, &Call::SetWeak(key))
 }
 
 #[inline(never)]
@@ -151,9 +129,7 @@ fn set_weak_ok(
 ) -> Result<Reply, StepFault>
     ensures { Stepped core.old core.new client (Call.SetWeakOk key children) result }
 {
-    let call = Call::SetWeakOk(key, children);
-    let asked = core.asked_of(client, &call);
-    core.take_answered(client, &call, asked)
+    core.take_call(client, &Call::SetWeakOk(key, children))
 }
 
 #[inline(never)]
@@ -165,45 +141,35 @@ fn set_constraints(
 ) -> Result<Reply, StepFault>
     ensures { Stepped core.old core.new client (Call.SetConstraints key constraints) result }
 {
-    let call = Call::SetConstraints(key, constraints);
-    let asked = core.asked_of(client, &call);
-    core.take_answered(client, &call, asked)
+    core.take_call(client, &Call::SetConstraints(key, constraints))
 }
 
 #[inline(never)]
 fn check(core: &mut Core, client: ClientId, key: NodeKey) -> Result<Reply, StepFault>
     ensures { Stepped core.old core.new client (Call.Check key) result }
 {
-    let call = Call::Check(key);
-    let asked = core.asked_of(client, &call);
-    core.take_answered(client, &call, asked)
+    core.take_call(client, &Call::Check(key))
 }
 
 #[inline(never)]
 fn take(core: &mut Core, client: ClientId, key: NodeKey) -> Result<Reply, StepFault>
     ensures { Stepped core.old core.new client (Call.Take key) result }
 {
-    let call = Call::Take(key);
-    let asked = core.asked_of(client, &call);
-    core.take_answered(client, &call, asked)
+    core.take_call(client, &Call::Take(key))
 }
 
 #[inline(never)]
 fn release(core: &mut Core, client: ClientId, key: NodeKey) -> Result<Reply, StepFault>
     ensures { Stepped core.old core.new client (Call.Release key) result }
 {
-    let call = Call::Release(key);
-    let asked = core.asked_of(client, &call);
-    core.take_answered(client, &call, asked)
+    core.take_call(client, &Call::Release(key))
 }
 
 #[inline(never)]
 fn close(core: &mut Core, client: ClientId, key: NodeKey) -> Result<Reply, StepFault>
     ensures { Stepped core.old core.new client (Call.Close key) result }
 {
-    let call = Call::Close(key);
-    let asked = core.asked_of(client, &call);
-    core.take_answered(client, &call, asked)
+    core.take_call(client, &Call::Close(key))
 }
 
 #[inline(never)]
@@ -215,9 +181,7 @@ fn dup_handle(
 ) -> Result<Reply, StepFault>
     ensures { Stepped core.old core.new client (Call.DupHandle buffer strength) result }
 {
-    let call = Call::DupHandle(buffer, strength);
-    let asked = core.asked_of(client, &call);
-    core.take_answered(client, &call, asked)
+    core.take_call(client, &Call::DupHandle(buffer, strength))
 }
 
 #[inline(never)]
@@ -229,9 +193,7 @@ fn drop_handle(
 ) -> Result<Reply, StepFault>
     ensures { Stepped core.old core.new client (Call.DropHandle buffer strength) result }
 {
-    let call = Call::DropHandle(buffer, strength);
-    let asked = core.asked_of(client, &call);
-    core.take_answered(client, &call, asked)
+    core.take_call(client, &Call::DropHandle(buffer, strength))
 }
 
 #[inline(never)]
@@ -244,18 +206,14 @@ fn give_handle(
 ) -> Result<Reply, StepFault>
     ensures { Stepped core.old core.new client (Call.GiveHandle buffer strength to) result }
 {
-    let call = Call::GiveHandle(buffer, strength, to);
-    let asked = core.asked_of(client, &call);
-    core.take_answered(client, &call, asked)
+    core.take_call(client, &Call::GiveHandle(buffer, strength, to))
 }
 
 #[inline(never)]
 fn track_node(core: &mut Core, client: ClientId, key: NodeKey) -> Result<Reply, StepFault>
     ensures { Stepped core.old core.new client (Call.TrackNode key) result }
 {
-    let call = Call::TrackNode(key);
-    let asked = core.asked_of(client, &call);
-    core.take_answered(client, &call, asked)
+    core.take_call(client, &Call::TrackNode(key))
 }
 
 #[inline(never)]
@@ -267,16 +225,12 @@ fn track_lifetime(
 ) -> Result<Reply, StepFault>
     ensures { Stepped core.old core.new client (Call.TrackLifetime key most) result }
 {
-    let call = Call::TrackLifetime(key, most);
-    let asked = core.asked_of(client, &call);
-    core.take_answered(client, &call, asked)
+    core.take_call(client, &Call::TrackLifetime(key, most))
 }
 
 #[inline(never)]
 fn track_weak(core: &mut Core, client: ClientId, buffer: BufferName) -> Result<Reply, StepFault>
     ensures { Stepped core.old core.new client (Call.TrackWeak buffer) result }
 {
-    let call = Call::TrackWeak(buffer);
-    let asked = core.asked_of(client, &call);
-    core.take_answered(client, &call, asked)
+    core.take_call(client, &Call::TrackWeak(buffer))
 }

@@ -365,27 +365,15 @@ impl Core {
         }
     }
 
-    // What is answered to the call, but for the key of a new node.
+    // Takes one call, as `step` says, with one look-up of the node that it names.
     #[inline(always)]
-    pub(crate) fn asked_of(&self, client: ClientId, call: &Call) -> Reply
-        ensures { result ≡ answer_of self.now.limits (readings_of self.now) client no_key call.now }
-    {
-        let traits = traits_of(call);
-        let node = with_end(self.named(key_of(call)));
-        answer(self, client, NO_KEY, call, &traits, node)
-    }
-
-    // Takes the call that is answered so, as `step` says.
-    #[inline(always)]
-    pub(crate) fn take_answered(
-        &mut self,
-        client: ClientId,
-        call: &Call,
-        asked: Reply,
-    ) -> Result<Reply, StepFault>
-        requires { asked ≡ answer_of self.old.limits (readings_of self.old) client no_key call.now }
+    pub(crate) fn take_call(&mut self, client: ClientId, call: &Call) -> Result<Reply, StepFault>
         ensures { Stepped self.old self.new client call.now result }
     {
+        let named = key_of(call);
+        let node = self.named(named);
+        let traits = traits_of(call);
+        let asked = answer(self, client, NO_KEY, call, &traits, with_end(node));
         if self.events >= self.limits.events() as u64 {
             return Err(StepFault::HistoryFull);
         }
@@ -393,8 +381,6 @@ impl Core {
             self.events = self.next_event();
             return Ok(asked);
         }
-        let named = key_of(call);
-        let node = self.named(named);
         let task = task_of(self, client, call, &asked, named, node);
         let tracking = tracking_of(self, call, &asked, node);
         let Ok(key) = take_effect(&mut self.contents, client, call, &asked, &task, tracking) else {

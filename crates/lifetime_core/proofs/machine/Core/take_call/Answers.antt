@@ -11,12 +11,25 @@ use Rattle.lifetime_core.specs.State.{State}
 use Rattle.lifetime_core.specs.Tasks.{Parts, with_key, end_placed}
 use Rattle.lifetime_core.proofs.theorem.EventParts.{Begins, after, alone, begins, can_carry, finishes, one, step_answers, step_follows}
 use Rattle.lifetime_core.proofs.answers.Kinds.{reply-fits}
+use Rattle.lifetime_core.proofs.answers.Order.{end_of_named}
 use Rattle.lifetime_core.proofs.theorem.GoesOn.{goes_on}
 use Rattle.lifetime_core.proofs.theorem.Idle.{Idles, further, idle_follows, idle_whole, idles, parts_of}
 use Rattle.lifetime_core.proofs.theorem.Leads.{untaken_after}
 use Rattle.lifetime_core.proofs.forced.StillOut.{asks_only}
 use Rattle.lifetime_core.proofs.theorem.Fields.{above, fits, moves, none_elsewhere, whole_same, whole_then}
-use Rattle.lifetime_core.proofs.machine.Core.take_answered.Goals as goal
+use Rattle.lifetime_core.proofs.machine.Core.take_call.Goals as goal
+
+-- the end that is asked about is that of the node that the call names
+pub answer-asked-requires : goal.answer-asked-requires
+answer-asked-requires c =
+    let key = c.traits_of-traits.ensures.law.key in
+    record {
+      law = c.traits_of-traits.ensures.law;
+      end = end_of_named c.args.self.now c.args.call.now c.traits_of-traits.result.on (option_copied c.named-node.result) key
+          (c.named-node.ensures ∙ ap (option_and_then (node_at c.args.self.now.forest)) (c.key_of-named.ensures ∙ key))
+          ∙ sym (c.with_end.ensures.value c.args.self.now);
+      unspent = c.with_end.ensures.unspent;
+    }
 
 -- what the call does may be done
 pub take_effect-requires : goal.take_effect-requires
@@ -31,24 +44,24 @@ take_effect-requires c =
       holds = c.self.inside.contents.holds;
       trackers = c.self.inside.contents.trackers;
     } in
-    let b : Begins s c.args.client c.args.call.now c.args.asked c.task_of-task.result c.tracking_of-tracking.result =
-    begins c.self.inside.contents.pool s c.args.self.now c.args.client c.args.call.now c.args.asked c.task_of-task.result
-    c.tracking_of-tracking.result c.self.view_is c.self.invariant c.requires
+    let b : Begins s c.args.client c.args.call.now c.answer-asked.result c.task_of-task.result c.tracking_of-tracking.result =
+    begins c.self.inside.contents.pool s c.args.self.now c.args.client c.args.call.now c.answer-asked.result c.task_of-task.result
+    c.tracking_of-tracking.result c.self.view_is c.self.invariant c.answer-asked.ensures
     c.task_of-task.ensures.work c.task_of-task.ensures.spends c.task_of-task.ensures.there c.task_of-task.ensures.some
     c.tracking_of-tracking.ensures in
     record {
       clients = c.self.invariant.rising;
-      handles = moves s c.args.client c.args.call.now c.args.asked c.args.asked c.task_of-task.result
+      handles = moves s c.args.client c.args.call.now c.answer-asked.result c.answer-asked.result c.task_of-task.result
           c.tracking_of-tracking.result b;
       may = b.may;
-      asks = asks_only s c.args.client c.args.call.now c.args.asked c.task_of-task.result b.work;
+      asks = asks_only s c.args.client c.args.call.now c.answer-asked.result c.task_of-task.result b.work;
       out = c.self.invariant.out;
       pool = c.self.invariant.pages;
-      rising = above s c.args.client c.args.call.now c.args.asked c.args.asked c.task_of-task.result
+      rising = above s c.args.client c.args.call.now c.answer-asked.result c.answer-asked.result c.task_of-task.result
           c.tracking_of-tracking.result b;
-      room = fits s c.args.client c.args.call.now c.args.asked c.args.asked c.task_of-task.result
+      room = fits s c.args.client c.args.call.now c.answer-asked.result c.answer-asked.result c.task_of-task.result
           c.tracking_of-tracking.result b;
-      alone = alone s c.args.client c.args.call.now c.args.asked c.args.asked c.task_of-task.result
+      alone = alone s c.args.client c.args.call.now c.answer-asked.result c.answer-asked.result c.task_of-task.result
           c.tracking_of-tracking.result b;
     }
 
@@ -62,7 +75,7 @@ task_of-task-requires c = record {
   key = sym c.key_of-named.ensures;
   node = names_it c.args.self.now c.args.call.now c.key_of-named.result (option_copied c.named-node.result)
       c.key_of-named.ensures c.named-node.ensures;
-  answered = c.requires;
+  answered = c.answer-asked.ensures;
 }
 
 pub tracking_of-tracking-requires : goal.tracking_of-tracking-requires
@@ -83,12 +96,12 @@ invariant_of-self c =
       holds = c.self.inside.contents.holds;
       trackers = c.self.inside.contents.trackers;
     } in
-    let i : Idles s c.args.client c.args.call.now c.args.asked =
-    idles c.self.inside.contents.pool s c.args.self.now c.args.client c.args.call.now c.args.asked c.self.view_is c.self.invariant
-    c.requires (sym c.changes_nothing.ensures ∙ c.if-changes_nothing.true) in
+    let i : Idles s c.args.client c.args.call.now c.answer-asked.result =
+    idles c.self.inside.contents.pool s c.args.self.now c.args.client c.args.call.now c.answer-asked.result c.self.view_is c.self.invariant
+    c.answer-asked.ensures (sym c.changes_nothing.ensures ∙ c.if-changes_nothing.true) in
     let next : c.next_event-self-inside.result ≡ s.events + 1 =
     c.next_event-self-inside.ensures ∙ ap (λ (x : State). x.events + 1) (sym c.self.view_is) in
-    rw next (idle_whole s c.args.client c.args.call.now c.args.asked i c.self.inside.contents.pool c.self.invariant (omega arith)
+    rw next (idle_whole s c.args.client c.args.call.now c.answer-asked.result i c.self.inside.contents.pool c.self.invariant (omega arith)
     (omega arith))
 
 -- and the new state follows
@@ -104,24 +117,24 @@ returns-then-changes_nothing c =
       holds = c.self.inside.contents.holds;
       trackers = c.self.inside.contents.trackers;
     } in
-    let i : Idles s c.args.client c.args.call.now c.args.asked =
-    idles c.self.inside.contents.pool s c.args.self.now c.args.client c.args.call.now c.args.asked c.self.view_is c.self.invariant
-    c.requires (sym c.changes_nothing.ensures ∙ c.if-changes_nothing.true) in
+    let i : Idles s c.args.client c.args.call.now c.answer-asked.result =
+    idles c.self.inside.contents.pool s c.args.self.now c.args.client c.args.call.now c.answer-asked.result c.self.view_is c.self.invariant
+    c.answer-asked.ensures (sym c.changes_nothing.ensures ∙ c.if-changes_nothing.true) in
     let next : c.next_event-self-inside.result ≡ s.events + 1 =
     c.next_event-self-inside.ensures ∙ ap (λ (x : State). x.events + 1) (sym c.self.view_is) in
-    let answers = step_answers s c.args.client c.args.call.now c.args.asked c.args.asked None None i.begins (parts_of s)
+    let answers = step_answers s c.args.client c.args.call.now c.answer-asked.result c.answer-asked.result None None i.begins (parts_of s)
     i.takes in
-    let follows = idle_follows s c.args.client c.args.call.now c.args.asked i in
+    let follows = idle_follows s c.args.client c.args.call.now c.answer-asked.result i in
     let room : s.events < s.limits.events = omega arith in
     rw (next, ← c.self.view_is) (record {
       answer = answers;
-      kind = reply-fits s.limits (readings_of s) c.args.client (key_told c.args.asked) c.args.call.now c.args.asked
+      kind = reply-fits s.limits (readings_of s) c.args.client (key_told c.answer-asked.result) c.args.call.now c.answer-asked.result
           answers.told;
       after = follows;
-      goes_on = goes_on s (further s c.args.client c.args.call.now c.args.asked i) c.args.client c.args.call.now c.args.asked
+      goes_on = goes_on s (further s c.args.client c.args.call.now c.answer-asked.result i) c.args.client c.args.call.now c.answer-asked.result
           answers follows room;
-      untaken = untaken_after s (further s c.args.client c.args.call.now c.args.asked i) c.args.client c.args.call.now
-          c.args.asked answers follows;
+      untaken = untaken_after s (further s c.args.client c.args.call.now c.answer-asked.result i) c.args.client c.args.call.now
+          c.answer-asked.result answers follows;
       kept = search rules;
       equal = search rules;
       stays = search rules;
@@ -152,9 +165,9 @@ sweep-requires c =
       holds = c.self.inside.contents.holds;
       trackers = c.self.inside.contents.trackers;
     } in
-    let b : Begins s c.args.client c.args.call.now c.args.asked c.task_of-task.result c.tracking_of-tracking.result =
-    begins c.self.inside.contents.pool s c.args.self.now c.args.client c.args.call.now c.args.asked c.task_of-task.result
-    c.tracking_of-tracking.result c.self.view_is c.self.invariant c.requires
+    let b : Begins s c.args.client c.args.call.now c.answer-asked.result c.task_of-task.result c.tracking_of-tracking.result =
+    begins c.self.inside.contents.pool s c.args.self.now c.args.client c.args.call.now c.answer-asked.result c.task_of-task.result
+    c.tracking_of-tracking.result c.self.view_is c.self.invariant c.answer-asked.ensures
     c.task_of-task.ensures.work c.task_of-task.ensures.spends c.task_of-task.ensures.there c.task_of-task.ensures.some
     c.tracking_of-tracking.ensures in
     let parts : Parts =
@@ -166,8 +179,8 @@ sweep-requires c =
     } in
     record {
       elsewhere = rw (c.place_to_sweep-place.ensures, c.changed_by.ensures)
-          (none_elsewhere s c.args.client c.args.call.now c.args.asked
-          (with_key c.args.asked c.in-Ok.key) c.task_of-task.result c.tracking_of-tracking.result b parts c.in-Ok.ensures.ok);
+          (none_elsewhere s c.args.client c.args.call.now c.answer-asked.result
+          (with_key c.answer-asked.result c.in-Ok.key) c.task_of-task.result c.tracking_of-tracking.result b parts c.in-Ok.ensures.ok);
     }
 
 -- what is over can be forgotten
@@ -183,9 +196,9 @@ put_end-requires c =
       holds = c.self.inside.contents.holds;
       trackers = c.self.inside.contents.trackers;
     } in
-    let b : Begins s c.args.client c.args.call.now c.args.asked c.task_of-task.result c.tracking_of-tracking.result =
-    begins c.self.inside.contents.pool s c.args.self.now c.args.client c.args.call.now c.args.asked c.task_of-task.result
-    c.tracking_of-tracking.result c.self.view_is c.self.invariant c.requires
+    let b : Begins s c.args.client c.args.call.now c.answer-asked.result c.task_of-task.result c.tracking_of-tracking.result =
+    begins c.self.inside.contents.pool s c.args.self.now c.args.client c.args.call.now c.answer-asked.result c.task_of-task.result
+    c.tracking_of-tracking.result c.self.view_is c.self.invariant c.answer-asked.ensures
     c.task_of-task.ensures.work c.task_of-task.ensures.spends c.task_of-task.ensures.there c.task_of-task.ensures.some
     c.tracking_of-tracking.ensures in
     let parts : Parts =
@@ -196,12 +209,12 @@ put_end-requires c =
       trackers = c.take_effect.new.contents.trackers;
     } in
     record {
-      task = finishes s c.args.client c.args.call.now c.args.asked (with_key c.args.asked c.in-Ok.key) c.task_of-task.result
+      task = finishes s c.args.client c.args.call.now c.answer-asked.result (with_key c.answer-asked.result c.in-Ok.key) c.task_of-task.result
           c.tracking_of-tracking.result b parts c.in-Ok.ensures.ok;
-      carried = can_carry s c.args.client c.args.call.now c.args.asked
-          (with_key c.args.asked c.in-Ok.key) c.task_of-task.result
+      carried = can_carry s c.args.client c.args.call.now c.answer-asked.result
+          (with_key c.answer-asked.result c.in-Ok.key) c.task_of-task.result
           c.tracking_of-tracking.result b parts c.in-Ok.ensures.ok c.carried_end-carried.result c.carried_end-carried.ensures;
-      one = one s c.args.client c.args.call.now c.args.asked (with_key c.args.asked c.in-Ok.key) c.task_of-task.result
+      one = one s c.args.client c.args.call.now c.answer-asked.result (with_key c.answer-asked.result c.in-Ok.key) c.task_of-task.result
           c.tracking_of-tracking.result b parts c.in-Ok.ensures.ok c.carried_end-carried.result c.carried_end-carried.ensures;
     }
 
@@ -218,9 +231,9 @@ invariant_of-self-2 c =
       holds = c.self.inside.contents.holds;
       trackers = c.self.inside.contents.trackers;
     } in
-    let b : Begins s c.args.client c.args.call.now c.args.asked c.task_of-task.result c.tracking_of-tracking.result =
-    begins c.self.inside.contents.pool s c.args.self.now c.args.client c.args.call.now c.args.asked c.task_of-task.result
-    c.tracking_of-tracking.result c.self.view_is c.self.invariant c.requires
+    let b : Begins s c.args.client c.args.call.now c.answer-asked.result c.task_of-task.result c.tracking_of-tracking.result =
+    begins c.self.inside.contents.pool s c.args.self.now c.args.client c.args.call.now c.answer-asked.result c.task_of-task.result
+    c.tracking_of-tracking.result c.self.view_is c.self.invariant c.answer-asked.ensures
     c.task_of-task.ensures.work c.task_of-task.ensures.spends c.task_of-task.ensures.there c.task_of-task.ensures.some
     c.tracking_of-tracking.ensures in
     let parts : Parts =
@@ -230,7 +243,7 @@ invariant_of-self-2 c =
       holds = c.take_effect.new.contents.holds;
       trackers = c.take_effect.new.contents.trackers;
     } in
-    whole_then s c.args.client c.args.call.now c.args.asked (with_key c.args.asked c.in-Ok.key) c.task_of-task.result
+    whole_then s c.args.client c.args.call.now c.answer-asked.result (with_key c.answer-asked.result c.in-Ok.key) c.task_of-task.result
     c.tracking_of-tracking.result b parts c.in-Ok.ensures.ok c.self.inside.contents.pool c.take_effect.new.contents.pool
     c.put_end.new.forest
     (end_placed c.task_of-task.result c.carried_end-carried.result) c.sweep.new.trackers c.self.invariant c.take_effect.ensures.size
@@ -251,9 +264,9 @@ returns c =
       holds = c.self.inside.contents.holds;
       trackers = c.self.inside.contents.trackers;
     } in
-    let b : Begins s c.args.client c.args.call.now c.args.asked c.task_of-task.result c.tracking_of-tracking.result =
-    begins c.self.inside.contents.pool s c.args.self.now c.args.client c.args.call.now c.args.asked c.task_of-task.result
-    c.tracking_of-tracking.result c.self.view_is c.self.invariant c.requires
+    let b : Begins s c.args.client c.args.call.now c.answer-asked.result c.task_of-task.result c.tracking_of-tracking.result =
+    begins c.self.inside.contents.pool s c.args.self.now c.args.client c.args.call.now c.answer-asked.result c.task_of-task.result
+    c.tracking_of-tracking.result c.self.view_is c.self.invariant c.answer-asked.ensures
     c.task_of-task.ensures.work c.task_of-task.ensures.spends c.task_of-task.ensures.there c.task_of-task.ensures.some
     c.tracking_of-tracking.ensures in
     let parts : Parts =
@@ -263,9 +276,9 @@ returns c =
       holds = c.take_effect.new.contents.holds;
       trackers = c.take_effect.new.contents.trackers;
     } in
-    let answers = step_answers s c.args.client c.args.call.now c.args.asked (with_key c.args.asked c.in-Ok.key)
+    let answers = step_answers s c.args.client c.args.call.now c.answer-asked.result (with_key c.answer-asked.result c.in-Ok.key)
     c.task_of-task.result c.tracking_of-tracking.result b parts c.in-Ok.ensures.ok in
-    let follows = step_follows s c.args.client c.args.call.now c.args.asked (with_key c.args.asked c.in-Ok.key)
+    let follows = step_follows s c.args.client c.args.call.now c.answer-asked.result (with_key c.answer-asked.result c.in-Ok.key)
     c.task_of-task.result c.tracking_of-tracking.result b parts c.in-Ok.ensures.ok c.carried_end-carried.result
     c.carried_end-carried.ensures
     c.put_end.new.forest c.sweep.new.trackers
@@ -273,18 +286,18 @@ returns c =
     let room : s.events < s.limits.events = omega arith in
     rw c.with_key.ensures (record {
       answer = rw (← c.self.view_is) answers;
-      kind = reply-fits s.limits (readings_of s) c.args.client (key_told (with_key c.args.asked c.in-Ok.key)) c.args.call.now
-          (with_key c.args.asked c.in-Ok.key) answers.told;
+      kind = reply-fits s.limits (readings_of s) c.args.client (key_told (with_key c.answer-asked.result c.in-Ok.key)) c.args.call.now
+          (with_key c.answer-asked.result c.in-Ok.key) answers.told;
       after = rw (← c.self.view_is, c.take_effect.ensures.size) follows;
-      goes_on = rw (← c.self.view_is, c.take_effect.ensures.size) (goes_on s (after s c.args.client c.args.call.now c.args.asked
-          (with_key c.args.asked c.in-Ok.key) c.task_of-task.result c.tracking_of-tracking.result b parts c.in-Ok.ensures.ok
+      goes_on = rw (← c.self.view_is, c.take_effect.ensures.size) (goes_on s (after s c.args.client c.args.call.now c.answer-asked.result
+          (with_key c.answer-asked.result c.in-Ok.key) c.task_of-task.result c.tracking_of-tracking.result b parts c.in-Ok.ensures.ok
           c.carried_end-carried.result c.carried_end-carried.ensures c.put_end.new.forest c.sweep.new.trackers c.put_end.ensures.collections
-          c.put_end.ensures.keys c.sweep.ensures) c.args.client c.args.call.now (with_key c.args.asked c.in-Ok.key) answers follows
+          c.put_end.ensures.keys c.sweep.ensures) c.args.client c.args.call.now (with_key c.answer-asked.result c.in-Ok.key) answers follows
           room);
-      untaken = rw (← c.self.view_is) (untaken_after s (after s c.args.client c.args.call.now c.args.asked
-          (with_key c.args.asked c.in-Ok.key) c.task_of-task.result c.tracking_of-tracking.result b parts c.in-Ok.ensures.ok
+      untaken = rw (← c.self.view_is) (untaken_after s (after s c.args.client c.args.call.now c.answer-asked.result
+          (with_key c.answer-asked.result c.in-Ok.key) c.task_of-task.result c.tracking_of-tracking.result b parts c.in-Ok.ensures.ok
           c.carried_end-carried.result c.carried_end-carried.ensures c.put_end.new.forest c.sweep.new.trackers c.put_end.ensures.collections
-          c.put_end.ensures.keys c.sweep.ensures) c.args.client c.args.call.now (with_key c.args.asked c.in-Ok.key) answers
+          c.put_end.ensures.keys c.sweep.ensures) c.args.client c.args.call.now (with_key c.answer-asked.result c.in-Ok.key) answers
           follows);
       kept = search rules;
       equal = search rules;
