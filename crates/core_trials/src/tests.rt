@@ -7,6 +7,7 @@ mod forgetting;
 mod giving;
 mod holding;
 mod holdings;
+mod lending;
 mod limits;
 mod log;
 mod placing;

@@ -1,4 +1,5 @@
 //! Handles that are dropped while the lifetimes of a thousand nodes are waited for.
+use super::lending::on_joined;
 use super::limits::token;
 use lifetime_core::Core;
 use sm_names::{BufferName, Call, Constraints, Limits, NodeKey, Reply, Strength};
@@ -109,8 +110,7 @@ fn have_all_fired(core: &Core) -> bool {
 }
 
 fn drops(core: &mut Core) -> bool {
-    core.step(0, Call::Join) == Ok(Reply::Joined(1))
-        && has_one_handle(core)
+    has_one_handle(core)
         && stays_quiet(core)
         && is_kept_by_a_parcel(core)
         && is_done(core, DROP)
@@ -118,10 +118,7 @@ fn drops(core: &mut Core) -> bool {
 }
 
 fn fires_at_the_last_drop(alloc: Global) -> bool {
-    match Core::new(alloc, 16, Limits::full()) {
-        Ok(mut core) => drops(&mut core),
-        Err(_) => false,
-    }
+    on_joined(alloc, Limits::full(), drops)
 }
 
 #[test]

@@ -1,6 +1,8 @@
 //! The lines that README.md shows.
+use super::lending::on_core;
 use lifetime_core::Core;
 use sm_names::{Call, Constraints, Limits, Reply};
+use std::alloc::Global;
 
 // A client joins, makes a collection, asks for two buffers of 8,192 bytes, and is told of them.
 fn asks(core: &mut Core) -> Option<Reply> {
@@ -16,18 +18,21 @@ fn asks(core: &mut Core) -> Option<Reply> {
     core.step(client, Call::Check(key)).ok()
 }
 
+// Whether it is told what it asked for.
+fn is_told(core: &mut Core) -> bool {
+    let wanted = Reply::Allocated {
+        count: 2,
+        size: 8_192,
+    };
+    asks(core) == Some(wanted)
+}
+
+fn a_new_core_tells(alloc: Global) -> bool {
+    on_core(alloc, Limits::full(), is_told)
+}
+
 #[test]
 fn what_the_readme_shows_is_answered(rt: HostRuntime) {
-    let mut told = false;
     // Once more where memory was refused.
-    for _ in 0..2 {
-        if let Ok(mut core) = Core::new(rt.alloc(), 16, Limits::full()) {
-            let wanted = Reply::Allocated {
-                count: 2,
-                size: 8_192,
-            };
-            told = told || asks(&mut core) == Some(wanted);
-        }
-    }
-    assert!(rt; told);
+    assert!(rt; a_new_core_tells(rt.alloc()) || a_new_core_tells(rt.alloc()));
 }

@@ -1,6 +1,7 @@
 //! Nodes that go together leave no room taken, however many they are and however many stay.
 use super::dropping::is_done;
-use super::limits::{joined, token};
+use super::lending::on_joined;
+use super::limits::token;
 use lifetime_core::Core;
 use sm_names::{Call, Limits, NodeKey};
 use std::alloc::Global;
@@ -32,20 +33,23 @@ fn family(core: &mut Core) -> Option<NodeKey> {
     }
 }
 
-// A new attached unit of so many bound nodes, its head last.
-fn unit(alloc: Global, core: &mut Core, root: NodeKey, nodes: u8) -> Option<Vec<NodeKey>> {
+// Adds the keys of a new attached unit of so many nodes, its head last.
+fn add_unit(core: &mut Core, keys: &mut Vec<NodeKey>, root: NodeKey, nodes: u8) -> Option<()> {
     let head = token(core, Call::AttachToken(root))?;
-    let mut keys = Vec::new(alloc);
     for _ in 1..nodes {
         keys.push(token(core, Call::Duplicate(head))?).ok()?;
     }
-    keys.push(head).ok()?;
-    for key in &keys {
+    keys.push(head).ok()
+}
+
+// Whether each of the nodes is bound.
+fn are_bound(core: &mut Core, keys: &[NodeKey]) -> bool {
+    for key in keys {
         if !is_done(core, Call::Bind(*key)) {
-            return None;
+            return false;
         }
     }
-    Some(keys)
+    true
 }
 
 // The call that spends the end at this place of so many.
@@ -68,13 +72,18 @@ fn leave(core: &mut Core, keys: &[NodeKey], leaving: Leaving) -> bool {
     keys.iter().all(|key| !core.is_live(*key))
 }
 
-// Whether units of so many nodes below the root come and go so, one after another.
+// Whether a unit of so many bound nodes below the root comes and goes so.
+fn one_leaves(alloc: Global, core: &mut Core, root: NodeKey, nodes: u8, leaving: Leaving) -> bool {
+    let mut keys = Vec::new(alloc);
+    add_unit(core, &mut keys, root, nodes).is_some()
+        && are_bound(core, &keys)
+        && leave(core, &keys, leaving)
+}
+
+// Whether such units come and go, one after another.
 fn each_leaves(alloc: Global, core: &mut Core, root: NodeKey, nodes: u8, leaving: Leaving) -> bool {
     for _ in 0..20 {
-        let Some(keys) = unit(alloc, core, root, nodes) else {
-            return false;
-        };
-        if !leave(core, &keys, leaving) {
+        if !one_leaves(alloc, core, root, nodes, leaving) {
             return false;
         }
     }
@@ -94,10 +103,11 @@ fn come_and_go(alloc: Global, nodes: u8, leaving: Leaving) -> bool {
     let Some(limits) = Limits::new(100_000, 1 + STAY + u32::from(nodes), 1, 1, 1) else {
         return false;
     };
-    match joined(alloc, limits) {
-        Some(mut core) => leave_beside(alloc, &mut core, nodes, leaving),
-        None => false,
-    }
+    on_joined(
+        alloc,
+        limits,
+        |core| leave_beside(alloc, core, nodes, leaving),
+    )
 }
 
 // Whether they do, be they few or many.

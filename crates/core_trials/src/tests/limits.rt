@@ -1,17 +1,8 @@
 //! As much is taken as may be, and no more.
+use super::lending::on_joined;
 use lifetime_core::Core;
 use sm_names::{Call, Limits, NodeKey, Refusal, Reply, StepFault};
 use std::alloc::Global;
-
-/// A core in which client 1 joined.
-pub fn joined(alloc: Global, limits: Limits) -> Option<Core> {
-    let mut core = Core::new(alloc, 16, limits).ok()?;
-    if core.step(0, Call::Join) == Ok(Reply::Joined(1)) {
-        Some(core)
-    } else {
-        None
-    }
-}
 
 /// The token that the call of client 1 makes.
 pub fn token(core: &mut Core, call: Call) -> Option<NodeKey> {
@@ -31,11 +22,12 @@ fn makes(core: &mut Core, call: &Call, count: usize, refusal: Refusal) -> bool {
     core.step(1, *call) == Ok(Reply::Refused(refusal))
 }
 
+fn has_collections(core: &mut Core) -> bool {
+    makes(core, &Call::OpenRoot, 256, Refusal::TooManyCollections)
+}
+
 fn collections_are_full(alloc: Global) -> bool {
-    match joined(alloc, Limits::full()) {
-        Some(mut core) => makes(&mut core, &Call::OpenRoot, 256, Refusal::TooManyCollections),
-        None => false,
-    }
+    on_joined(alloc, Limits::full(), has_collections)
 }
 
 fn has_children(core: &mut Core) -> bool {
@@ -46,10 +38,7 @@ fn has_children(core: &mut Core) -> bool {
 }
 
 fn nodes_are_full(alloc: Global) -> bool {
-    match joined(alloc, Limits::full()) {
-        Some(mut core) => has_children(&mut core),
-        None => false,
-    }
+    on_joined(alloc, Limits::full(), has_children)
 }
 
 // Whether a new child of the node gets 64 trackers.
@@ -78,10 +67,7 @@ fn has_trackers(core: &mut Core) -> bool {
 }
 
 fn trackers_are_full(alloc: Global) -> bool {
-    match joined(alloc, Limits::full()) {
-        Some(mut core) => has_trackers(&mut core),
-        None => false,
-    }
+    on_joined(alloc, Limits::full(), has_trackers)
 }
 
 // Whether the root that is opened next has a new key, and is closed.
@@ -93,24 +79,25 @@ fn opens_anew(core: &mut Core, seen: &mut Vec<NodeKey>) -> bool {
     is_new && seen.push(root).is_ok() && core.step(1, Call::Close(root)) == Ok(Reply::Done)
 }
 
-fn has_rounds(alloc: Global, core: &mut Core) -> bool {
-    let mut seen = Vec::new(alloc);
+fn each_is_anew(core: &mut Core, seen: &mut Vec<NodeKey>) -> bool {
     for _ in 0..3000 {
-        if !opens_anew(core, &mut seen) {
+        if !opens_anew(core, seen) {
             return false;
         }
     }
     true
 }
 
+fn has_rounds(alloc: Global, core: &mut Core) -> bool {
+    let mut seen = Vec::new(alloc);
+    each_is_anew(core, &mut seen)
+}
+
 fn keys_are_new(alloc: Global) -> bool {
     let Some(limits) = Limits::new(10_000, 2, 9, 9, 9) else {
         return false;
     };
-    match joined(alloc, limits) {
-        Some(mut core) => has_rounds(alloc, &mut core),
-        None => false,
-    }
+    on_joined(alloc, limits, |core| has_rounds(alloc, core))
 }
 
 // Whether calls run in order until one is not taken.
@@ -129,18 +116,18 @@ fn stops(alloc: Global, core: &mut Core) -> bool {
     }
 }
 
+// Whether no further call is taken, whoever makes it.
+fn is_full(alloc: Global, core: &mut Core) -> bool {
+    stops(alloc, core)
+        && core.step(1, Call::Shut) == Err(StepFault::HistoryFull)
+        && core.step(99, Call::Collect) == Err(StepFault::HistoryFull)
+}
+
 fn history_is_full(alloc: Global) -> bool {
     let Some(limits) = Limits::new(3, 9, 9, 9, 9) else {
         return false;
     };
-    match joined(alloc, limits) {
-        Some(mut core) => {
-            stops(alloc, &mut core)
-                && core.step(1, Call::Shut) == Err(StepFault::HistoryFull)
-                && core.step(99, Call::Collect) == Err(StepFault::HistoryFull)
-        }
-        None => false,
-    }
+    on_joined(alloc, limits, |core| is_full(alloc, core))
 }
 
 // Each once more where memory was refused.

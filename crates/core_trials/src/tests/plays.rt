@@ -12,6 +12,7 @@ use super::giving::{
 use super::holding::{
     LAST_OF_ALL, LAST_WEAK, ONE_COLLECTION, ONE_HANDLE, ONE_NODE, ONE_TRACKER, WEAK_HOLDERS,
 };
+use super::lending::on_player;
 use super::placing::{HOLES, RELEASED_PARENT, RELEASED_TREE, TWO_BUFFERS};
 use super::player::Player;
 use super::scripts::Script;
@@ -19,22 +20,56 @@ use super::views::{ends_so, is_over, looks_so, see_the_same};
 use sm_names::Limits;
 use std::alloc::Global;
 
+// Scripts that no test has alone.
+const TOLD: &[&Script] = &[
+    &TREE_LOSS,
+    &CLOSED_AFTER_A_LOSS,
+    &LOSS_PAST_A_RELEASED_PARENT,
+    &SECOND_CONSTRAINTS,
+    &TWO_BUFFERS,
+    &RELEASED_TREE,
+    &RELEASED_PARENT,
+    &ONE_TRACKER,
+    &ONE_HANDLE,
+    &ONE_COLLECTION,
+    &ONE_NODE,
+    &LOST_PARCEL,
+    &HANDLE_TO_A_SHUT_CLIENT,
+    &HANDLE_OF_ONE_THAT_VANISHES,
+    &REFUSALS,
+];
+
+// Scripts that are cut.
+const CUT: &[&Script] = &[
+    &NESTED_LOSS,
+    &FAILING_SUBTREES,
+    &ORPHAN_SHARE,
+    &WEAK_HOLDERS,
+    &LAST_WEAK,
+    &LAST_OF_ALL,
+    &HOLES,
+    &SHUT_RECEIVER,
+    &PARCEL,
+    &HANDLE_PARCEL,
+    &HANDLE_OF_ONE_THAT_VANISHES,
+];
+
 /// The limits that the script wants.
 pub fn limits_of(script: &Script) -> Option<Limits> {
     let [events, nodes, collections, trackers, handles] = script.limits;
     Limits::new(events, nodes, collections, trackers, handles)
 }
 
+// Whether the player sees what the other one sees once that made so many of the calls.
+fn is_like(player: &mut Player, other: &mut Player, rows: &[Row], made: usize) -> bool {
+    other.keeps_to(rows, made)
+        && player.core.events() == other.core.events()
+        && see_the_same(player, other)
+}
+
 // Whether the player sees what one sees that made so many of the calls.
 fn has_made(alloc: Global, limits: Limits, player: &mut Player, rows: &[Row], made: usize) -> bool {
-    match Player::new(alloc, limits) {
-        Some(mut other) => {
-            other.keeps_to(rows, made)
-                && player.core.events() == other.core.events()
-                && see_the_same(player, &mut other)
-        }
-        None => false,
-    }
+    on_player(alloc, limits, |other| is_like(player, other, rows, made))
 }
 
 // Whether the next call is answered as the row says. Where memory is refused, nothing is changed and
@@ -66,23 +101,23 @@ fn plays(alloc: Global, limits: Limits, player: &mut Player, script: &Script) ->
 // What came of the script: whether memory was refused, where all is as the script says.
 fn outcome(alloc: Global, script: &Script) -> Option<bool> {
     let limits = limits_of(script)?;
-    match Player::new(alloc, limits) {
-        Some(mut player) => {
-            let is_so = plays(alloc, limits, &mut player, script);
-            is_so.then_some(player.refused)
-        }
-        None => None,
-    }
+    let mut refused = false;
+    let is_so = on_player(alloc, limits, |player| {
+        let is_so = plays(alloc, limits, player, script);
+        refused = player.refused;
+        is_so
+    });
+    is_so.then_some(refused)
+}
+
+// Whether the player makes so many calls, and then all clients vanish cleanly.
+fn vanish_after(player: &mut Player, script: &Script, count: usize) -> bool {
+    player.keeps_to(script.rows, count) && player.all_vanish() && is_over(player)
 }
 
 // Whether all clients vanish cleanly after so many calls.
 fn is_cut(alloc: Global, limits: Limits, script: &Script, count: usize) -> bool {
-    match Player::new(alloc, limits) {
-        Some(mut player) => {
-            player.keeps_to(script.rows, count) && player.all_vanish() && is_over(&mut player)
-        }
-        None => false,
-    }
+    on_player(alloc, limits, |player| vanish_after(player, script, count))
 }
 
 // Whether all clients vanish cleanly wherever the script is cut.
@@ -159,44 +194,14 @@ fn a_handle_in_a_parcel_is_nobodys(rt: HostRuntime) {
 
 #[test]
 fn scripts_are_answered_as_they_say(rt: HostRuntime) {
-    let scripts = [
-        TREE_LOSS,
-        CLOSED_AFTER_A_LOSS,
-        LOSS_PAST_A_RELEASED_PARENT,
-        SECOND_CONSTRAINTS,
-        TWO_BUFFERS,
-        RELEASED_TREE,
-        RELEASED_PARENT,
-        ONE_TRACKER,
-        ONE_HANDLE,
-        ONE_COLLECTION,
-        ONE_NODE,
-        LOST_PARCEL,
-        HANDLE_TO_A_SHUT_CLIENT,
-        HANDLE_OF_ONE_THAT_VANISHES,
-        REFUSALS,
-    ];
-    for (place, script) in scripts.iter().enumerate() {
+    for (place, script) in TOLD.iter().enumerate() {
         assert!(rt; outcome(rt.alloc(), script).is_some(), "script {place}");
     }
 }
 
 #[test]
 fn clients_vanish_cleanly_after_any_call(rt: HostRuntime) {
-    let scripts = [
-        NESTED_LOSS,
-        FAILING_SUBTREES,
-        ORPHAN_SHARE,
-        WEAK_HOLDERS,
-        LAST_WEAK,
-        LAST_OF_ALL,
-        HOLES,
-        SHUT_RECEIVER,
-        PARCEL,
-        HANDLE_PARCEL,
-        HANDLE_OF_ONE_THAT_VANISHES,
-    ];
-    for (place, script) in scripts.iter().enumerate() {
+    for (place, script) in CUT.iter().enumerate() {
         // Once more where memory was refused.
         let is_clean = is_cut_anywhere(rt.alloc(), script) || is_cut_anywhere(rt.alloc(), script);
         assert!(rt; is_clean, "script {place}");

@@ -3,6 +3,7 @@
 use super::failing::{FAILING_SUBTREES, NESTED_LOSS};
 use super::giving::{HANDLE_PARCEL, PARCEL};
 use super::holding::WEAK_HOLDERS;
+use super::lending::{on_core, on_player};
 use super::log::Log;
 use super::player::Player;
 use super::plays::limits_of;
@@ -11,12 +12,32 @@ use lifetime_core::Core;
 use sm_names::{Call, ClientId, Limits, Reply};
 use std::alloc::Global;
 
+// Scripts that are run.
+const RUN: &[&Script] = &[
+    &NESTED_LOSS,
+    &FAILING_SUBTREES,
+    &WEAK_HOLDERS,
+    &PARCEL,
+    &HANDLE_PARCEL,
+];
+
+fn none_is_live(core: &Core) -> bool {
+    match core.live() {
+        Ok(live) => live.is_empty(),
+        Err(_) => false,
+    }
+}
+
+fn none_is_held(core: &Core) -> bool {
+    match core.held() {
+        Ok(held) => held.is_empty(),
+        Err(_) => false,
+    }
+}
+
 // Whether nothing is live and nothing held.
 fn is_empty(core: &Core) -> bool {
-    let (Ok(live), Ok(held)) = (core.live(), core.held()) else {
-        return false;
-    };
-    live.is_empty() && held.is_empty() && core.free_pages() == 16
+    none_is_live(core) && none_is_held(core) && core.free_pages() == 16
 }
 
 // Whether the readers of the trackers that the replies tell of are taken once, and no others.
@@ -38,32 +59,42 @@ fn answers(alloc: Global, core: &mut Core, calls: &[(ClientId, Call)], replies: 
     }
 }
 
-// Whether a new core that runs the first calls, and then the others, answers as they were answered.
-fn runs_so(alloc: Global, limits: Limits, log: &Log, count: usize) -> bool {
+// Whether the core that runs the first calls, and then the others, answers as they were answered.
+fn runs_in_two(alloc: Global, core: &mut Core, log: &Log, count: usize) -> bool {
     let (calls, replies) = (log.calls.as_slice(), log.replies.as_slice());
     let cut = count.min(calls.len()).min(replies.len());
-    match Core::new(alloc, 16, limits) {
-        Ok(mut core) => {
-            answers(alloc, &mut core, &calls[..cut], &replies[..cut])
-                && answers(alloc, &mut core, &calls[cut..], &replies[cut..])
-                && is_empty(&core)
-                && are_taken_once(&mut core, replies)
-        }
-        Err(_) => false,
-    }
+    answers(alloc, core, &calls[..cut], &replies[..cut])
+        && answers(alloc, core, &calls[cut..], &replies[cut..])
+        && is_empty(core)
+        && are_taken_once(core, replies)
 }
 
-// Whether so many calls of the script, one by one, and those of its clients that then vanish, are
-// answered alike by runs.
+// Whether a new core does so.
+fn runs_so(alloc: Global, limits: Limits, log: &Log, count: usize) -> bool {
+    on_core(alloc, limits, |core| runs_in_two(alloc, core, log, count))
+}
+
+// Whether so many calls of the script, one by one, and those of the player's clients that then vanish,
+// are answered alike by runs.
+fn runs_alike(
+    alloc: Global,
+    limits: Limits,
+    player: &mut Player,
+    script: &Script,
+    count: usize,
+) -> bool {
+    player.keeps_to(script.rows, count)
+        && player.all_vanish()
+        && runs_so(alloc, limits, &player.log, count)
+}
+
+// Whether that is so for a new player.
 fn runs_when_cut(alloc: Global, limits: Limits, script: &Script, count: usize) -> bool {
-    match Player::new(alloc, limits) {
-        Some(mut player) => {
-            player.keeps_to(script.rows, count)
-                && player.all_vanish()
-                && runs_so(alloc, limits, &player.log, count)
-        }
-        None => false,
-    }
+    on_player(
+        alloc,
+        limits,
+        |player| runs_alike(alloc, limits, player, script, count),
+    )
 }
 
 // Whether all is so wherever the script is cut.
@@ -81,14 +112,7 @@ fn runs_to_its_end(alloc: Global, script: &Script) -> bool {
 
 #[test]
 fn a_run_answers_as_its_steps(rt: HostRuntime) {
-    let scripts = [
-        NESTED_LOSS,
-        FAILING_SUBTREES,
-        WEAK_HOLDERS,
-        PARCEL,
-        HANDLE_PARCEL,
-    ];
-    for (place, script) in scripts.iter().enumerate() {
+    for (place, script) in RUN.iter().enumerate() {
         // Once more where memory was refused.
         let is_so = runs_to_its_end(rt.alloc(), script) || runs_to_its_end(rt.alloc(), script);
         assert!(rt; is_so, "script {place}");

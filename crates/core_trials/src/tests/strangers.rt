@@ -1,5 +1,6 @@
 //! Forged keys, names of no handle, and callers who never joined: all is refused, and nothing changes.
 use super::acts::{Act, Deed, Row, Said};
+use super::lending::{on_core, on_player};
 use super::player::Player;
 use super::scripts::{DONE, ONE_PAGE, STRONG, WEAK};
 use super::views::see_the_same;
@@ -71,98 +72,107 @@ const TO_NOBODY: &[Act] = &[
     Act::GiveHandle(0, 63, STRONG, 99),
 ];
 
-// A player, and one who makes no further call.
-#[derive(Drop)]
-struct Pair {
-    player: Player,
-    idle: Player,
+// Whether all goes well for a player with those calls behind it.
+fn on_begun<F: FnOnce(&mut Player) -> bool>(alloc: Global, play: F) -> bool
+    requires { F.IsAlwaysCallable play }
+{
+    on_player(alloc, Limits::full(), |player| {
+        player.keeps_to(BEFORE, BEFORE.len()) && play(player)
+    })
 }
 
-fn begun(alloc: Global) -> Option<Player> {
-    let mut player = Player::new(alloc, Limits::full())?;
-    if player.keeps_to(BEFORE, BEFORE.len()) {
-        Some(player)
-    } else {
-        None
-    }
+// The same for two of them.
+fn on_two<F: FnOnce(&mut Player, &mut Player) -> bool>(alloc: Global, play: F) -> bool
+    requires { F.IsAlwaysCallable play }
+{
+    on_begun(alloc, |player| on_begun(alloc, |idle| play(player, idle)))
 }
 
-fn two_players(alloc: Global) -> Option<Pair> {
-    let player = begun(alloc)?;
-    let idle = begun(alloc)?;
-    Some(Pair { player, idle })
+// Whether the client is so refused, and nothing changes, as one sees who makes no further call.
+fn is_refused(
+    player: &mut Player,
+    idle: &mut Player,
+    client: ClientId,
+    act: Act,
+    refusal: Refusal,
+) -> bool {
+    player.answer(client, act) == Some(Said::Just(Reply::Refused(refusal)))
+        && see_the_same(player, idle)
 }
 
-impl Pair {
-    // Whether the client is so refused, and nothing changes.
-    fn is_refused(&mut self, client: ClientId, act: Act, refusal: Refusal) -> bool {
-        self.player.answer(client, act) == Some(Said::Just(Reply::Refused(refusal)))
-            && see_the_same(&mut self.player, &mut self.idle)
-    }
-
-    // Whether each of the calls is so refused.
-    fn are_refused(&mut self, client: ClientId, acts: &[Act], refusal: Refusal) -> bool {
-        for act in acts {
-            if !self.is_refused(client, *act, refusal) {
-                return false;
-            }
+// Whether each of the calls is so refused.
+fn are_refused(
+    player: &mut Player,
+    idle: &mut Player,
+    client: ClientId,
+    acts: &[Act],
+    refusal: Refusal,
+) -> bool {
+    for act in acts {
+        if !is_refused(player, idle, client, *act, refusal) {
+            return false;
         }
-        true
     }
+    true
+}
 
-    // Whether all that may be asked of the node is so refused.
-    fn is_out_of_reach(&mut self, client: ClientId, number: u64, refusal: Refusal) -> bool {
-        for deed in DEEDS {
-            if !self.is_refused(client, Act::On(number, *deed), refusal) {
-                return false;
-            }
+// Whether all that may be asked of the node is so refused.
+fn is_out_of_reach(
+    player: &mut Player,
+    idle: &mut Player,
+    client: ClientId,
+    number: u64,
+    refusal: Refusal,
+) -> bool {
+    for deed in DEEDS {
+        if !is_refused(player, idle, client, Act::On(number, *deed), refusal) {
+            return false;
         }
-        true
     }
+    true
+}
 
-    // Keys of no node, of spent ends, and of ends of another.
-    fn has_no_end_of_1(&mut self) -> bool {
-        for number in [0, 3, 6, 9, 10] {
-            if !self.is_out_of_reach(1, number, Refusal::NoSuchEnd) {
-                return false;
-            }
+// Keys of no node, of spent ends, and of ends of another.
+fn has_no_end_of_1(player: &mut Player, idle: &mut Player) -> bool {
+    for number in [0, 3, 6, 9, 10] {
+        if !is_out_of_reach(player, idle, 1, number, Refusal::NoSuchEnd) {
+            return false;
         }
-        true
     }
+    true
+}
 
-    // Whether the caller is nobody, whatever is asked.
-    fn is_nobody(&mut self, client: ClientId) -> bool {
-        self.are_refused(client, OTHERS, Refusal::NoSuchClient)
-            && self.are_refused(client, HANDLES, Refusal::NoSuchClient)
-            && self.is_out_of_reach(client, 4, Refusal::NoSuchClient)
-    }
+// Whether client 1 has none of the handles.
+fn has_no_handle(player: &mut Player, idle: &mut Player) -> bool {
+    are_refused(player, idle, 1, HANDLES, Refusal::NoSuchHandle)
+}
+
+// Whether the caller is nobody, whatever is asked.
+fn is_nobody(player: &mut Player, idle: &mut Player, client: ClientId) -> bool {
+    are_refused(player, idle, client, OTHERS, Refusal::NoSuchClient)
+        && are_refused(player, idle, client, HANDLES, Refusal::NoSuchClient)
+        && is_out_of_reach(player, idle, client, 4, Refusal::NoSuchClient)
+}
+
+// Whether those who never joined are nobody, and nothing is given to them.
+fn are_nobody(player: &mut Player, idle: &mut Player) -> bool {
+    is_nobody(player, idle, 0)
+        && is_nobody(player, idle, 99)
+        && is_refused(player, idle, 99, Act::Join, Refusal::NoSuchClient)
+        && is_refused(player, idle, 1, Act::Join, Refusal::NoSuchClient)
+        && are_refused(player, idle, 1, TO_NOBODY, Refusal::NoSuchClient)
 }
 
 fn keys_are_refused(alloc: Global) -> bool {
-    match two_players(alloc) {
-        Some(mut pair) => pair.has_no_end_of_1(),
-        None => false,
-    }
+    on_two(alloc, has_no_end_of_1)
 }
 
 fn handles_are_refused(alloc: Global) -> bool {
-    match two_players(alloc) {
-        Some(mut pair) => pair.are_refused(1, HANDLES, Refusal::NoSuchHandle),
-        None => false,
-    }
+    on_two(alloc, has_no_handle)
 }
 
 fn clients_are_refused(alloc: Global) -> bool {
-    match two_players(alloc) {
-        Some(mut pair) => {
-            pair.is_nobody(0)
-                && pair.is_nobody(99)
-                && pair.is_refused(99, Act::Join, Refusal::NoSuchClient)
-                && pair.is_refused(1, Act::Join, Refusal::NoSuchClient)
-                && pair.are_refused(1, TO_NOBODY, Refusal::NoSuchClient)
-        }
-        None => false,
-    }
+    on_two(alloc, are_nobody)
 }
 
 // On a core that has seen nothing there is no client, and each refusal is an event.
@@ -176,10 +186,7 @@ fn knows_nobody(core: &mut Core) -> bool {
 }
 
 fn nobody_has_joined(alloc: Global) -> bool {
-    match Core::new(alloc, 16, Limits::full()) {
-        Ok(mut core) => knows_nobody(&mut core),
-        Err(_) => false,
-    }
+    on_core(alloc, Limits::full(), knows_nobody)
 }
 
 // Each once more where memory was refused.

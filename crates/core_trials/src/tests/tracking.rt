@@ -1,5 +1,6 @@
 //! Trackers that are taken before and after they fire.
 use super::acts::{Act, Deed, Row, Said};
+use super::lending::on_player;
 use super::player::Player;
 use super::scripts::DONE;
 use lifetime_core::Core;
@@ -67,7 +68,7 @@ fn is_taken_fired(core: &mut Core, fired: Fired) -> bool {
 }
 
 // Whether a tracker that was taken before it fires fires with the next calls.
-fn fires(player: &mut Player, mut early: Tracker) -> bool {
+fn fires(player: &mut Player, early: &mut Tracker) -> bool {
     let was_quiet = early.poll().is_none();
     was_quiet
         && player.keeps_to(CLOSED, CLOSED.len())
@@ -82,20 +83,20 @@ fn fires(player: &mut Player, mut early: Tracker) -> bool {
 // Whether the one that is taken before it fires is there.
 fn fires_later(player: &mut Player) -> bool {
     match player.core.take_tracker(5) {
-        Some(early) => fires(player, early),
+        Some(mut early) => fires(player, &mut early),
         None => false,
     }
 }
 
+// Whether trackers are taken once, and tell of their firings.
+fn tells(player: &mut Player) -> bool {
+    player.keeps_to(TRACKED, TRACKED.len())
+        && are_taken(&mut player.core, &[0, 2, 7, 99])
+        && fires_later(player)
+}
+
 fn trackers_fire(alloc: Global) -> bool {
-    match Player::new(alloc, Limits::full()) {
-        Some(mut player) => {
-            player.keeps_to(TRACKED, TRACKED.len())
-                && are_taken(&mut player.core, &[0, 2, 7, 99])
-                && fires_later(&mut player)
-        }
-        None => false,
-    }
+    on_player(alloc, Limits::full(), tells)
 }
 
 #[test]
