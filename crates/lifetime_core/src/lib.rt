@@ -9,6 +9,7 @@ pub mod laws;
 pub mod machine;
 mod opening;
 mod order;
+mod reading;
 mod sight;
 mod sweeping;
 mod table;

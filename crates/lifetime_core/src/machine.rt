@@ -1,5 +1,5 @@
 //! Every call on one state.
-ghost use Rattle.std.specs.Prelude.{◌≡◌, ◌+◌, ◌<◌, ◌≤◌, ◌↔◌, ◌∷◌, ◌++◌, ◌==◌, ◌&&◌, not, nat_le};
+ghost use Rattle.std.specs.Prelude.{◌≡◌, ◌+◌, ◌<◌, ◌≤◌, ◌↔◌, ◌∷◌, ◌++◌, ◌==◌, nat_le};
 ghost use Rattle.std.specs.Prelude.{[], List, length, slice_get, option_map, if◌then◌else◌, IfOk, IfErr, IfSome};
 ghost use Rattle.std.specs.Prelude.{AllPairs, OnErr, false, true, None, is_some, option_copied};
 ghost use Rattle.sm_names.specs.declared.outcomes.Fault.{Fault};
@@ -19,30 +19,30 @@ ghost use Rattle.std.specs.List.{cons_option, list_any};
 ghost use Rattle.std.specs.Option.{option_and_then, option_map_or};
 ghost use Rattle.trackers.specs.Table.{empty, is_untaken, reader_of, cell_of, without};
 ghost use Rattle.sm_names.specs.declared.keys.HeldBuffer.{HeldBuffer as Held};
-ghost use Rattle.alloc_event.specs.declared.node.Node.{Node as Kept};
 ghost use Rattle.alloc_event.specs.Forest.{empty_forest, node_count, live_keys, node_at, held_by_page};
 ghost use Rattle.alloc_event.specs.Forest.{Collection as Shelved, collection_at};
 ghost use Rattle.alloc_event.specs.Nodes.{is_spent, members_of};
 ghost use Rattle.alloc_event.specs.Settling.{no_key};
 ghost use Rattle.buffer_holds.specs.Counts.{total};
 ghost use Rattle.lifetime_core.specs.Kinds.{fits_call};
-ghost use Rattle.lifetime_core.specs.Reads.{buffers_in, end_in, open_end_in, open_end_of};
+ghost use Rattle.lifetime_core.specs.Reads.{buffers_in, end_in, open_end_of};
 ghost use Rattle.lifetime_core.specs.Reads.{readings_of};
 ghost use Rattle.lifetime_core.specs.Reads.{is_live_in, fault_in, views_of};
 ghost use Rattle.lifetime_core.specs.Shown.{Shows};
 ghost use Rattle.lifetime_core.specs.Steps.{Follows};
-ghost use Rattle.lifetime_core.specs.State.{IsSame, State};
+ghost use Rattle.lifetime_core.specs.State.{IsSame};
 ghost use Rattle.lifetime_core.specs.Theorem.{GoesOn, Leads, Stepped, Stops, entries};
 ghost use Rattle.lifetime_core.specs.Theorem.{tracker_told, trackers_told};
 
 use crate::by_kind::take_by_kind;
 use crate::clients::{count_waiting, first_waiting, has_joined, is_shut};
 use crate::event::{Contents, changes_nothing, take_effect};
+use crate::reading::{cause, is_live, with_end};
 use crate::sweeping::{place_to_sweep, sweep, tracking_of};
 use crate::table::{answer, with_key};
 use crate::task::{carried_end, changed_by, put_end, task_of};
 use crate::traits::{key_of, traits_of};
-use alloc_event::{End, Forest, Node};
+use alloc_event::{Forest, Node};
 use buffer_holds::{Holds, Spot};
 use buffer_pool::Pool;
 use sm_names::{
@@ -85,45 +85,6 @@ impl Model for Core {
     ghost invariant = { λ c. IsWhole c.contents.pool c.limits c.events
         c.contents.clients.items c.contents.forest c.contents.holds
         c.contents.trackers };
-}
-
-// Whether the node is there and live.
-fn is_live(node: Option<&Node>) -> bool
-    ensures { result
-        ≡ option_map_or (λ (n : Kept). not n.gone && not n.released) (option_copied node.entry) false }
-{
-    match node {
-        Some(node) => !node.gone && !node.released,
-        None => false,
-    }
-}
-
-// The node, unless its end is spent.
-#[inline(always)]
-fn with_end(node: Option<&Node>) -> Option<&Node>
-    ensures value { (s : State) → option_map (open_end_of s) (option_copied result)
-        ≡ option_and_then (open_end_in s) (option_copied node.entry) }
-    ensures unspent { IfSome result (λ n. is_spent n.now.end ≡ false) }
-{
-    let node = node?;
-    match node.end {
-        End::Spent => None,
-        _ => Some(node),
-    }
-}
-
-// Why and where the node failed, if it is there and failed.
-fn cause(node: Option<&Node>) -> Option<(Cause, NodeKey)>
-    ensures { result ≡ option_map (λ (f : Fault). (f.cause, f.origin))
-        (option_map_or (λ (n : Kept). n.fault) (option_copied node.entry) None) }
-{
-    match node {
-        Some(node) => match node.fault {
-            Some(fault) => Some((fault.cause, fault.origin)),
-            None => None,
-        },
-        None => None,
-    }
 }
 
 // Stands for the key of a new node until it has one.
