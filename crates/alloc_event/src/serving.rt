@@ -6,6 +6,8 @@ ghost use Rattle.sm_names.specs.Demands.{Demand};
 ghost use Rattle.sm_names.specs.Members.{greatest};
 ghost use Rattle.sm_names.specs.declared.keys.NodeKey.{NodeKey as Key};
 ghost use Rattle.buffer_holds.specs.Counts.{total};
+ghost use Rattle.node_table.specs.Changes.{Writes};
+ghost use Rattle.node_table.specs.Lending.{table_with_node};
 ghost use Rattle.node_table.specs.Table.{node_at, row_at};
 ghost use Rattle.alloc_event.specs.declared.change.Change.{Change as Changed};
 ghost use Rattle.alloc_event.specs.declared.node.Node.{Node as Kept};
@@ -293,6 +295,16 @@ fn give(table: &mut NodeTable<Node>, keys: &[NodeKey], heads: &[NodeKey])
     }
 }
 
+/// The node with this key has its unit's buffers then.
+fn mark_given(table: &mut NodeTable<Node>, key: NodeKey)
+    ensures becomes { (n : Kept) → node_at table.old key ≡ Some n → table.new ≡ table_with_node table.old key (record n { allocated = true }) }
+    ensures writes { (n : Kept) → node_at table.old key ≡ Some n → Writes table.old table.new key (record n { allocated = true }) }
+{
+    if let Some(node) = table.get_mut(key) {
+        node.allocated = true;
+    }
+}
+
 /// The node with this key has its unit's buffers then, if it is of one of these units.
 fn give_at(table: &mut NodeTable<Node>, key: NodeKey, heads: &[NodeKey])
     requires sorted { IsSorted key_order heads.now }
@@ -302,12 +314,9 @@ fn give_at(table: &mut NodeTable<Node>, key: NodeKey, heads: &[NodeKey])
     let Some(node) = table.get(key) else {
         return;
     };
-    if !is_one_of(heads, node.head) {
-        return;
+    if is_one_of(heads, node.head) {
+        mark_given(table, key);
     }
-    let mut given = *node;
-    given.allocated = true;
-    write(table, given);
 }
 
 /// The node once the units with these heads, which stand in order, are allocated.

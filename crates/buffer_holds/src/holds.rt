@@ -153,6 +153,7 @@ impl Holds {
     /// Whether nothing strong keeps this buffer of an allocated collection any longer: neither an
     /// open handle, be it in a parcel, nor a live node (`fuchsia.sysmem2.Node.SetWeak`).
     /// `strong_live` says whether a strong node of its collection is live. One look-up.
+    #[inline(always)]
     pub fn doomed(&self, buffer: BufferName, strong_live: bool) -> bool
         ensures { result ≡ is_doomed (total self.now buffer Strength.Strong) strong_live }
     {
@@ -161,6 +162,7 @@ impl Holds {
 
     /// Whether nothing at all keeps this buffer of an allocated collection, so that its pages go
     /// back: it is doomed, and no weak handle is open, in a parcel or out of it. Two look-ups.
+    #[inline(always)]
     pub fn home(&self, buffer: BufferName, strong_live: bool) -> bool
         ensures { result ≡ is_home (total self.now buffer Strength.Strong)
             (total self.now buffer Strength.Weak) strong_live }
