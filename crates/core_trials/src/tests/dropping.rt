@@ -1,6 +1,6 @@
 //! Handles that are dropped while the lifetimes of a thousand nodes are waited for.
-use super::lending::on_joined;
-use super::limits::token;
+use super::lending::on_core;
+use super::limits::{joins, token};
 use lifetime_core::Core;
 use sm_names::{BufferName, Call, Constraints, Limits, NodeKey, Reply, Strength};
 use std::alloc::Global;
@@ -110,7 +110,8 @@ fn have_all_fired(core: &Core) -> bool {
 }
 
 fn drops(core: &mut Core) -> bool {
-    has_one_handle(core)
+    joins(core)
+        && has_one_handle(core)
         && stays_quiet(core)
         && is_kept_by_a_parcel(core)
         && is_done(core, DROP)
@@ -118,7 +119,7 @@ fn drops(core: &mut Core) -> bool {
 }
 
 fn fires_at_the_last_drop(alloc: Global) -> bool {
-    on_joined(alloc, Limits::full(), drops)
+    on_core(alloc, Limits::full(), drops)
 }
 
 #[test]

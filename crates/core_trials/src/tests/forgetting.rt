@@ -1,7 +1,7 @@
 //! Nodes that go together leave no room taken, however many they are and however many stay.
 use super::dropping::is_done;
-use super::lending::on_joined;
-use super::limits::token;
+use super::lending::on_core;
+use super::limits::{first_root, token};
 use lifetime_core::Core;
 use sm_names::{Call, Limits, NodeKey};
 use std::alloc::Global;
@@ -20,9 +20,9 @@ enum Leaving {
     Closed,
 }
 
-// The root of a collection with so many children, bound.
+// The root of the first collection, with so many children, bound.
 fn family(core: &mut Core) -> Option<NodeKey> {
-    let root = token(core, Call::OpenRoot)?;
+    let root = first_root(core)?;
     for _ in 0..STAY {
         token(core, Call::Duplicate(root))?;
     }
@@ -33,23 +33,20 @@ fn family(core: &mut Core) -> Option<NodeKey> {
     }
 }
 
-// Adds the keys of a new attached unit of so many nodes, its head last.
-fn add_unit(core: &mut Core, keys: &mut Vec<NodeKey>, root: NodeKey, nodes: u8) -> Option<()> {
+// A new attached unit of so many bound nodes, its head last.
+fn unit(alloc: Global, core: &mut Core, root: NodeKey, nodes: u8) -> Option<Vec<NodeKey>> {
     let head = token(core, Call::AttachToken(root))?;
+    let mut keys = Vec::new(alloc);
     for _ in 1..nodes {
         keys.push(token(core, Call::Duplicate(head))?).ok()?;
     }
-    keys.push(head).ok()
-}
-
-// Whether each of the nodes is bound.
-fn are_bound(core: &mut Core, keys: &[NodeKey]) -> bool {
-    for key in keys {
+    keys.push(head).ok()?;
+    for key in &keys {
         if !is_done(core, Call::Bind(*key)) {
-            return false;
+            return None;
         }
     }
-    true
+    Some(keys)
 }
 
 // The call that spends the end at this place of so many.
@@ -69,21 +66,21 @@ fn leave(core: &mut Core, keys: &[NodeKey], leaving: Leaving) -> bool {
             return false;
         }
     }
-    keys.iter().all(|key| !core.is_live(*key))
+    for key in keys {
+        if core.is_live(*key) {
+            return false;
+        }
+    }
+    true
 }
 
-// Whether a unit of so many bound nodes below the root comes and goes so.
-fn one_leaves(alloc: Global, core: &mut Core, root: NodeKey, nodes: u8, leaving: Leaving) -> bool {
-    let mut keys = Vec::new(alloc);
-    add_unit(core, &mut keys, root, nodes).is_some()
-        && are_bound(core, &keys)
-        && leave(core, &keys, leaving)
-}
-
-// Whether such units come and go, one after another.
+// Whether units of so many nodes below the root come and go so, one after another.
 fn each_leaves(alloc: Global, core: &mut Core, root: NodeKey, nodes: u8, leaving: Leaving) -> bool {
     for _ in 0..20 {
-        if !one_leaves(alloc, core, root, nodes, leaving) {
+        let Some(keys) = unit(alloc, core, root, nodes) else {
+            return false;
+        };
+        if !leave(core, &keys, leaving) {
             return false;
         }
     }
@@ -103,7 +100,7 @@ fn come_and_go(alloc: Global, nodes: u8, leaving: Leaving) -> bool {
     let Some(limits) = Limits::new(100_000, 1 + STAY + u32::from(nodes), 1, 1, 1) else {
         return false;
     };
-    on_joined(
+    on_core(
         alloc,
         limits,
         |core| leave_beside(alloc, core, nodes, leaving),
@@ -112,9 +109,12 @@ fn come_and_go(alloc: Global, nodes: u8, leaving: Leaving) -> bool {
 
 // Whether they do, be they few or many.
 fn all_come_and_go(alloc: Global, leaving: Leaving) -> bool {
-    [1, 2, 3, 64, 65, 200]
-        .iter()
-        .all(|nodes| come_and_go(alloc, *nodes, leaving))
+    for nodes in [1, 2, 3, 64, 65, 200] {
+        if !come_and_go(alloc, nodes, leaving) {
+            return false;
+        }
+    }
+    true
 }
 
 #[test]

@@ -2,11 +2,11 @@
 //! owner the check shows its drop.
 use super::player::Player;
 use lifetime_core::Core;
-use sm_names::{Call, Limits, Reply};
+use sm_names::Limits;
 use std::alloc::Global;
 
-/// Whether all goes well on a core of 16 pages that has seen nothing. Not so where memory for it is
-/// refused.
+/// Whether all goes well on a core of 16 pages that has seen nothing. It does not where memory for
+/// the core is refused.
 pub fn on_core<F: FnOnce(&mut Core) -> bool>(alloc: Global, limits: Limits, play: F) -> bool
     requires { F.IsAlwaysCallable play }
 {
@@ -14,18 +14,6 @@ pub fn on_core<F: FnOnce(&mut Core) -> bool>(alloc: Global, limits: Limits, play
         Ok(mut core) => play(&mut core),
         Err(_) => false,
     }
-}
-
-// Whether the first client joins.
-fn is_joined(core: &mut Core) -> bool {
-    core.step(0, Call::Join) == Ok(Reply::Joined(1))
-}
-
-/// The same on a core in which client 1 joined.
-pub fn on_joined<F: FnOnce(&mut Core) -> bool>(alloc: Global, limits: Limits, play: F) -> bool
-    requires { F.IsAlwaysCallable play }
-{
-    on_core(alloc, limits, |core| is_joined(core) && play(core))
 }
 
 /// The same for a player of a core that has seen nothing.

@@ -1,14 +1,28 @@
 //! As much is taken as may be, and no more.
-use super::lending::on_joined;
+use super::lending::on_core;
 use lifetime_core::Core;
 use sm_names::{Call, Limits, NodeKey, Refusal, Reply, StepFault};
 use std::alloc::Global;
+
+/// Whether the first client joins.
+pub fn joins(core: &mut Core) -> bool {
+    core.step(0, Call::Join) == Ok(Reply::Joined(1))
+}
 
 /// The token that the call of client 1 makes.
 pub fn token(core: &mut Core, call: Call) -> Option<NodeKey> {
     match core.step(1, call) {
         Ok(Reply::Token { key, .. }) => Some(key),
         _ => None,
+    }
+}
+
+/// The root that client 1 opens once it has joined.
+pub fn first_root(core: &mut Core) -> Option<NodeKey> {
+    if joins(core) {
+        token(core, Call::OpenRoot)
+    } else {
+        None
     }
 }
 
@@ -23,22 +37,22 @@ fn makes(core: &mut Core, call: &Call, count: usize, refusal: Refusal) -> bool {
 }
 
 fn has_collections(core: &mut Core) -> bool {
-    makes(core, &Call::OpenRoot, 256, Refusal::TooManyCollections)
+    joins(core) && makes(core, &Call::OpenRoot, 256, Refusal::TooManyCollections)
 }
 
 fn collections_are_full(alloc: Global) -> bool {
-    on_joined(alloc, Limits::full(), has_collections)
+    on_core(alloc, Limits::full(), has_collections)
 }
 
 fn has_children(core: &mut Core) -> bool {
-    match token(core, Call::OpenRoot) {
+    match first_root(core) {
         Some(root) => makes(core, &Call::Duplicate(root), 1023, Refusal::TooManyNodes),
         None => false,
     }
 }
 
 fn nodes_are_full(alloc: Global) -> bool {
-    on_joined(alloc, Limits::full(), has_children)
+    on_core(alloc, Limits::full(), has_children)
 }
 
 // Whether a new child of the node gets 64 trackers.
@@ -55,7 +69,7 @@ fn tracks_child(core: &mut Core, parent: NodeKey) -> bool {
 }
 
 fn has_trackers(core: &mut Core) -> bool {
-    let Some(root) = token(core, Call::OpenRoot) else {
+    let Some(root) = first_root(core) else {
         return false;
     };
     for _ in 0..64 {
@@ -67,7 +81,7 @@ fn has_trackers(core: &mut Core) -> bool {
 }
 
 fn trackers_are_full(alloc: Global) -> bool {
-    on_joined(alloc, Limits::full(), has_trackers)
+    on_core(alloc, Limits::full(), has_trackers)
 }
 
 // Whether the root that is opened next has a new key, and is closed.
@@ -79,25 +93,21 @@ fn opens_anew(core: &mut Core, seen: &mut Vec<NodeKey>) -> bool {
     is_new && seen.push(root).is_ok() && core.step(1, Call::Close(root)) == Ok(Reply::Done)
 }
 
-fn each_is_anew(core: &mut Core, seen: &mut Vec<NodeKey>) -> bool {
+fn has_rounds(alloc: Global, core: &mut Core) -> bool {
+    let mut seen = Vec::new(alloc);
     for _ in 0..3000 {
-        if !opens_anew(core, seen) {
+        if !opens_anew(core, &mut seen) {
             return false;
         }
     }
     true
 }
 
-fn has_rounds(alloc: Global, core: &mut Core) -> bool {
-    let mut seen = Vec::new(alloc);
-    each_is_anew(core, &mut seen)
-}
-
 fn keys_are_new(alloc: Global) -> bool {
     let Some(limits) = Limits::new(10_000, 2, 9, 9, 9) else {
         return false;
     };
-    on_joined(alloc, limits, |core| has_rounds(alloc, core))
+    on_core(alloc, limits, |core| joins(core) && has_rounds(alloc, core))
 }
 
 // Whether calls run in order until one is not taken.
@@ -116,18 +126,16 @@ fn stops(alloc: Global, core: &mut Core) -> bool {
     }
 }
 
-// Whether no further call is taken, whoever makes it.
-fn is_full(alloc: Global, core: &mut Core) -> bool {
-    stops(alloc, core)
-        && core.step(1, Call::Shut) == Err(StepFault::HistoryFull)
-        && core.step(99, Call::Collect) == Err(StepFault::HistoryFull)
-}
-
 fn history_is_full(alloc: Global) -> bool {
     let Some(limits) = Limits::new(3, 9, 9, 9, 9) else {
         return false;
     };
-    on_joined(alloc, limits, |core| is_full(alloc, core))
+    on_core(alloc, limits, |core| {
+        joins(core)
+            && stops(alloc, core)
+            && core.step(1, Call::Shut) == Err(StepFault::HistoryFull)
+            && core.step(99, Call::Collect) == Err(StepFault::HistoryFull)
+    })
 }
 
 // Each once more where memory was refused.

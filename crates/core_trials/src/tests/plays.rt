@@ -60,16 +60,13 @@ pub fn limits_of(script: &Script) -> Option<Limits> {
     Limits::new(events, nodes, collections, trackers, handles)
 }
 
-// Whether the player sees what the other one sees once that made so many of the calls.
-fn is_like(player: &mut Player, other: &mut Player, rows: &[Row], made: usize) -> bool {
-    other.keeps_to(rows, made)
-        && player.core.events() == other.core.events()
-        && see_the_same(player, other)
-}
-
 // Whether the player sees what one sees that made so many of the calls.
 fn has_made(alloc: Global, limits: Limits, player: &mut Player, rows: &[Row], made: usize) -> bool {
-    on_player(alloc, limits, |other| is_like(player, other, rows, made))
+    on_player(alloc, limits, |other| {
+        other.keeps_to(rows, made)
+            && player.core.events() == other.core.events()
+            && see_the_same(player, other)
+    })
 }
 
 // Whether the next call is answered as the row says. Where memory is refused, nothing is changed and
@@ -110,14 +107,11 @@ fn outcome(alloc: Global, script: &Script) -> Option<bool> {
     is_so.then_some(refused)
 }
 
-// Whether the player makes so many calls, and then all clients vanish cleanly.
-fn vanish_after(player: &mut Player, script: &Script, count: usize) -> bool {
-    player.keeps_to(script.rows, count) && player.all_vanish() && is_over(player)
-}
-
 // Whether all clients vanish cleanly after so many calls.
 fn is_cut(alloc: Global, limits: Limits, script: &Script, count: usize) -> bool {
-    on_player(alloc, limits, |player| vanish_after(player, script, count))
+    on_player(alloc, limits, |player| {
+        player.keeps_to(script.rows, count) && player.all_vanish() && is_over(player)
+    })
 }
 
 // Whether all clients vanish cleanly wherever the script is cut.

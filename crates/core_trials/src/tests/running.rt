@@ -21,23 +21,12 @@ const RUN: &[&Script] = &[
     &HANDLE_PARCEL,
 ];
 
-fn none_is_live(core: &Core) -> bool {
-    match core.live() {
-        Ok(live) => live.is_empty(),
-        Err(_) => false,
-    }
-}
-
-fn none_is_held(core: &Core) -> bool {
-    match core.held() {
-        Ok(held) => held.is_empty(),
-        Err(_) => false,
-    }
-}
-
 // Whether nothing is live and nothing held.
 fn is_empty(core: &Core) -> bool {
-    none_is_live(core) && none_is_held(core) && core.free_pages() == 16
+    let (Ok(live), Ok(held)) = (core.live(), core.held()) else {
+        return false;
+    };
+    live.is_empty() && held.is_empty() && core.free_pages() == 16
 }
 
 // Whether the readers of the trackers that the replies tell of are taken once, and no others.
@@ -59,42 +48,28 @@ fn answers(alloc: Global, core: &mut Core, calls: &[(ClientId, Call)], replies: 
     }
 }
 
-// Whether the core that runs the first calls, and then the others, answers as they were answered.
-fn runs_in_two(alloc: Global, core: &mut Core, log: &Log, count: usize) -> bool {
+// Whether a new core that runs the first calls, and then the others, answers as they were answered.
+fn runs_so(alloc: Global, limits: Limits, log: &Log, count: usize) -> bool {
     let (calls, replies) = (log.calls.as_slice(), log.replies.as_slice());
     let cut = count.min(calls.len()).min(replies.len());
-    answers(alloc, core, &calls[..cut], &replies[..cut])
-        && answers(alloc, core, &calls[cut..], &replies[cut..])
-        && is_empty(core)
-        && are_taken_once(core, replies)
+    let (first, first_replies) = (&calls[..cut], &replies[..cut]);
+    let (others, other_replies) = (&calls[cut..], &replies[cut..]);
+    on_core(alloc, limits, |core| {
+        answers(alloc, core, first, first_replies)
+            && answers(alloc, core, others, other_replies)
+            && is_empty(core)
+            && are_taken_once(core, replies)
+    })
 }
 
-// Whether a new core does so.
-fn runs_so(alloc: Global, limits: Limits, log: &Log, count: usize) -> bool {
-    on_core(alloc, limits, |core| runs_in_two(alloc, core, log, count))
-}
-
-// Whether so many calls of the script, one by one, and those of the player's clients that then vanish,
-// are answered alike by runs.
-fn runs_alike(
-    alloc: Global,
-    limits: Limits,
-    player: &mut Player,
-    script: &Script,
-    count: usize,
-) -> bool {
-    player.keeps_to(script.rows, count)
-        && player.all_vanish()
-        && runs_so(alloc, limits, &player.log, count)
-}
-
-// Whether that is so for a new player.
+// Whether so many calls of the script, one by one, and those of its clients that then vanish, are
+// answered alike by runs.
 fn runs_when_cut(alloc: Global, limits: Limits, script: &Script, count: usize) -> bool {
-    on_player(
-        alloc,
-        limits,
-        |player| runs_alike(alloc, limits, player, script, count),
-    )
+    on_player(alloc, limits, |player| {
+        player.keeps_to(script.rows, count)
+            && player.all_vanish()
+            && runs_so(alloc, limits, &player.log, count)
+    })
 }
 
 // Whether all is so wherever the script is cut.

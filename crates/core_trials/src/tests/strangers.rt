@@ -72,20 +72,22 @@ const TO_NOBODY: &[Act] = &[
     Act::GiveHandle(0, 63, STRONG, 99),
 ];
 
-// Whether all goes well for a player with those calls behind it.
-fn on_begun<F: FnOnce(&mut Player) -> bool>(alloc: Global, play: F) -> bool
-    requires { F.IsAlwaysCallable play }
-{
-    on_player(alloc, Limits::full(), |player| {
-        player.keeps_to(BEFORE, BEFORE.len()) && play(player)
-    })
+fn has_begun(player: &mut Player) -> bool {
+    player.keeps_to(BEFORE, BEFORE.len())
 }
 
-// The same for two of them.
+// Whether all goes well for two players with those calls behind them.
 fn on_two<F: FnOnce(&mut Player, &mut Player) -> bool>(alloc: Global, play: F) -> bool
     requires { F.IsAlwaysCallable play }
 {
-    on_begun(alloc, |player| on_begun(alloc, |idle| play(player, idle)))
+    on_player(alloc, Limits::full(), |player| {
+        has_begun(player)
+            && on_player(
+                alloc,
+                Limits::full(),
+                |idle| has_begun(idle) && play(player, idle),
+            )
+    })
 }
 
 // Whether the client is so refused, and nothing changes, as one sees who makes no further call.

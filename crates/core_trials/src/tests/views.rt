@@ -1,9 +1,12 @@
 //! What is seen of a core.
 use super::player::Player;
 use super::scripts::{Look, Script};
-use sm_names::{BufferName, Cause, Fired, HeldBuffer, NodeKey};
+use sm_names::{BufferName, Cause, Fired, NodeKey};
 
-fn are_buffers(held: &[HeldBuffer], wanted: &[(u64, u8, u32, u32)]) -> bool {
+fn are_held(player: &mut Player, wanted: &[(u64, u8, u32, u32)]) -> bool {
+    let Some(held) = player.held() else {
+        return false;
+    };
     for (buffer, (collection, index, start, pages)) in held.iter().zip(wanted.iter()) {
         let name = BufferName {
             collection: *collection,
@@ -14,13 +17,6 @@ fn are_buffers(held: &[HeldBuffer], wanted: &[(u64, u8, u32, u32)]) -> bool {
         }
     }
     held.len() == wanted.len()
-}
-
-fn are_held(player: &mut Player, wanted: &[(u64, u8, u32, u32)]) -> bool {
-    match player.held() {
-        Some(held) => are_buffers(&held, wanted),
-        None => false,
-    }
 }
 
 /// Whether all is seen that is to be seen after so many calls.
@@ -35,20 +31,16 @@ pub fn looks_so(player: &mut Player, looks: &[Look]) -> bool {
     true
 }
 
-fn are_numbered(player: &Player, live: &[NodeKey], wanted: &[u64]) -> bool {
+fn are_live(player: &mut Player, wanted: &[u64]) -> bool {
+    let Some(live) = player.live() else {
+        return false;
+    };
     for (key, number) in live.iter().zip(wanted.iter()) {
         if player.number_of(*key) != *number {
             return false;
         }
     }
     live.len() == wanted.len()
-}
-
-fn are_live(player: &mut Player, wanted: &[u64]) -> bool {
-    match player.live() {
-        Some(live) => are_numbered(player, &live, wanted),
-        None => false,
-    }
 }
 
 // Why and where the node failed, by the script.
@@ -89,38 +81,16 @@ pub fn ends_so(player: &mut Player, script: &Script) -> bool {
         && have_fired(player.core.fired(), script.fired)
 }
 
-fn is_live_list(player: &mut Player, wanted: &[NodeKey]) -> bool {
-    match player.live() {
-        Some(live) => live.as_slice() == wanted,
-        None => false,
-    }
-}
-
-fn is_held_list(player: &mut Player, wanted: &[HeldBuffer]) -> bool {
-    match player.held() {
-        Some(held) => held.as_slice() == wanted,
-        None => false,
-    }
-}
-
-fn see_the_same_nodes(player: &mut Player, other: &mut Player) -> bool {
-    match player.live() {
-        Some(live) => is_live_list(other, &live),
-        None => false,
-    }
-}
-
-fn see_the_same_buffers(player: &mut Player, other: &mut Player) -> bool {
-    match player.held() {
-        Some(held) => is_held_list(other, &held),
-        None => false,
-    }
-}
-
 /// Whether two players see the same, but for the number of events.
 pub fn see_the_same(player: &mut Player, other: &mut Player) -> bool {
-    see_the_same_nodes(player, other)
-        && see_the_same_buffers(player, other)
+    let (Some(live), Some(held)) = (player.live(), player.held()) else {
+        return false;
+    };
+    let (Some(other_live), Some(other_held)) = (other.live(), other.held()) else {
+        return false;
+    };
+    live == other_live
+        && held == other_held
         && player.core.fired() == other.core.fired()
         && player.core.free_pages() == other.core.free_pages()
 }
