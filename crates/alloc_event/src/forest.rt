@@ -115,9 +115,9 @@ impl Forest {
     ///
     /// Any other change costs a copy of the collection, a pass over its units, and the
     /// question for the next step after each that is made. Attached units that are allocated or fail
-    /// one after another count as one step, from the second on, which costs the nodes times a
-    /// logarithm, and times another one where such a failure leaves the collection or a unit above
-    /// without a node that keeps it. A loss costs besides what `fall` costs, and a logarithm for
+    /// one after another count as one step, after the root's unit from the first on and else from the
+    /// second on, which costs the nodes times a logarithm, and times another one where such a failure
+    /// leaves the collection or a unit above without a node that keeps it. A loss costs besides what `fall` costs, and a logarithm for
     /// each node; the end of a collection without a live node one walk. Where no strong node is live
     /// and the collection does not rest, a birth that forces nothing and sends no buffer home costs
     /// the copy, the pass and one question, and another a copy of the whole table besides.

@@ -29,10 +29,11 @@ use sm_names::{Cause, Fault, NoMemory};
 ///
 /// There are at most two steps a node, each of some walks over the nodes, and of two more for each
 /// attached unit that waits; where a unit or the collection ends, of one for each live node besides.
-/// Attached units that are next one after another are allocated, or fail, together, those that follow the
-/// root from the first on, others from the second on, which costs the nodes times a logarithm. Where one of them leaves a unit above it without a
-/// live node, or the collection without a strong one, it fails by a step of its own, and those
-/// before it go together by halves, which costs another logarithm.
+/// Attached units that are next one after another are allocated, or fail, together, those that follow
+/// the root from the first on, others from the second on, which costs the nodes times a logarithm.
+/// Where one of them leaves a unit above it without a live node, or the collection without a strong
+/// one, it fails by a step of its own, and those before it go together by halves, which costs another
+/// logarithm.
 ///
 /// The marks tell where parents stand. Without that a loss or an end costs a walk for each node, and
 /// each step one for each head of a unit that is released, and each live node.
@@ -87,8 +88,8 @@ pub(crate) fn settle_whole(
     settle_scene(scene, marks, pool, holds)
 }
 
-/// Where a unit was allocated or failed and an attached one is next, makes the steps of those
-/// that are next, one after another, as far as they can be told. It costs the nodes times a
+/// Where a unit was allocated or failed and an attached one is next, makes the steps of those that are
+/// next, one after another, as far as they can be told. It costs the nodes times a
 /// logarithm, and where other steps come between, another logarithm. Where memory is refused
 /// nothing changes.
 fn go_on(scene: &mut Scene, marks: &mut Marks, holds: &Holds, step: Decision)
