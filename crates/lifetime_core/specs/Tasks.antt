@@ -8,20 +8,23 @@ use Rattle.alloc_event.specs.declared.change.Change.{Change}
 use Rattle.alloc_event.specs.declared.change.Effect.{Effect}
 use Rattle.alloc_event.specs.declared.node.End.{End}
 use Rattle.alloc_event.specs.declared.node.Node.{Node}
+use Rattle.sm_names.specs.Answers.{answer}
 use Rattle.sm_names.specs.Marks.{Called}
 use Rattle.sm_names.specs.Trackers.{World, holds}
 use Rattle.alloc_event.specs.Dropped.{are_others_out}
 use Rattle.alloc_event.specs.Forest.{Forest, collection_at, node_at}
-use Rattle.alloc_event.specs.Settling.{Handles, MayChange, Settled}
+use Rattle.alloc_event.specs.Settling.{Handles, MayChange, Settled, no_key}
 use Rattle.buffer_holds.specs.Counts.{Counts, total}
 use Rattle.trackers.specs.declared.waiting.Waiting.{Waiting}
 use Rattle.trackers.specs.Table.{Table}
+use Rattle.lifetime_core.specs.declared.event.Asked.{Asked}
 use Rattle.lifetime_core.specs.declared.task.Place.{Place}
 use Rattle.lifetime_core.specs.declared.task.Task.{Task}
 use Rattle.lifetime_core.specs.Hands.{MovesHandles}
 use Rattle.lifetime_core.specs.Kinds.{is_releasing, is_sync}
-use Rattle.lifetime_core.specs.State.{Client}
-use Rattle.lifetime_core.specs.Steps.{GainsTracker, Work, clients_by}
+use Rattle.lifetime_core.specs.Reads.{readings_of}
+use Rattle.lifetime_core.specs.State.{Client, State}
+use Rattle.lifetime_core.specs.Steps.{GainsTracker, Work, clients_by, tracker_by, work_of}
 
 -- the change to this collection, if there is one
 abbrev pub work_on : ℕ → Option Change → Option Work
@@ -145,3 +148,13 @@ pub record TakesEffect (pool : ℕ) (old new : Parts) (client : ℕ) (call : Cal
   pub handles : MovesHandles old.holds new.holds (Called client asked call)
   pub work : Reworked pool (total new.holds) old.forest (work_in task) key new.forest
   pub trackers : GainsTracker old.trackers tracking new.trackers
+
+-- what was found of a call before anything changes: what is answered, but for the key of a new node, the task that this brings,
+-- and the tracker that it attaches
+pub record IsAsked (s : State) (client : ℕ) (call : Call) (asked : Asked) : Type 0 where
+  pub reply : asked.reply ≡ answer s.limits (readings_of s) client no_key call
+  pub work : work_in asked.task ≡ work_of s client call asked.reply
+  pub spends : spent_in asked.task ≡ spent_by call asked.reply
+  pub there : IfSome asked.task (SpendsThere s.forest)
+  pub some : IfSome asked.task DoesSome
+  pub tracking : asked.tracking ≡ tracker_by s.forest call asked.reply

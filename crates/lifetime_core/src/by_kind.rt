@@ -1,7 +1,8 @@
 //! A function for each kind of call. There the compiler knows what the call is, so that it leaves out
 //! each question for it, and what only other calls need. For that all that looks at the call by
 //! reference on its way is marked `inline(always)`: the toolchain drops such a mark, without a word,
-//! from a function that becomes longer than some 6,000 lines of LLVM's language.
+//! from a function that becomes longer than some 6,000 lines of LLVM's language. Asking what a call
+//! does and taking it are two methods of the core, and meet only here, so that each stays shorter.
 ghost use Rattle.lifetime_core.specs.Theorem.{Stepped};
 
 use crate::machine::Core;
@@ -47,77 +48,99 @@ pub(crate) fn take_by_kind(
 fn join(core: &mut Core, client: ClientId) -> Result<Reply, StepFault>
     ensures { Stepped core.old core.new client Call.Join result }
 {
-    core.take_call(client, &Call::Join)
+    let call = Call::Join;
+    let asked = core.asked_of(client, &call);
+    core.take_asked(client, &call, asked)
 }
 
 #[inline(never)]
 fn shut(core: &mut Core, client: ClientId) -> Result<Reply, StepFault>
     ensures { Stepped core.old core.new client Call.Shut result }
 {
-    core.take_call(client, &Call::Shut)
+    let call = Call::Shut;
+    let asked = core.asked_of(client, &call);
+    core.take_asked(client, &call, asked)
 }
 
 #[inline(never)]
 fn open_root(core: &mut Core, client: ClientId) -> Result<Reply, StepFault>
     ensures { Stepped core.old core.new client Call.OpenRoot result }
 {
-    core.take_call(client, &Call::OpenRoot)
+    let call = Call::OpenRoot;
+    let asked = core.asked_of(client, &call);
+    core.take_asked(client, &call, asked)
 }
 
 #[inline(never)]
 fn duplicate(core: &mut Core, client: ClientId, key: NodeKey) -> Result<Reply, StepFault>
     ensures { Stepped core.old core.new client (Call.Duplicate key) result }
 {
-    core.take_call(client, &Call::Duplicate(key))
+    let call = Call::Duplicate(key);
+    let asked = core.asked_of(client, &call);
+    core.take_asked(client, &call, asked)
 }
 
 #[inline(never)]
 fn attach_token(core: &mut Core, client: ClientId, key: NodeKey) -> Result<Reply, StepFault>
     ensures { Stepped core.old core.new client (Call.AttachToken key) result }
 {
-    core.take_call(client, &Call::AttachToken(key))
+    let call = Call::AttachToken(key);
+    let asked = core.asked_of(client, &call);
+    core.take_asked(client, &call, asked)
 }
 
 #[inline(never)]
 fn sync(core: &mut Core, client: ClientId, key: NodeKey) -> Result<Reply, StepFault>
     ensures { Stepped core.old core.new client (Call.Sync key) result }
 {
-    core.take_call(client, &Call::Sync(key))
+    let call = Call::Sync(key);
+    let asked = core.asked_of(client, &call);
+    core.take_asked(client, &call, asked)
 }
 
 #[inline(never)]
 fn give(core: &mut Core, client: ClientId, key: NodeKey, to: ClientId) -> Result<Reply, StepFault>
     ensures { Stepped core.old core.new client (Call.Give key to) result }
 {
-    core.take_call(client, &Call::Give(key, to))
+    let call = Call::Give(key, to);
+    let asked = core.asked_of(client, &call);
+    core.take_asked(client, &call, asked)
 }
 
 #[inline(never)]
 fn collect(core: &mut Core, client: ClientId) -> Result<Reply, StepFault>
     ensures { Stepped core.old core.new client Call.Collect result }
 {
-    core.take_call(client, &Call::Collect)
+    let call = Call::Collect;
+    let asked = core.asked_of(client, &call);
+    core.take_asked(client, &call, asked)
 }
 
 #[inline(never)]
 fn bind(core: &mut Core, client: ClientId, key: NodeKey) -> Result<Reply, StepFault>
     ensures { Stepped core.old core.new client (Call.Bind key) result }
 {
-    core.take_call(client, &Call::Bind(key))
+    let call = Call::Bind(key);
+    let asked = core.asked_of(client, &call);
+    core.take_asked(client, &call, asked)
 }
 
 #[inline(never)]
 fn set_dispensable(core: &mut Core, client: ClientId, key: NodeKey) -> Result<Reply, StepFault>
     ensures { Stepped core.old core.new client (Call.SetDispensable key) result }
 {
-    core.take_call(client, &Call::SetDispensable(key))
+    let call = Call::SetDispensable(key);
+    let asked = core.asked_of(client, &call);
+    core.take_asked(client, &call, asked)
 }
 
 #[inline(never)]
 fn set_weak(core: &mut Core, client: ClientId, key: NodeKey) -> Result<Reply, StepFault>
     ensures { Stepped core.old core.new client (Call.SetWeak key) result }
 {
-    core.take_call(client, &Call::SetWeak(key))
+    let call = Call::SetWeak(key);
+    let asked = core.asked_of(client, &call);
+    core.take_asked(client, &call, asked)
 }
 
 #[inline(never)]
@@ -129,7 +152,9 @@ fn set_weak_ok(
 ) -> Result<Reply, StepFault>
     ensures { Stepped core.old core.new client (Call.SetWeakOk key children) result }
 {
-    core.take_call(client, &Call::SetWeakOk(key, children))
+    let call = Call::SetWeakOk(key, children);
+    let asked = core.asked_of(client, &call);
+    core.take_asked(client, &call, asked)
 }
 
 #[inline(never)]
@@ -141,35 +166,45 @@ fn set_constraints(
 ) -> Result<Reply, StepFault>
     ensures { Stepped core.old core.new client (Call.SetConstraints key constraints) result }
 {
-    core.take_call(client, &Call::SetConstraints(key, constraints))
+    let call = Call::SetConstraints(key, constraints);
+    let asked = core.asked_of(client, &call);
+    core.take_asked(client, &call, asked)
 }
 
 #[inline(never)]
 fn check(core: &mut Core, client: ClientId, key: NodeKey) -> Result<Reply, StepFault>
     ensures { Stepped core.old core.new client (Call.Check key) result }
 {
-    core.take_call(client, &Call::Check(key))
+    let call = Call::Check(key);
+    let asked = core.asked_of(client, &call);
+    core.take_asked(client, &call, asked)
 }
 
 #[inline(never)]
 fn take(core: &mut Core, client: ClientId, key: NodeKey) -> Result<Reply, StepFault>
     ensures { Stepped core.old core.new client (Call.Take key) result }
 {
-    core.take_call(client, &Call::Take(key))
+    let call = Call::Take(key);
+    let asked = core.asked_of(client, &call);
+    core.take_asked(client, &call, asked)
 }
 
 #[inline(never)]
 fn release(core: &mut Core, client: ClientId, key: NodeKey) -> Result<Reply, StepFault>
     ensures { Stepped core.old core.new client (Call.Release key) result }
 {
-    core.take_call(client, &Call::Release(key))
+    let call = Call::Release(key);
+    let asked = core.asked_of(client, &call);
+    core.take_asked(client, &call, asked)
 }
 
 #[inline(never)]
 fn close(core: &mut Core, client: ClientId, key: NodeKey) -> Result<Reply, StepFault>
     ensures { Stepped core.old core.new client (Call.Close key) result }
 {
-    core.take_call(client, &Call::Close(key))
+    let call = Call::Close(key);
+    let asked = core.asked_of(client, &call);
+    core.take_asked(client, &call, asked)
 }
 
 #[inline(never)]
@@ -181,7 +216,9 @@ fn dup_handle(
 ) -> Result<Reply, StepFault>
     ensures { Stepped core.old core.new client (Call.DupHandle buffer strength) result }
 {
-    core.take_call(client, &Call::DupHandle(buffer, strength))
+    let call = Call::DupHandle(buffer, strength);
+    let asked = core.asked_of(client, &call);
+    core.take_asked(client, &call, asked)
 }
 
 #[inline(never)]
@@ -193,7 +230,9 @@ fn drop_handle(
 ) -> Result<Reply, StepFault>
     ensures { Stepped core.old core.new client (Call.DropHandle buffer strength) result }
 {
-    core.take_call(client, &Call::DropHandle(buffer, strength))
+    let call = Call::DropHandle(buffer, strength);
+    let asked = core.asked_of(client, &call);
+    core.take_asked(client, &call, asked)
 }
 
 #[inline(never)]
@@ -206,14 +245,18 @@ fn give_handle(
 ) -> Result<Reply, StepFault>
     ensures { Stepped core.old core.new client (Call.GiveHandle buffer strength to) result }
 {
-    core.take_call(client, &Call::GiveHandle(buffer, strength, to))
+    let call = Call::GiveHandle(buffer, strength, to);
+    let asked = core.asked_of(client, &call);
+    core.take_asked(client, &call, asked)
 }
 
 #[inline(never)]
 fn track_node(core: &mut Core, client: ClientId, key: NodeKey) -> Result<Reply, StepFault>
     ensures { Stepped core.old core.new client (Call.TrackNode key) result }
 {
-    core.take_call(client, &Call::TrackNode(key))
+    let call = Call::TrackNode(key);
+    let asked = core.asked_of(client, &call);
+    core.take_asked(client, &call, asked)
 }
 
 #[inline(never)]
@@ -225,12 +268,16 @@ fn track_lifetime(
 ) -> Result<Reply, StepFault>
     ensures { Stepped core.old core.new client (Call.TrackLifetime key most) result }
 {
-    core.take_call(client, &Call::TrackLifetime(key, most))
+    let call = Call::TrackLifetime(key, most);
+    let asked = core.asked_of(client, &call);
+    core.take_asked(client, &call, asked)
 }
 
 #[inline(never)]
 fn track_weak(core: &mut Core, client: ClientId, buffer: BufferName) -> Result<Reply, StepFault>
     ensures { Stepped core.old core.new client (Call.TrackWeak buffer) result }
 {
-    core.take_call(client, &Call::TrackWeak(buffer))
+    let call = Call::TrackWeak(buffer);
+    let asked = core.asked_of(client, &call);
+    core.take_asked(client, &call, asked)
 }

@@ -31,6 +31,15 @@ pub(crate) struct Contents {
     pub(crate) trackers: Trackers,
 }
 
+/// What is answered to a call, but for the key of a new node, and what the call does then, found
+/// before anything changes.
+#[derive(Clone, Copy)]
+pub(crate) struct Asked {
+    pub(crate) reply: Reply,
+    pub(crate) task: Option<Task>,
+    pub(crate) tracking: Option<Waiting>,
+}
+
 /// Whether the call, answered so, changes nothing: it was refused, or only asks.
 #[inline(always)]
 pub(crate) fn changes_nothing(call: &Call, reply: &Reply) -> bool

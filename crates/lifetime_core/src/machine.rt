@@ -31,12 +31,13 @@ ghost use Rattle.lifetime_core.specs.Reads.{is_live_in, fault_in, views_of};
 ghost use Rattle.lifetime_core.specs.Shown.{Shows};
 ghost use Rattle.lifetime_core.specs.Steps.{Follows};
 ghost use Rattle.lifetime_core.specs.State.{IsSame};
+ghost use Rattle.lifetime_core.specs.Tasks.{IsAsked};
 ghost use Rattle.lifetime_core.specs.Theorem.{GoesOn, Leads, Stepped, Stops, entries};
 ghost use Rattle.lifetime_core.specs.Theorem.{tracker_told, trackers_told};
 
 use crate::by_kind::take_by_kind;
 use crate::clients::{count_waiting, first_waiting, has_joined, is_shut};
-use crate::event::{Contents, changes_nothing, take_effect};
+use crate::event::{Asked, Contents, changes_nothing, take_effect};
 use crate::reading::{cause, is_live, with_end};
 use crate::sweeping::{place_to_sweep, sweep, tracking_of};
 use crate::table::{answer, with_key};
@@ -326,25 +327,49 @@ impl Core {
         }
     }
 
-    // Takes one call, as `step` says, with one look-up of the node that it names.
+    // What is answered to the call, but for the key of a new node, and what it does then, with one
+    // look-up of the node that it names.
     #[inline(always)]
-    pub(crate) fn take_call(&mut self, client: ClientId, call: &Call) -> Result<Reply, StepFault>
-        ensures { Stepped self.old self.new client call.now result }
+    pub(crate) fn asked_of(&self, client: ClientId, call: &Call) -> Asked
+        ensures { IsAsked self.now client call.now result }
     {
         let named = key_of(call);
         let node = self.named(named);
         let traits = traits_of(call);
-        let asked = answer(self, client, NO_KEY, call, &traits, with_end(node));
+        let reply = answer(self, client, NO_KEY, call, &traits, with_end(node));
+        let task = task_of(self, client, call, &reply, named, node);
+        let tracking = tracking_of(self, call, &reply, node);
+        Asked {
+            reply,
+            task,
+            tracking,
+        }
+    }
+
+    // Takes the call of which this was found, as `step` says.
+    #[inline(always)]
+    pub(crate) fn take_asked(
+        &mut self,
+        client: ClientId,
+        call: &Call,
+        asked: Asked,
+    ) -> Result<Reply, StepFault>
+        requires { IsAsked self.old client call.now asked }
+        ensures { Stepped self.old self.new client call.now result }
+    {
+        let Asked {
+            reply,
+            task,
+            tracking,
+        } = asked;
         if self.events >= self.limits.events() as u64 {
             return Err(StepFault::HistoryFull);
         }
-        if changes_nothing(call, &asked) {
+        if changes_nothing(call, &reply) {
             self.events = self.next_event();
-            return Ok(asked);
+            return Ok(reply);
         }
-        let task = task_of(self, client, call, &asked, named, node);
-        let tracking = tracking_of(self, call, &asked, node);
-        let Ok(key) = take_effect(&mut self.contents, client, call, &asked, &task, tracking) else {
+        let Ok(key) = take_effect(&mut self.contents, client, call, &reply, &task, tracking) else {
             return Err(StepFault::NoMemory);
         };
         self.events += 1;
@@ -361,9 +386,9 @@ impl Core {
             &self.contents.forest,
             &self.contents.holds,
         );
-        let carried = carried_end(client, call, &asked);
+        let carried = carried_end(client, call, &reply);
         put_end(&mut self.contents.forest, &task, carried);
-        Ok(with_key(asked, key))
+        Ok(with_key(reply, key))
     }
 
     /// Takes one call: answers it, makes what it changes with all that this forces, spends the end

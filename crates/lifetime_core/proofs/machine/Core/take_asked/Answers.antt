@@ -1,0 +1,269 @@
+use Rattle.std.proofs.Common.{◌≡◌, ◌<◌, ◌+◌, ap, sym, ◌∙◌, None, arith, rules}
+use Rattle.sm_names.specs.Answers.{key_told}
+use Rattle.lifetime_core.specs.Reads.{readings_of}
+use Rattle.lifetime_core.specs.State.{State}
+use Rattle.lifetime_core.specs.Tasks.{Parts, with_key, end_placed}
+use Rattle.lifetime_core.proofs.theorem.EventParts.{Begins, after, alone, begins, can_carry, finishes, one, step_answers, step_follows}
+use Rattle.lifetime_core.proofs.answers.Kinds.{reply-fits}
+use Rattle.lifetime_core.proofs.theorem.GoesOn.{goes_on}
+use Rattle.lifetime_core.proofs.theorem.Idle.{Idles, further, idle_follows, idle_whole, idles, parts_of}
+use Rattle.lifetime_core.proofs.theorem.Leads.{untaken_after}
+use Rattle.lifetime_core.proofs.forced.StillOut.{asks_only}
+use Rattle.lifetime_core.proofs.theorem.Fields.{above, fits, moves, none_elsewhere, whole_same, whole_then}
+use Rattle.lifetime_core.proofs.machine.Core.take_asked.Goals as goal
+
+-- what the call does may be done
+pub take_effect-requires : goal.take_effect-requires
+take_effect-requires c =
+    let s : State =
+    record {
+      pool = c.self.inside.contents.pool.size;
+      limits = c.self.inside.limits;
+      events = c.self.inside.events;
+      clients = c.self.inside.contents.clients.items;
+      forest = c.self.inside.contents.forest;
+      holds = c.self.inside.contents.holds;
+      trackers = c.self.inside.contents.trackers;
+    } in
+    let b : Begins s c.args.client c.args.call.now c.args.asked.reply c.args.asked.task c.args.asked.tracking =
+    begins c.self.inside.contents.pool s c.args.self.now c.args.client c.args.call.now c.args.asked.reply c.args.asked.task
+    c.args.asked.tracking c.self.view_is c.self.invariant c.requires.reply
+    c.requires.work c.requires.spends c.requires.there c.requires.some
+    c.requires.tracking in
+    record {
+      clients = c.self.invariant.rising;
+      handles = moves s c.args.client c.args.call.now c.args.asked.reply c.args.asked.reply c.args.asked.task
+          c.args.asked.tracking b;
+      may = b.may;
+      asks = asks_only s c.args.client c.args.call.now c.args.asked.reply c.args.asked.task b.work;
+      out = c.self.invariant.out;
+      pool = c.self.invariant.pages;
+      rising = above s c.args.client c.args.call.now c.args.asked.reply c.args.asked.reply c.args.asked.task
+          c.args.asked.tracking b;
+      room = fits s c.args.client c.args.call.now c.args.asked.reply c.args.asked.reply c.args.asked.task
+          c.args.asked.tracking b;
+      alone = alone s c.args.client c.args.call.now c.args.asked.reply c.args.asked.reply c.args.asked.task
+          c.args.asked.tracking b;
+    }
+
+-- the call changes nothing, and the fields are still whole
+pub invariant_of-self : goal.invariant_of-self
+invariant_of-self c =
+    let s : State =
+    record {
+      pool = c.self.inside.contents.pool.size;
+      limits = c.self.inside.limits;
+      events = c.self.inside.events;
+      clients = c.self.inside.contents.clients.items;
+      forest = c.self.inside.contents.forest;
+      holds = c.self.inside.contents.holds;
+      trackers = c.self.inside.contents.trackers;
+    } in
+    let i : Idles s c.args.client c.args.call.now c.args.asked.reply =
+    idles c.self.inside.contents.pool s c.args.self.now c.args.client c.args.call.now c.args.asked.reply c.self.view_is c.self.invariant
+    c.requires.reply (sym c.changes_nothing.ensures ∙ c.if-changes_nothing.true) in
+    let next : c.next_event-self-inside.result ≡ s.events + 1 =
+    c.next_event-self-inside.ensures ∙ ap (λ (x : State). x.events + 1) (sym c.self.view_is) in
+    rw next (idle_whole s c.args.client c.args.call.now c.args.asked.reply i c.self.inside.contents.pool c.self.invariant (omega arith)
+    (omega arith))
+
+-- and the new state follows
+pub returns-then-changes_nothing : goal.returns-then-changes_nothing
+returns-then-changes_nothing c =
+    let s : State =
+    record {
+      pool = c.self.inside.contents.pool.size;
+      limits = c.self.inside.limits;
+      events = c.self.inside.events;
+      clients = c.self.inside.contents.clients.items;
+      forest = c.self.inside.contents.forest;
+      holds = c.self.inside.contents.holds;
+      trackers = c.self.inside.contents.trackers;
+    } in
+    let i : Idles s c.args.client c.args.call.now c.args.asked.reply =
+    idles c.self.inside.contents.pool s c.args.self.now c.args.client c.args.call.now c.args.asked.reply c.self.view_is c.self.invariant
+    c.requires.reply (sym c.changes_nothing.ensures ∙ c.if-changes_nothing.true) in
+    let next : c.next_event-self-inside.result ≡ s.events + 1 =
+    c.next_event-self-inside.ensures ∙ ap (λ (x : State). x.events + 1) (sym c.self.view_is) in
+    let answers = step_answers s c.args.client c.args.call.now c.args.asked.reply c.args.asked.reply None None i.begins (parts_of s)
+    i.takes in
+    let follows = idle_follows s c.args.client c.args.call.now c.args.asked.reply i in
+    let room : s.events < s.limits.events = omega arith in
+    rw (next, ← c.self.view_is) (record {
+      answer = answers;
+      kind = reply-fits s.limits (readings_of s) c.args.client (key_told c.args.asked.reply) c.args.call.now c.args.asked.reply
+          answers.told;
+      after = follows;
+      goes_on = goes_on s (further s c.args.client c.args.call.now c.args.asked.reply i) c.args.client c.args.call.now c.args.asked.reply
+          answers follows room;
+      untaken = untaken_after s (further s c.args.client c.args.call.now c.args.asked.reply i) c.args.client c.args.call.now
+          c.args.asked.reply answers follows;
+      kept = search rules;
+      equal = search rules;
+      stays = search rules;
+      full = search rules;
+    })
+
+-- memory was refused, and the fields are as they were
+pub invariant_of-self-in_default : goal.invariant_of-self-in_default
+invariant_of-self-in_default c =
+    let kept = c.in_default.ensures.err in
+    whole_same c.self.inside.contents.pool c.take_effect.new.contents.pool c.self.inside.limits c.self.inside.events
+    c.self.inside.contents.clients.items
+    c.take_effect.new.contents.clients.items c.self.inside.contents.forest c.take_effect.new.contents.forest
+    c.self.inside.contents.holds c.take_effect.new.contents.holds c.self.inside.contents.trackers c.take_effect.new.contents.trackers kept.0
+    kept.1 kept.2 kept.3 kept.4
+    c.take_effect.ensures.limit c.self.invariant
+
+-- trackers elsewhere are not due
+pub sweep-requires : goal.sweep-requires
+sweep-requires c =
+    let s : State =
+    record {
+      pool = c.self.inside.contents.pool.size;
+      limits = c.self.inside.limits;
+      events = c.self.inside.events;
+      clients = c.self.inside.contents.clients.items;
+      forest = c.self.inside.contents.forest;
+      holds = c.self.inside.contents.holds;
+      trackers = c.self.inside.contents.trackers;
+    } in
+    let b : Begins s c.args.client c.args.call.now c.args.asked.reply c.args.asked.task c.args.asked.tracking =
+    begins c.self.inside.contents.pool s c.args.self.now c.args.client c.args.call.now c.args.asked.reply c.args.asked.task
+    c.args.asked.tracking c.self.view_is c.self.invariant c.requires.reply
+    c.requires.work c.requires.spends c.requires.there c.requires.some
+    c.requires.tracking in
+    let parts : Parts =
+    record {
+      clients = c.take_effect.new.contents.clients.items;
+      forest = c.take_effect.new.contents.forest;
+      holds = c.take_effect.new.contents.holds;
+      trackers = c.take_effect.new.contents.trackers;
+    } in
+    record {
+      elsewhere = rw (c.place_to_sweep-place.ensures, c.changed_by.ensures)
+          (none_elsewhere s c.args.client c.args.call.now c.args.asked.reply
+          (with_key c.args.asked.reply c.in-Ok.key) c.args.asked.task c.args.asked.tracking b parts c.in-Ok.ensures.ok);
+    }
+
+-- what is over can be forgotten
+pub put_end-requires : goal.put_end-requires
+put_end-requires c =
+    let s : State =
+    record {
+      pool = c.self.inside.contents.pool.size;
+      limits = c.self.inside.limits;
+      events = c.self.inside.events;
+      clients = c.self.inside.contents.clients.items;
+      forest = c.self.inside.contents.forest;
+      holds = c.self.inside.contents.holds;
+      trackers = c.self.inside.contents.trackers;
+    } in
+    let b : Begins s c.args.client c.args.call.now c.args.asked.reply c.args.asked.task c.args.asked.tracking =
+    begins c.self.inside.contents.pool s c.args.self.now c.args.client c.args.call.now c.args.asked.reply c.args.asked.task
+    c.args.asked.tracking c.self.view_is c.self.invariant c.requires.reply
+    c.requires.work c.requires.spends c.requires.there c.requires.some
+    c.requires.tracking in
+    let parts : Parts =
+    record {
+      clients = c.take_effect.new.contents.clients.items;
+      forest = c.take_effect.new.contents.forest;
+      holds = c.take_effect.new.contents.holds;
+      trackers = c.take_effect.new.contents.trackers;
+    } in
+    record {
+      task = finishes s c.args.client c.args.call.now c.args.asked.reply (with_key c.args.asked.reply c.in-Ok.key) c.args.asked.task
+          c.args.asked.tracking b parts c.in-Ok.ensures.ok;
+      carried = can_carry s c.args.client c.args.call.now c.args.asked.reply
+          (with_key c.args.asked.reply c.in-Ok.key) c.args.asked.task
+          c.args.asked.tracking b parts c.in-Ok.ensures.ok c.carried_end-carried.result c.carried_end-carried.ensures;
+      one = one s c.args.client c.args.call.now c.args.asked.reply (with_key c.args.asked.reply c.in-Ok.key) c.args.asked.task
+          c.args.asked.tracking b parts c.in-Ok.ensures.ok c.carried_end-carried.result c.carried_end-carried.ensures;
+    }
+
+-- the fields are whole again
+pub invariant_of-self-2 : goal.invariant_of-self-2
+invariant_of-self-2 c =
+    let s : State =
+    record {
+      pool = c.self.inside.contents.pool.size;
+      limits = c.self.inside.limits;
+      events = c.self.inside.events;
+      clients = c.self.inside.contents.clients.items;
+      forest = c.self.inside.contents.forest;
+      holds = c.self.inside.contents.holds;
+      trackers = c.self.inside.contents.trackers;
+    } in
+    let b : Begins s c.args.client c.args.call.now c.args.asked.reply c.args.asked.task c.args.asked.tracking =
+    begins c.self.inside.contents.pool s c.args.self.now c.args.client c.args.call.now c.args.asked.reply c.args.asked.task
+    c.args.asked.tracking c.self.view_is c.self.invariant c.requires.reply
+    c.requires.work c.requires.spends c.requires.there c.requires.some
+    c.requires.tracking in
+    let parts : Parts =
+    record {
+      clients = c.take_effect.new.contents.clients.items;
+      forest = c.take_effect.new.contents.forest;
+      holds = c.take_effect.new.contents.holds;
+      trackers = c.take_effect.new.contents.trackers;
+    } in
+    whole_then s c.args.client c.args.call.now c.args.asked.reply (with_key c.args.asked.reply c.in-Ok.key) c.args.asked.task
+    c.args.asked.tracking b parts c.in-Ok.ensures.ok c.self.inside.contents.pool c.take_effect.new.contents.pool
+    c.put_end.new.forest
+    (end_placed c.args.asked.task c.carried_end-carried.result) c.sweep.new.trackers c.self.invariant c.take_effect.ensures.size
+    c.take_effect.ensures.pool c.put_end.ensures.held c.take_effect.ensures.limit
+    (omega arith) (omega arith) c.put_end.ensures.collections c.put_end.ensures.keys c.put_end.ensures.sound c.put_end.ensures.ids
+    c.sweep.ensures
+
+-- the reply is the answer, and the new state follows
+pub returns : goal.returns
+returns c =
+    let s : State =
+    record {
+      pool = c.self.inside.contents.pool.size;
+      limits = c.self.inside.limits;
+      events = c.self.inside.events;
+      clients = c.self.inside.contents.clients.items;
+      forest = c.self.inside.contents.forest;
+      holds = c.self.inside.contents.holds;
+      trackers = c.self.inside.contents.trackers;
+    } in
+    let b : Begins s c.args.client c.args.call.now c.args.asked.reply c.args.asked.task c.args.asked.tracking =
+    begins c.self.inside.contents.pool s c.args.self.now c.args.client c.args.call.now c.args.asked.reply c.args.asked.task
+    c.args.asked.tracking c.self.view_is c.self.invariant c.requires.reply
+    c.requires.work c.requires.spends c.requires.there c.requires.some
+    c.requires.tracking in
+    let parts : Parts =
+    record {
+      clients = c.take_effect.new.contents.clients.items;
+      forest = c.take_effect.new.contents.forest;
+      holds = c.take_effect.new.contents.holds;
+      trackers = c.take_effect.new.contents.trackers;
+    } in
+    let answers = step_answers s c.args.client c.args.call.now c.args.asked.reply (with_key c.args.asked.reply c.in-Ok.key)
+    c.args.asked.task c.args.asked.tracking b parts c.in-Ok.ensures.ok in
+    let follows = step_follows s c.args.client c.args.call.now c.args.asked.reply (with_key c.args.asked.reply c.in-Ok.key)
+    c.args.asked.task c.args.asked.tracking b parts c.in-Ok.ensures.ok c.carried_end-carried.result
+    c.carried_end-carried.ensures
+    c.put_end.new.forest c.sweep.new.trackers
+    c.put_end.ensures.collections c.put_end.ensures.keys c.sweep.ensures in
+    let room : s.events < s.limits.events = omega arith in
+    rw c.with_key.ensures (record {
+      answer = rw (← c.self.view_is) answers;
+      kind = reply-fits s.limits (readings_of s) c.args.client (key_told (with_key c.args.asked.reply c.in-Ok.key)) c.args.call.now
+          (with_key c.args.asked.reply c.in-Ok.key) answers.told;
+      after = rw (← c.self.view_is, c.take_effect.ensures.size) follows;
+      goes_on = rw (← c.self.view_is, c.take_effect.ensures.size) (goes_on s (after s c.args.client c.args.call.now c.args.asked.reply
+          (with_key c.args.asked.reply c.in-Ok.key) c.args.asked.task c.args.asked.tracking b parts c.in-Ok.ensures.ok
+          c.carried_end-carried.result c.carried_end-carried.ensures c.put_end.new.forest c.sweep.new.trackers c.put_end.ensures.collections
+          c.put_end.ensures.keys c.sweep.ensures) c.args.client c.args.call.now (with_key c.args.asked.reply c.in-Ok.key) answers follows
+          room);
+      untaken = rw (← c.self.view_is) (untaken_after s (after s c.args.client c.args.call.now c.args.asked.reply
+          (with_key c.args.asked.reply c.in-Ok.key) c.args.asked.task c.args.asked.tracking b parts c.in-Ok.ensures.ok
+          c.carried_end-carried.result c.carried_end-carried.ensures c.put_end.new.forest c.sweep.new.trackers c.put_end.ensures.collections
+          c.put_end.ensures.keys c.sweep.ensures) c.args.client c.args.call.now (with_key c.args.asked.reply c.in-Ok.key) answers
+          follows);
+      kept = search rules;
+      equal = search rules;
+      stays = search rules;
+      full = search rules;
+    })
