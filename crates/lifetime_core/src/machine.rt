@@ -252,6 +252,7 @@ impl Core {
     }
 
     // Whether nothing strong keeps the buffer, where this says whether a strong node is live.
+    #[inline(always)]
     pub(crate) fn is_doomed(&self, buffer: BufferName, strong_live: bool) -> bool
         ensures { result ≡ is_doomed (total self.now.holds buffer Strength.Strong) strong_live }
     {
