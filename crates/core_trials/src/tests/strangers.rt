@@ -90,7 +90,8 @@ fn on_two<F: FnOnce(&mut Player, &mut Player) -> bool>(alloc: Global, play: F) -
     })
 }
 
-// Whether the client is so refused, and nothing changes, as one sees who makes no further call.
+// Whether the client is so refused, and nothing changes: both players see the same. The idle one makes
+// no further call.
 fn is_refused(
     player: &mut Player,
     idle: &mut Player,
