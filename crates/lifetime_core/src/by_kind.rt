@@ -50,7 +50,7 @@ fn join(core: &mut Core, client: ClientId) -> Result<Reply, StepFault>
 {
     let call = Call::Join;
     let asked = core.asked_of(client, &call);
-    core.take_asked(client, &call, asked)
+    core.take_asked(client, &call, &asked)
 }
 
 #[inline(never)]
@@ -59,7 +59,7 @@ fn shut(core: &mut Core, client: ClientId) -> Result<Reply, StepFault>
 {
     let call = Call::Shut;
     let asked = core.asked_of(client, &call);
-    core.take_asked(client, &call, asked)
+    core.take_asked(client, &call, &asked)
 }
 
 #[inline(never)]
@@ -68,7 +68,7 @@ fn open_root(core: &mut Core, client: ClientId) -> Result<Reply, StepFault>
 {
     let call = Call::OpenRoot;
     let asked = core.asked_of(client, &call);
-    core.take_asked(client, &call, asked)
+    core.take_asked(client, &call, &asked)
 }
 
 #[inline(never)]
@@ -77,7 +77,7 @@ fn duplicate(core: &mut Core, client: ClientId, key: NodeKey) -> Result<Reply, S
 {
     let call = Call::Duplicate(key);
     let asked = core.asked_of(client, &call);
-    core.take_asked(client, &call, asked)
+    core.take_asked(client, &call, &asked)
 }
 
 #[inline(never)]
@@ -86,7 +86,7 @@ fn attach_token(core: &mut Core, client: ClientId, key: NodeKey) -> Result<Reply
 {
     let call = Call::AttachToken(key);
     let asked = core.asked_of(client, &call);
-    core.take_asked(client, &call, asked)
+    core.take_asked(client, &call, &asked)
 }
 
 #[inline(never)]
@@ -95,7 +95,7 @@ fn sync(core: &mut Core, client: ClientId, key: NodeKey) -> Result<Reply, StepFa
 {
     let call = Call::Sync(key);
     let asked = core.asked_of(client, &call);
-    core.take_asked(client, &call, asked)
+    core.take_asked(client, &call, &asked)
 }
 
 #[inline(never)]
@@ -104,7 +104,7 @@ fn give(core: &mut Core, client: ClientId, key: NodeKey, to: ClientId) -> Result
 {
     let call = Call::Give(key, to);
     let asked = core.asked_of(client, &call);
-    core.take_asked(client, &call, asked)
+    core.take_asked(client, &call, &asked)
 }
 
 #[inline(never)]
@@ -113,7 +113,7 @@ fn collect(core: &mut Core, client: ClientId) -> Result<Reply, StepFault>
 {
     let call = Call::Collect;
     let asked = core.asked_of(client, &call);
-    core.take_asked(client, &call, asked)
+    core.take_asked(client, &call, &asked)
 }
 
 #[inline(never)]
@@ -122,7 +122,7 @@ fn bind(core: &mut Core, client: ClientId, key: NodeKey) -> Result<Reply, StepFa
 {
     let call = Call::Bind(key);
     let asked = core.asked_of(client, &call);
-    core.take_asked(client, &call, asked)
+    core.take_asked(client, &call, &asked)
 }
 
 #[inline(never)]
@@ -131,7 +131,7 @@ fn set_dispensable(core: &mut Core, client: ClientId, key: NodeKey) -> Result<Re
 {
     let call = Call::SetDispensable(key);
     let asked = core.asked_of(client, &call);
-    core.take_asked(client, &call, asked)
+    core.take_asked(client, &call, &asked)
 }
 
 #[inline(never)]
@@ -140,7 +140,7 @@ fn set_weak(core: &mut Core, client: ClientId, key: NodeKey) -> Result<Reply, St
 {
     let call = Call::SetWeak(key);
     let asked = core.asked_of(client, &call);
-    core.take_asked(client, &call, asked)
+    core.take_asked(client, &call, &asked)
 }
 
 #[inline(never)]
@@ -154,7 +154,7 @@ fn set_weak_ok(
 {
     let call = Call::SetWeakOk(key, children);
     let asked = core.asked_of(client, &call);
-    core.take_asked(client, &call, asked)
+    core.take_asked(client, &call, &asked)
 }
 
 #[inline(never)]
@@ -168,7 +168,7 @@ fn set_constraints(
 {
     let call = Call::SetConstraints(key, constraints);
     let asked = core.asked_of(client, &call);
-    core.take_asked(client, &call, asked)
+    core.take_asked(client, &call, &asked)
 }
 
 #[inline(never)]
@@ -177,7 +177,7 @@ fn check(core: &mut Core, client: ClientId, key: NodeKey) -> Result<Reply, StepF
 {
     let call = Call::Check(key);
     let asked = core.asked_of(client, &call);
-    core.take_asked(client, &call, asked)
+    core.take_asked(client, &call, &asked)
 }
 
 #[inline(never)]
@@ -186,7 +186,7 @@ fn take(core: &mut Core, client: ClientId, key: NodeKey) -> Result<Reply, StepFa
 {
     let call = Call::Take(key);
     let asked = core.asked_of(client, &call);
-    core.take_asked(client, &call, asked)
+    core.take_asked(client, &call, &asked)
 }
 
 #[inline(never)]
@@ -195,7 +195,7 @@ fn release(core: &mut Core, client: ClientId, key: NodeKey) -> Result<Reply, Ste
 {
     let call = Call::Release(key);
     let asked = core.asked_of(client, &call);
-    core.take_asked(client, &call, asked)
+    core.take_asked(client, &call, &asked)
 }
 
 #[inline(never)]
@@ -204,7 +204,7 @@ fn close(core: &mut Core, client: ClientId, key: NodeKey) -> Result<Reply, StepF
 {
     let call = Call::Close(key);
     let asked = core.asked_of(client, &call);
-    core.take_asked(client, &call, asked)
+    core.take_asked(client, &call, &asked)
 }
 
 #[inline(never)]
@@ -218,7 +218,7 @@ fn dup_handle(
 {
     let call = Call::DupHandle(buffer, strength);
     let asked = core.asked_of(client, &call);
-    core.take_asked(client, &call, asked)
+    core.take_asked(client, &call, &asked)
 }
 
 #[inline(never)]
@@ -232,7 +232,7 @@ fn drop_handle(
 {
     let call = Call::DropHandle(buffer, strength);
     let asked = core.asked_of(client, &call);
-    core.take_asked(client, &call, asked)
+    core.take_asked(client, &call, &asked)
 }
 
 #[inline(never)]
@@ -247,7 +247,7 @@ fn give_handle(
 {
     let call = Call::GiveHandle(buffer, strength, to);
     let asked = core.asked_of(client, &call);
-    core.take_asked(client, &call, asked)
+    core.take_asked(client, &call, &asked)
 }
 
 #[inline(never)]
@@ -256,7 +256,7 @@ fn track_node(core: &mut Core, client: ClientId, key: NodeKey) -> Result<Reply, 
 {
     let call = Call::TrackNode(key);
     let asked = core.asked_of(client, &call);
-    core.take_asked(client, &call, asked)
+    core.take_asked(client, &call, &asked)
 }
 
 #[inline(never)]
@@ -270,7 +270,7 @@ fn track_lifetime(
 {
     let call = Call::TrackLifetime(key, most);
     let asked = core.asked_of(client, &call);
-    core.take_asked(client, &call, asked)
+    core.take_asked(client, &call, &asked)
 }
 
 #[inline(never)]
@@ -279,5 +279,5 @@ fn track_weak(core: &mut Core, client: ClientId, buffer: BufferName) -> Result<R
 {
     let call = Call::TrackWeak(buffer);
     let asked = core.asked_of(client, &call);
-    core.take_asked(client, &call, asked)
+    core.take_asked(client, &call, &asked)
 }

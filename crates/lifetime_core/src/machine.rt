@@ -353,30 +353,32 @@ impl Core {
         &mut self,
         client: ClientId,
         call: &Call,
-        asked: Asked,
+        asked: &Asked,
     ) -> Result<Reply, StepFault>
-        requires { IsAsked self.old client call.now asked }
+        requires { IsAsked self.old client call.now asked.now }
         ensures { Stepped self.old self.new client call.now result }
     {
-        let Asked {
-            reply,
-            task,
-            tracking,
-        } = asked;
         if self.events >= self.limits.events() as u64 {
             return Err(StepFault::HistoryFull);
         }
-        if changes_nothing(call, &reply) {
+        if changes_nothing(call, &asked.reply) {
             self.events = self.next_event();
-            return Ok(reply);
+            return Ok(asked.reply);
         }
-        let Ok(key) = take_effect(&mut self.contents, client, call, &reply, &task, tracking) else {
+        let Ok(key) = take_effect(
+            &mut self.contents,
+            client,
+            call,
+            &asked.reply,
+            &asked.task,
+            asked.tracking,
+        ) else {
             return Err(StepFault::NoMemory);
         };
         self.events += 1;
         let place = place_to_sweep(
-            changed_by(&task),
-            tracking,
+            changed_by(&asked.task),
+            asked.tracking,
             &self.contents.forest,
             &self.contents.holds,
         );
@@ -387,9 +389,9 @@ impl Core {
             &self.contents.forest,
             &self.contents.holds,
         );
-        let carried = carried_end(client, call, &reply);
-        put_end(&mut self.contents.forest, &task, carried);
-        Ok(with_key(reply, key))
+        let carried = carried_end(client, call, &asked.reply);
+        put_end(&mut self.contents.forest, &asked.task, carried);
+        Ok(with_key(asked.reply, key))
     }
 
     /// Takes one call: answers it, makes what it changes with all that this forces, spends the end

@@ -25,25 +25,25 @@ take_effect-requires c =
       holds = c.self.inside.contents.holds;
       trackers = c.self.inside.contents.trackers;
     } in
-    let b : Begins s c.args.client c.args.call.now c.args.asked.reply c.args.asked.task c.args.asked.tracking =
-    begins c.self.inside.contents.pool s c.args.self.now c.args.client c.args.call.now c.args.asked.reply c.args.asked.task
-    c.args.asked.tracking c.self.view_is c.self.invariant c.requires.reply
+    let b : Begins s c.args.client c.args.call.now c.args.asked.now.reply c.args.asked.now.task c.args.asked.now.tracking =
+    begins c.self.inside.contents.pool s c.args.self.now c.args.client c.args.call.now c.args.asked.now.reply c.args.asked.now.task
+    c.args.asked.now.tracking c.self.view_is c.self.invariant c.requires.reply
     c.requires.work c.requires.spends c.requires.there c.requires.some
     c.requires.tracking in
     record {
       clients = c.self.invariant.rising;
-      handles = moves s c.args.client c.args.call.now c.args.asked.reply c.args.asked.reply c.args.asked.task
-          c.args.asked.tracking b;
+      handles = moves s c.args.client c.args.call.now c.args.asked.now.reply c.args.asked.now.reply c.args.asked.now.task
+          c.args.asked.now.tracking b;
       may = b.may;
-      asks = asks_only s c.args.client c.args.call.now c.args.asked.reply c.args.asked.task b.work;
+      asks = asks_only s c.args.client c.args.call.now c.args.asked.now.reply c.args.asked.now.task b.work;
       out = c.self.invariant.out;
       pool = c.self.invariant.pages;
-      rising = above s c.args.client c.args.call.now c.args.asked.reply c.args.asked.reply c.args.asked.task
-          c.args.asked.tracking b;
-      room = fits s c.args.client c.args.call.now c.args.asked.reply c.args.asked.reply c.args.asked.task
-          c.args.asked.tracking b;
-      alone = alone s c.args.client c.args.call.now c.args.asked.reply c.args.asked.reply c.args.asked.task
-          c.args.asked.tracking b;
+      rising = above s c.args.client c.args.call.now c.args.asked.now.reply c.args.asked.now.reply c.args.asked.now.task
+          c.args.asked.now.tracking b;
+      room = fits s c.args.client c.args.call.now c.args.asked.now.reply c.args.asked.now.reply c.args.asked.now.task
+          c.args.asked.now.tracking b;
+      alone = alone s c.args.client c.args.call.now c.args.asked.now.reply c.args.asked.now.reply c.args.asked.now.task
+          c.args.asked.now.tracking b;
     }
 
 -- the call changes nothing, and the fields are still whole
@@ -59,12 +59,12 @@ invariant_of-self c =
       holds = c.self.inside.contents.holds;
       trackers = c.self.inside.contents.trackers;
     } in
-    let i : Idles s c.args.client c.args.call.now c.args.asked.reply =
-    idles c.self.inside.contents.pool s c.args.self.now c.args.client c.args.call.now c.args.asked.reply c.self.view_is c.self.invariant
+    let i : Idles s c.args.client c.args.call.now c.args.asked.now.reply =
+    idles c.self.inside.contents.pool s c.args.self.now c.args.client c.args.call.now c.args.asked.now.reply c.self.view_is c.self.invariant
     c.requires.reply (sym c.changes_nothing.ensures ∙ c.if-changes_nothing.true) in
     let next : c.next_event-self-inside.result ≡ s.events + 1 =
     c.next_event-self-inside.ensures ∙ ap (λ (x : State). x.events + 1) (sym c.self.view_is) in
-    rw next (idle_whole s c.args.client c.args.call.now c.args.asked.reply i c.self.inside.contents.pool c.self.invariant (omega arith)
+    rw next (idle_whole s c.args.client c.args.call.now c.args.asked.now.reply i c.self.inside.contents.pool c.self.invariant (omega arith)
     (omega arith))
 
 -- and the new state follows
@@ -80,24 +80,24 @@ returns-then-changes_nothing c =
       holds = c.self.inside.contents.holds;
       trackers = c.self.inside.contents.trackers;
     } in
-    let i : Idles s c.args.client c.args.call.now c.args.asked.reply =
-    idles c.self.inside.contents.pool s c.args.self.now c.args.client c.args.call.now c.args.asked.reply c.self.view_is c.self.invariant
+    let i : Idles s c.args.client c.args.call.now c.args.asked.now.reply =
+    idles c.self.inside.contents.pool s c.args.self.now c.args.client c.args.call.now c.args.asked.now.reply c.self.view_is c.self.invariant
     c.requires.reply (sym c.changes_nothing.ensures ∙ c.if-changes_nothing.true) in
     let next : c.next_event-self-inside.result ≡ s.events + 1 =
     c.next_event-self-inside.ensures ∙ ap (λ (x : State). x.events + 1) (sym c.self.view_is) in
-    let answers = step_answers s c.args.client c.args.call.now c.args.asked.reply c.args.asked.reply None None i.begins (parts_of s)
+    let answers = step_answers s c.args.client c.args.call.now c.args.asked.now.reply c.args.asked.now.reply None None i.begins (parts_of s)
     i.takes in
-    let follows = idle_follows s c.args.client c.args.call.now c.args.asked.reply i in
+    let follows = idle_follows s c.args.client c.args.call.now c.args.asked.now.reply i in
     let room : s.events < s.limits.events = omega arith in
     rw (next, ← c.self.view_is) (record {
       answer = answers;
-      kind = reply-fits s.limits (readings_of s) c.args.client (key_told c.args.asked.reply) c.args.call.now c.args.asked.reply
+      kind = reply-fits s.limits (readings_of s) c.args.client (key_told c.args.asked.now.reply) c.args.call.now c.args.asked.now.reply
           answers.told;
       after = follows;
-      goes_on = goes_on s (further s c.args.client c.args.call.now c.args.asked.reply i) c.args.client c.args.call.now c.args.asked.reply
+      goes_on = goes_on s (further s c.args.client c.args.call.now c.args.asked.now.reply i) c.args.client c.args.call.now c.args.asked.now.reply
           answers follows room;
-      untaken = untaken_after s (further s c.args.client c.args.call.now c.args.asked.reply i) c.args.client c.args.call.now
-          c.args.asked.reply answers follows;
+      untaken = untaken_after s (further s c.args.client c.args.call.now c.args.asked.now.reply i) c.args.client c.args.call.now
+          c.args.asked.now.reply answers follows;
       kept = search rules;
       equal = search rules;
       stays = search rules;
@@ -128,9 +128,9 @@ sweep-requires c =
       holds = c.self.inside.contents.holds;
       trackers = c.self.inside.contents.trackers;
     } in
-    let b : Begins s c.args.client c.args.call.now c.args.asked.reply c.args.asked.task c.args.asked.tracking =
-    begins c.self.inside.contents.pool s c.args.self.now c.args.client c.args.call.now c.args.asked.reply c.args.asked.task
-    c.args.asked.tracking c.self.view_is c.self.invariant c.requires.reply
+    let b : Begins s c.args.client c.args.call.now c.args.asked.now.reply c.args.asked.now.task c.args.asked.now.tracking =
+    begins c.self.inside.contents.pool s c.args.self.now c.args.client c.args.call.now c.args.asked.now.reply c.args.asked.now.task
+    c.args.asked.now.tracking c.self.view_is c.self.invariant c.requires.reply
     c.requires.work c.requires.spends c.requires.there c.requires.some
     c.requires.tracking in
     let parts : Parts =
@@ -142,8 +142,8 @@ sweep-requires c =
     } in
     record {
       elsewhere = rw (c.place_to_sweep-place.ensures, c.changed_by.ensures)
-          (none_elsewhere s c.args.client c.args.call.now c.args.asked.reply
-          (with_key c.args.asked.reply c.in-Ok.key) c.args.asked.task c.args.asked.tracking b parts c.in-Ok.ensures.ok);
+          (none_elsewhere s c.args.client c.args.call.now c.args.asked.now.reply
+          (with_key c.args.asked.now.reply c.in-Ok.key) c.args.asked.now.task c.args.asked.now.tracking b parts c.in-Ok.ensures.ok);
     }
 
 -- what is over can be forgotten
@@ -159,9 +159,9 @@ put_end-requires c =
       holds = c.self.inside.contents.holds;
       trackers = c.self.inside.contents.trackers;
     } in
-    let b : Begins s c.args.client c.args.call.now c.args.asked.reply c.args.asked.task c.args.asked.tracking =
-    begins c.self.inside.contents.pool s c.args.self.now c.args.client c.args.call.now c.args.asked.reply c.args.asked.task
-    c.args.asked.tracking c.self.view_is c.self.invariant c.requires.reply
+    let b : Begins s c.args.client c.args.call.now c.args.asked.now.reply c.args.asked.now.task c.args.asked.now.tracking =
+    begins c.self.inside.contents.pool s c.args.self.now c.args.client c.args.call.now c.args.asked.now.reply c.args.asked.now.task
+    c.args.asked.now.tracking c.self.view_is c.self.invariant c.requires.reply
     c.requires.work c.requires.spends c.requires.there c.requires.some
     c.requires.tracking in
     let parts : Parts =
@@ -172,13 +172,13 @@ put_end-requires c =
       trackers = c.take_effect.new.contents.trackers;
     } in
     record {
-      task = finishes s c.args.client c.args.call.now c.args.asked.reply (with_key c.args.asked.reply c.in-Ok.key) c.args.asked.task
-          c.args.asked.tracking b parts c.in-Ok.ensures.ok;
-      carried = can_carry s c.args.client c.args.call.now c.args.asked.reply
-          (with_key c.args.asked.reply c.in-Ok.key) c.args.asked.task
-          c.args.asked.tracking b parts c.in-Ok.ensures.ok c.carried_end-carried.result c.carried_end-carried.ensures;
-      one = one s c.args.client c.args.call.now c.args.asked.reply (with_key c.args.asked.reply c.in-Ok.key) c.args.asked.task
-          c.args.asked.tracking b parts c.in-Ok.ensures.ok c.carried_end-carried.result c.carried_end-carried.ensures;
+      task = finishes s c.args.client c.args.call.now c.args.asked.now.reply (with_key c.args.asked.now.reply c.in-Ok.key) c.args.asked.now.task
+          c.args.asked.now.tracking b parts c.in-Ok.ensures.ok;
+      carried = can_carry s c.args.client c.args.call.now c.args.asked.now.reply
+          (with_key c.args.asked.now.reply c.in-Ok.key) c.args.asked.now.task
+          c.args.asked.now.tracking b parts c.in-Ok.ensures.ok c.carried_end-carried.result c.carried_end-carried.ensures;
+      one = one s c.args.client c.args.call.now c.args.asked.now.reply (with_key c.args.asked.now.reply c.in-Ok.key) c.args.asked.now.task
+          c.args.asked.now.tracking b parts c.in-Ok.ensures.ok c.carried_end-carried.result c.carried_end-carried.ensures;
     }
 
 -- the fields are whole again
@@ -194,9 +194,9 @@ invariant_of-self-2 c =
       holds = c.self.inside.contents.holds;
       trackers = c.self.inside.contents.trackers;
     } in
-    let b : Begins s c.args.client c.args.call.now c.args.asked.reply c.args.asked.task c.args.asked.tracking =
-    begins c.self.inside.contents.pool s c.args.self.now c.args.client c.args.call.now c.args.asked.reply c.args.asked.task
-    c.args.asked.tracking c.self.view_is c.self.invariant c.requires.reply
+    let b : Begins s c.args.client c.args.call.now c.args.asked.now.reply c.args.asked.now.task c.args.asked.now.tracking =
+    begins c.self.inside.contents.pool s c.args.self.now c.args.client c.args.call.now c.args.asked.now.reply c.args.asked.now.task
+    c.args.asked.now.tracking c.self.view_is c.self.invariant c.requires.reply
     c.requires.work c.requires.spends c.requires.there c.requires.some
     c.requires.tracking in
     let parts : Parts =
@@ -206,10 +206,10 @@ invariant_of-self-2 c =
       holds = c.take_effect.new.contents.holds;
       trackers = c.take_effect.new.contents.trackers;
     } in
-    whole_then s c.args.client c.args.call.now c.args.asked.reply (with_key c.args.asked.reply c.in-Ok.key) c.args.asked.task
-    c.args.asked.tracking b parts c.in-Ok.ensures.ok c.self.inside.contents.pool c.take_effect.new.contents.pool
+    whole_then s c.args.client c.args.call.now c.args.asked.now.reply (with_key c.args.asked.now.reply c.in-Ok.key) c.args.asked.now.task
+    c.args.asked.now.tracking b parts c.in-Ok.ensures.ok c.self.inside.contents.pool c.take_effect.new.contents.pool
     c.put_end.new.forest
-    (end_placed c.args.asked.task c.carried_end-carried.result) c.sweep.new.trackers c.self.invariant c.take_effect.ensures.size
+    (end_placed c.args.asked.now.task c.carried_end-carried.result) c.sweep.new.trackers c.self.invariant c.take_effect.ensures.size
     c.take_effect.ensures.pool c.put_end.ensures.held c.take_effect.ensures.limit
     (omega arith) (omega arith) c.put_end.ensures.collections c.put_end.ensures.keys c.put_end.ensures.sound c.put_end.ensures.ids
     c.sweep.ensures
@@ -227,9 +227,9 @@ returns c =
       holds = c.self.inside.contents.holds;
       trackers = c.self.inside.contents.trackers;
     } in
-    let b : Begins s c.args.client c.args.call.now c.args.asked.reply c.args.asked.task c.args.asked.tracking =
-    begins c.self.inside.contents.pool s c.args.self.now c.args.client c.args.call.now c.args.asked.reply c.args.asked.task
-    c.args.asked.tracking c.self.view_is c.self.invariant c.requires.reply
+    let b : Begins s c.args.client c.args.call.now c.args.asked.now.reply c.args.asked.now.task c.args.asked.now.tracking =
+    begins c.self.inside.contents.pool s c.args.self.now c.args.client c.args.call.now c.args.asked.now.reply c.args.asked.now.task
+    c.args.asked.now.tracking c.self.view_is c.self.invariant c.requires.reply
     c.requires.work c.requires.spends c.requires.there c.requires.some
     c.requires.tracking in
     let parts : Parts =
@@ -239,28 +239,28 @@ returns c =
       holds = c.take_effect.new.contents.holds;
       trackers = c.take_effect.new.contents.trackers;
     } in
-    let answers = step_answers s c.args.client c.args.call.now c.args.asked.reply (with_key c.args.asked.reply c.in-Ok.key)
-    c.args.asked.task c.args.asked.tracking b parts c.in-Ok.ensures.ok in
-    let follows = step_follows s c.args.client c.args.call.now c.args.asked.reply (with_key c.args.asked.reply c.in-Ok.key)
-    c.args.asked.task c.args.asked.tracking b parts c.in-Ok.ensures.ok c.carried_end-carried.result
+    let answers = step_answers s c.args.client c.args.call.now c.args.asked.now.reply (with_key c.args.asked.now.reply c.in-Ok.key)
+    c.args.asked.now.task c.args.asked.now.tracking b parts c.in-Ok.ensures.ok in
+    let follows = step_follows s c.args.client c.args.call.now c.args.asked.now.reply (with_key c.args.asked.now.reply c.in-Ok.key)
+    c.args.asked.now.task c.args.asked.now.tracking b parts c.in-Ok.ensures.ok c.carried_end-carried.result
     c.carried_end-carried.ensures
     c.put_end.new.forest c.sweep.new.trackers
     c.put_end.ensures.collections c.put_end.ensures.keys c.sweep.ensures in
     let room : s.events < s.limits.events = omega arith in
     rw c.with_key.ensures (record {
       answer = rw (← c.self.view_is) answers;
-      kind = reply-fits s.limits (readings_of s) c.args.client (key_told (with_key c.args.asked.reply c.in-Ok.key)) c.args.call.now
-          (with_key c.args.asked.reply c.in-Ok.key) answers.told;
+      kind = reply-fits s.limits (readings_of s) c.args.client (key_told (with_key c.args.asked.now.reply c.in-Ok.key)) c.args.call.now
+          (with_key c.args.asked.now.reply c.in-Ok.key) answers.told;
       after = rw (← c.self.view_is, c.take_effect.ensures.size) follows;
-      goes_on = rw (← c.self.view_is, c.take_effect.ensures.size) (goes_on s (after s c.args.client c.args.call.now c.args.asked.reply
-          (with_key c.args.asked.reply c.in-Ok.key) c.args.asked.task c.args.asked.tracking b parts c.in-Ok.ensures.ok
+      goes_on = rw (← c.self.view_is, c.take_effect.ensures.size) (goes_on s (after s c.args.client c.args.call.now c.args.asked.now.reply
+          (with_key c.args.asked.now.reply c.in-Ok.key) c.args.asked.now.task c.args.asked.now.tracking b parts c.in-Ok.ensures.ok
           c.carried_end-carried.result c.carried_end-carried.ensures c.put_end.new.forest c.sweep.new.trackers c.put_end.ensures.collections
-          c.put_end.ensures.keys c.sweep.ensures) c.args.client c.args.call.now (with_key c.args.asked.reply c.in-Ok.key) answers follows
+          c.put_end.ensures.keys c.sweep.ensures) c.args.client c.args.call.now (with_key c.args.asked.now.reply c.in-Ok.key) answers follows
           room);
-      untaken = rw (← c.self.view_is) (untaken_after s (after s c.args.client c.args.call.now c.args.asked.reply
-          (with_key c.args.asked.reply c.in-Ok.key) c.args.asked.task c.args.asked.tracking b parts c.in-Ok.ensures.ok
+      untaken = rw (← c.self.view_is) (untaken_after s (after s c.args.client c.args.call.now c.args.asked.now.reply
+          (with_key c.args.asked.now.reply c.in-Ok.key) c.args.asked.now.task c.args.asked.now.tracking b parts c.in-Ok.ensures.ok
           c.carried_end-carried.result c.carried_end-carried.ensures c.put_end.new.forest c.sweep.new.trackers c.put_end.ensures.collections
-          c.put_end.ensures.keys c.sweep.ensures) c.args.client c.args.call.now (with_key c.args.asked.reply c.in-Ok.key) answers
+          c.put_end.ensures.keys c.sweep.ensures) c.args.client c.args.call.now (with_key c.args.asked.now.reply c.in-Ok.key) answers
           follows);
       kept = search rules;
       equal = search rules;
