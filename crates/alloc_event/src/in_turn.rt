@@ -20,6 +20,7 @@ ghost use Rattle.alloc_event.specs.Scenes.{are_distinct, given_few, heads_itself
 use crate::asks::reserved;
 use crate::deciding::is_strong_open;
 use crate::ending::ending;
+use crate::key_places::{KeyPlace, find_near, places_of};
 use crate::losses::{is_among, order};
 use crate::marks::Marks;
 use crate::node::Node;
@@ -43,13 +44,6 @@ struct Claim {
     size: u32,
 }
 
-/// Where the node with this key stands.
-#[derive(Clone, Copy)]
-struct KeyPlace {
-    key: NodeKey,
-    at: usize,
-}
-
 /// What comes of a node in its turn.
 #[derive(Clone, Copy)]
 enum Turn {
@@ -69,45 +63,6 @@ enum Turn {
 struct Walked {
     heads: Vec<NodeKey>,
     fell: Vec<Option<Fault>>,
-}
-
-/// The places of the nodes in the order of their keys.
-fn places_of(alloc: Global, nodes: &[Node]) -> Option<Vec<KeyPlace>> {
-    let mut places = Vec::with_capacity(alloc, nodes.len()).ok()?;
-    for at in 0..nodes.len() {
-        let key = nodes[at].key;
-        places.push(KeyPlace { key, at }).ok()?;
-    }
-    places.sort_unstable_by_key(|place| place.key);
-    Some(places)
-}
-
-/// The place of the node with this key, if it is found. A binary search.
-fn find_at(nodes: &[Node], places: &[KeyPlace], key: NodeKey) -> Option<usize>
-    ensures here { IfSome result (IsKeyAt nodes.now key) }
-    ensures within { IfSome result (λ at. at < length nodes.now) }
-{
-    let Ok(found) = places.binary_search_by_key(&key, |place| place.key) else {
-        return None;
-    };
-    let at = places[found].at;
-    if at < nodes.len() && nodes[at].key == key {
-        Some(at)
-    } else {
-        None
-    }
-}
-
-/// The same, which is looked for at this place first.
-fn find_near(nodes: &[Node], places: &[KeyPlace], near: usize, key: NodeKey) -> Option<usize>
-    ensures here { IfSome result (IsKeyAt nodes.now key) }
-    ensures within { IfSome result (λ at. at < length nodes.now) }
-{
-    if near < nodes.len() && nodes[near].key == key {
-        Some(near)
-    } else {
-        find_at(nodes, places, key)
-    }
 }
 
 /// The claim with what the node asks for, unless a sum has no room.

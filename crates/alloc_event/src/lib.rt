@@ -31,6 +31,7 @@ mod in_turn;
 pub mod initial;
 mod kept;
 mod key_list;
+mod key_places;
 pub mod laws;
 pub mod logical;
 pub mod losses;
