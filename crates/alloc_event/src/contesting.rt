@@ -202,14 +202,16 @@ fn contest_followed(
 /// right below another one that is allocated: in the order of their births, each as the buffers are
 /// enough for it beside those before it. Answers whether it did; if not, nothing changed.
 ///
-/// It does so where the root has its buffers, a strong node of the collection is live after it, or it
-/// rests without one, and a node of each unit is live below which one is refused.
+/// It does so where a unit hangs right below the node's, the root has its buffers, a strong node of the
+/// collection is live after it, or it rests without one, and a node of each unit is live below which one
+/// is refused.
 ///
 /// It costs a binary search and a constant; where the unit is ready and due, besides, some reads of each
 /// node of the units that are ready and of each attached node right below them, a write of each node of
 /// those that are allocated, a logarithm of the number of these units for each node, a logarithm of the
-/// number of the collection's nodes for each unit, and twice what a loss of what is refused costs. It
-/// takes memory only where a list has less room than it needs; where that is refused, it does nothing.
+/// number of the collection's nodes for each unit that was not born beside the last one, and twice what a
+/// loss of what is refused costs. It takes memory only where a list has less room than it needs; where
+/// that is refused, it does nothing.
 #[inline(always)]
 pub(crate) fn contest(
     table: &mut NodeTable<Node>,
